@@ -1,5 +1,5 @@
 ghost use Rattle.std.specs.Prelude.{◌≡◌, ◌≤◌, max, map, All, None, IfOk, IsTrue};
-ghost use Rattle.partitions.specs.Table.{is_name, percent_share};
+ghost use Rattle.partitions.specs.Table.{is_name, percent_share, IsShare};
 ghost use Rattle.partitions.specs.Faults.{given};
 ghost use Rattle.partitions.specs.Stored.{row_of};
 
@@ -35,6 +35,7 @@ impl NamedShare {
     pub(crate) fn share(&self, limit: u32) -> u32
         requires { self.now.percent ≤ 100 }
         ensures share { result ≡ percent_share self.now.percent limit }
+        ensures least { IsShare self.now.percent limit result }
         ensures within { result ≤ max 1 limit }
     {
         let hundredfold = u64::from(limit) * u64::from(self.percent);

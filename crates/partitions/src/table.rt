@@ -1,5 +1,5 @@
 ghost use Rattle.std.specs.Prelude.{◌≡◌, ℕ, ◌+◌, ◌*◌, ◌<◌, ◌≤◌, ◌↔◌, max, [], length, map, slice_get, option_map, position, bytes_eq, IfSome, IfOk, IsOkUnless, MatchOption, IsTrue, codes};
-ghost use Rattle.partitions.specs.Table.{IsTable, place_of, find_part, name_of, share, bound};
+ghost use Rattle.partitions.specs.Table.{IsTable, place_of, find_part, name_of, IsShare, share, bound};
 ghost use Rattle.partitions.specs.Faults.{given, fault_of};
 
 use crate::check::check;
@@ -157,6 +157,8 @@ impl PartitionTable {
     /// partition, and 0 for a part that the table doesn't hold.
     pub fn share(&self, part: Part, limit: u32) -> u32
         ensures share { result ≡ share self.now (place_of self.now part) limit }
+        ensures least { IfSome (slice_get self.now (place_of self.now part))
+            (λ row. IsShare row.percent limit result) }
         ensures within { result ≤ max 1 limit }
     {
         self.share_at(self.place(part), limit)
@@ -166,6 +168,7 @@ impl PartitionTable {
     fn share_at(&self, place: usize, limit: u32) -> u32
         requires { place < 5 }
         ensures share { result ≡ share self.now place limit }
+        ensures least { IfSome (slice_get self.now place) (λ row. IsShare row.percent limit result) }
         ensures within { result ≤ max 1 limit }
     {
         match self.row(place) {
