@@ -1,8 +1,10 @@
 //! Texts to drive a gate with: lines of a script, and what each of them is answered.
 #![tactic(auto)]
 
+mod formats;
 mod lines;
 mod numbers;
+mod script;
 #[cfg(test)]
 mod tests;
 mod words;
