@@ -7,4 +7,5 @@ mod numbers;
 mod script;
 #[cfg(test)]
 mod tests;
+mod text;
 mod words;

@@ -196,7 +196,11 @@ fn read_look(table: &PartitionTable, line: &[u8]) -> Result<Option<Request>, Why
 fn late_if(formed: bool) -> Result<Option<Request>, Why>
     ensures { result ≡ late_if formed }
 {
-    if formed { Err(Why::Late) } else { Err(Why::Words) }
+    if formed {
+        Err(Why::Late)
+    } else {
+        Err(Why::Words)
+    }
 }
 
 /// What a line asks once the settings are over; nothing where it is empty or a comment.
