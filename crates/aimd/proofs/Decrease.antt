@@ -10,6 +10,8 @@ pub decreased-quotient : (limit ratio : ℕ) → decreased limit ratio ≡ limit
 unfolding decreased
 decreased-quotient limit ratio = greatest-quotient (limit * ratio)
 
+pub ruleset decreases = decreased-quotient
+
 decreased-le : (a b ratio : ℕ) → a ≤ b → decreased a ratio ≤ decreased b ratio
 decreased-le a b ratio h =
     let products : a * ratio ≤ b * ratio = mul-le-mul_right ratio h in

@@ -105,6 +105,7 @@ impl Limit for Aimd {
 }
 
 /// What a drop leaves of a limit.
+#[tactic(auto, using(crate::proofs::Decrease::decreases))]
 fn decrease(limit: u32, ratio: u32) -> u32
     requires limit { limit ≤ 10000 }
     requires ratio { ratio ≤ 999 }
