@@ -2,6 +2,7 @@
 #![tactic(auto)]
 
 mod formats;
+mod kinds;
 mod lines;
 mod numbers;
 mod script;
