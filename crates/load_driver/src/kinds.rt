@@ -2,6 +2,7 @@
 use aimd::Aimd;
 use limit_laws::{Fixed, Limit, Sample, SetFault, Settable};
 use vegas::Vegas;
+use windowed::Windowed;
 
 /// A limit of one of the kinds.
 #[derive(Clone, Copy, Debug, PartialEq, Eq)]
@@ -77,4 +78,69 @@ impl Limit for BaseLimit {
     }
 
     ghost lawful = { IsLawful-base };
+}
+
+/// A limit that learns from each sample, or from windows of samples.
+#[derive(Drop)]
+pub(crate) enum AnyLimit {
+    Plain(BaseLimit),
+    Windowed(Windowed<BaseLimit>),
+}
+
+impl Limit for AnyLimit {
+    ghost use Rattle.load_driver.specs.AnyKinds.{any_rules};
+    ghost use Rattle.load_driver.specs.AnyKindsLaws.{IsLawful-any};
+
+    ghost rules = { any_rules };
+
+    fn lo(&self) -> u32 {
+        match self {
+            AnyLimit::Plain(limit) => limit.lo(),
+            AnyLimit::Windowed(limit) => limit.lo(),
+        }
+    }
+
+    fn hi(&self) -> u32 {
+        match self {
+            AnyLimit::Plain(limit) => limit.hi(),
+            AnyLimit::Windowed(limit) => limit.hi(),
+        }
+    }
+
+    fn limit(&self) -> u32 {
+        match self {
+            AnyLimit::Plain(limit) => limit.limit(),
+            AnyLimit::Windowed(limit) => limit.limit(),
+        }
+    }
+
+    fn on_sample(&mut self, sample: &Sample) {
+        match self {
+            AnyLimit::Plain(limit) => limit.on_sample(sample),
+            AnyLimit::Windowed(limit) => limit.on_sample(sample),
+        }
+    }
+
+    fn set(&mut self, n: u32) -> Result<(), SetFault> {
+        match self {
+            AnyLimit::Plain(limit) => limit.set(n),
+            AnyLimit::Windowed(limit) => limit.set(n),
+        }
+    }
+
+    fn reset(&mut self) {
+        match self {
+            AnyLimit::Plain(limit) => limit.reset(),
+            AnyLimit::Windowed(limit) => limit.reset(),
+        }
+    }
+
+    fn copy(&self) -> Self {
+        match self {
+            AnyLimit::Plain(limit) => AnyLimit::Plain(limit.copy()),
+            AnyLimit::Windowed(limit) => AnyLimit::Windowed(limit.copy()),
+        }
+    }
+
+    ghost lawful = { IsLawful-any };
 }

@@ -6,6 +6,7 @@ mod kinds;
 mod lines;
 mod numbers;
 mod script;
+mod settings;
 #[cfg(test)]
 mod tests;
 mod text;
