@@ -1,9 +1,8 @@
 -- The settings of a script, line by line.
-use Rattle.std.specs.Prelude.{ℕ, ◌^◌, Bool, nat_lt, nat_le, ◌&&◌, List, [], ◌∷◌, ◌++◌, bytes_eq, codes, Option, None, Some, is_none, Result, Ok, Err, if◌then◌else◌}
+use Rattle.std.specs.Prelude.{◌≡◌, ℕ, ◌^◌, Bool, false, nat_lt, nat_le, ◌&&◌, List, [], ◌∷◌, ◌++◌, bytes_eq, codes, Option, None, Some, is_none, Result, Ok, Err, MatchOption, MatchResult, if◌then◌else◌}
 use Rattle.limit_laws.specs.Facts.{hour}
 use Rattle.partitions.specs.Table.{Row}
 use Rattle.partitions.specs.Faults.{fault_of}
-use Rattle.sample_window.specs.Totals.{totals}
 use Rattle.windowed.specs.WindowedRules.{WindowSettings}
 use Rattle.load_driver.specs.declared.kinds.BaseLimit.{BaseLimit}
 use Rattle.load_driver.specs.declared.kinds.BaseLimit.TheVariants.{Fixed, Settable, Aimd, Vegas}
@@ -101,10 +100,16 @@ abbrev pub base_or : ℕ → Option BaseLimit → BaseLimit
 base_or n None = Fixed n
 base_or n (Some limit) = limit
 
--- under the windows of the settings, where a line gave them
+-- under the windows of the settings, where a line gave them: the first one is empty
 abbrev pub windowed_if : Option WindowSettings → BaseLimit → AnyLimit
 windowed_if None limit = Plain limit
-windowed_if (Some window) limit = Windowed (record { inner = limit; totals = totals []; next_update = 0; settings = window })
+windowed_if (Some window) limit = Windowed (record { inner = limit; totals = record { count = 0; sum = 0; least = 0; greatest_inflight = 0; dropped = false }; next_update = 0; settings = window })
 
 abbrev pub limit_of : ℕ → SettingFacts → AnyLimit
 limit_of n s = windowed_if s.window (base_or n s.limit)
+
+-- what is answered to a line: nothing where it sets nothing, and then the settings stay; or that they are now those with it; or why it is at fault
+abbrev pub AnswersLine : SettingFacts → List (List ℕ) → Option (Result (Unit {0}) Why) → SettingFacts → Type 0
+AnswersLine old ws answer new = MatchOption answer
+    ((setting_of old ws ≡ None) × (new ≡ old))
+    (λ outcome. MatchResult outcome (λ _. setting_of old ws ≡ Some (Ok new)) (λ why. setting_of old ws ≡ Some (Err why)))

@@ -4,6 +4,7 @@
 mod formats;
 mod kinds;
 mod lines;
+mod makers;
 mod numbers;
 mod script;
 mod settings;

@@ -1,79 +1,48 @@
 // The settings of a script.
 ghost use Rattle.std.specs.Prelude.{◌≡◌};
-ghost use Rattle.load_driver.specs.declared.formats.LimitLine.TheVariants as line;
-ghost use Rattle.load_driver.specs.Settings.{base_of};
 
-use super::formats::LimitLine;
 use super::kinds::BaseLimit;
-use aimd::Aimd;
-use limit_laws::{Fixed, Settable};
-use vegas::Vegas;
+use super::makers::Windows;
+use partitions::PartitionTable;
+use std::alloc::Global;
+use std::marker::Model;
 
-/// The limit that never changes, where it is in range.
-fn make_fixed(n: u64) -> Option<BaseLimit>
-    ensures { result ≡ base_of (line.Fixed n) }
-{
-    let n = u32::try_from(n).ok()?;
-    Fixed::new(n).ok().map(BaseLimit::Fixed)
+/// The settings that the lines of a script gave so far.
+#[derive(Drop)]
+pub(crate) struct Settings<'a> {
+    limit: Option<BaseLimit>,
+    windows: Option<Windows>,
+    rows: Vec<(&'a [u8], u32)>,
+    table: PartitionTable,
 }
 
-/// The limit that changes by hand only, where its numbers are in range.
-fn make_settable(lo: u64, n: u64, hi: u64) -> Option<BaseLimit>
-    ensures { result ≡ base_of (line.Settable lo n hi) }
-{
-    let lo = u32::try_from(lo).ok()?;
-    let n = u32::try_from(n).ok()?;
-    let hi = u32::try_from(hi).ok()?;
-    Settable::new(lo, n, hi).ok().map(BaseLimit::Settable)
+impl<'a> Model for Settings<'a> {
+    ghost use Rattle.std.specs.Prelude.{◌≡◌, option_map, IfSome};
+    ghost use Rattle.windowed.specs.WindowedRules.{AreSettings};
+    ghost use Rattle.partitions.specs.Faults.{given};
+    ghost use Rattle.load_driver.specs.Stored.{window_of};
+    ghost use Rattle.load_driver.specs.Settings.{SettingFacts};
+
+    ghost Value = { SettingFacts };
+
+    ghost view = { λ s. record { limit = s.limit; window = option_map window_of s.windows; rows = given s.rows.items } };
+
+    ghost invariant = { λ s. (s.table ≡ given s.rows.items) × IfSome s.windows (λ w. AreSettings (window_of w)) };
 }
 
-/// The limit by AIMD, where its numbers are in range.
-fn make_aimd(lo: u64, n: u64, hi: u64, ratio: u64, timeout: u64) -> Option<BaseLimit>
-    ensures { result ≡ base_of (line.Aimd lo n hi ratio timeout) }
-{
-    let lo = u32::try_from(lo).ok()?;
-    let n = u32::try_from(n).ok()?;
-    let hi = u32::try_from(hi).ok()?;
-    let ratio = u32::try_from(ratio).ok()?;
-    Aimd::new(lo, n, hi, ratio, timeout).ok().map(BaseLimit::Aimd)
-}
+impl<'a> Settings<'a> {
+    ghost use Rattle.load_driver.specs.Settings.{no_settings};
 
-/// The limit by Vegas, where its numbers are in range.
-fn make_vegas(lo: u64, n: u64, hi: u64, alpha: u64, beta: u64, probe: u64) -> Option<BaseLimit>
-    ensures { result ≡ base_of (line.Vegas lo n hi alpha beta probe) }
-{
-    let lo = u32::try_from(lo).ok()?;
-    let n = u32::try_from(n).ok()?;
-    let hi = u32::try_from(hi).ok()?;
-    let alpha = u32::try_from(alpha).ok()?;
-    let beta = u32::try_from(beta).ok()?;
-    let probe = u32::try_from(probe).ok()?;
-    Vegas::new(lo, n, hi, alpha, beta, probe)
-        .ok()
-        .map(BaseLimit::Vegas)
-}
-
-/// The limit of a line, where its numbers are in range.
-pub(crate) fn make_limit(line: LimitLine) -> Option<BaseLimit>
-    ensures { result ≡ base_of line }
-{
-    match line {
-        LimitLine::Fixed { n } => make_fixed(n),
-        LimitLine::Settable { lo, n, hi } => make_settable(lo, n, hi),
-        LimitLine::Aimd {
-            lo,
-            n,
-            hi,
-            ratio,
-            timeout,
-        } => make_aimd(lo, n, hi, ratio, timeout),
-        LimitLine::Vegas {
-            lo,
-            n,
-            hi,
-            alpha,
-            beta,
-            probe,
-        } => make_vegas(lo, n, hi, alpha, beta, probe),
+    /// No settings.
+    pub(crate) fn new(alloc: Global) -> Settings<'a>
+        ensures { result ≡ no_settings }
+    {
+        Settings {
+            limit: None,
+            windows: None,
+            rows: Vec::new(alloc),
+            table: PartitionTable::unknown_only(),
+        }
     }
 }
+
