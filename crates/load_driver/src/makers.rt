@@ -47,7 +47,9 @@ fn make_aimd(lo: u64, n: u64, hi: u64, ratio: u64, timeout: u64) -> Option<BaseL
     let n = u32::try_from(n).ok()?;
     let hi = u32::try_from(hi).ok()?;
     let ratio = u32::try_from(ratio).ok()?;
-    Aimd::new(lo, n, hi, ratio, timeout).ok().map(BaseLimit::Aimd)
+    Aimd::new(lo, n, hi, ratio, timeout)
+        .ok()
+        .map(BaseLimit::Aimd)
 }
 
 /// The limit by Vegas, where its numbers are in range.
@@ -91,7 +93,7 @@ pub(crate) fn make_limit(line: LimitLine) -> Option<BaseLimit>
 }
 
 /// The windows of a line, where its numbers are in range.
-fn make_windows(line: WindowLine) -> Option<Windows>
+pub(crate) fn make_windows(line: WindowLine) -> Option<Windows>
     ensures made { option_map window_of result ≡ windows_of line }
     ensures in_range { IfSome result (λ windows. AreSettings (window_of windows)) }
 {
