@@ -1,6 +1,7 @@
 //! Texts to drive a gate with: lines of a script, and what each of them is answered.
 #![tactic(auto)]
 
+mod journal;
 mod lines;
 mod numbers;
 #[cfg(test)]
