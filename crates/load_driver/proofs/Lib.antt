@@ -1,3 +1,4 @@
 pub mod Parts
 pub mod Digits
 pub mod Journals
+pub mod Sessions

@@ -4,6 +4,7 @@
 mod journal;
 mod lines;
 mod numbers;
+mod session;
 #[cfg(test)]
 mod tests;
 mod words;
