@@ -1,10 +1,14 @@
 //! Texts to drive a gate with: lines of a script, and what each of them is answered.
 #![tactic(auto)]
 
+mod formats;
 mod journal;
 mod lines;
 mod numbers;
+mod replay;
+mod script;
 mod session;
 #[cfg(test)]
 mod tests;
+mod text;
 mod words;
