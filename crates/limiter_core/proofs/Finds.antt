@@ -1,6 +1,7 @@
 -- Lists in which at most one element passes a test.
-use Rattle.std.proofs.Common.{◌≡◌, ℕ, zero, suc, ◌+◌, ◌≤◌, List, [], ◌∷◌, ◌++◌, Bool, true, false, not, cond, Option, None, Some, unwrap_or, filter, find, count_by, refl, sym, ap, ◌∙◌, arith, subst, true≢false, is_some}
+use Rattle.std.proofs.Common.{◌≡◌, ℕ, zero, suc, ◌+◌, ◌≤◌, List, [], ◌∷◌, ◌++◌, ◌==◌, eqb-true, Bool, true, false, not, cond, Option, None, Some, unwrap_or, filter, find, count_by, refl, sym, ap, ◌∙◌, arith, subst, true≢false, is_some}
 use Rattle.std.proofs.lemmas.List.Sums.{sum_by-cons}
+use Rattle.limiter_core.specs.declared.event.PermitFacts.{PermitFacts}
 
 none_is_not : {X : Type 0} (x : X) → None ≡ Some x → ⊥
 none_is_not x e = true≢false (sym (ap is_some e))
@@ -80,3 +81,15 @@ module _ {X : Type 0} (t : X → Bool) where
     pub find-apart : (xs : List X) → find t (filter (λ x. not (u x)) xs) ≡ find t xs
     find-apart [] = refl
     find-apart (x ∷ xs) = apart-at x xs (t x) (u x) refl refl (find-apart xs)
+
+number-at : (number : ℕ) (x : PermitFacts) (xs : List PermitFacts) (found : PermitFacts) (b : Bool) → (x.number == number) ≡ b → cond b (Some x) (find (λ permit. permit.number == number) xs) ≡ Some found
+    → (find (λ permit. permit.number == number) xs ≡ Some found → found.number ≡ number) → found.number ≡ number
+number-at number x xs found true e f rest =
+    let same : x ≡ found = ap (λ (o : Option PermitFacts). unwrap_or o x) f in
+    ap (λ (permit : PermitFacts). permit.number) (sym same) ∙ eqb-true x.number number e
+number-at number x xs found false e f rest = rest f
+
+-- the permit that is found by a number has it
+pub found_number : (xs : List PermitFacts) (number : ℕ) (found : PermitFacts) → find (λ permit. permit.number == number) xs ≡ Some found → found.number ≡ number
+found_number [] number found e = absurd (none_is_not found e)
+found_number (x ∷ xs) number found e = number-at number x xs found (x.number == number) refl e (λ f. found_number xs number found f)

@@ -2,3 +2,4 @@ pub mod Parts
 pub mod Digits
 pub mod Journals
 pub mod Sessions
+pub mod Named

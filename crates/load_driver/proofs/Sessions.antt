@@ -7,7 +7,7 @@ use Rattle.limiter_core.specs.declared.event.Event.{Event}
 use Rattle.limiter_core.specs.declared.event.Reply.{Reply}
 use Rattle.limiter_core.specs.declared.event.Entry.{Entry}
 use Rattle.limiter_core.specs.declared.event.Entry.TheVariants.{Call}
-use Rattle.limiter_core.specs.Answer.{answer, reply_to}
+use Rattle.limiter_core.specs.Answer.{answer}
 use Rattle.limiter_core.specs.Legal.{MayCome}
 use Rattle.limiter_core.specs.Open.{open_permit}
 use Rattle.limiter_core.specs.Handed.{NamesOpen, open_after}
@@ -28,16 +28,16 @@ module _ {S : Type 0} (laws : Algorithm S) (j : Journal S) (permits : Permits) (
     found = found;
   }
 
-  pub session_more : (between after : Permits) (number : ℕ) (r : Reply) (next : Journal S) → number ≡ length j.entries → r ≡ reply_to (gate laws j) (image laws j) e → next ≡ record j { entries = j.entries ++ Call e r ∷ [] }
+  pub session_more : (between after : Permits) (number : ℕ) (r : Reply) (next : Journal S) → number ≡ length j.entries → answer (gate laws j) (opening j) j.entries e ≡ Call e r ∷ []
+      → next ≡ record j { entries = j.entries ++ answer (gate laws j) (opening j) j.entries e }
       → ((q : ℕ) → get nat_eq between q ≡ get nat_eq permits q) → ((q : ℕ) → get nat_eq after q ≡ open_after (get nat_eq between) number (Call e r) q) → IsSession laws next after
   session_more between after number r next here replied moved same noted =
       let before : get nat_eq between ≡ open_permit 0 j.entries = λ k q. (same q ∙ held.found q) k in
       let place : number ≡ 0 + length j.entries = here ∙ omega arith in
       let step : (q : ℕ) → get nat_eq after q ≡ open_permit 0 (j.entries ++ Call e r ∷ []) q
           = λ q. noted q ∙ (λ k. open_after (before k) (place k) (Call e r) q) ∙ sym (open_step (gate laws j) (opening j) j.entries held.backed held.handed e r q) in
-      let lead : record j { entries = j.entries ++ answer (gate laws j) (opening j) j.entries e } ≡ next = ap (λ (x : Reply). record j { entries = j.entries ++ Call e x ∷ [] }) (sym replied) ∙ sym moved in
-      subst (λ (k : Journal S). IsSession laws k after) lead
-        (answered after (λ q. step q ∙ ap (λ (x : Reply). open_permit 0 (j.entries ++ Call e x ∷ []) q) replied))
+      subst (λ (k : Journal S). IsSession laws k after) (sym moved)
+        (answered after (λ q. step q ∙ ap (λ (xs : List Entry). open_permit 0 (j.entries ++ xs) q) (sym replied)))
 
 -- a session in which nothing was answered, with its permits in another order
 pub session_same : {S : Type 0} (laws : Algorithm S) (j : Journal S) (permits after : Permits) (next : Journal S) → IsSession laws j permits → next ≡ j → ((q : ℕ) → get nat_eq after q ≡ get nat_eq permits q) → IsSession laws next after

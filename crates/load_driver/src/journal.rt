@@ -1,10 +1,10 @@
 // The limiter with the history of all that it was asked and answered.
-ghost use Rattle.std.specs.Prelude.{◌≡◌, ◌≤◌, ◌++◌, ◌∷◌, [], length, IfOk, IfSome, IfNone, is_none};
+ghost use Rattle.std.specs.Prelude.{◌≡◌, ◌≤◌, ◌++◌, ◌∷◌, [], length, IfOk, IfSome, OnSome, IfNone, is_none};
 ghost use Rattle.limiter_core.specs.declared.event.Entry.TheVariants.{Call};
-ghost use Rattle.limiter_core.specs.Answer.{reply_to};
+ghost use Rattle.limiter_core.specs.Answer.{answer};
 ghost use Rattle.limiter_core.specs.Legal.{MayCome};
 ghost use Rattle.limiter_core.specs.Bound.{is_exhausted, is_always_served};
-ghost use Rattle.load_driver.specs.Journal.{gate, image};
+ghost use Rattle.load_driver.specs.Journal.{gate, opening, image};
 
 use limit_laws::Limit;
 use limiter_core::{Core, Entry, Event, Reply};
@@ -59,6 +59,13 @@ impl<L: Limit> Journal<L> {
         })
     }
 
+    /// All that was asked and answered, in order; the place of an entry is its number.
+    pub(crate) fn entries(&self) -> &[Entry]
+        ensures { result.now ≡ self.now.entries }
+    {
+        &self.entries
+    }
+
     /// The partitions of the limiter.
     pub(crate) fn table(&self) -> &PartitionTable
         ensures { result.now ≡ self.now.rows }
@@ -80,8 +87,8 @@ impl<L: Limit> Journal<L> {
         ensures exhausted { is_none result ≡ is_exhausted self.old.kept (image L.rules self.old) (length self.old.entries) event }
         ensures unchanged { IfNone result (self.new ≡ self.old) }
         ensures number { IfSome result (λ found. found.0 ≡ length self.old.entries) }
-        ensures reply { IfSome result (λ found. found.1 ≡ reply_to (gate L.rules self.old) (image L.rules self.old) event) }
-        ensures entries { IfSome result (λ found. self.new ≡ record self.old { entries = self.old.entries ++ Call event found.1 ∷ [] }) }
+        ensures reply { IfSome result (λ found. answer (gate L.rules self.old) (opening self.old) self.old.entries event ≡ Call event found.1 ∷ []) }
+        ensures entries { OnSome result (self.new ≡ record self.old { entries = self.old.entries ++ answer (gate L.rules self.old) (opening self.old) self.old.entries event }) }
     {
         if self.is_exhausted(event) {
             return None;

@@ -1,8 +1,8 @@
 // A journal with the permits that are open in it.
-ghost use Rattle.std.specs.Prelude.{◌≡◌, ◌≤◌, ◌<◌, ◌++◌, ◌∷◌, [], ℕ, length, nat_eq, IfOk, IfSome, IfNone, is_none};
+ghost use Rattle.std.specs.Prelude.{◌≡◌, ◌≤◌, ◌<◌, ◌++◌, ◌∷◌, [], ℕ, length, nat_eq, IfOk, IfSome, OnSome, IfNone, is_none};
 ghost use Rattle.std.specs.HashMap.{get, spare};
 ghost use Rattle.limiter_core.specs.declared.event.Entry.TheVariants.{Call};
-ghost use Rattle.limiter_core.specs.Answer.{reply_to};
+ghost use Rattle.limiter_core.specs.Answer.{answer};
 ghost use Rattle.limiter_core.specs.Bound.{is_exhausted};
 ghost use Rattle.limiter_core.specs.Open.{open_permit};
 ghost use Rattle.limiter_core.specs.Handed.{NamesOpen, open_after};
@@ -10,7 +10,7 @@ ghost use Rattle.load_driver.specs.Journal.{gate, image, opening};
 
 use super::journal::{Journal, MOST_KEPT};
 use limit_laws::{LAST_MOMENT, Limit};
-use limiter_core::{Event, PermitFacts, Reply};
+use limiter_core::{Entry, Event, PermitFacts, Reply};
 use partitions::PartitionTable;
 use std::alloc::{AllocError, Global};
 use std::collections::HashMap;
@@ -67,20 +67,28 @@ impl<L: Limit> Session<L> {
         self.permits.get(&number).copied()
     }
 
-    /// Answers an event; nothing where the journal is exhausted. An ending names an open permit.
-    pub(crate) fn ask(&mut self, event: Event) -> Result<Option<(u64, Reply)>, AllocError>
+    /// All that was asked and answered, in order; the place of an entry is its number.
+    pub(crate) fn entries(&self) -> &[Entry]
+        ensures { result.now ≡ self.now.entries }
+    {
+        self.journal.entries()
+    }
+
+    /// Answers an event, which adds entries from the number on that it gives; nothing where the
+    /// journal is exhausted. An ending names an open permit.
+    pub(crate) fn ask(&mut self, event: Event) -> Result<Option<usize>, AllocError>
         requires { NamesOpen (opening self.old) self.old.entries event }
         ensures exhausted { IfOk result (λ answered. is_none answered ≡ is_exhausted self.old.kept (image L.rules self.old) (length self.old.entries) event) }
         ensures unchanged { IfOk result (λ answered. IfNone answered (self.new ≡ self.old)) }
-        ensures number { IfOk result (λ answered. IfSome answered (λ found. found.0 ≡ length self.old.entries)) }
-        ensures reply { IfOk result (λ answered. IfSome answered (λ found. found.1 ≡ reply_to (gate L.rules self.old) (image L.rules self.old) event)) }
-        ensures entries { IfOk result (λ answered. IfSome answered (λ found. self.new ≡ record self.old { entries = self.old.entries ++ Call event found.1 ∷ [] })) }
+        ensures first { IfOk result (λ answered. IfSome answered (λ first. first ≡ length self.old.entries)) }
+        ensures entries { IfOk result (λ answered. OnSome answered (self.new ≡ record self.old { entries = self.old.entries ++ answer (gate L.rules self.old) (opening self.old) self.old.entries event })) }
     {
         self.permits.reserve(1)?;
+        let first = self.journal.entries().len();
         match self.journal.apply(event) {
             Some((number, reply)) => {
                 note(&mut self.permits, number, event, reply);
-                Ok(Some((number, reply)))
+                Ok(Some(first))
             }
             None => Ok(None),
         }
