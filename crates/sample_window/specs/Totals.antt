@@ -11,6 +11,10 @@ pub record WindowTotals : Type 0 where
   pub greatest_inflight : ℕ
   pub dropped : Bool
 
+-- how many samples a window holds at most
+abbrev pub most_samples : ℕ
+most_samples = 1000000
+
 -- the least round trip, 0 without samples
 abbrev pub least_rtt : List SampleFacts → ℕ
 least_rtt [] = 0
@@ -38,7 +42,7 @@ with_sample t x = record {
 
 -- what is true of the totals of up to 1,000,000 samples of 1 ns to one hour
 pub record AreTotals (t : WindowTotals) : Type 0 where
-  pub count : t.count ≤ 1000000
+  pub count : t.count ≤ most_samples
   pub sum_least : t.count ≤ t.sum
   pub sum_most : t.sum ≤ t.count * hour
   pub least : t.least ≤ hour
