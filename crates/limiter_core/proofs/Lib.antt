@@ -7,3 +7,4 @@ pub mod Fields
 pub mod Finds
 pub mod Broughts
 pub mod Opens
+pub mod Soundness

@@ -1,5 +1,5 @@
 -- Open permits, one answer after another.
-use Rattle.std.proofs.Common.{◌≡◌, ℕ, zero, suc, ◌+◌, ◌-◌, ◌<◌, ◌≤◌, ◌==◌, List, [], ◌∷◌, ◌++◌, Bool, true, false, not, cond, length, Option, None, Some, option_to_list, filter, find, count_by, refl, sym, ap, ◌∙◌, subst, arith, zero-le, length-append, append-nil, eqb-true, eq-eqb}
+use Rattle.std.proofs.Common.{◌≡◌, ℕ, zero, suc, ◌+◌, ◌-◌, ◌<◌, ◌≤◌, ◌==◌, List, [], ◌∷◌, ◌++◌, Bool, true, false, not, cond, length, Option, None, Some, option_to_list, filter, find, count_by, refl, sym, ap, ◌∙◌, subst, arith, zero-le, length-append, append-nil, eqb-true, eq-eqb, true≢false}
 use Rattle.std.proofs.lemmas.List.Sums.{sum_by-append, sum_by-cons}
 use Rattle.partitions.specs.declared.part.Part.{Part}
 use Rattle.partitions.specs.Table.{place_of}
@@ -9,16 +9,16 @@ use Rattle.limiter_core.specs.declared.event.PermitFacts.{PermitFacts}
 use Rattle.limiter_core.specs.declared.event.Event.{Event}
 use Rattle.limiter_core.specs.declared.event.Event.TheVariants.{Acquire, End, SetLimit, Reset, Look}
 use Rattle.limiter_core.specs.declared.event.Reply.{Reply}
-use Rattle.limiter_core.specs.declared.event.Reply.TheVariants.{Admitted, Full}
+use Rattle.limiter_core.specs.declared.event.Reply.TheVariants.{Admitted, Bypassed, Full, Ended, LimitSet, Refused, ResetDone, Seen}
 use Rattle.limiter_core.specs.declared.event.Entry.{Entry}
 use Rattle.limiter_core.specs.declared.event.Entry.TheVariants.{Call}
 use Rattle.limiter_core.specs.History.{Gate, Image, image_after, inflight_after, enters, leaves, total}
 use Rattle.limiter_core.specs.Answer.{answer, reply_to, has_room}
 use Rattle.limiter_core.specs.Legal.{MayCome}
 use Rattle.limiter_core.specs.Open.{open_permits, open_permit, handed_out, is_ended}
-use Rattle.limiter_core.specs.Handed.{NamesOpen, open_at, open_with, IsHanded}
+use Rattle.limiter_core.specs.Handed.{NamesOpen, open_at, open_with, IsHanded, open_after}
 use Rattle.limiter_core.proofs.Broughts.{brought-push, filter-all}
-use Rattle.limiter_core.proofs.Finds.{count-found}
+use Rattle.limiter_core.proofs.Finds.{count-found, find-none, find-push, find-push-miss, find-gone, find-apart}
 use Rattle.limiter_core.proofs.Images.{IsBacked}
 
 -- an open permit is in flight at its place
@@ -109,3 +109,55 @@ module _ {S : Type 0} (g : Gate S) (o : Image S) (h : List Entry) (backed : IsBa
   handed_answer (SetLimit n now) named = stays _ (brought-push handed_out is_ended o.next h _ ∙ kept _) (λ p. level _ p refl refl)
   handed_answer (Reset now) named = stays _ (brought-push handed_out is_ended o.next h _ ∙ kept _) (λ p. level _ p refl refl)
   handed_answer (Look part) named = stays _ (brought-push handed_out is_ended o.next h _ ∙ kept _) (λ p. level _ p refl refl)
+
+  same_open : (e : Entry) (n : ℕ) → open_permits o.next (h ++ e ∷ []) ≡ open_permits o.next h → open_permit o.next (h ++ e ∷ []) n ≡ open_permit o.next h n
+  same_open e n same = ap (λ (xs : List PermitFacts). find (λ permit. permit.number == n) xs) same
+
+  unchanged : (e : Entry) → filter (λ permit. not (is_ended permit e)) (open_permits o.next h) ++ option_to_list (handed_out (o.next + length h) e) ≡ open_permits o.next h → (n : ℕ) → open_permit o.next (h ++ e ∷ []) n ≡ open_permit o.next h n
+  unchanged e quiet n = same_open e n (brought-push handed_out is_ended o.next h e ∙ quiet)
+
+  -- the open permit of each number after an admitted acquire
+  open_admitted : (part : Part) (bypass : Bool) (now m n : ℕ) (b : Bool) → (o.next + length h == n) ≡ b
+      → open_permit o.next (h ++ Call (Acquire part bypass now) (Admitted m) ∷ []) n ≡ cond b (Some (record { number = o.next + length h; part = part; start = moment now; inflight = m })) (open_permit o.next h n)
+  open_admitted part bypass now m n b e =
+      let x : Entry = Call (Acquire part bypass now) (Admitted m) in
+      let one : PermitFacts = record { number = o.next + length h; part = part; start = moment now; inflight = m } in
+      let t : PermitFacts → Bool = λ permit. permit.number == n in
+      let grown : open_permits o.next (h ++ x ∷ []) ≡ open_permits o.next h ++ one ∷ [] = brought-push handed_out is_ended o.next h x ∙ ap (λ (ys : List PermitFacts). ys ++ one ∷ []) (filter-all (open_permits o.next h)) in
+      ap (λ (xs : List PermitFacts). find t xs) grown ∙ at b e
+    where
+      at : (b : Bool) → (o.next + length h == n) ≡ b
+          → find (λ permit. permit.number == n) (open_permits o.next h ++ record { number = o.next + length h; part = part; start = moment now; inflight = m } ∷ []) ≡ cond b (Some (record { number = o.next + length h; part = part; start = moment now; inflight = m })) (open_permit o.next h n)
+      at true e = find-push (λ (permit : PermitFacts). permit.number == n) (open_permits o.next h) _ (find-none (λ (permit : PermitFacts). permit.number == n) (open_permits o.next h) (handed.below n (omega (arith, eqb-true (o.next + length h) n e))))
+          ∙ ap (λ (c : Bool). cond c (Some (record { number = o.next + length h; part = part; start = moment now; inflight = m })) None) e
+      at false e = find-push-miss (λ (permit : PermitFacts). permit.number == n) (open_permits o.next h) _ e
+
+  -- and after an ending
+  open_ended : (permit : PermitFacts) (outcome : Outcome) (now n : ℕ) (r : Reply) (b : Bool) → (permit.number == n) ≡ b
+      → open_permit o.next (h ++ Call (End permit outcome now) r ∷ []) n ≡ cond b None (open_permit o.next h n)
+  open_ended permit outcome now n r b e =
+      ap (λ (xs : List PermitFacts). find (λ one. one.number == n) xs) (brought-push handed_out is_ended o.next h (Call (End permit outcome now) r) ∙ append-nil (filter (λ one. not (one.number == permit.number)) (open_permits o.next h))) ∙ at b e
+    where
+      at : (b : Bool) → (permit.number == n) ≡ b → find (λ one. one.number == n) (filter (λ one. not (one.number == permit.number)) (open_permits o.next h)) ≡ cond b None (open_permit o.next h n)
+      at true e = let q : permit.number ≡ n = eqb-true permit.number n e in
+          subst (λ (k : ℕ). find (λ one. one.number == k) (filter (λ one. not (one.number == permit.number)) (open_permits o.next h)) ≡ None) q (find-gone (λ (one : PermitFacts). one.number == permit.number) (open_permits o.next h))
+      at false e = find-apart (λ (one : PermitFacts). one.number == n) (λ (one : PermitFacts). one.number == permit.number) (λ one f. apart one f (one.number == permit.number) refl) (open_permits o.next h)
+        where
+          apart : (one : PermitFacts) → (one.number == n) ≡ true → (b : Bool) → (one.number == permit.number) ≡ b → b ≡ false
+          apart one f true g = absurd (true≢false (sym (eq-eqb permit.number n (sym (eqb-true one.number permit.number g) ∙ eqb-true one.number n f)) ∙ e))
+          apart one f false g = refl
+
+  -- the open permit of each number after one entry more, by that entry
+  pub open_step : (e : Event) (r : Reply) (n : ℕ) → open_permit o.next (h ++ Call e r ∷ []) n ≡ open_after (open_permit o.next h) (o.next + length h) (Call e r) n
+  open_step (Acquire part bypass now) (Admitted m) n = open_admitted part bypass now m n (o.next + length h == n) refl
+  open_step (Acquire part bypass now) Bypassed n = unchanged (Call (Acquire part bypass now) Bypassed) (kept (open_permits o.next h)) n
+  open_step (Acquire part bypass now) Full n = unchanged (Call (Acquire part bypass now) Full) (kept (open_permits o.next h)) n
+  open_step (Acquire part bypass now) (Ended m) n = unchanged (Call (Acquire part bypass now) (Ended m)) (kept (open_permits o.next h)) n
+  open_step (Acquire part bypass now) LimitSet n = unchanged (Call (Acquire part bypass now) LimitSet) (kept (open_permits o.next h)) n
+  open_step (Acquire part bypass now) (Refused fault) n = unchanged (Call (Acquire part bypass now) (Refused fault)) (kept (open_permits o.next h)) n
+  open_step (Acquire part bypass now) ResetDone n = unchanged (Call (Acquire part bypass now) ResetDone) (kept (open_permits o.next h)) n
+  open_step (Acquire part bypass now) (Seen a b c d e f) n = unchanged (Call (Acquire part bypass now) (Seen a b c d e f)) (kept (open_permits o.next h)) n
+  open_step (End permit outcome now) r n = open_ended permit outcome now n r (permit.number == n) refl
+  open_step (SetLimit m now) r n = unchanged (Call (SetLimit m now) r) (kept (open_permits o.next h)) n
+  open_step (Reset now) r n = unchanged (Call (Reset now) r) (kept (open_permits o.next h)) n
+  open_step (Look part) r n = unchanged (Call (Look part) r) (kept (open_permits o.next h)) n

@@ -1,10 +1,13 @@
 -- The open permits of a history agree with what is in flight.
-use Rattle.std.specs.Prelude.{◌≡◌, ℕ, ◌+◌, ◌≤◌, ◌<◌, ◌==◌, Option, None, Some, List, length, count_by}
+use Rattle.std.specs.Prelude.{◌≡◌, ℕ, ◌+◌, ◌≤◌, ◌==◌, Option, None, Some, List, length, count_by, if◌then◌else◌}
+use Rattle.limit_laws.specs.Facts.{moment}
 use Rattle.partitions.specs.Table.{place_of}
 use Rattle.limiter_core.specs.declared.event.PermitFacts.{PermitFacts}
 use Rattle.limiter_core.specs.declared.event.Event.{Event}
 use Rattle.limiter_core.specs.declared.event.Event.TheVariants.{Acquire, End, SetLimit, Reset, Look}
+use Rattle.limiter_core.specs.declared.event.Reply.TheVariants.{Admitted}
 use Rattle.limiter_core.specs.declared.event.Entry.{Entry}
+use Rattle.limiter_core.specs.declared.event.Entry.TheVariants.{Call}
 use Rattle.limiter_core.specs.History.{Gate, Image, image_after}
 use Rattle.limiter_core.specs.Open.{open_permits, open_permit}
 
@@ -25,3 +28,9 @@ pub record IsHanded {S : Type 0} (g : Gate S) (o : Image S) (h : List Entry) : T
   pub counted : (p : ℕ) → open_at g o h p ≡ (image_after g o h).inflight p
   pub distinct : (n : ℕ) → open_with o h n ≤ 1
   pub below : (n : ℕ) → o.next + length h ≤ n → open_with o h n ≡ 0
+
+-- the open permit of a number after one entry more, where this is the open permit of each number before
+abbrev pub open_after : (ℕ → Option PermitFacts) → ℕ → Entry → ℕ → Option PermitFacts
+open_after before number (Call (Acquire part bypass now) (Admitted inflight)) n = if number == n then Some (record { number = number; part = part; start = moment now; inflight = inflight }) else before n
+open_after before number (Call (End permit outcome now) reply) n = if permit.number == n then None else before n
+open_after before number e n = before n

@@ -1,2 +1,5 @@
 pub mod Parts
 pub mod Digits
+pub mod Journals
+pub mod Sessions
+pub mod Named

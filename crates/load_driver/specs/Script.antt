@@ -5,11 +5,10 @@ use Rattle.partitions.specs.declared.part.Part.TheVariants.{Unknown}
 use Rattle.partitions.specs.Table.{Row, find_part}
 use Rattle.limiter_core.specs.declared.event.Outcome.{Outcome}
 use Rattle.limiter_core.specs.declared.event.Outcome.TheVariants.{Success, Ignored, Dropped}
-use Rattle.limiter_core.specs.declared.event.Event.TheVariants.{Acquire, SetLimit, Reset, Look}
 use Rattle.load_driver.specs.declared.script.Why.{Why}
 use Rattle.load_driver.specs.declared.script.Why.TheVariants.{Words, Late, Value, Class}
 use Rattle.load_driver.specs.declared.script.Request.{Request}
-use Rattle.load_driver.specs.declared.script.Request.TheVariants.{Ask, End}
+use Rattle.load_driver.specs.declared.script.Request.TheVariants.{Acquire, End, SetLimit, Reset, Look}
 use Rattle.load_driver.specs.Words.{number_of}
 use Rattle.load_driver.specs.Formats.{limit_line, window_line, class_line}
 
@@ -36,7 +35,7 @@ outcome_of word =
 
 -- `acquire CLASS NOW`
 abbrev pub acquire_of : List Row → List (List ℕ) → Asked
-acquire_of rows (class ∷ now ∷ []) = or_fault Words (number_of now) (λ t. or_fault Class (part_of rows class) (λ part. Ok (Some (Ask (Acquire part false t)))))
+acquire_of rows (class ∷ now ∷ []) = or_fault Words (number_of now) (λ t. or_fault Class (part_of rows class) (λ part. Ok (Some (Acquire part false t))))
 acquire_of rows _ = Err Words
 
 -- the number of a line that has no other word
@@ -46,7 +45,7 @@ moment_of _ = None
 
 -- `bypass NOW`
 abbrev pub bypass_of : List (List ℕ) → Asked
-bypass_of rest = or_fault Words (moment_of rest) (λ t. Ok (Some (Ask (Acquire Unknown true t))))
+bypass_of rest = or_fault Words (moment_of rest) (λ t. Ok (Some (Acquire Unknown true t)))
 
 -- `end N OUTCOME NOW`
 abbrev pub end_of : List (List ℕ) → Asked
@@ -57,16 +56,16 @@ end_of _ = Err Words
 -- `set N NOW`, where a limit is 32 bits long
 abbrev pub set_of : List (List ℕ) → Asked
 set_of (limit ∷ now ∷ []) =
-    or_fault Words (number_of limit) (λ n. or_fault Words (number_of now) (λ t. if nat_lt n (2 ^ 32) then Ok (Some (Ask (SetLimit n t))) else Err Value))
+    or_fault Words (number_of limit) (λ n. or_fault Words (number_of now) (λ t. if nat_lt n (2 ^ 32) then Ok (Some (SetLimit n t)) else Err Value))
 set_of _ = Err Words
 
 -- `reset NOW`
 abbrev pub reset_of : List (List ℕ) → Asked
-reset_of rest = or_fault Words (moment_of rest) (λ t. Ok (Some (Ask (Reset t))))
+reset_of rest = or_fault Words (moment_of rest) (λ t. Ok (Some (Reset t)))
 
 -- `look CLASS`
 abbrev pub look_of : List Row → List (List ℕ) → Asked
-look_of rows (class ∷ []) = or_fault Class (part_of rows class) (λ part. Ok (Some (Ask (Look part))))
+look_of rows (class ∷ []) = or_fault Class (part_of rows class) (λ part. Ok (Some (Look part)))
 look_of rows _ = Err Words
 
 -- a setting comes too late here, where it has a setting's format

@@ -2,11 +2,14 @@
 #![tactic(auto)]
 
 mod formats;
+mod journal;
 mod kinds;
 mod lines;
 mod makers;
 mod numbers;
+mod replay;
 mod script;
+mod session;
 mod settings;
 #[cfg(test)]
 mod tests;

@@ -6,7 +6,7 @@ ghost use Rattle.load_driver.specs.Script.{part_of, outcome_of, acquire_of, mome
 use super::formats::{read_class, read_limit, read_window};
 use super::numbers::read_number;
 use super::words::next_word;
-use limiter_core::{Event, Outcome};
+use limiter_core::Outcome;
 use partitions::{Part, PartitionTable};
 
 /// Why a line is at fault. Where several apply, the first in this order is answered.
@@ -27,13 +27,30 @@ pub enum Why {
 /// What a line asks.
 #[derive(Clone, Copy, Debug, PartialEq, Eq)]
 pub(crate) enum Request {
-    /// An event, whatever came before it.
-    Ask(Event),
+    /// A permit, or the way past the limit.
+    Acquire {
+        part: Part,
+        bypass: bool,
+        now: u64,
+    },
     /// The end of the permit with this number, where one is open.
     End {
         number: u64,
         outcome: Outcome,
         now: u64,
+    },
+    /// Another limit.
+    SetLimit {
+        n: u32,
+        now: u64,
+    },
+    /// The algorithm's first state.
+    Reset {
+        now: u64,
+    },
+    /// A look at what stands.
+    Look {
+        part: Part,
     },
 }
 
@@ -66,11 +83,11 @@ fn read_acquire(table: &PartitionTable, line: &[u8]) -> Result<Option<Request>, 
     let Some(part) = read_part(table, class) else {
         return Err(Why::Class);
     };
-    Ok(Some(Request::Ask(Event::Acquire {
+    Ok(Some(Request::Acquire {
         part,
         bypass: false,
         now,
-    })))
+    }))
 }
 
 /// The moment that a line of one number names.
@@ -89,11 +106,11 @@ fn read_bypass(line: &[u8]) -> Result<Option<Request>, Why>
     ensures { result ≡ bypass_of (words line.now) }
 {
     let now = read_moment(line).ok_or(Why::Words)?;
-    Ok(Some(Request::Ask(Event::Acquire {
+    Ok(Some(Request::Acquire {
         part: Part::Unknown,
         bypass: true,
         now,
-    })))
+    }))
 }
 
 /// The outcome that a word names.
@@ -165,7 +182,7 @@ fn read_set(line: &[u8]) -> Result<Option<Request>, Why>
     let Ok(n) = u32::try_from(limit) else {
         return Err(Why::Value);
     };
-    Ok(Some(Request::Ask(Event::SetLimit { n, now })))
+    Ok(Some(Request::SetLimit { n, now }))
 }
 
 /// What follows `reset`.
@@ -173,7 +190,7 @@ fn read_reset(line: &[u8]) -> Result<Option<Request>, Why>
     ensures { result ≡ reset_of (words line.now) }
 {
     let now = read_moment(line).ok_or(Why::Words)?;
-    Ok(Some(Request::Ask(Event::Reset { now })))
+    Ok(Some(Request::Reset { now }))
 }
 
 /// What follows `look`.
@@ -187,7 +204,7 @@ fn read_look(table: &PartitionTable, line: &[u8]) -> Result<Option<Request>, Why
         return Err(Why::Words);
     }
     match read_part(table, class) {
-        Some(part) => Ok(Some(Request::Ask(Event::Look { part }))),
+        Some(part) => Ok(Some(Request::Look { part })),
         None => Err(Why::Class),
     }
 }

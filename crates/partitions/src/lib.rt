@@ -14,3 +14,6 @@ mod table;
 pub use fault::TableFault;
 pub use part::Part;
 pub use table::PartitionTable;
+
+#[cfg(test)]
+mod tests;
