@@ -150,9 +150,9 @@ fn a_failing_reader_and_a_failing_writer_are_named(rt: HostRuntime) -> Result<()
 /// What the words after the program's name give: the limit, or the exit code of their fault.
 fn limit_of(rt: &HostRuntime, list: &[&str]) -> Result<Result<u32, i32>, Fail> {
     let mut all = Vec::new(rt.alloc());
-    all.push(String::from_str_in("admission", rt.alloc())?)?;
+    all.push(String::from_str(rt.alloc(), "admission")?)?;
     for word in list {
-        all.push(String::from_str_in(word, rt.alloc())?)?;
+        all.push(String::from_str(rt.alloc(), word)?)?;
     }
     Ok(match words(rt.alloc(), &all) {
         Ok(run) => Ok(run.limit),
