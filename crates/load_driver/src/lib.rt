@@ -9,8 +9,12 @@ mod makers;
 mod numbers;
 mod replay;
 mod script;
+#[cfg(test)]
+mod script_tests;
 mod session;
 mod settings;
+#[cfg(test)]
+mod settings_tests;
 #[cfg(test)]
 mod tests;
 mod text;
