@@ -61,91 +61,82 @@ fn a_line_asks_what_its_words_say(rt: HostRuntime) -> Result<(), Fail> {
     Ok(())
 }
 
-#[test]
-fn an_empty_line_and_a_comment_ask_nothing(rt: HostRuntime) -> Result<(), Fail> {
-    let table = PartitionTable::unknown_only();
-    let rows: [&[u8]; 5] = [b"", b"   ", b"#", b" # acquire x", b"#acquire unknown 0"];
-    for line in rows {
-        assert!(rt; read_request(&table, line) == Ok(None));
-    }
-    Ok(())
-}
+const ASKS_NOTHING: &str = "
+   \n#
+ # acquire x
+#acquire unknown 0
+";
+
+const NO_FORMAT: &str = "\
+acquire
+acquire live
+acquire live x
+acquire nobody x
+acquire live 5 5
+acquire live 5 wait
+acquire\tlive 5
+Acquire live 5
+acquire live -1
+acquire live 18446744073709551616
+bypass
+bypass live
+bypass 1 2
+end x
+end 1 success
+end 1 failed 2
+end x success 2
+end 1 success x
+end 1 success 2 3
+set 1
+set 4294967296 x
+set 1 2 3
+reset
+reset 1 2
+look
+look live 5
+limit slow 1
+limit fixed
+window 1 2 3
+class live
+";
+
+const LATE: &str = "\
+limit fixed 0
+limit settable 1 2 3
+limit aimd 1 2 3 4 5
+limit vegas 1 2 3 4 5 6
+window 0 0 0 0
+class other 10
+class live 60
+class unknown 0
+";
+
+const PAST_32_BITS: &str = "\
+set 4294967296 1
+set 18446744073709551615 1
+";
+
+const NO_CLASS: &str = "\
+acquire other 1
+acquire Live 1
+look other
+";
 
 #[test]
-fn a_line_of_no_format_is_told_by_its_words(rt: HostRuntime) -> Result<(), Fail> {
+fn a_line_asks_nothing_or_is_told_by_its_first_fault(rt: HostRuntime) -> Result<(), Fail> {
     let table = classes(rt.alloc())?;
-    let rows: [&[u8]; 30] = [
-        b"acquire",
-        b"acquire live",
-        b"acquire live x",
-        b"acquire nobody x",
-        b"acquire live 5 5",
-        b"acquire live 5 wait",
-        b"acquire\tlive 5",
-        b"Acquire live 5",
-        b"acquire live -1",
-        b"acquire live 18446744073709551616",
-        b"bypass",
-        b"bypass live",
-        b"bypass 1 2",
-        b"end x",
-        b"end 1 success",
-        b"end 1 failed 2",
-        b"end x success 2",
-        b"end 1 success x",
-        b"end 1 success 2 3",
-        b"set 1",
-        b"set 4294967296 x",
-        b"set 1 2 3",
-        b"reset",
-        b"reset 1 2",
-        b"look",
-        b"look live 5",
-        b"limit slow 1",
-        b"limit fixed",
-        b"window 1 2 3",
-        b"class live",
+    let rows = [
+        (ASKS_NOTHING, Ok(None)),
+        (NO_FORMAT, Err(Why::Words)),
+        (LATE, Err(Why::Late)),
+        (PAST_32_BITS, Err(Why::Value)),
+        (NO_CLASS, Err(Why::Class)),
     ];
-    for (at, line) in rows.iter().enumerate() {
-        assert!(rt; read_request(&table, line) == Err(Why::Words), "line {at}");
+    for (lines, answer) in rows {
+        for line in lines.lines() {
+            assert!(rt; read_request(&table, line.as_bytes()) == answer, "{line}");
+        }
     }
-    Ok(())
-}
-
-#[test]
-fn a_setting_is_late_whatever_its_numbers(rt: HostRuntime) -> Result<(), Fail> {
-    let table = classes(rt.alloc())?;
-    let rows: [&[u8]; 8] = [
-        b"limit fixed 0",
-        b"limit settable 1 2 3",
-        b"limit aimd 1 2 3 4 5",
-        b"limit vegas 1 2 3 4 5 6",
-        b"window 0 0 0 0",
-        b"class other 10",
-        b"class live 60",
-        b"class unknown 0",
-    ];
-    for (at, line) in rows.iter().enumerate() {
-        assert!(rt; read_request(&table, line) == Err(Why::Late), "line {at}");
-    }
-    Ok(())
-}
-
-#[test]
-fn a_limit_past_32_bits_and_a_class_of_no_table_are_told(rt: HostRuntime) -> Result<(), Fail> {
-    let table = classes(rt.alloc())?;
-    let rows: [(&[u8], Why); 5] = [
-        (b"set 4294967296 1", Why::Value),
-        (b"set 18446744073709551615 1", Why::Value),
-        (b"acquire other 1", Why::Class),
-        (b"acquire Live 1", Why::Class),
-        (b"look other", Why::Class),
-    ];
-    for (line, why) in rows {
-        assert!(rt; read_request(&table, line) == Err(why));
-    }
-    let nobody = PartitionTable::unknown_only();
-    assert!(rt; read_request(&nobody, b"acquire b 0") == Err(Why::Class));
     Ok(())
 }
 
