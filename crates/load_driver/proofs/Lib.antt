@@ -3,3 +3,4 @@ pub mod Digits
 pub mod Journals
 pub mod Sessions
 pub mod Named
+pub mod Openings

@@ -13,7 +13,7 @@ use Rattle.limiter_core.specs.Open.{open_permit}
 use Rattle.load_driver.specs.declared.script.Why.{Why}
 use Rattle.load_driver.specs.declared.script.Request.{Request}
 use Rattle.load_driver.specs.declared.script.Request.TheVariants.{Acquire, End, SetLimit, Reset, Look}
-use Rattle.load_driver.specs.declared.replay.LineFault.{LineFault}
+use Rattle.load_driver.specs.declared.answers.LineFault.{LineFault}
 use Rattle.load_driver.specs.Words.{words}
 use Rattle.load_driver.specs.Script.{Asked, request_of}
 use Rattle.load_driver.specs.Text.{entry_text}

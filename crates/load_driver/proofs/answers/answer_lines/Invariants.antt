@@ -1,7 +1,7 @@
 use Rattle.std.proofs.Common.{◌≡◌, ◌≤◌, ◌+◌, length, string_bytes}
 use Rattle.std.specs.Str.Lines.{lines}
 use Rattle.load_driver.specs.Replay.{after_text, lines_text}
-use Rattle.load_driver.proofs.replay.answer_lines.Given as goal
+use Rattle.load_driver.proofs.answers.answer_lines.Given as goal
 
 -- the text so far, and then that of the lines that are left, is that of all lines
 abbrev pub invariant-loop-line : goal.invariant-loop-line

@@ -1,6 +1,6 @@
 use Rattle.std.proofs.Common.{◌≡◌, ◌+◌, ◌++◌, drop, string_bytes}
 use Rattle.load_driver.specs.Replay.{entries_text}
-use Rattle.load_driver.proofs.replay.push_entries.Given as goal
+use Rattle.load_driver.proofs.answers.push_entries.Given as goal
 
 -- the text so far, and then that of the entries that are left, is that of all entries
 abbrev pub invariant-loop-entry : goal.invariant-loop-entry
