@@ -16,8 +16,12 @@ mod makers;
 mod numbers;
 mod opening;
 mod script;
+#[cfg(test)]
+mod script_tests;
 mod session;
 mod settings;
+#[cfg(test)]
+mod settings_tests;
 #[cfg(test)]
 mod tests;
 mod text;
