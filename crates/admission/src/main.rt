@@ -34,11 +34,5 @@ fn main(rt: HostRuntime) -> ExitCode {
     let mut reader = Counted::new(rt.stdin());
     let mut writer = Counted::new(rt.stdout());
     let mut errors = Counted::new(rt.stderr());
-    ExitCode::from(run::run_text(
-        alloc,
-        run,
-        &mut reader,
-        &mut writer,
-        &mut errors,
-    ))
+    ExitCode::from(run::run_text(alloc, run, &mut reader, &mut writer, &mut errors))
 }

@@ -74,9 +74,7 @@ const ROWS: [Row; 8] = [
 ];
 
 #[test]
-fn scripts_are_answered_with_their_text_status_and_fault_line(
-    rt: HostRuntime,
-) -> Result<(), Fail> {
+fn scripts_are_answered_with_their_text_status_and_fault_line(rt: HostRuntime) -> Result<(), Fail> {
     for row in &ROWS {
         let mut output = Vec::new(rt.alloc());
         let mut fault = Vec::new(rt.alloc());
