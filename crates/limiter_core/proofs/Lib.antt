@@ -8,3 +8,5 @@ pub mod Finds
 pub mod Broughts
 pub mod Opens
 pub mod Soundness
+pub mod Legals
+pub mod Refusals

@@ -4,4 +4,5 @@ pub mod Legal
 pub mod Open
 pub mod Handed
 pub mod Bound
+pub mod Laws
 pub mod Limiter
