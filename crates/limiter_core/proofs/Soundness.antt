@@ -79,7 +79,7 @@ module _ {S : Type 0} (g : Gate S) where
         let k : ℕ = place_of g.rows permit.part in
         let fits : (p : ℕ) → cond (k == p) 1 0 ≤ i.inflight p = call_fits i (End permit outcome now) may in
         subst (λ (j : Image S). owed j + 1 ≤ owed i) (sym (after_end g i permit outcome now (Ended 0)))
-          (omega (arith, ones k (small_place g.rows permit.part s.four), fits 0, fits 1, fits 2, fits 3, fits 4))
+        (omega (arith, ones k (small_place g.rows permit.part s.four), fits 0, fits 1, fits 2, fits 3, fits 4))
     owed_answer (Acquire part bypass now) may served = absurd (true≢false (sym served))
     owed_answer (SetLimit n now) may served = absurd (true≢false (sym served))
     owed_answer (Reset now) may served = absurd (true≢false (sym served))

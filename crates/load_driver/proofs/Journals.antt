@@ -66,10 +66,10 @@ module _ {S : Type 0} (laws : Algorithm S) (lawful : IsLawful laws) (j : Journal
         → IsJournal laws (record { rows = next.rows; first = j.first; entries = es; kept = j.kept }) next wider
     journal_more next r es wider same replied leads grown more =
         let made : IsJournal laws (record j { entries = j.entries ++ answer (gate laws j) (opening j) j.entries e }) next wider
-            = journal_answered next wider same (leads ∙ ap (λ (x : Reply). image_after (gate laws j) (image laws j) (Call e x ∷ [])) replied) more in
+        = journal_answered next wider same (leads ∙ ap (λ (x : Reply). image_after (gate laws j) (image laws j) (Call e x ∷ [])) replied) more in
         let grew : j.entries ++ answer (gate laws j) (opening j) j.entries e ≡ es = ap (λ (x : Reply). j.entries ++ Call e x ∷ []) (sym replied) ∙ grown in
         let path : record j { entries = j.entries ++ answer (gate laws j) (opening j) j.entries e } ≡ record { rows = next.rows; first = j.first; entries = es; kept = j.kept }
-            = λ k. record { rows = sym same k; first = j.first; entries = grew k; kept = j.kept } in
+        = λ k. record { rows = sym same k; first = j.first; entries = grew k; kept = j.kept } in
         subst (λ (k : Journal S). IsJournal laws k next wider) path made
 
   -- a place is left

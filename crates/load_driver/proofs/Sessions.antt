@@ -35,9 +35,9 @@ module _ {S : Type 0} (laws : Algorithm S) (j : Journal S) (permits : Permits) (
       let before : get nat_eq between ≡ open_permit 0 j.entries = λ k q. (same q ∙ held.found q) k in
       let place : number ≡ 0 + length j.entries = here ∙ omega arith in
       let step : (q : ℕ) → get nat_eq after q ≡ open_permit 0 (j.entries ++ Call e r ∷ []) q
-          = λ q. noted q ∙ (λ k. open_after (before k) (place k) (Call e r) q) ∙ sym (open_step (gate laws j) (opening j) j.entries held.backed held.handed e r q) in
+      = λ q. noted q ∙ (λ k. open_after (before k) (place k) (Call e r) q) ∙ sym (open_step (gate laws j) (opening j) j.entries held.backed held.handed e r q) in
       subst (λ (k : Journal S). IsSession laws k after) (sym moved)
-        (answered after (λ q. step q ∙ ap (λ (xs : List Entry). open_permit 0 (j.entries ++ xs) q) (sym replied)))
+      (answered after (λ q. step q ∙ ap (λ (xs : List Entry). open_permit 0 (j.entries ++ xs) q) (sym replied)))
 
 -- a session in which nothing was answered, with its permits in another order
 pub session_same : {S : Type 0} (laws : Algorithm S) (j : Journal S) (permits after : Permits) (next : Journal S) → IsSession laws j permits → next ≡ j → ((q : ℕ) → get nat_eq after q ≡ get nat_eq permits q) → IsSession laws next after

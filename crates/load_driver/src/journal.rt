@@ -43,7 +43,12 @@ impl<L: Limit> Model for Journal<L> {
 
 impl<L: Limit> Journal<L> {
     /// Nothing was asked yet.
-    pub(crate) fn new(alloc: Global, limit: L, table: PartitionTable, kept: usize) -> Result<Journal<L>, AllocError>
+    pub(crate) fn new(
+        alloc: Global,
+        limit: L,
+        table: PartitionTable,
+        kept: usize,
+    ) -> Result<Journal<L>, AllocError>
         requires { kept ≤ MOST_KEPT }
         ensures { IfOk result (λ journal. journal ≡ record { rows = table; first = limit; entries = []; kept = kept }) }
     {

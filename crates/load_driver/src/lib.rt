@@ -7,6 +7,7 @@
 
 mod answers;
 mod driver;
+mod faults;
 mod formats;
 mod journal;
 mod kinds;
