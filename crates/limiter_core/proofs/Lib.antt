@@ -1,0 +1,10 @@
+pub mod Images
+pub mod Steps
+pub mod Legals
+pub mod Endings
+pub mod Sounds
+pub mod Soundness
+pub mod Bounded
+pub mod Owed
+pub mod Refusals
+pub mod Admissions
