@@ -8,3 +8,7 @@ pub mod Bounded
 pub mod Owed
 pub mod Refusals
 pub mod Admissions
+pub mod Counts
+pub mod States
+pub mod Holding
+pub mod Applying

@@ -45,7 +45,7 @@ find-counted t [] e = absurd (true≢false (sym e))
 find-counted t (x ∷ xs) e = subst (λ (m : ℕ). 0 < m) (sym (sum_by-cons (λ y. cond (t y) 1 0) x xs)) (head-find (t x) x (find t xs) (count_by t xs) (find-counted t xs) e)
 
 -- each granted permit is of one of the five places
-placed : {S : Type 0} (g : Gate S) (gs : List PermitFacts) → length g.rows ≤ 4 → sum_by (λ p. count_by (λ permit. place_of g.rows permit.part == p) gs) places ≡ length gs
+pub placed : {S : Type 0} (g : Gate S) (gs : List PermitFacts) → length g.rows ≤ 4 → sum_by (λ p. count_by (λ permit. place_of g.rows permit.part == p) gs) places ≡ length gs
 placed g [] four = refl
 placed g (x ∷ xs) four =
     let k : ℕ = place_of g.rows x.part in
@@ -59,7 +59,7 @@ owed-most g i s =
 
 module _ {S : Type 0} (g : Gate S) (four : length g.rows ≤ 4) where
   -- a promotion is owed: it makes up for two of the three that its waiter was counted for
-  owed-next : (i : Image S) (start : ℕ) (w : Waiter) → next_waiter g i ≡ Some w → owed (image_after g i (promotion i start w ∷ [])) + 1 ≤ owed i
+  pub owed-next : (i : Image S) (start : ℕ) (w : Waiter) → next_waiter g i ≡ Some w → owed (image_after g i (promotion i start w ∷ [])) + 1 ≤ owed i
   owed-next i start w e =
       let k : ℕ = place_of g.rows w.part in
       let out : length (filter (λ v. not (v.number == w.number)) i.waiters) + count_by (λ v. v.number == w.number) i.waiters ≡ length i.waiters = gone (λ (v : Waiter). v.number == w.number) i.waiters in
@@ -87,7 +87,7 @@ module _ {S : Type 0} (g : Gate S) (four : length g.rows ≤ 4) where
       (omega (arith, gone (λ (w : Waiter). w.number == n) i.waiters, any-counted (λ (w : Waiter). w.number == n) i.waiters r))
   owed-give_up i n None false q r e = absurd (true≢false (sym e))
 
-  owed-call : (i : Image S) (e : Event) → MayCome g i e → is_always_served i e ≡ true → owed (image_after g i (Call e (reply_to g i e) ∷ [])) + 1 ≤ owed i
+  pub owed-call : (i : Image S) (e : Event) → MayCome g i e → is_always_served i e ≡ true → owed (image_after g i (Call e (reply_to g i e) ∷ [])) + 1 ≤ owed i
   owed-call i (End permit outcome now) may t = subst (λ (j : Image S). owed j + 1 ≤ owed i) (sym (after_end g i permit outcome now (Ended 0)))
       (omega (arith, owed-end i (place_of g.rows permit.part) (call-fits g i (End permit outcome now) may) (small-place g.rows permit.part four)))
   owed-call i (GiveUp n) may t = owed-give_up i n (granted_of i n) (waits i n) refl refl t

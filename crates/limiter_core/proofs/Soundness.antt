@@ -129,7 +129,7 @@ module _ {S : Type 0} (g : Gate S) (lawful : IsLawful g.rules) where
     sound-call (Reset now) may = subst (IsSound g) (sym (after_reset g i now ResetDone)) (sound_state g i s _ (lawful.after_reset i.state s.within).within (lawful.after_reset i.state s.within).hi)
     sound-call (Look part) may = subst (IsSound g) (sym (after_look g i part (reply_to g i (Look part)))) (sound_quiet g i s)
 
-    sound-next : (start : ℕ) (w : Waiter) → next_waiter g i ≡ Some w → IsSound g (image_after g i (promotion i start w ∷ []))
+    pub sound-next : (start : ℕ) (w : Waiter) → next_waiter g i ≡ Some w → IsSound g (image_after g i (promotion i start w ∷ []))
     sound-next start w e =
         let found : Found (λ v. has_room g i (place_of g.rows v.part)) (candidates i.waiters) w = ⊎_elim (none-some w) (λ f. f) (last-found (λ v. has_room g i (place_of g.rows v.part)) w None (candidates i.waiters) e) in
         subst (IsSound g) (sym (after_promotion g i w.number w.part start (total i + 1)))

@@ -105,7 +105,7 @@ module _ {S : Type 0} (g : Gate S) (i : Image S) where
   waiter-counted (x ∷ xs) zero d h = subst (λ (m : ℕ). 0 < m) (sym (sum_by-cons (λ (w : Waiter). cond (w.number == x.number) 1 0) x xs)) (subst (λ (b : Bool). 0 < cond b 1 0 + count_by (λ w. w.number == x.number) xs) (sym (eq-eqb x.number x.number refl)) (omega arith))
   waiter-counted (x ∷ xs) (suc k) d h = omega (arith, waiter-counted xs k d (omega (arith, h)), sum_by-cons (λ (w : Waiter). cond (w.number == (get_or xs k d).number) 1 0) x xs)
 
-  waiter-below : IsSound g i → (k : ℕ) (d : Waiter) → k < length i.waiters → (get_or i.waiters k d).number < i.next
+  pub waiter-below : IsSound g i → (k : ℕ) (d : Waiter) → k < length i.waiters → (get_or i.waiters k d).number < i.next
   waiter-below s k d h = at (nat_lt (get_or i.waiters k d).number i.next) refl
     where
       at : (b : Bool) → nat_lt (get_or i.waiters k d).number i.next ≡ b → (get_or i.waiters k d).number < i.next

@@ -4,5 +4,7 @@ pub mod Legal
 pub mod Bound
 pub mod Laws
 pub mod Counting
+pub mod Held
 pub mod Limiter
+pub mod Standing
 pub mod Runs

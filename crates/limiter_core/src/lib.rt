@@ -3,7 +3,9 @@
 
 mod counters;
 mod event;
+mod granted;
 mod laws;
+mod permits;
 mod state;
 
 pub use counters::Counters;
