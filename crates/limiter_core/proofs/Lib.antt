@@ -12,3 +12,4 @@ pub mod Counts
 pub mod States
 pub mod Holding
 pub mod Applying
+pub mod Countings

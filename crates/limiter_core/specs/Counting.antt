@@ -1,5 +1,5 @@
 -- Counters: what entries add to them, each by a filter over the whole list.
-use Rattle.std.specs.Prelude.{ℕ, ◌+◌, Bool, true, false, List, count_by}
+use Rattle.std.specs.Prelude.{ℕ, ◌+◌, ◌≤◌, Bool, true, false, List, count_by}
 use Rattle.limiter_core.specs.declared.event.Outcome.{Outcome}
 use Rattle.limiter_core.specs.declared.event.Outcome.TheVariants.{Success, Ignored, Dropped}
 use Rattle.limiter_core.specs.declared.event.Event.{Event}
@@ -65,3 +65,36 @@ counters_after c h = record {
   ignored = c.ignored + count_by is_ignored h;
   dropped = c.dropped + count_by is_dropped h;
 }
+
+-- a new core has counted nothing
+abbrev pub no_counts : Counters
+no_counts = record { admitted = 0; bypassed = 0; full = 0; backlog_full = 0; waiting = 0; promoted = 0; timed_out = 0; success = 0; ignored = 0; dropped = 0 }
+
+-- no counter is above a number
+pub record AreAtMost (c : Counters) (n : ℕ) : Type 0 where
+  pub admitted : c.admitted ≤ n
+  pub bypassed : c.bypassed ≤ n
+  pub full : c.full ≤ n
+  pub backlog_full : c.backlog_full ≤ n
+  pub waiting : c.waiting ≤ n
+  pub promoted : c.promoted ≤ n
+  pub timed_out : c.timed_out ≤ n
+  pub success : c.success ≤ n
+  pub ignored : c.ignored ≤ n
+  pub dropped : c.dropped ≤ n
+
+-- what one reply, and the outcome of one event, add
+abbrev pub after_reply : Counters → Reply → Counters
+after_reply c (Admitted inflight) = record c { admitted = c.admitted + 1 }
+after_reply c Bypassed = record c { bypassed = c.bypassed + 1 }
+after_reply c Full = record c { full = c.full + 1 }
+after_reply c BacklogFull = record c { backlog_full = c.backlog_full + 1 }
+after_reply c Waiting = record c { waiting = c.waiting + 1 }
+after_reply c TimedOut = record c { timed_out = c.timed_out + 1 }
+after_reply c _ = c
+
+abbrev pub after_outcome : Counters → Event → Counters
+after_outcome c (End permit Success now) = record c { success = c.success + 1 }
+after_outcome c (End permit Ignored now) = record c { ignored = c.ignored + 1 }
+after_outcome c (End permit Dropped now) = record c { dropped = c.dropped + 1 }
+after_outcome c _ = c

@@ -1,0 +1,221 @@
+// The sequential limiter.
+ghost use Rattle.std.specs.Prelude.{◌≡◌, ◌≤◌, ◌<◌, ◌+◌, ◌*◌, ◌^◌, ◌∷◌, [], ◌↔◌, IsTrue, map, length, find, is_some, option_to_list, vec_capacity, IfOk, IsOkUnless};
+ghost use Rattle.std.specs.List.{list_any};
+ghost use Rattle.partitions.specs.Table.{place_of, bound};
+ghost use Rattle.limiter_core.specs.declared.event.Entry.TheVariants.{Call};
+ghost use Rattle.limiter_core.specs.History.{image_after, total, limit};
+ghost use Rattle.limiter_core.specs.Answer.{answer, granted_of, waits};
+ghost use Rattle.limiter_core.specs.Legal.{MayCome};
+ghost use Rattle.limiter_core.specs.Bound.{IsNumbered, owed, most_owed};
+ghost use Rattle.limiter_core.specs.Counting.{counters_after, no_counts};
+ghost use Rattle.limiter_core.specs.Limiter.{Limiter, gate_of, stands, entry_of};
+
+use super::counters::Counters;
+use super::event::{Event, PermitFacts, Promotion, Reply};
+use super::granted::GrantedPermits;
+use super::permits::Permits;
+use super::state::State;
+use lifo_backlog::{Backlog, BacklogFault};
+use limit_laws::Limit;
+use partitions::{Part, PartitionTable};
+use std::alloc::Global;
+use std::marker::Model;
+
+/// Why a core is not made.
+#[derive(Clone, Copy, Debug, PartialEq, Eq)]
+pub enum CoreFault {
+    /// Memory is wanting.
+    Memory,
+    /// More than 10,000 were to be let wait.
+    Room,
+}
+
+/// The sequential limiter over an algorithm.
+///
+/// Contracts see it as a [`Limiter`](specs): its partitions, how many may wait, and what stands.
+#[derive(Drop)]
+pub struct Core<L: Limit> {
+    state: State<L>,
+    promoted: Vec<Promotion>,
+    counters: Counters,
+}
+
+impl<L: Limit> Model for Core<L> {
+    ghost use Rattle.std.specs.Prelude.{◌≤◌, vec_capacity};
+    ghost use Rattle.limiter_core.specs.Limiter.{Limiter};
+    ghost use Rattle.limiter_core.specs.Standing.{IsHeld};
+    ghost use Rattle.limiter_core.specs.Counting.{AreAtMost};
+
+    ghost Value = { Limiter L };
+
+    ghost view = { λ c. record { rows = c.state.table; room = c.state.backlog.room; state = c.state.limit; counts = c.state.permits.counts; waiters = c.state.backlog.waiters; granted = c.state.granted.permits; next = c.state.next; promoted = c.promoted.items; counters = c.counters } };
+
+    ghost invariant = { λ c. IsHeld L.rules c.state × (1 ≤ vec_capacity c.promoted) × AreAtMost c.counters c.state.next };
+}
+
+impl<L: Limit> Core<L> {
+    /// A limiter over these partitions, in which nothing is in flight and up to `room` may wait.
+    ///
+    /// [`CoreFault::Room`] where `room` is above 10,000, else [`CoreFault::Memory`] where memory is
+    /// wanting: all that a core ever needs is taken here.
+    pub fn new(alloc: Global, limit: L, table: PartitionTable, room: u32) -> Result<Core<L>, CoreFault>
+        ensures made { IfOk result (λ core. core ≡ record { rows = table; room = room; state = limit; counts = 0 ∷ 0 ∷ 0 ∷ 0 ∷ 0 ∷ []; waiters = []; granted = []; next = 0; promoted = []; counters = no_counts }) }
+        ensures room { 10000 < room → result ≡ Err CoreFault.Room }
+        ensures memory { room ≤ 10000 → IsOkUnless result CoreFault.Memory }
+    {
+        let backlog = match Backlog::new(alloc, room) {
+            Ok(backlog) => backlog,
+            Err(BacklogFault::Room) => return Err(CoreFault::Room),
+            Err(BacklogFault::Memory) => return Err(CoreFault::Memory),
+        };
+        prove!(table.len() <= 4);
+        let most = table.most(limit.hi()) as u32;
+        let Ok(permits) = Permits::new(alloc, most) else {
+            return Err(CoreFault::Memory);
+        };
+        let Ok(granted) = GrantedPermits::new(alloc, most) else {
+            return Err(CoreFault::Memory);
+        };
+        let Ok(promoted) = Vec::with_capacity(alloc, 1) else {
+            return Err(CoreFault::Memory);
+        };
+        Ok(Core {
+            state: State {
+                limit,
+                table,
+                permits,
+                backlog,
+                granted,
+                next: 0,
+            },
+            promoted,
+            counters: Counters::default(),
+        })
+    }
+
+    /// Answers an event by the reply rule, and then stands where that answer leaves it.
+    ///
+    /// An ending asks that more of its partition are in flight than lie granted. The next number is
+    /// below 2^62, but for endings and for givings up of a number that waits or lies granted, which
+    /// are answered as long as something is owed. Takes no memory.
+    pub fn apply(&mut self, event: Event) -> Reply
+        requires may { MayCome (gate_of L.rules self.old) (stands self.old) event }
+        requires number { IsNumbered (gate_of L.rules self.old) (stands self.old) event }
+        ensures entries { Call event result ∷ map entry_of self.new.promoted ≡ answer (gate_of L.rules self.old) (stands self.old) [] event }
+        ensures stands { stands self.new ≡ image_after (gate_of L.rules self.old) (stands self.old) (Call event result ∷ map entry_of self.new.promoted) }
+        ensures gate { gate_of L.rules self.new ≡ gate_of L.rules self.old }
+        ensures counters { self.new.counters ≡ counters_after self.old.counters (Call event result ∷ map entry_of self.new.promoted) }
+    {
+        let (reply, promotion) = self.state.apply(event);
+        self.counters.count(event, reply, promotion);
+        keep(&mut self.promoted, promotion);
+        reply
+    }
+
+    /// The promotions of the last call.
+    pub fn promotions(&self) -> &[Promotion]
+        ensures { result.now ≡ self.now.promoted }
+    {
+        &self.promoted
+    }
+
+    /// The number of the next entry. It leaves room for the numbers of all entries that are owed.
+    pub fn next_number(&self) -> u64
+        ensures value { result ≡ self.now.next }
+        ensures owed { result + owed (stands self.now) ≤ 2 ^ 62 + most_owed (gate_of L.rules self.now) (stands self.now) }
+    {
+        self.state.next
+    }
+
+    /// The limit now, in permits.
+    pub fn limit(&self) -> u32
+        ensures { result ≡ limit (gate_of L.rules self.now) (stands self.now) }
+    {
+        self.state.limit.limit()
+    }
+
+    /// How many permits aren't ended.
+    pub fn total(&self) -> u32
+        ensures value { result ≡ total (stands self.now) }
+        ensures bounded { result ≤ bound self.now.rows (L.rules.hi self.now.state) }
+    {
+        self.state.permits.total()
+    }
+
+    /// How many permits of a partition aren't ended.
+    pub fn inflight(&self, part: Part) -> u32
+        ensures { result ≡ (stands self.now).inflight (place_of self.now.rows part) }
+    {
+        self.state.permits.count(self.state.table.place(part))
+    }
+
+    /// How many wait.
+    pub fn waiting(&self) -> u32
+        ensures { result ≡ length self.now.waiters }
+    {
+        self.state.backlog.len()
+    }
+
+    /// How many promoted permits lie granted, which nobody has got yet.
+    pub fn granted(&self) -> u32
+        ensures { result ≡ length self.now.granted }
+    {
+        self.state.granted.len()
+    }
+
+    /// Whether this number waits.
+    pub fn is_waiting(&self, number: u64) -> bool
+        ensures { result ≡ waits (stands self.now) number }
+    {
+        self.state.backlog.holds(number)
+    }
+
+    /// Whether a permit of this number lies granted.
+    pub fn is_granted(&self, number: u64) -> bool
+        ensures { result ≡ is_some (granted_of (stands self.now) number) }
+    {
+        self.granted_permit(number).is_some()
+    }
+
+    /// The permit of this number that lies granted.
+    pub fn granted_permit(&self, number: u64) -> Option<PermitFacts>
+        ensures { result ≡ granted_of (stands self.now) number }
+    {
+        self.state.granted.find(number)
+    }
+
+    /// How many replies, promotions and outcomes of each kind there were since this core was made.
+    pub fn counters(&self) -> Counters
+        ensures { result ≡ self.now.counters }
+    {
+        self.counters
+    }
+
+    /// The known partitions and their shares.
+    pub fn table(&self) -> &PartitionTable
+        ensures { result.now ≡ self.now.rows }
+    {
+        &self.state.table
+    }
+
+    /// How many may wait: 0 to 10,000.
+    pub fn room(&self) -> u32
+        ensures value { result ≡ self.now.room }
+        ensures most { result ≤ 10000 }
+    {
+        self.state.backlog.room()
+    }
+}
+
+/// Keeps one promotion, or none.
+fn keep(promoted: &mut Vec<Promotion>, promotion: Option<Promotion>)
+    requires { 1 ≤ vec_capacity promoted.old }
+    ensures items { promoted.new.items ≡ option_to_list promotion }
+    ensures room { 1 ≤ vec_capacity promoted.new }
+{
+    promoted.clear();
+    match promotion {
+        Some(promotion) => promoted.push_reserved(promotion),
+        None => {}
+    }
+}
