@@ -5,6 +5,7 @@ pub mod Bound
 pub mod Laws
 pub mod Counting
 pub mod Held
+pub mod Faults
 pub mod Limiter
 pub mod Standing
 pub mod Runs

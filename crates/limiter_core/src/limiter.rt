@@ -12,27 +12,20 @@ ghost use Rattle.limiter_core.specs.Limiter.{Limiter, gate_of, stands, entry_of}
 
 use super::counters::Counters;
 use super::event::{Event, PermitFacts, Promotion, Reply};
+use super::fault::CoreFault;
 use super::granted::GrantedPermits;
 use super::permits::Permits;
 use super::state::State;
-use lifo_backlog::{Backlog, BacklogFault};
+use lifo_backlog::Backlog;
 use limit_laws::Limit;
 use partitions::{Part, PartitionTable};
 use std::alloc::Global;
 use std::marker::Model;
 
-/// Why a core is not made.
-#[derive(Clone, Copy, Debug, PartialEq, Eq)]
-pub enum CoreFault {
-    /// Memory is wanting.
-    Memory,
-    /// More than 10,000 were to be let wait.
-    Room,
-}
-
 /// The sequential limiter over an algorithm.
 ///
-/// Contracts see it as a [`Limiter`](specs): its partitions, how many may wait, and what stands.
+/// Contracts see it as its settings, what stands, the promotions of the last call and the counters
+/// (`specs/Limiter.antt`).
 #[derive(Drop)]
 pub struct Core<L: Limit> {
     state: State<L>,
@@ -63,22 +56,12 @@ impl<L: Limit> Core<L> {
         ensures room { 10000 < room → result ≡ Err CoreFault.Room }
         ensures memory { room ≤ 10000 → IsOkUnless result CoreFault.Memory }
     {
-        let backlog = match Backlog::new(alloc, room) {
-            Ok(backlog) => backlog,
-            Err(BacklogFault::Room) => return Err(CoreFault::Room),
-            Err(BacklogFault::Memory) => return Err(CoreFault::Memory),
-        };
+        let backlog = Backlog::new(alloc, room)?;
         prove!(table.len() <= 4);
         let most = table.most(limit.hi()) as u32;
-        let Ok(permits) = Permits::new(alloc, most) else {
-            return Err(CoreFault::Memory);
-        };
-        let Ok(granted) = GrantedPermits::new(alloc, most) else {
-            return Err(CoreFault::Memory);
-        };
-        let Ok(promoted) = Vec::with_capacity(alloc, 1) else {
-            return Err(CoreFault::Memory);
-        };
+        let permits = Permits::new(alloc, most)?;
+        let granted = GrantedPermits::new(alloc, most)?;
+        let promoted = Vec::with_capacity(alloc, 1)?;
         Ok(Core {
             state: State {
                 limit,
