@@ -1,0 +1,121 @@
+ghost use Rattle.std.specs.Prelude.{◌≡◌, ℕ, ◌<◌, ◌≤◌, ◌==◌, ◌↔◌, not, [], ◌∷◌, ◌++◌, length, filter, find, All, IfOk, IfSome, OnOk, OnErr, IsErr, IsErrOf, IsTrue};
+ghost use Rattle.std.specs.List.{list_any};
+ghost use Rattle.lifo_backlog.specs.Waiters.{newest_of};
+
+use crate::fault::{BacklogFault, Full};
+use crate::waiter::Waiter;
+use std::alloc::Global;
+use std::marker::Model;
+
+/// The most room that a backlog may have.
+const MOST_ROOM: u32 = 10_000;
+
+/// Those who wait, the newest last, and how many may.
+#[derive(Debug, Drop)]
+pub struct Backlog {
+    waiters: Vec<Waiter>,
+    room: u32,
+}
+
+impl Model for Backlog {
+    ghost use Rattle.std.specs.Prelude.{vec_capacity};
+    ghost use Rattle.lifo_backlog.specs.Waiters.{Waiters, IsBacklog};
+
+    ghost Value = { Waiters };
+
+    ghost view = { λ backlog. record { waiting = backlog.waiters.items; room = backlog.room } };
+
+    ghost invariant = { λ backlog.
+        IsBacklog backlog.waiters.items backlog.room (vec_capacity backlog.waiters) };
+}
+
+impl Backlog {
+    /// An empty backlog with room for this many waiters, 0 to 10,000, all of it reserved. `Room` comes
+    /// before `Memory`.
+    pub fn new(alloc: Global, room: u32) -> Result<Backlog, BacklogFault>
+        ensures empty { IfOk result (λ backlog. backlog ≡ record { waiting = []; room = room }) }
+        ensures room { IsErrOf result BacklogFault.Room ↔ (10000 < room) }
+    {
+        if room > MOST_ROOM {
+            return Err(BacklogFault::Room);
+        }
+        let waiters = Vec::with_capacity(alloc, room as usize)?;
+        Ok(Backlog { waiters, room })
+    }
+
+    /// Adds the newest waiter, whose number is above those of all who wait.
+    pub fn push(&mut self, waiter: Waiter) -> Result<(), Full>
+        requires { All (λ (one : Waiter). one.number < waiter.number) self.old.waiting }
+        ensures added { OnOk result
+            (self.new ≡ record self.old { waiting = self.old.waiting ++ waiter ∷ [] }) }
+        ensures full { IsErr result ↔ (length self.old.waiting ≡ self.old.room) }
+        ensures unchanged { OnErr result (self.new ≡ self.old) }
+    {
+        if self.waiters.len() == self.room as usize {
+            return Err(Full);
+        }
+        self.waiters.push_reserved(waiter);
+        Ok(())
+    }
+
+    /// The waiter that came last, which has the greatest number.
+    pub fn newest(&self) -> Option<Waiter>
+        ensures last { result ≡ newest_of self.now.waiting }
+        ensures greatest { IfSome result
+            (λ newest. All (λ (one : Waiter). one.number ≤ newest.number) self.now.waiting) }
+    {
+        self.waiters.last().copied()
+    }
+
+    /// Takes the waiter with this number out, wherever it stands, and no other.
+    pub fn take(&mut self, number: u64) -> Option<Waiter>
+        ensures taken { result ≡ find (λ one. one.number == number) self.old.waiting }
+        ensures others { self.new ≡ record self.old {
+          waiting = filter (λ one. not (one.number == number)) self.old.waiting;
+        } }
+    {
+        let taken = self.find(number);
+        self.waiters.retain(|waiter| waiter.number != number);
+        taken
+    }
+
+    /// The waiter with this number.
+    fn find(&self, number: u64) -> Option<Waiter>
+        ensures { result ≡ find (λ one. one.number == number) self.now.waiting }
+    {
+        self.waiters
+            .iter()
+            .find(|waiter| waiter.number == number)
+            .copied()
+    }
+
+    /// Whether the waiter with this number waits.
+    pub fn waits(&self, number: u64) -> bool
+        ensures { result ≡ list_any (λ one. one.number == number) self.now.waiting }
+    {
+        self.waiters.iter().any(|waiter| waiter.number == number)
+    }
+
+    /// How many wait.
+    pub fn len(&self) -> usize
+        ensures waiters { result ≡ length self.now.waiting }
+        ensures within_room { result ≤ self.now.room }
+    {
+        self.waiters.len()
+    }
+
+    /// Whether nobody waits.
+    pub fn is_empty(&self) -> bool
+        ensures { IsTrue result ↔ (self.now.waiting ≡ []) }
+    {
+        self.waiters.is_empty()
+    }
+
+    /// How many may wait, 0 to 10,000.
+    pub fn room(&self) -> u32
+        ensures room { result ≡ self.now.room }
+        ensures at_most { result ≤ 10000 }
+    {
+        self.room
+    }
+}
