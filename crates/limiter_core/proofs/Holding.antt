@@ -4,6 +4,7 @@ use Rattle.std.specs.List.{last_or}
 use Rattle.limit_laws.specs.Algorithm.{Algorithm, IsLawful}
 use Rattle.partitions.specs.Table.{Row, place_of, bound}
 use Rattle.lifo_backlog.specs.declared.waiter.Waiter.{Waiter}
+use Rattle.lifo_backlog.specs.Waiters.{newest_of}
 use Rattle.limiter_core.specs.declared.event.Event.{Event}
 use Rattle.limiter_core.specs.declared.event.Reply.{Reply}
 use Rattle.limiter_core.specs.declared.event.Entry.{Entry}
@@ -63,12 +64,12 @@ module _ {S : Type 0} (rules : Algorithm S) where
           (omega (arith, next, ap owed right, call-counted e (is_always_served Now e) refl may below))
 
     -- the newest waiter is the next one where it has room, and else nobody is
-    pub next_is : (w : Waiter) → last_or None s.backlog.waiters ≡ Some w → has_room Gated Now (place_of s.table w.part) ≡ true → next_waiter Gated Now ≡ Some w
+    pub next_is : (w : Waiter) → newest_of s.backlog.waiting ≡ Some w → has_room Gated Now (place_of s.table w.part) ≡ true → next_waiter Gated Now ≡ Some w
     next_is w newest room =
         ap (λ (o : Option Waiter). last_or None (filter (λ v. has_room Gated Now (place_of s.table v.part)) (option_to_list o))) newest
           ∙ ap (λ (b : Bool). last_or None (cond b (w ∷ []) [])) room
 
-    pub held_promoted : (t : State S) (w : Waiter) (start n : ℕ) → last_or None s.backlog.waiters ≡ Some w → has_room Gated Now (place_of s.table w.part) ≡ true → n ≡ total Now
+    pub held_promoted : (t : State S) (w : Waiter) (start n : ℕ) → newest_of s.backlog.waiting ≡ Some w → has_room Gated Now (place_of s.table w.part) ≡ true → n ≡ total Now
         → stands_in t ≡ image_after Gated Now (Promotion w.number w.part start (n + 1) ∷ []) → KeepsRooms s t → IsHeld rules t
     held_promoted t w start n newest room all stands kept =
         let right : stands_in t ≡ image_after Gated Now (promotion Now start w ∷ []) = stands ∙ ap (λ (m : ℕ). image_after Gated Now (Promotion w.number w.part start (m + 1) ∷ [])) all in

@@ -1,7 +1,9 @@
 -- A legal history from a sound opening ends sound.
-use Rattle.std.proofs.Common.{◌≡◌, ℕ, zero, suc, ◌+◌, ◌<◌, ◌≤◌, ◌==◌, List, [], ◌∷◌, ◌++◌, Bool, true, false, cond, length, Option, None, Some, option_to_list, map, unwrap_or, filter, find, count_by, nat_lt, Result, Ok, Err, IfOk, refl, sym, ap, ◌∙◌, subst, arith, append_assoc, append-nil, ltb, ltb-true, zero-le, inl, inr, ◌⊎◌, ⊎_elim, le_trans, is_some, true≢false, eq-eqb, eqb-true}
+use Rattle.std.proofs.Common.{◌≡◌, ℕ, zero, suc, ◌+◌, ◌<◌, ◌≤◌, ◌==◌, List, [], ◌∷◌, ◌++◌, Bool, true, false, cond, length, Option, None, Some, option_to_list, map, unwrap_or, filter, find, count_by, nat_lt, Result, Ok, Err, IfOk, refl, sym, ap, ◌∙◌, subst, arith, append_assoc, append-nil, ltb, ltb-true, zero-le, inl, inr, ◌⊎◌, ⊎_elim, le_trans, is_some, true≢false, eq-eqb, eqb-true, get_or, ◌-◌}
 use Rattle.std.specs.List.{last_or, list_any}
 use Rattle.std.proofs.lemmas.List.Sums.{sum_by-cons}
+use Rattle.std.proofs.lemmas.Option.{get_or_from_slice_get}
+use Rattle.lifo_backlog.specs.Waiters.{newest_of}
 use Rattle.limit_laws.specs.Algorithm.{IsWithin, IsLawful, Follows}
 use Rattle.limit_laws.specs.declared.limit.SetFault.{SetFault}
 use Rattle.partitions.specs.declared.part.Part.{Part}
@@ -24,7 +26,7 @@ use Rattle.limiter_core.proofs.Images.{IsBacked, image_nil, image-append}
 use Rattle.limiter_core.proofs.Steps.{after_bypassed, after_full, after_backlog_full, after_waiting, after_admitted, after_end, after_claim_waits, after_claim_lost, after_claim_granted, after_give_up_granted, after_give_up_lost, after_timed_out, after_set, after_reset, after_look, after_promotion}
 use Rattle.limiter_core.proofs.Endings.{ending_within, ending_hi}
 use Rattle.limiter_core.proofs.Legals.{backed_legal, backed-push, call-fits}
-use Rattle.limiter_core.proofs.Sounds.{sound_quiet, sound_admitted, sound_waiting, sound_handed, sound_timed_out, sound_state, sound_end, sound_promotion}
+use Rattle.limiter_core.proofs.Sounds.{waiter-counted, sound_quiet, sound_admitted, sound_waiting, sound_handed, sound_timed_out, sound_state, sound_end, sound_promotion}
 
 known-place : (rows : List Row) (k : ℕ) (b : Bool) → ltb k (length rows) ≡ b → length rows ≤ 4 → cond b k 4 < 5
 known-place rows k true e four = omega (arith, four, ltb-true k (length rows) e)
@@ -60,14 +62,13 @@ module _ (t : Waiter → Bool) (w : Waiter) where
 none-some : {P : Type 0} (w : Waiter) → None ≡ Some w → P
 none-some w e = absurd (true≢false (sym (ap is_some e)))
 
-last-in : (w : Waiter) (xs : List Waiter) → last_or None xs ≡ Some w → 0 < count_by (λ v. v.number == w.number) xs
-last-in w xs e = ⊎_elim (none-some w) (λ f. f.1) (last-found (λ v. true) w None xs (ap (λ (ys : List Waiter). last_or None ys) (filter-true xs) ∙ e))
-  where
-    filter-true : (ys : List Waiter) → filter (λ v. true) ys ≡ ys
-    filter-true [] = refl
-    filter-true (y ∷ ys) = ap (λ (zs : List Waiter). y ∷ zs) (filter-true ys)
+last-in : (w : Waiter) (xs : List Waiter) → newest_of xs ≡ Some w → 0 < count_by (λ v. v.number == w.number) xs
+last-in w [] e = none-some w e
+last-in w (x ∷ xs) e =
+    let same : get_or (x ∷ xs) (length (x ∷ xs) - 1) x ≡ w = get_or_from_slice_get (x ∷ xs) (length (x ∷ xs) - 1) w x e in
+    subst (λ (v : Waiter). 0 < count_by (λ u. u.number == v.number) (x ∷ xs)) same (waiter-counted (x ∷ xs) (length (x ∷ xs) - 1) x (omega arith))
 
-one-of : (o : Option Waiter) (w : Waiter) (xs : List Waiter) → last_or None xs ≡ o → 0 < count_by (λ v. v.number == w.number) (option_to_list o) → 0 < count_by (λ v. v.number == w.number) xs
+one-of : (o : Option Waiter) (w : Waiter) (xs : List Waiter) → newest_of xs ≡ o → 0 < count_by (λ v. v.number == w.number) (option_to_list o) → 0 < count_by (λ v. v.number == w.number) xs
 one-of None w xs e h = absurd (omega (arith, h))
 one-of (Some v) w xs e h = same (v.number == w.number) refl h
   where
@@ -76,7 +77,7 @@ one-of (Some v) w xs e h = same (v.number == w.number) refl h
     same false q k = absurd (omega (arith, k))
 
 candidate-in : (w : Waiter) (xs : List Waiter) → 0 < count_by (λ v. v.number == w.number) (candidates xs) → 0 < count_by (λ v. v.number == w.number) xs
-candidate-in w xs h = one-of (last_or None xs) w xs refl h
+candidate-in w xs h = one-of (newest_of xs) w xs refl h
 
 pub next_counted : {S : Type 0} (g : Gate S) (i : Image S) (w : Waiter) → next_waiter g i ≡ Some w → 0 < count_by (λ v. v.number == w.number) i.waiters
 next_counted g i w e =

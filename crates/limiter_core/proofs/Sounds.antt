@@ -13,7 +13,13 @@ use Rattle.partitions.specs.Table.{Row, place_of, share, row_share, percent_shar
 use Rattle.partitions.proofs.Shares.{percent_share-divides}
 use Rattle.limiter_core.specs.History.{Gate, Image, limit, total}
 use Rattle.limiter_core.specs.Answer.{granted_at, has_room}
-use Rattle.limiter_core.specs.Bound.{IsSound, bound_at, named, IsRising}
+use Rattle.limiter_core.specs.Bound.{IsSound, bound_at, named}
+
+-- a waiter's own number is counted
+pub waiter-counted : (xs : List Waiter) (k : ℕ) (d : Waiter) → k < length xs → 0 < count_by (λ w. w.number == (get_or xs k d).number) xs
+waiter-counted [] k d h = absurd (omega (arith, h))
+waiter-counted (x ∷ xs) zero d h = subst (λ (m : ℕ). 0 < m) (sym (sum_by-cons (λ (w : Waiter). cond (w.number == x.number) 1 0) x xs)) (subst (λ (b : Bool). 0 < cond b 1 0 + count_by (λ w. w.number == x.number) xs) (sym (eq-eqb x.number x.number refl)) (omega arith))
+waiter-counted (x ∷ xs) (suc k) d h = omega (arith, waiter-counted xs k d (omega (arith, h)), sum_by-cons (λ (w : Waiter). cond (w.number == (get_or xs k d).number) 1 0) x xs)
 
 min-up : (a s d : ℕ) → min a s ≤ min (a + d) s
 min-up a s d = omega arith
@@ -100,11 +106,6 @@ module _ {S : Type 0} (g : Gate S) (i : Image S) where
   }
 
   -- whoever waits has a number below the next one
-  waiter-counted : (xs : List Waiter) (k : ℕ) (d : Waiter) → k < length xs → 0 < count_by (λ w. w.number == (get_or xs k d).number) xs
-  waiter-counted [] k d h = absurd (omega (arith, h))
-  waiter-counted (x ∷ xs) zero d h = subst (λ (m : ℕ). 0 < m) (sym (sum_by-cons (λ (w : Waiter). cond (w.number == x.number) 1 0) x xs)) (subst (λ (b : Bool). 0 < cond b 1 0 + count_by (λ w. w.number == x.number) xs) (sym (eq-eqb x.number x.number refl)) (omega arith))
-  waiter-counted (x ∷ xs) (suc k) d h = omega (arith, waiter-counted xs k d (omega (arith, h)), sum_by-cons (λ (w : Waiter). cond (w.number == (get_or xs k d).number) 1 0) x xs)
-
   pub waiter-below : IsSound g i → (k : ℕ) (d : Waiter) → k < length i.waiters → (get_or i.waiters k d).number < i.next
   waiter-below s k d h = at (nat_lt (get_or i.waiters k d).number i.next) refl
     where

@@ -5,7 +5,7 @@ use Rattle.limit_laws.specs.declared.limit.SetFault.{SetFault}
 use Rattle.partitions.specs.declared.part.Part.{Part}
 use Rattle.partitions.specs.Table.{place_of, places}
 use Rattle.lifo_backlog.specs.declared.waiter.Waiter.{Waiter}
-use Rattle.lifo_backlog.specs.Stack.{Stack}
+use Rattle.lifo_backlog.specs.Waiters.{Waiters}
 use Rattle.limiter_core.specs.declared.event.Outcome.{Outcome}
 use Rattle.limiter_core.specs.declared.event.PermitFacts.{PermitFacts}
 use Rattle.limiter_core.specs.declared.event.Event.TheVariants.{Acquire, End, Claim, GiveUp, SetLimit, Reset, Look}
@@ -50,12 +50,12 @@ module _ {S : Type 0} (rules : Algorithm S) (s : State S) where
         ∙ sym (after_give_up_granted Gated Now number permit.part permit.start permit.inflight)
         ∙ ap (λ (r : Reply). image_after Gated Now (Call (GiveUp number) r ∷ [])) (sym q)
 
-  pub stands_timed_out : (number : ℕ) (stack : Stack) → stack.waiters ≡ filter (λ w. not (w.number == number)) s.backlog.waiters
+  pub stands_timed_out : (number : ℕ) (stack : Waiters) → stack.waiting ≡ filter (λ w. not (w.number == number)) s.backlog.waiting
       → numbered (stands_in (record s { backlog = stack })) ≡ image_after Gated Now (Call (GiveUp number) TimedOut ∷ [])
   stands_timed_out number stack e =
       ap (λ (ws : List Waiter). record Now { waiters = ws; next = s.next + 1 }) e ∙ sym (after_timed_out Gated Now number)
 
-  pub stands_waiting : (part : Part) (wait : Bool) (now : ℕ) (stack : Stack) → stack.waiters ≡ s.backlog.waiters ++ record { number = s.next; part = part } ∷ []
+  pub stands_waiting : (part : Part) (wait : Bool) (now : ℕ) (stack : Waiters) → stack.waiting ≡ s.backlog.waiting ++ record { number = s.next; part = part } ∷ []
       → numbered (stands_in (record s { backlog = stack })) ≡ image_after Gated Now (Call (Acquire part false wait now) Waiting ∷ [])
   stands_waiting part wait now stack e =
       ap (λ (ws : List Waiter). record Now { waiters = ws; next = s.next + 1 }) e ∙ sym (after_waiting Gated Now part false wait now)
@@ -81,14 +81,14 @@ module _ {S : Type 0} (rules : Algorithm S) (s : State S) where
   pub stands_reset : (now : ℕ) (t : S) (reply : Reply) → t ≡ rules.first s.limit → numbered (stands_in (record s { limit = t })) ≡ image_after Gated Now (Call (Reset now) reply ∷ [])
   stands_reset now t reply e = ap (λ (u : S). record Now { state = u; next = s.next + 1 }) e ∙ sym (after_reset Gated Now now reply)
 
-  pub stands_promoted : (w : Waiter) (start n k : ℕ) (new : Counted) (stack : Stack) (kept : Kept) → k ≡ place_of s.table w.part → IsRaised s.permits.counts k new.counts
-      → stack.waiters ≡ filter (λ v. not (v.number == w.number)) s.backlog.waiters → kept.permits ≡ s.granted.permits ++ record { number = w.number; part = w.part; start = start; inflight = n } ∷ []
+  pub stands_promoted : (w : Waiter) (start n k : ℕ) (new : Counted) (stack : Waiters) (kept : Kept) → k ≡ place_of s.table w.part → IsRaised s.permits.counts k new.counts
+      → stack.waiting ≡ filter (λ v. not (v.number == w.number)) s.backlog.waiting → kept.permits ≡ s.granted.permits ++ record { number = w.number; part = w.part; start = start; inflight = n } ∷ []
       → stands_in (record s { permits = new; backlog = stack; granted = kept; next = s.next + 1 }) ≡ image_after Gated Now (Promotion w.number w.part start n ∷ [])
   stands_promoted w start n k new stack kept place raised out more =
       (λ j. record Now { inflight = λ p. raised p j; waiters = out j; granted = more j; next = s.next + 1 })
         ∙ ap (λ (q : ℕ). record Now {
             inflight = λ p. get_or s.permits.counts p 0 + cond (q == p) 1 0;
-            waiters = filter (λ v. not (v.number == w.number)) s.backlog.waiters;
+            waiters = filter (λ v. not (v.number == w.number)) s.backlog.waiting;
             granted = s.granted.permits ++ record { number = w.number; part = w.part; start = start; inflight = n } ∷ [];
             next = s.next + 1;
           }) place

@@ -1,9 +1,8 @@
 -- Sound images, the bound on what is in flight, and when a history is exhausted.
 use Rattle.std.specs.Prelude.{◌≡◌, ℕ, ◌+◌, ◌*◌, ◌^◌, ◌<◌, ◌≤◌, Bool, true, false, not, ◌&&◌, ◌||◌, min, nat_le, List, [], ◌++◌, length, sum_by, count_by, ◌==◌, is_some, if◌then◌else◌}
-use Rattle.std.specs.List.{AllPairs}
 use Rattle.limit_laws.specs.Algorithm.{IsWithin}
 use Rattle.partitions.specs.Table.{Row, share, known_places, bound}
-use Rattle.lifo_backlog.specs.declared.waiter.Waiter.{Waiter}
+use Rattle.lifo_backlog.specs.Waiters.{IsRising}
 use Rattle.limiter_core.specs.declared.event.Event.{Event}
 use Rattle.limiter_core.specs.declared.event.Event.TheVariants.{Acquire, End, Claim, GiveUp, SetLimit, Reset, Look}
 use Rattle.limiter_core.specs.declared.event.Entry.{Entry}
@@ -19,11 +18,7 @@ bound_at rows hi inflight = hi + sum_by (λ p. min (inflight p) (share rows p hi
 abbrev pub named : {S : Type 0} → Image S → ℕ → ℕ
 named i n = count_by (λ w. w.number == n) i.waiters + count_by (λ permit. permit.number == n) i.granted
 
--- the numbers of waiters rise, from the oldest to the newest
-abbrev pub IsRising : List Waiter → Type 0
-IsRising ws = AllPairs (λ v w. v.number < w.number) ws
-
--- a sound image: its state is within its limits; no more is in flight than the greatest limit and the shares at it allow; each granted permit is in flight; no more wait than may; and the numbers of waiters and granted permits are all different and were given out before
+-- a sound image: its state is within its limits; no more is in flight than the greatest limit and the shares at it allow; each granted permit is in flight; no more wait than may, in rising order of number; and the numbers of waiters and granted permits are all different and were given out before
 pub record IsSound {S : Type 0} (g : Gate S) (i : Image S) : Type 0 where
   pub four : length g.rows ≤ 4
   pub within : IsWithin g.rules i.state

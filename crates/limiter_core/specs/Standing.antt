@@ -12,7 +12,7 @@ abbrev pub gate_in : {S : Type 0} → Algorithm S → State S → Gate S
 gate_in rules s = record { rules = rules; rows = s.table; room = s.backlog.room }
 
 abbrev pub stands_in : {S : Type 0} → State S → Image S
-stands_in s = image_with s.limit s.permits.counts s.backlog.waiters s.granted.permits s.next
+stands_in s = image_with s.limit s.permits.counts s.backlog.waiting s.granted.permits s.next
 
 -- the image with one more number given out
 abbrev pub numbered : {S : Type 0} → Image S → Image S

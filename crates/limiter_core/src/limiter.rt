@@ -1,5 +1,5 @@
 // The sequential limiter.
-ghost use Rattle.std.specs.Prelude.{◌≡◌, ◌≤◌, ◌<◌, ◌+◌, ◌*◌, ◌^◌, ◌∷◌, [], ◌↔◌, IsTrue, map, length, find, is_some, option_to_list, vec_capacity, IfOk, IsOkUnless};
+ghost use Rattle.std.specs.Prelude.{◌≡◌, ◌≤◌, ◌<◌, ◌+◌, ◌*◌, ◌^◌, ◌∷◌, [], ◌↔◌, IsTrue, map, length, find, is_some, option_to_list, vec_capacity, IfOk, IsErrOf};
 ghost use Rattle.std.specs.List.{list_any};
 ghost use Rattle.partitions.specs.Table.{place_of, bound};
 ghost use Rattle.limiter_core.specs.declared.event.Entry.TheVariants.{Call};
@@ -41,7 +41,7 @@ impl<L: Limit> Model for Core<L> {
 
     ghost Value = { Limiter L };
 
-    ghost view = { λ c. record { rows = c.state.table; room = c.state.backlog.room; state = c.state.limit; counts = c.state.permits.counts; waiters = c.state.backlog.waiters; granted = c.state.granted.permits; next = c.state.next; promoted = c.promoted.items; counters = c.counters } };
+    ghost view = { λ c. record { rows = c.state.table; room = c.state.backlog.room; state = c.state.limit; counts = c.state.permits.counts; waiters = c.state.backlog.waiting; granted = c.state.granted.permits; next = c.state.next; promoted = c.promoted.items; counters = c.counters } };
 
     ghost invariant = { λ c. IsHeld L.rules c.state × (1 ≤ vec_capacity c.promoted) × AreAtMost c.counters c.state.next };
 }
@@ -53,8 +53,7 @@ impl<L: Limit> Core<L> {
     /// wanting: all that a core ever needs is taken here.
     pub fn new(alloc: Global, limit: L, table: PartitionTable, room: u32) -> Result<Core<L>, CoreFault>
         ensures made { IfOk result (λ core. core ≡ record { rows = table; room = room; state = limit; counts = 0 ∷ 0 ∷ 0 ∷ 0 ∷ 0 ∷ []; waiters = []; granted = []; next = 0; promoted = []; counters = no_counts }) }
-        ensures room { 10000 < room → result ≡ Err CoreFault.Room }
-        ensures memory { room ≤ 10000 → IsOkUnless result CoreFault.Memory }
+        ensures room { IsErrOf result CoreFault.Room ↔ (10000 < room) }
     {
         let backlog = Backlog::new(alloc, room)?;
         prove!(table.len() <= 4);
@@ -136,7 +135,7 @@ impl<L: Limit> Core<L> {
     pub fn waiting(&self) -> u32
         ensures { result ≡ length self.now.waiters }
     {
-        self.state.backlog.len()
+        self.state.backlog.len() as u32
     }
 
     /// How many promoted permits lie granted, which nobody has got yet.
@@ -150,7 +149,7 @@ impl<L: Limit> Core<L> {
     pub fn is_waiting(&self, number: u64) -> bool
         ensures { result ≡ waits (stands self.now) number }
     {
-        self.state.backlog.holds(number)
+        self.state.backlog.waits(number)
     }
 
     /// Whether a permit of this number lies granted.

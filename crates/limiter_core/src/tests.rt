@@ -181,7 +181,7 @@ fn the_newest_waiter_is_promoted_and_keeps_its_permit(rt: HostRuntime) -> Result
 
 #[test]
 fn each_partition_is_admitted_up_to_its_share(rt: HostRuntime) -> Result<(), Fail> {
-    let table = PartitionTable::new(rt.alloc(), &[(b"live", 60), (b"batch", 30)])?;
+    let table = PartitionTable::new(rt.alloc(), &[(b"live".as_slice(), 60), (b"batch".as_slice(), 30)])?;
     let mut core = Core::new(rt.alloc(), Fixed::new(2)?, table, 100)?;
     let rows = [
         (acquire(UNKNOWN, 0), admitted(1)),
@@ -200,7 +200,7 @@ fn each_partition_is_admitted_up_to_its_share(rt: HostRuntime) -> Result<(), Fai
 
 #[test]
 fn an_ending_promotes_one_waiter_at_most(rt: HostRuntime) -> Result<(), Fail> {
-    let table = PartitionTable::new(rt.alloc(), &[(b"live", 50), (b"batch", 50)])?;
+    let table = PartitionTable::new(rt.alloc(), &[(b"live".as_slice(), 50), (b"batch".as_slice(), 50)])?;
     let mut core = Core::new(rt.alloc(), Fixed::new(2)?, table, 100)?;
     let rows = [
         (acquire(FIRST, 0), admitted(1)),

@@ -1,7 +1,7 @@
 use Rattle.std.proofs.Common.{sym, ap, ◌∙◌, ◌+◌, ◌≡◌, ◌<◌, true, false, subst, ℕ}
 use Rattle.partitions.specs.Table.{place_of}
 use Rattle.limiter_core.specs.Answer.{has_room}
-use Rattle.lifo_backlog.specs.Stack.{Stack}
+use Rattle.lifo_backlog.specs.Waiters.{Waiters}
 use Rattle.limiter_core.specs.Standing.{gate_in, stands_in, numbered}
 use Rattle.limiter_core.proofs.Sounds.{waiter-below}
 use Rattle.limiter_core.proofs.States.{stands_admitted, stands_waiting, place_left}
@@ -22,9 +22,9 @@ pub push-requires : goal.push-requires
 push-requires g c = waiter-below (gate_in g.L.Limit.rules c.args.self.now) (stands_in c.args.self.now) c.requires.sound
 
 pub returns-in-Ok-clause-stands : goal.returns-in-Ok-clause-stands
-returns-in-Ok-clause-stands g c = stands_waiting g.L.Limit.rules c.args.self.now c.args.part c.args.wait 0 c.push.new.self (ap (λ (s : Stack). s.waiters) c.in-Ok.ensures.1)
+returns-in-Ok-clause-stands g c = stands_waiting g.L.Limit.rules c.args.self.now c.args.part c.args.wait 0 c.push.new.self (ap (λ (s : Waiters). s.waiting) c.in-Ok.ensures.added)
 
 pub returns-in-Err-clause-stands : goal.returns-in-Err-clause-stands
 returns-in-Err-clause-stands g c =
-    ap (λ (s : Stack). numbered (stands_in (record c.args.self.now { backlog = s }))) c.in-Err.ensures.1
+    ap (λ (s : Waiters). numbered (stands_in (record c.args.self.now { backlog = s }))) c.in-Err.ensures.unchanged
       ∙ sym (after_backlog_full (gate_in g.L.Limit.rules c.args.self.now) (stands_in c.args.self.now) c.args.part false c.args.wait 0)
