@@ -14,7 +14,7 @@ const MOST_ROOM: u32 = 10_000;
 #[derive(Debug, Drop)]
 pub struct Backlog {
     waiters: Vec<Waiter>,
-    room: usize,
+    room: u32,
 }
 
 impl Model for Backlog {
@@ -39,8 +39,7 @@ impl Backlog {
         if room > MOST_ROOM {
             return Err(BacklogFault::Room);
         }
-        let room = room as usize;
-        let waiters = Vec::with_capacity(alloc, room)?;
+        let waiters = Vec::with_capacity(alloc, room as usize)?;
         Ok(Backlog { waiters, room })
     }
 
@@ -52,7 +51,7 @@ impl Backlog {
         ensures full { IsErr result ↔ (length self.old.waiting ≡ self.old.room) }
         ensures unchanged { OnErr result (self.new ≡ self.old) }
     {
-        if self.len() == self.room {
+        if self.waiters.len() == self.room as usize {
             return Err(Full);
         }
         self.waiters.push_reserved(waiter);
@@ -117,6 +116,6 @@ impl Backlog {
         ensures room { result ≡ self.now.room }
         ensures at_most { result ≤ 10000 }
     {
-        self.room as u32
+        self.room
     }
 }

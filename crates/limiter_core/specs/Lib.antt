@@ -1,7 +1,11 @@
 pub mod History
 pub mod Answer
 pub mod Legal
-pub mod Open
-pub mod Handed
 pub mod Bound
+pub mod Laws
+pub mod Counting
+pub mod Held
+pub mod Faults
 pub mod Limiter
+pub mod Standing
+pub mod Runs

@@ -1,16 +1,19 @@
 //! The sequential limiter: one event, one answer.
-//!
-//! [`Core::apply`] is the whole of it. Its contract is the reply rule of `specs/Answer.antt`, which
-//! speaks of histories alone: what is in flight, the total and the algorithm's state are counts and
-//! folds over all entries so far (`specs/History.antt`). Nothing here waits, locks or allocates once
-//! a core is made.
 #![tactic(auto)]
 
+mod counters;
 mod event;
+mod fault;
+mod granted;
+mod laws;
 mod limiter;
 mod permits;
+mod state;
 #[cfg(test)]
 mod tests;
 
-pub use event::{Entry, Event, Outcome, PermitFacts, Reply};
+pub use counters::Counters;
+pub use event::{Entry, Event, Outcome, PermitFacts, Promotion, Reply};
+pub use fault::CoreFault;
 pub use limiter::Core;
+pub use laws::{admitted_at_a_full_limit_only_below_the_share, answers_by_image, histories_join, reserved_room_suffices, soundness_is_kept, turned_away_only_when_full};
