@@ -1,77 +1,62 @@
 -- A journal after one answer more.
-use Rattle.std.proofs.Common.{◌≡◌, ℕ, ◌+◌, ◌*◌, ◌^◌, ◌<◌, ◌≤◌, List, [], ◌∷◌, ◌++◌, Bool, true, false, not, ◌||◌, ◌&&◌, length, refl, sym, ap, ◌∙◌, subst, arith, leb, leb-false, length-append, true≢false}
+use Rattle.std.proofs.Common.{◌≡◌, ℕ, ◌+◌, ◌^◌, ◌<◌, ◌≤◌, List, [], ◌∷◌, ◌++◌, Bool, true, false, length, refl, sym, ap, ◌∙◌, subst, arith, length-append}
 use Rattle.limit_laws.specs.Algorithm.{Algorithm, IsLawful}
-use Rattle.partitions.specs.Table.{Row, bound}
 use Rattle.limiter_core.specs.declared.event.Event.{Event}
-use Rattle.limiter_core.specs.declared.event.Reply.{Reply}
 use Rattle.limiter_core.specs.declared.event.Entry.{Entry}
-use Rattle.limiter_core.specs.declared.event.Entry.TheVariants.{Call}
 use Rattle.limiter_core.specs.History.{Gate, Image, image_after}
-use Rattle.limiter_core.specs.Answer.{answer, reply_to}
-use Rattle.limiter_core.specs.Legal.{MayCome}
-use Rattle.limiter_core.specs.Bound.{IsSound, owed, is_always_served, is_exhausted, kept_places}
-use Rattle.limiter_core.specs.Limiter.{Limiter, stands}
-use Rattle.limiter_core.proofs.Images.{IsBacked}
-use Rattle.limiter_core.proofs.Soundness.{image_answer, backed_answer, sound_answer, hi_answer, owed_answer, owed_most}
+use Rattle.limiter_core.specs.Answer.{answer}
+use Rattle.limiter_core.specs.Legal.{IsLegal, nothing, more, MayCome}
+use Rattle.limiter_core.specs.Bound.{IsSound, IsServed, none_yet, served, owed, is_exhausted, kept_places}
+use Rattle.limiter_core.specs.Limiter.{Limiter, gate_of, stands}
+use Rattle.limiter_core.proofs.Images.{IsBacked, image-append}
+use Rattle.limiter_core.proofs.Legals.{backed_legal, answer_image}
+use Rattle.limiter_core.proofs.Owed.{keeps_places}
 use Rattle.load_driver.specs.Journal.{Journal, IsJournal, gate, opening, image}
 
-abbrev pub journal : {S : Type 0} → List Row → S → List Entry → ℕ → Journal S
-journal rows first entries kept = record { rows = rows; first = first; entries = entries; kept = kept }
+-- what was served is legal
+legal_served : {S : Type 0} (g : Gate S) (k : ℕ) (o : Image S) (h : List Entry) → IsServed g k o h → IsLegal g o h
+legal_served g k o [] none_yet = nothing
+legal_served g k o _ (served h e before may free) = more h e (legal_served g k o h before) may
 
-or-first : (a b : Bool) → (a || b) ≡ false → a ≡ false
-or-first true b e = absurd (true≢false e)
-or-first false b e = refl
+module _ {S : Type 0} (laws : Algorithm S) (lawful : IsLawful laws) (j : Journal S) (capacity : ℕ) (core : Limiter S) (held : IsJournal laws j core capacity) where
+  backed : IsBacked (gate laws j) (opening j) j.entries
+  backed = backed_legal (gate laws j) (opening j) j.entries (legal_served (gate laws j) j.kept (opening j) j.entries held.served)
 
-module _ {S : Type 0} (laws : Algorithm S) (lawful : IsLawful laws) (j : Journal S) (room : ℕ) (core : Limiter S) (held : IsJournal laws j core room) (e : Event) (may : MayCome (gate laws j) (image laws j) e) where
-  abbrev after : Image S
-  after = image_after (gate laws j) (image laws j) (Call e (reply_to (gate laws j) (image laws j) e) ∷ [])
+  owing : length j.entries + owed (image laws j) ≤ kept_places (gate laws j) (opening j) j.kept
+  owing = keeps_places (gate laws j) j.kept (opening j) j.entries lawful held.sound held.served
 
-  hi_after : laws.hi after.state ≡ laws.hi j.first
-  hi_after = hi_answer (gate laws j) lawful (image laws j) held.sound e ∙ held.hi
+  -- few entries are held
+  pub few_held : length j.entries ≤ 2000000
+  few_held = omega (arith, owing, held.modest)
 
-  sound_after : IsSound (gate laws j) after
-  sound_after = sound_answer (gate laws j) lawful (image laws j) held.sound e may
+  module _ (e : Event) (may : MayCome (gate laws j) (image laws j) e) (free : is_exhausted j.kept false (image laws j) (length j.entries) e ≡ false) where
+    one_more : IsServed (gate laws j) j.kept (opening j) (j.entries ++ answer (gate laws j) (opening j) j.entries e)
+    one_more = served j.entries e held.served may free
 
-  owed_after : owed after ≤ bound j.rows (laws.hi j.first)
-  owed_after = subst (λ (m : ℕ). owed after ≤ bound j.rows m) hi_after (owed_most (gate laws j) after sound_after)
+    -- a place is left for each entry of the answer
+    pub places_left : length j.entries + length (answer (gate laws j) (opening j) j.entries e) ≤ capacity
+    places_left = omega (arith, keeps_places (gate laws j) j.kept (opening j) (j.entries ++ answer (gate laws j) (opening j) j.entries e) lawful held.sound one_more, held.places,
+        length-append j.entries (answer (gate laws j) (opening j) j.entries e))
 
-  owing_after : (b : Bool) → is_always_served e ≡ b → (not b && (leb j.kept (length j.entries) || leb (2 ^ 62) (image laws j).next)) ≡ false
-      → length j.entries + 1 + owed after ≤ kept_places (gate laws j) (opening j) j.kept
-  owing_after true served free = omega (arith, held.owing, owed_answer (gate laws j) lawful (image laws j) held.sound e may served)
-  owing_after false served free =
-      omega (arith, owed_after, leb-false j.kept (length j.entries) (or-first (leb j.kept (length j.entries)) (leb (2 ^ 62) (image laws j).next) free))
-
-  -- by the image that the entries lead to now
-  module _ (free : is_exhausted j.kept (image laws j) (length j.entries) e ≡ false) where
-    journal_answered : (next : Limiter S) (wider : ℕ) → next.rows ≡ j.rows → stands next ≡ after → room ≤ wider
-        → IsJournal laws (record j { entries = j.entries ++ answer (gate laws j) (opening j) j.entries e }) next wider
-    journal_answered next wider same leads more =
-        let es : List Entry = j.entries ++ answer (gate laws j) (opening j) j.entries e in
-        let path : image_after (gate laws j) (opening j) es ≡ after = image_answer (gate laws j) (opening j) j.entries e held.backed in
-        record {
-          rows = same;
-          leads = leads ∙ sym path;
-          backed = backed_answer (gate laws j) (opening j) j.entries e held.backed may;
-          sound = subst (IsSound (gate laws j)) (sym path) sound_after;
-          hi = ap (λ (k : Image S). laws.hi k.state) path ∙ hi_after;
-          owing = subst (λ (k : Image S). length es + owed k ≤ kept_places (gate laws j) (opening j) j.kept) (sym path)
-              (omega (arith, owing_after (is_always_served e) refl free, length-append j.entries (answer (gate laws j) (opening j) j.entries e)));
-          places = omega (arith, held.places, more);
-          modest = held.modest;
-        }
+    -- the answer is that of what stands now
+    pub answer_here : answer (gate laws j) (image laws j) [] e ≡ answer (gate laws j) (opening j) j.entries e
+    answer_here = sym (answer_image (gate laws j) (opening j) j.entries e backed)
 
     -- THE JOURNAL stays one with what its limiter answered
-    pub journal_more : (next : Limiter S) (r : Reply) (es : List Entry) (wider : ℕ) → next.rows ≡ j.rows → r ≡ reply_to (gate laws j) (image laws j) e
-        → stands next ≡ image_after (gate laws j) (image laws j) (Call e r ∷ []) → j.entries ++ Call e r ∷ [] ≡ es → room ≤ wider
-        → IsJournal laws (record { rows = next.rows; first = j.first; entries = es; kept = j.kept }) next wider
-    journal_more next r es wider same replied leads grown more =
-        let made : IsJournal laws (record j { entries = j.entries ++ answer (gate laws j) (opening j) j.entries e }) next wider
-            = journal_answered next wider same (leads ∙ ap (λ (x : Reply). image_after (gate laws j) (image laws j) (Call e x ∷ [])) replied) more in
-        let grew : j.entries ++ answer (gate laws j) (opening j) j.entries e ≡ es = ap (λ (x : Reply). j.entries ++ Call e x ∷ []) (sym replied) ∙ grown in
-        let path : record j { entries = j.entries ++ answer (gate laws j) (opening j) j.entries e } ≡ record { rows = next.rows; first = j.first; entries = es; kept = j.kept }
-            = λ k. record { rows = sym same k; first = j.first; entries = grew k; kept = j.kept } in
+    pub journal_more : (next : Limiter S) (es : List Entry) (wider : ℕ) → gate_of laws next ≡ gate laws j
+        → stands next ≡ image_after (gate laws j) (image laws j) (answer (gate laws j) (opening j) j.entries e)
+        → j.entries ++ answer (gate laws j) (opening j) j.entries e ≡ es → capacity ≤ wider
+        → IsJournal laws (record { rows = next.rows; room = next.room; first = j.first; entries = es; kept = j.kept }) next wider
+    journal_more next es wider gated leads grown wide =
+        let told : List Entry = answer (gate laws j) (opening j) j.entries e in
+        let made : IsJournal laws (record j { entries = j.entries ++ told }) next wider = record {
+          gated = gated;
+          leads = leads ∙ sym (image-append (gate laws j) (opening j) j.entries told backed);
+          served = one_more;
+          sound = held.sound;
+          places = omega (arith, held.places, wide);
+          modest = held.modest;
+        } in
+        let path : record j { entries = j.entries ++ told } ≡ record { rows = next.rows; room = next.room; first = j.first; entries = es; kept = j.kept }
+            = λ k. record { rows = (sym gated k).rows; room = (sym gated k).room; first = j.first; entries = grown k; kept = j.kept } in
         subst (λ (k : Journal S). IsJournal laws k next wider) path made
-
-  -- a place is left
-  pub place_left : is_exhausted j.kept (image laws j) (length j.entries) e ≡ false → length j.entries < room
-  place_left free = omega (arith, owing_after (is_always_served e) refl free, held.places)

@@ -5,10 +5,6 @@ mod formats;
 mod journal;
 mod lines;
 mod numbers;
-mod replay;
-mod script;
-mod session;
 #[cfg(test)]
 mod tests;
-mod text;
 mod words;
