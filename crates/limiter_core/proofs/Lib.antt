@@ -13,3 +13,7 @@ pub mod States
 pub mod Holding
 pub mod Applying
 pub mod Countings
+pub mod Finds
+pub mod Broughts
+pub mod Agreeing
+pub mod Opens
