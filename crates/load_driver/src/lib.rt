@@ -1,10 +1,28 @@
-//! Texts to drive a gate with: lines of a script, and what each of them is answered.
+//! Drives a gate by texts: a script of acquires, endings and settings goes in, and what each line
+//! is answered comes out.
+//!
+//! [`replay`] is the whole of it today. Its contract says that it writes exactly the text that
+//! `specs/Opening.antt` and `specs/Replay.antt` give to what it read, and when each fault comes.
 #![tactic(auto)]
 
+mod answers;
+mod driver;
 mod formats;
 mod journal;
+mod kinds;
 mod lines;
+mod makers;
 mod numbers;
+mod opening;
+mod script;
+mod session;
+mod settings;
 #[cfg(test)]
 mod tests;
+mod text;
 mod words;
+
+pub use answers::LineFault;
+pub use driver::{DriverFault, KEPT, MOST_READS, replay};
+pub use opening::MOST_BYTES;
+pub use script::Why;

@@ -1,0 +1,15 @@
+-- The text after the settings, from a session that they begin.
+use Rattle.std.proofs.Common.{◌≡◌, ℕ, List, [], Bool, true, false, Option, None, Some, is_some, true≢false}
+use Rattle.std.specs.Str.Lines.{lines}
+use Rattle.load_driver.specs.declared.kinds.AnyLimit.{AnyLimit}
+use Rattle.load_driver.specs.declared.answers.LineFault.{LineFault}
+use Rattle.load_driver.specs.AnyKinds.{any_rules}
+use Rattle.load_driver.specs.Settings.{SettingFacts}
+use Rattle.load_driver.specs.Journal.{Journal}
+use Rattle.load_driver.specs.Replay.{after_text, lines_text}
+use Rattle.load_driver.specs.Opening.{journal_of, text_after}
+
+pub text_of_session : (n kept : ℕ) (s : SettingFacts) (line : ℕ) (rest : List ℕ) (fault : Option LineFault) (j : Journal AnyLimit) (bytes : List ℕ) → bytes ≡ [] → j ≡ journal_of n kept s → is_some fault ≡ false
+    → after_text bytes (lines_text any_rules j line (lines rest)) ≡ text_after n kept s line rest fault
+text_of_session n kept s line rest (Some fault) j bytes empty begun none = absurd (true≢false none)
+text_of_session n kept s line rest None j bytes empty begun none = λ k. after_text (empty k) (lines_text any_rules (begun k) line (lines rest))

@@ -1,0 +1,120 @@
+// A journal with the permits that are open in it.
+ghost use Rattle.std.specs.Prelude.{◌≡◌, ◌≤◌, ◌<◌, ◌++◌, ◌∷◌, [], ℕ, length, nat_eq, IfOk, IfSome, OnSome, IfNone, is_none};
+ghost use Rattle.std.specs.HashMap.{get, spare};
+ghost use Rattle.limiter_core.specs.declared.event.Entry.TheVariants.{Call};
+ghost use Rattle.limiter_core.specs.Answer.{answer};
+ghost use Rattle.limiter_core.specs.Bound.{is_exhausted};
+ghost use Rattle.limiter_core.specs.Open.{open_permit};
+ghost use Rattle.limiter_core.specs.Handed.{NamesOpen, open_after};
+ghost use Rattle.load_driver.specs.Journal.{gate, image, opening};
+
+use super::journal::{Journal, MOST_KEPT};
+use limit_laws::{LAST_MOMENT, Limit};
+use limiter_core::{Entry, Event, PermitFacts, Reply};
+use partitions::PartitionTable;
+use std::alloc::{AllocError, Global};
+use std::collections::HashMap;
+use std::marker::Model;
+
+/// A journal with the permits that are open in it, by the number of their acquire: an ending is found
+/// without a walk over the history.
+#[derive(Drop)]
+pub(crate) struct Session<L: Limit> {
+    journal: Journal<L>,
+    permits: HashMap<u64, PermitFacts>,
+}
+
+impl<L: Limit> Model for Session<L> {
+    ghost use Rattle.load_driver.specs.Journal.{Journal};
+    ghost use Rattle.load_driver.specs.Session.{IsSession};
+
+    ghost Value = { Journal L };
+
+    ghost view = { λ s. s.journal };
+
+    ghost invariant = { λ s. IsSession L.rules s.journal s.permits };
+}
+
+impl<L: Limit> Session<L> {
+    /// Nothing was asked yet.
+    pub(crate) fn new(
+        alloc: Global,
+        limit: L,
+        table: PartitionTable,
+        kept: usize,
+    ) -> Result<Session<L>, AllocError>
+        requires { kept ≤ MOST_KEPT }
+        ensures { IfOk result (λ session. session ≡ record { rows = table; first = limit; entries = []; kept = kept }) }
+    {
+        let journal = Journal::new(alloc, limit, table, kept)?;
+        Ok(Session {
+            journal,
+            permits: HashMap::new(alloc),
+        })
+    }
+
+    /// The partitions of the limiter.
+    pub(crate) fn table(&self) -> &PartitionTable
+        ensures { result.now ≡ self.now.rows }
+    {
+        self.journal.table()
+    }
+
+    /// The open permit of a number.
+    pub(crate) fn permit(&self, number: u64) -> Option<PermitFacts>
+        ensures { result ≡ open_permit 0 self.now.entries number }
+    {
+        self.permits.get(&number).copied()
+    }
+
+    /// All that was asked and answered, in order; the place of an entry is its number.
+    pub(crate) fn entries(&self) -> &[Entry]
+        ensures { result.now ≡ self.now.entries }
+    {
+        self.journal.entries()
+    }
+
+    /// Answers an event, which adds entries from the number on that it gives; nothing where the
+    /// journal is exhausted. An ending names an open permit.
+    pub(crate) fn ask(&mut self, event: Event) -> Result<Option<usize>, AllocError>
+        requires { NamesOpen (opening self.old) self.old.entries event }
+        ensures exhausted { IfOk result (λ answered. is_none answered ≡ is_exhausted self.old.kept (image L.rules self.old) (length self.old.entries) event) }
+        ensures unchanged { IfOk result (λ answered. IfNone answered (self.new ≡ self.old)) }
+        ensures first { IfOk result (λ answered. IfSome answered (λ first. first ≡ length self.old.entries)) }
+        ensures entries { IfOk result (λ answered. OnSome answered (self.new ≡ record self.old { entries = self.old.entries ++ answer (gate L.rules self.old) (opening self.old) self.old.entries event })) }
+    {
+        self.permits.reserve(1)?;
+        let first = self.journal.entries().len();
+        match self.journal.apply(event) {
+            Some((number, reply)) => {
+                note(&mut self.permits, number, event, reply);
+                Ok(Some(first))
+            }
+            None => Ok(None),
+        }
+    }
+}
+
+/// Keeps the permit that an entry hands out, or drops the one that it ends.
+fn note(permits: &mut HashMap<u64, PermitFacts>, number: u64, event: Event, reply: Reply)
+    requires { 0 < spare permits.old }
+    ensures { (n : ℕ) → get nat_eq permits.new n ≡ open_after (get nat_eq permits.old) number (Call event reply) n }
+{
+    match (event, reply) {
+        (Event::Acquire { part, now, .. }, Reply::Admitted { inflight }) => {
+            let permit = PermitFacts {
+                number,
+                part,
+                start: now.min(LAST_MOMENT),
+                inflight,
+            };
+            if permits.insert(number, permit).is_err() {
+                unreachable!()
+            }
+        }
+        (Event::End { permit, .. }, _) => {
+            permits.remove(&permit.number);
+        }
+        _ => {}
+    }
+}
