@@ -1,14 +1,20 @@
 -- A journal after one answer more.
-use Rattle.std.proofs.Common.{◌≡◌, ℕ, ◌+◌, ◌^◌, ◌<◌, ◌≤◌, List, [], ◌∷◌, ◌++◌, Bool, true, false, length, refl, sym, ap, ◌∙◌, subst, arith, length-append}
+use Rattle.std.proofs.Common.{◌≡◌, ℕ, zero, suc, ◌+◌, ◌*◌, ◌^◌, ◌<◌, ◌≤◌, List, [], ◌∷◌, ◌++◌, Bool, true, false, length, map, slice_index, refl, sym, ap, ◌∙◌, subst, arith, length-append}
+use Rattle.std.proofs.lemmas.List.{length-map}
+use Rattle.partitions.specs.Table.{Row, bound}
 use Rattle.limit_laws.specs.Algorithm.{Algorithm, IsLawful}
 use Rattle.limiter_core.specs.declared.event.Event.{Event}
+use Rattle.limiter_core.specs.declared.event.Reply.{Reply}
+use Rattle.limiter_core.specs.declared.event.Promotion.{Promotion}
 use Rattle.limiter_core.specs.declared.event.Entry.{Entry}
+use Rattle.limiter_core.specs.declared.event.Entry.TheVariants.{Call}
 use Rattle.limiter_core.specs.History.{Gate, Image, image_after}
 use Rattle.limiter_core.specs.Answer.{answer}
 use Rattle.limiter_core.specs.Legal.{IsLegal, nothing, more, MayCome}
 use Rattle.limiter_core.specs.Bound.{IsSound, IsServed, none_yet, served, owed, is_exhausted, kept_places}
-use Rattle.limiter_core.specs.Limiter.{Limiter, gate_of, stands}
-use Rattle.limiter_core.proofs.Images.{IsBacked, image-append}
+use Rattle.limiter_core.specs.Counting.{no_counts}
+use Rattle.limiter_core.specs.Limiter.{Limiter, gate_of, stands, entry_of}
+use Rattle.limiter_core.proofs.Images.{IsBacked, image_nil, image-append}
 use Rattle.limiter_core.proofs.Legals.{backed_legal, answer_image}
 use Rattle.limiter_core.proofs.Owed.{keeps_places}
 use Rattle.load_driver.specs.Journal.{Journal, IsJournal, gate, opening, image}
@@ -39,24 +45,80 @@ module _ {S : Type 0} (laws : Algorithm S) (lawful : IsLawful laws) (j : Journal
         length-append j.entries (answer (gate laws j) (opening j) j.entries e))
 
     -- the answer is that of what stands now
-    pub answer_here : answer (gate laws j) (image laws j) [] e ≡ answer (gate laws j) (opening j) j.entries e
+    answer_here : answer (gate laws j) (image laws j) [] e ≡ answer (gate laws j) (opening j) j.entries e
     answer_here = sym (answer_image (gate laws j) (opening j) j.entries e backed)
 
-    -- THE JOURNAL stays one with what its limiter answered
-    pub journal_more : (next : Limiter S) (es : List Entry) (wider : ℕ) → gate_of laws next ≡ gate laws j
-        → stands next ≡ image_after (gate laws j) (image laws j) (answer (gate laws j) (opening j) j.entries e)
-        → j.entries ++ answer (gate laws j) (opening j) j.entries e ≡ es → capacity ≤ wider
-        → IsJournal laws (record { rows = next.rows; room = next.room; first = j.first; entries = es; kept = j.kept }) next wider
-    journal_more next es wider gated leads grown wide =
-        let told : List Entry = answer (gate laws j) (opening j) j.entries e in
-        let made : IsJournal laws (record j { entries = j.entries ++ told }) next wider = record {
-          gated = gated;
-          leads = leads ∙ sym (image-append (gate laws j) (opening j) j.entries told backed);
-          served = one_more;
-          sound = held.sound;
-          places = omega (arith, held.places, wide);
-          modest = held.modest;
-        } in
-        let path : record j { entries = j.entries ++ told } ≡ record { rows = next.rows; room = next.room; first = j.first; entries = es; kept = j.kept }
-            = λ k. record { rows = (sym gated k).rows; room = (sym gated k).room; first = j.first; entries = grown k; kept = j.kept } in
-        subst (λ (k : Journal S). IsJournal laws k next wider) path made
+    -- what its limiter answered, by what it stands on
+    module _ (r : Reply) (ps : List Promotion) (said : Call e r ∷ map entry_of ps ≡ answer (gate_of laws core) (stands core) [] e) where
+      pub told : Call e r ∷ map entry_of ps ≡ answer (gate laws j) (opening j) j.entries e
+      told = said ∙ (λ k. answer (held.gated k) (held.leads k) [] e) ∙ answer_here
+
+      -- a place is left for each entry of it
+      pub answer_fits : length j.entries + 1 + length ps ≤ capacity
+      answer_fits = omega (arith, places_left, ap length (sym told), length-map ps entry_of)
+
+      module _ (next : Limiter S) (es : List Entry) (gated : gate_of laws next ≡ gate_of laws core) (pushed : es ≡ j.entries ++ Call e r ∷ map entry_of ps) where
+        abbrev after : Journal S
+        after = record { rows = next.rows; room = next.room; first = j.first; entries = es; kept = j.kept }
+
+        pub journal_grown : after ≡ record j { entries = j.entries ++ answer (gate laws j) (opening j) j.entries e }
+        journal_grown =
+            let same : gate_of laws next ≡ gate laws j = gated ∙ held.gated in
+            let grown : es ≡ j.entries ++ answer (gate laws j) (opening j) j.entries e = pushed ∙ ap (λ (xs : List Entry). j.entries ++ xs) told in
+            λ k. record { rows = (same k).rows; room = (same k).room; first = j.first; entries = grown k; kept = j.kept }
+
+        -- THE JOURNAL stays one with what its limiter answered
+        pub journal_more : (wider : ℕ) → stands next ≡ image_after (gate_of laws core) (stands core) (Call e r ∷ map entry_of ps) → capacity ≤ wider → IsJournal laws after next wider
+        journal_more wider leads wide =
+            let answered : List Entry = answer (gate laws j) (opening j) j.entries e in
+            let led : stands next ≡ image_after (gate laws j) (image laws j) answered = leads ∙ (λ k. image_after (held.gated k) (held.leads k) (told k)) in
+            let made : IsJournal laws (record j { entries = j.entries ++ answered }) next wider = record {
+              gated = gated ∙ held.gated;
+              leads = led ∙ sym (image-append (gate laws j) (opening j) j.entries answered backed);
+              served = one_more;
+              sound = held.sound;
+              places = omega (arith, held.places, wide);
+              modest = held.modest;
+            } in
+            subst (λ (k : Journal S). IsJournal laws k next wider) (sym journal_grown) made
+
+zeros : (p : ℕ) → slice_index (0 ∷ 0 ∷ 0 ∷ 0 ∷ 0 ∷ []) p ≡ 0
+zeros zero = refl
+zeros (suc zero) = refl
+zeros (suc (suc zero)) = refl
+zeros (suc (suc (suc zero))) = refl
+zeros (suc (suc (suc (suc zero)))) = refl
+zeros (suc (suc (suc (suc (suc p))))) = refl
+
+-- a limiter that wasn't asked yet
+abbrev unasked : {S : Type 0} → List Row → ℕ → S → Limiter S
+unasked rows room limit = record { rows = rows; room = room; state = limit; counts = 0 ∷ 0 ∷ 0 ∷ 0 ∷ 0 ∷ []; waiters = []; granted = []; next = 0; promoted = []; counters = no_counts }
+
+module _ {S : Type 0} (laws : Algorithm S) (rows : List Row) (room kept capacity : ℕ) (limit : S) where
+  abbrev begun : Journal S
+  begun = record { rows = rows; room = room; first = limit; entries = []; kept = kept }
+
+  nothing_stands : stands (unasked rows room limit) ≡ opening begun
+  nothing_stands = λ k. record { state = limit; inflight = λ p. zeros p k; waiters = []; granted = []; next = 0 }
+
+  begins : IsSound (gate_of laws (unasked rows room limit)) (stands (unasked rows room limit)) → kept_places (gate laws begun) (opening begun) kept ≤ capacity → kept_places (gate laws begun) (opening begun) kept ≤ 2000000
+      → IsJournal laws begun (unasked rows room limit) capacity
+  begins sound places modest = record {
+    gated = refl;
+    leads = nothing_stands ∙ sym (image_nil (gate laws begun) (opening begun));
+    served = none_yet;
+    sound = subst (IsSound (gate laws begun)) nothing_stands sound;
+    places = places;
+    modest = modest;
+  }
+
+  -- a journal of a limiter that wasn't asked yet
+  pub journal_begins : (first : S) (core : Limiter S) (entries : List Entry) → core ≡ unasked rows room limit → first ≡ limit → entries ≡ []
+      → IsSound (gate_of laws core) (stands core) → kept + (2 * bound rows (laws.hi limit) + 3 * room) ≤ capacity → kept + (2 * bound rows (laws.hi limit) + 3 * room) ≤ 2000000
+      → IsJournal laws (record { rows = core.rows; room = core.room; first = first; entries = entries; kept = kept }) core capacity
+  journal_begins first core entries made same none sound places modest =
+      let here : IsJournal laws begun (unasked rows room limit) capacity
+          = begins (subst (λ (v : Limiter S). IsSound (gate_of laws v) (stands v)) made sound) places modest in
+      let path : begun ≡ record begun { first = first; entries = entries } = λ k. record begun { first = sym same k; entries = sym none k } in
+      subst (λ (v : Limiter S). IsJournal laws (record { rows = v.rows; room = v.room; first = first; entries = entries; kept = kept }) v capacity) (sym made)
+        (subst (λ (j : Journal S). IsJournal laws j (unasked rows room limit) capacity) path here)

@@ -3,7 +3,7 @@ ghost use Rattle.std.specs.Prelude.{◌≡◌, ◌≤◌, ◌+◌, ◌++◌, ◌
 ghost use Rattle.limiter_core.specs.declared.event.Entry.TheVariants.{Call};
 ghost use Rattle.limiter_core.specs.Answer.{answer};
 ghost use Rattle.limiter_core.specs.Legal.{MayCome};
-ghost use Rattle.limiter_core.specs.Bound.{is_exhausted, is_always_served};
+ghost use Rattle.limiter_core.specs.Bound.{IsSound, is_exhausted, is_always_served};
 ghost use Rattle.limiter_core.specs.Limiter.{stands, entry_of};
 ghost use Rattle.load_driver.specs.Journal.{gate, opening, image};
 
@@ -54,7 +54,8 @@ impl<L: Limit> Journal<L> {
     ) -> Result<Journal<L>, AllocError>
         requires room { room ≤ 10000 }
         requires kept { kept ≤ MOST_KEPT }
-        ensures { IfOk result (λ journal. journal ≡ record { rows = table; room = room; first = limit; entries = []; kept = kept }) }
+        ensures made { IfOk result (λ journal. journal ≡ record { rows = table; room = room; first = limit; entries = []; kept = kept }) }
+        ensures sound { IfOk result (λ journal. IsSound (gate L.rules journal) (opening journal)) }
     {
         let most = table.most(limit.hi()) as usize;
         let first = limit.copy();
