@@ -29,16 +29,10 @@ pub record IsRatio (ratio : ℕ) : Type 0 where
 
 -- what is true of every AIMD
 pub record IsAimd (s : AimdState) : Type 0 where
-  pub positive : 1 ≤ s.lo
+  pub range : IsInRange s.lo s.first s.hi s.timeout
+  pub ratio : IsRatio s.ratio
   pub least : s.lo ≤ s.limit
   pub most : s.limit ≤ s.hi
-  pub first_least : s.lo ≤ s.first
-  pub first_most : s.first ≤ s.hi
-  pub small : s.hi ≤ 10000
-  pub ratio_least : 500 ≤ s.ratio
-  pub ratio_most : s.ratio ≤ 999
-  pub timeout_least : 1 ≤ s.timeout
-  pub timeout_most : s.timeout ≤ hour
 
 -- the greatest number up to n that passes a test, 0 where none does
 unfoldable pub greatest : (ℕ → Bool) → ℕ → ℕ

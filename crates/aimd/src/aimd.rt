@@ -1,5 +1,5 @@
 // A limit that rises by one and falls by a ratio.
-ghost use Rattle.std.specs.Prelude.{◌≡◌, ◌≤◌, ◌<◌, ◌↔◌, ◌⊎◌, IfOk, IfErr, IsOk};
+ghost use Rattle.std.specs.Prelude.{◌≡◌, ◌≤◌, ◌↔◌, IfOk, IsOk};
 ghost use Rattle.aimd.specs.AimdRules.{aimd_rules, decreased, IsInRange, IsRatio};
 ghost use Rattle.aimd.specs.AimdLaws.{IsLawful-aimd};
 
@@ -40,8 +40,8 @@ impl Aimd {
     pub fn new(lo: u32, first: u32, hi: u32, ratio: u32, timeout: u64) -> Result<Aimd, MakeFault>
         ensures made { IsOk result ↔ (IsInRange lo first hi timeout × IsRatio ratio) }
         ensures value { IfOk result (λ aimd. aimd ≡ record { lo = lo; limit = first; hi = hi; first = first; ratio = ratio; timeout = timeout }) }
-        ensures ratio { (result ≡ Err MakeFault.Ratio) ↔ (IsInRange lo first hi timeout × ((ratio < 500) ⊎ (999 < ratio))) }
-        ensures range { IfErr result (λ fault. (fault ≡ MakeFault.Range) ⊎ (fault ≡ MakeFault.Ratio)) }
+        ensures range { ¬ IsInRange lo first hi timeout → result ≡ Err MakeFault.Range }
+        ensures ratio { IsInRange lo first hi timeout → ¬ IsRatio ratio → result ≡ Err MakeFault.Ratio }
     {
         if lo < 1 || first < lo || hi < first || MOST_LIMIT < hi {
             return Err(MakeFault::Range);
@@ -107,7 +107,7 @@ impl Limit for Aimd {
 /// What a drop leaves of a limit.
 #[tactic(auto, using(crate::proofs::Decrease::decreases))]
 fn decrease(limit: u32, ratio: u32) -> u32
-    requires limit { limit ≤ 10000 }
+    requires limit { limit ≤ MOST_LIMIT }
     requires ratio { ratio ≤ 999 }
     ensures { result ≡ decreased limit ratio }
 {

@@ -1,5 +1,6 @@
 //! Additive increase, multiplicative decrease: [`Aimd`], a limit that rises by one while it is in
-//! use and falls by a ratio at a drop or a slow answer.
+//! use and falls by a ratio at a drop or a slow answer. Its role is that of the limit of this name
+//! in Netflix's concurrency-limits (README); the rule is this project's own.
 //!
 //! Its rule is `specs/AimdRules.antt`, and each call's contract is that of [`limit_laws::Limit`] at
 //! that rule. What an operator may rely on whatever the samples stands on the functions of `laws`.

@@ -34,7 +34,7 @@ abbrev pub script_text : ℕ → ℕ → SettingFacts → ℕ → List (List ℕ
 script_text n kept s number [] = record { out = []; fault = None }
 script_text n kept s number (line ∷ rest) =
     by_setting number (setting_of s (words line)) (λ t. script_text n kept t (number + 1) rest)
-      (if is_skipped (words line) then script_text n kept s (number + 1) rest else lines_text any_rules (journal_of n kept s) number (line ∷ rest))
+    (if is_skipped (words line) then script_text n kept s (number + 1) rest else lines_text any_rules (journal_of n kept s) number (line ∷ rest))
 
 -- the text of a whole script
 abbrev pub replay_text : ℕ → ℕ → List ℕ → Told

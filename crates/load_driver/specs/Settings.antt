@@ -118,8 +118,12 @@ limit_of n s = windowed_if s.window (base_or n s.limit)
 abbrev pub room_of : SettingFacts → ℕ
 room_of s = unwrap_or s.backlog 100
 
--- what is answered to a line: nothing where it sets nothing, and then the settings stay; or that they are now those with it; or why it is at fault
+-- what is answered to a setting: that it is taken, or why it is at fault, and then the settings stay
+abbrev pub Answers : Setting → SettingFacts → SettingFacts → Result (Unit {0}) Why → Type 0
+Answers setting old new outcome = MatchResult outcome (λ _. setting ≡ Ok new) (λ why. (setting ≡ Err why) × (new ≡ old))
+
+-- what is answered to a line: the same, or nothing where it sets nothing, and then the settings stay
 abbrev pub AnswersLine : SettingFacts → List (List ℕ) → Option (Result (Unit {0}) Why) → SettingFacts → Type 0
 AnswersLine old ws answer new = MatchOption answer
     ((setting_of old ws ≡ None) × (new ≡ old))
-    (λ outcome. MatchResult outcome (λ _. setting_of old ws ≡ Some (Ok new)) (λ why. setting_of old ws ≡ Some (Err why)))
+    (λ outcome. MatchResult outcome (λ _. setting_of old ws ≡ Some (Ok new)) (λ why. (setting_of old ws ≡ Some (Err why)) × (new ≡ old)))

@@ -6,8 +6,8 @@ ghost use Rattle.counted_io.specs.Causes.{IsReadCause, IsWriteCause};
 ghost use Rattle.load_driver.specs.Opening.{replay_text};
 ghost use Rattle.load_driver.specs.Driver.{IfLine};
 
-use super::opening::{MOST_BYTES, answer_script};
 use super::answers::LineFault;
+use super::opening::{MOST_BYTES, answer_script};
 use counted_io::{Counted, ReadFault, read_all, write_all};
 use std::alloc::Global;
 use std::io::{Read, Write};

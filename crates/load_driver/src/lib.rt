@@ -7,6 +7,7 @@
 
 mod answers;
 mod driver;
+mod faults;
 mod formats;
 mod journal;
 mod kinds;
@@ -14,9 +15,15 @@ mod lines;
 mod makers;
 mod numbers;
 mod opening;
+#[cfg(test)]
+mod replay_tests;
 mod script;
+#[cfg(test)]
+mod script_tests;
 mod session;
 mod settings;
+#[cfg(test)]
+mod settings_tests;
 #[cfg(test)]
 mod tests;
 mod text;

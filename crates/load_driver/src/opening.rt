@@ -5,9 +5,9 @@ ghost use Rattle.load_driver.specs.Words.{words};
 ghost use Rattle.load_driver.specs.Settings.{no_settings};
 ghost use Rattle.load_driver.specs.Opening.{is_skipped, script_text, replay_text, text_after};
 
+use super::answers::{LineFault, answer_lines};
 use super::journal::MOST_KEPT;
 use super::lines::next_line;
-use super::answers::{LineFault, answer_lines};
 use super::session::Session;
 use super::settings::Settings;
 use super::words::next_word;

@@ -1,5 +1,5 @@
 // The settings of a script.
-ghost use Rattle.std.specs.Prelude.{◌≡◌, ◌≤◌, Some, None, is_none, IfOk, IfErr, OnOk, MatchResult, if◌then◌else◌};
+ghost use Rattle.std.specs.Prelude.{◌≡◌, ◌≤◌, Some, None, is_none, IfOk, IfErr, OnOk, OnErr, if◌then◌else◌};
 ghost use Rattle.windowed.specs.WindowedRules.{AreSettings};
 ghost use Rattle.partitions.specs.Faults.{given, fault_of};
 ghost use Rattle.load_driver.specs.Words.{words};
@@ -48,7 +48,7 @@ impl<'a> Model for Settings<'a> {
 }
 
 impl<'a> Settings<'a> {
-    ghost use Rattle.load_driver.specs.Settings.{no_settings, with_limit, with_window, with_backlog, with_row, with_class, AnswersLine, limit_of, room_of};
+    ghost use Rattle.load_driver.specs.Settings.{no_settings, with_limit, with_window, with_backlog, with_row, with_class, Answers, AnswersLine, limit_of, room_of};
 
     /// No settings.
     pub(crate) fn new(alloc: Global) -> Settings<'a>
@@ -65,7 +65,8 @@ impl<'a> Settings<'a> {
 
     /// What a line sets: nothing where it is no setting's. A line at fault changes nothing.
     pub(crate) fn read(&mut self, line: &'a [u8]) -> Result<Option<Result<(), Why>>, AllocError>
-        ensures { IfOk result (λ answer. AnswersLine self.old (words line.now) answer self.new) }
+        ensures line { IfOk result (λ answer. AnswersLine self.old (words line.now) answer self.new) }
+        ensures memory { OnErr result (self.new ≡ self.old) }
     {
         let Some((first, line)) = next_word(line) else {
             return Ok(None);
@@ -89,6 +90,7 @@ impl<'a> Settings<'a> {
     fn read_limit(&mut self, line: &[u8]) -> Result<(), Why>
         ensures taken { OnOk result (with_limit self.old (words line.now) ≡ Ok self.new) }
         ensures fault { IfErr result (λ why. with_limit self.old (words line.now) ≡ Err why) }
+        ensures unchanged { OnErr result (self.new ≡ self.old) }
     {
         let line = read_limit(line).ok_or(Why::Words)?;
         if self.limit.is_some() {
@@ -102,6 +104,7 @@ impl<'a> Settings<'a> {
     fn read_window(&mut self, line: &[u8]) -> Result<(), Why>
         ensures taken { OnOk result (with_window self.old (words line.now) ≡ Ok self.new) }
         ensures fault { IfErr result (λ why. with_window self.old (words line.now) ≡ Err why) }
+        ensures unchanged { OnErr result (self.new ≡ self.old) }
     {
         let line = read_window(line).ok_or(Why::Words)?;
         if self.windows.is_some() {
@@ -115,6 +118,7 @@ impl<'a> Settings<'a> {
     fn read_backlog(&mut self, line: &[u8]) -> Result<(), Why>
         ensures taken { OnOk result (with_backlog self.old (words line.now) ≡ Ok self.new) }
         ensures fault { IfErr result (λ why. with_backlog self.old (words line.now) ≡ Err why) }
+        ensures unchanged { OnErr result (self.new ≡ self.old) }
     {
         let room = read_lone_number(line).ok_or(Why::Words)?;
         if self.backlog.is_some() {
@@ -129,9 +133,8 @@ impl<'a> Settings<'a> {
 
     /// What follows `class`.
     fn read_class(&mut self, line: &'a [u8]) -> Result<Result<(), Why>, AllocError>
-        ensures { IfOk result (λ outcome. MatchResult outcome
-            (λ _. with_class self.old (words line.now) ≡ Ok self.new)
-            (λ why. with_class self.old (words line.now) ≡ Err why)) }
+        ensures line { IfOk result (Answers (with_class self.old (words line.now)) self.old self.new) }
+        ensures memory { OnErr result (self.new ≡ self.old) }
     {
         let Some((name, percent)) = read_class(line) else {
             return Ok(Err(Why::Words));
@@ -144,9 +147,8 @@ impl<'a> Settings<'a> {
 
     /// One more partition, where those so far and this one make a table.
     fn add_row(&mut self, name: &'a [u8], percent: u32) -> Result<Result<(), Why>, AllocError>
-        ensures { IfOk result (λ outcome. MatchResult outcome
-            (λ _. with_row self.old (record { name = name.now; percent = percent }) ≡ Ok self.new)
-            (λ why. with_row self.old (record { name = name.now; percent = percent }) ≡ Err why)) }
+        ensures row { IfOk result (Answers (with_row self.old (record { name = name.now; percent = percent })) self.old self.new) }
+        ensures memory { OnErr result (self.new ≡ self.old) }
     {
         let count = self.rows.len();
         self.rows.push((name, percent))?;

@@ -33,16 +33,10 @@ pub record AreThresholds (alpha beta : ℕ) : Type 0 where
 
 -- what is true of every Vegas limit
 pub record IsVegas (s : VegasState) : Type 0 where
-  pub positive : 1 ≤ s.lo
+  pub range : IsInRange s.lo s.first s.hi s.probe_every
+  pub thresholds : AreThresholds s.alpha s.beta
   pub least : s.lo ≤ s.limit
   pub most : s.limit ≤ s.hi
-  pub first_least : s.lo ≤ s.first
-  pub first_most : s.first ≤ s.hi
-  pub small : s.hi ≤ 10000
-  pub alpha_least : 1 ≤ s.alpha
-  pub alpha_most : s.alpha ≤ s.beta
-  pub beta_most : s.beta ≤ 100
-  pub probe_most : s.probe_every ≤ 1000000
   pub counted : s.count ≤ s.probe_every
 
 -- whether the next sample is a probe: the count reaches its end with it

@@ -1,5 +1,6 @@
 // A limit that follows the queue behind it.
-ghost use Rattle.std.specs.Prelude.{◌≡◌, ◌≤◌, ◌<◌, ◌↔◌, ◌⊎◌, IfOk, IfErr, IsOk, None};
+ghost use Rattle.std.specs.Prelude.{◌≡◌, ◌≤◌, ◌↔◌, IfOk, IsOk, None};
+ghost use Rattle.limit_laws.specs.Facts.{hour};
 ghost use Rattle.vegas.specs.VegasRules.{vegas_rules, queue as queue_lem, measured, probes, count_after, IsInRange, AreThresholds};
 ghost use Rattle.vegas.specs.VegasLaws.{IsLawful-vegas};
 
@@ -57,8 +58,8 @@ impl Vegas {
     ) -> Result<Vegas, MakeFault>
         ensures made { IsOk result ↔ (IsInRange lo first hi probe_every × AreThresholds alpha beta) }
         ensures value { IfOk result (λ vegas. vegas ≡ record { lo = lo; limit = first; hi = hi; first = first; alpha = alpha; beta = beta; probe_every = probe_every; base = None; count = 0 }) }
-        ensures alpha { (result ≡ Err MakeFault.Alpha) ↔ (IsInRange lo first hi probe_every × ((alpha < 1) ⊎ (beta < alpha) ⊎ (100 < beta))) }
-        ensures range { IfErr result (λ fault. (fault ≡ MakeFault.Range) ⊎ (fault ≡ MakeFault.Alpha)) }
+        ensures range { ¬ IsInRange lo first hi probe_every → result ≡ Err MakeFault.Range }
+        ensures alpha { IsInRange lo first hi probe_every → ¬ AreThresholds alpha beta → result ≡ Err MakeFault.Alpha }
     {
         if lo < 1 || first < lo || hi < first || MOST_LIMIT < hi {
             return Err(MakeFault::Range);
@@ -167,10 +168,10 @@ impl Limit for Vegas {
 /// is above the base, as a part of the limit.
 #[tactic(auto, using(crate::proofs::Least::queues))]
 fn queue(limit: u32, rtt: u64, base: u64) -> u64
-    requires limit { limit ≤ 10000 }
+    requires limit { limit ≤ MOST_LIMIT }
     requires base { base ≤ rtt }
     requires least { 1 ≤ rtt }
-    requires most { rtt ≤ 3600000000000 }
+    requires most { rtt ≤ hour }
     ensures { result ≡ queue_lem limit rtt base }
 {
     (u64::from(limit) * (rtt - base)).div_ceil(rtt)

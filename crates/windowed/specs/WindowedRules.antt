@@ -60,16 +60,15 @@ end_window rules s t x = record s {
   next_update = update_after s.settings t x;
 }
 
--- a sample that counts is added, and ends the window where it ended after the next update, or is the 1,000,000th
+-- a sample, with which the window has these totals, ends it where the sample ended after the next update, or is the 1,000,000th
+abbrev pub learn : {S : Type 0} → Algorithm S → WindowedState S → WindowTotals → SampleFacts → WindowedState S
+learn rules s t x =
+    if nat_lt s.next_update (end_of x) || nat_le most_samples t.count then end_window rules s t x
+    else record s { totals = t }
+
+-- a sample is added where it counts, and else left out
 abbrev pub windowed_next : {S : Type 0} → Algorithm S → WindowedState S → SampleFacts → WindowedState S
-windowed_next rules s x =
-    if is_kept s.settings x
-    then (
-    if nat_lt s.next_update (end_of x) || nat_le most_samples (s.totals.count + 1)
-    then end_window rules s (with_sample s.totals x) x
-    else record s { totals = with_sample s.totals x }
-    )
-    else s
+windowed_next rules s x = if is_kept s.settings x then learn rules s (with_sample s.totals x) x else s
 
 -- the state with what a setting made of the inner algorithm
 abbrev pub with_inner : {S : Type 0} → WindowedState S → Result S SetFault → Result (WindowedState S) SetFault

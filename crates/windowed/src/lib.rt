@@ -1,6 +1,7 @@
 //! Windows over any limit algorithm: [`Windowed`] gathers samples into windows and hands the inner
 //! algorithm one mean sample for each window that holds enough of them, so that a single slow
-//! answer doesn't move the limit.
+//! answer doesn't move the limit. Its role is that of the windowed limit of Netflix's
+//! concurrency-limits (README); the rule is this project's own.
 //!
 //! `specs/WindowedRules.antt` has the rule over the five totals that are kept, by which each call
 //! meets the contract of [`limit_laws::Limit`]. `specs/Windows.antt` says what windows are, as a

@@ -1,0 +1,39 @@
+// The text of the drivers' faults.
+ghost use Rattle.std.specs.Prelude.{Some};
+
+use super::answers::LineFault;
+use super::driver::DriverFault;
+use super::script::Why;
+use std::fmt;
+
+impl fmt::Display for Why {
+    ghost use Rattle.load_driver.specs.Driver.{why_text};
+
+    ghost output = { λ why. Some (why_text why) };
+
+    fn fmt<W: fmt::Write>(&self, f: &mut fmt::Formatter<W>) -> fmt::Result {
+        match self {
+            Why::Words => write!(f, "words"),
+            Why::Late => write!(f, "late"),
+            Why::Twice => write!(f, "twice"),
+            Why::Value => write!(f, "value"),
+            Why::Class => write!(f, "class"),
+        }
+    }
+}
+
+impl fmt::Display for DriverFault {
+    ghost use Rattle.load_driver.specs.Driver.{fault_text};
+
+    ghost output = { λ fault. Some (fault_text fault) };
+
+    fn fmt<W: fmt::Write>(&self, f: &mut fmt::Formatter<W>) -> fmt::Result {
+        match self {
+            DriverFault::Memory => write!(f, "memory"),
+            DriverFault::Read => write!(f, "read"),
+            DriverFault::TooLarge => write!(f, "too large"),
+            DriverFault::Line(LineFault { line, why }) => write!(f, "line {line}: {why}"),
+            DriverFault::Write => write!(f, "write"),
+        }
+    }
+}
