@@ -1,5 +1,5 @@
 -- A journal after one answer more.
-use Rattle.std.proofs.Common.{◌≡◌, ℕ, zero, suc, ◌+◌, ◌*◌, ◌^◌, ◌<◌, ◌≤◌, List, [], ◌∷◌, ◌++◌, Bool, true, false, length, map, slice_index, refl, sym, ap, ◌∙◌, subst, arith, length-append}
+use Rattle.std.proofs.Common.{◌≡◌, ℕ, zero, suc, ◌+◌, ◌*◌, ◌≤◌, List, [], ◌∷◌, ◌++◌, false, length, map, slice_index, refl, sym, ap, ◌∙◌, subst, arith, length-append}
 use Rattle.std.proofs.lemmas.List.{length-map}
 use Rattle.partitions.specs.Table.{Row, bound}
 use Rattle.limit_laws.specs.Algorithm.{Algorithm, IsLawful}
@@ -41,8 +41,12 @@ module _ {S : Type 0} (laws : Algorithm S) (lawful : IsLawful laws) (j : Journal
 
     -- a place is left for each entry of the answer
     pub places_left : length j.entries + length (answer (gate laws j) (opening j) j.entries e) ≤ capacity
-    places_left = omega (arith, keeps_places (gate laws j) j.kept (opening j) (j.entries ++ answer (gate laws j) (opening j) j.entries e) lawful held.sound one_more, held.places,
-        length-append j.entries (answer (gate laws j) (opening j) j.entries e))
+    places_left = omega (
+      arith,
+      keeps_places (gate laws j) j.kept (opening j) (j.entries ++ answer (gate laws j) (opening j) j.entries e) lawful held.sound one_more,
+      held.places,
+      length-append j.entries (answer (gate laws j) (opening j) j.entries e),
+    )
 
     -- the answer is that of what stands now
     answer_here : answer (gate laws j) (image laws j) [] e ≡ answer (gate laws j) (opening j) j.entries e
@@ -118,7 +122,7 @@ module _ {S : Type 0} (laws : Algorithm S) (rows : List Row) (room kept capacity
       → IsJournal laws (record { rows = core.rows; room = core.room; first = first; entries = entries; kept = kept }) core capacity
   journal_begins first core entries made same none sound places modest =
       let here : IsJournal laws begun (unasked rows room limit) capacity
-          = begins (subst (λ (v : Limiter S). IsSound (gate_of laws v) (stands v)) made sound) places modest in
+      = begins (subst (λ (v : Limiter S). IsSound (gate_of laws v) (stands v)) made sound) places modest in
       let path : begun ≡ record begun { first = first; entries = entries } = λ k. record begun { first = sym same k; entries = sym none k } in
       subst (λ (v : Limiter S). IsJournal laws (record { rows = v.rows; room = v.room; first = first; entries = entries; kept = kept }) v capacity) (sym made)
-        (subst (λ (j : Journal S). IsJournal laws j (unasked rows room limit) capacity) path here)
+      (subst (λ (j : Journal S). IsJournal laws j (unasked rows room limit) capacity) path here)

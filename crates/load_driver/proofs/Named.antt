@@ -1,12 +1,9 @@
 -- The event of a request names an open permit where it is an ending.
-use Rattle.std.proofs.Common.{◌≡◌, ℕ, List, Option, None, Some, option_map, refl, ap, sym, ◌∙◌, subst, true≢false, is_some, unwrap_or}
-use Rattle.std.specs.Prelude.{find}
+use Rattle.std.proofs.Common.{◌≡◌, ℕ, Option, None, Some, option_map, refl, sym, subst}
 use Rattle.limiter_core.specs.declared.event.Outcome.{Outcome}
 use Rattle.limiter_core.specs.declared.event.PermitFacts.{PermitFacts}
 use Rattle.limiter_core.specs.declared.event.Event.{Event}
 use Rattle.limiter_core.specs.declared.event.Event.TheVariants as event
-use Rattle.limiter_core.specs.declared.event.Entry.{Entry}
-use Rattle.limiter_core.specs.History.{Image}
 use Rattle.limiter_core.specs.Open.{open_permit}
 use Rattle.limiter_core.specs.Handed.{NamesOpen}
 use Rattle.limiter_core.proofs.Finds.{found_number}

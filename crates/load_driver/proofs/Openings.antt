@@ -1,5 +1,5 @@
 -- The text after the settings, from a session that they begin.
-use Rattle.std.proofs.Common.{◌≡◌, ℕ, List, [], Bool, true, false, Option, None, Some, is_some, true≢false}
+use Rattle.std.proofs.Common.{◌≡◌, ℕ, List, [], false, Option, None, Some, is_some, true≢false}
 use Rattle.std.specs.Str.Lines.{lines}
 use Rattle.load_driver.specs.declared.kinds.AnyLimit.{AnyLimit}
 use Rattle.load_driver.specs.declared.answers.LineFault.{LineFault}

@@ -1,5 +1,5 @@
 -- A session after one answer more.
-use Rattle.std.proofs.Common.{◌≡◌, ℕ, ◌+◌, List, [], ◌∷◌, ◌++◌, Option, Some, None, length, slice_get, unwrap_or, nat_eq, refl, sym, ap, ◌∙◌, subst, arith}
+use Rattle.std.proofs.Common.{◌≡◌, ℕ, ◌+◌, List, [], ◌++◌, Option, Some, length, slice_get, unwrap_or, nat_eq, sym, ap, ◌∙◌, subst, arith}
 use Rattle.std.specs.HashMap.{get}
 use Rattle.std.specs.Map.{lookup}
 use Rattle.limit_laws.specs.Algorithm.{Algorithm, IsLawful}
@@ -44,7 +44,7 @@ module _ {S : Type 0} (laws : Algorithm S) (lawful : IsLawful laws) (j : Journal
       let place : number ≡ 0 + length j.entries = here ∙ omega arith in
       let called : Call e r ≡ unwrap_or (slice_get (answer (gate laws j) (opening j) j.entries e) 0) (Call e r) = ap (λ (o : Option Entry). unwrap_or o (Call e r)) (sym replied) in
       let step : (q : ℕ) → get nat_eq after q ≡ open_permit 0 (j.entries ++ answer (gate laws j) (opening j) j.entries e) q
-          = λ q. noted q ∙ (λ k. open_after (before k) (place k) (called k) q) ∙ sym (open_answer (gate laws j) (opening j) j.entries held.handed e q) in
+      = λ q. noted q ∙ (λ k. open_after (before k) (place k) (called k) q) ∙ sym (open_answer (gate laws j) (opening j) j.entries held.handed e q) in
       subst (λ (k : Journal S). IsSession laws k after) (sym moved) (answered after step)
 
 -- a session in which nothing was answered, with its permits in another order

@@ -1,5 +1,5 @@
 -- The text of a whole script: its settings first, and then its other lines.
-use Rattle.std.specs.Prelude.{◌≡◌, ℕ, ◌+◌, ◌≤◌, ◌==◌, Bool, true, List, [], ◌∷◌, length, slice_index, Option, None, Some, Result, Ok, Err, if◌then◌else◌}
+use Rattle.std.specs.Prelude.{ℕ, ◌+◌, ◌==◌, Bool, true, List, [], ◌∷◌, slice_index, Option, None, Some, Ok, Err, if◌then◌else◌}
 use Rattle.std.specs.Str.Lines.{lines}
 use Rattle.load_driver.specs.declared.kinds.AnyLimit.{AnyLimit}
 use Rattle.load_driver.specs.declared.script.Why.{Why}

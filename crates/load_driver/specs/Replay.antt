@@ -1,16 +1,13 @@
 -- The text of a script once its settings are over: line by line, each answered after all entries so far.
-use Rattle.std.specs.Prelude.{ℕ, ◌+◌, List, [], ◌∷◌, ◌++◌, false, length, codes, Option, None, Some, option_map, Result, Ok, Err, is_ok, if◌then◌else◌}
+use Rattle.std.specs.Prelude.{ℕ, ◌+◌, List, [], ◌∷◌, ◌++◌, false, length, codes, Option, None, Some, option_map, Ok, Err, is_ok, if◌then◌else◌}
 use Rattle.limit_laws.specs.Algorithm.{Algorithm}
 use Rattle.partitions.specs.Table.{Row}
-use Rattle.limiter_core.specs.declared.event.Outcome.{Outcome}
-use Rattle.limiter_core.specs.declared.event.PermitFacts.{PermitFacts}
 use Rattle.limiter_core.specs.declared.event.Event.{Event}
 use Rattle.limiter_core.specs.declared.event.Event.TheVariants as event
 use Rattle.limiter_core.specs.declared.event.Entry.{Entry}
 use Rattle.limiter_core.specs.Answer.{answer}
 use Rattle.limiter_core.specs.Bound.{is_exhausted}
 use Rattle.limiter_core.specs.Open.{open_permit}
-use Rattle.load_driver.specs.declared.script.Why.{Why}
 use Rattle.load_driver.specs.declared.script.Request.{Request}
 use Rattle.load_driver.specs.declared.script.Request.TheVariants.{Acquire, End, Claim, GiveUp, SetLimit, Reset, Look}
 use Rattle.load_driver.specs.declared.answers.LineFault.{LineFault}

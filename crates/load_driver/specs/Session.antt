@@ -1,5 +1,5 @@
 -- A session: a journal with the permits that are open in it, kept by number.
-use Rattle.std.specs.Prelude.{◌≡◌, ℕ, Option, nat_eq}
+use Rattle.std.specs.Prelude.{◌≡◌, ℕ, nat_eq}
 use Rattle.std.specs.HashMap.{get, HashMap}
 use Rattle.std.specs.declared.hash.FoldHasher.{FoldHasher}
 use Rattle.std.specs.declared.hash.BuildHasherDefault.{BuildHasherDefault}

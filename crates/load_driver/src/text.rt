@@ -59,10 +59,8 @@ fn part_about(event: Event) -> Part
     match event {
         Event::Acquire { part, .. } => part,
         Event::End { permit, .. } => permit.part,
-        Event::Claim { .. }
-        | Event::GiveUp { .. }
-        | Event::SetLimit { .. }
-        | Event::Reset { .. } => Part::Unknown,
+        Event::Claim { .. } | Event::GiveUp { .. } | Event::SetLimit { .. } | Event::Reset { .. } =>
+            Part::Unknown,
         Event::Look { part } => part,
     }
 }
@@ -85,7 +83,9 @@ pub(crate) fn push_entry(
             writeln!(text, "{number} {line}")
         }
         Entry::Promotion {
-            waiter, inflight, ..
+            waiter,
+            inflight,
+            ..
         } => writeln!(text, "{number} promoted {waiter} inflight {inflight}"),
     }
 }
