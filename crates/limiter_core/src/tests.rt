@@ -1,8 +1,4 @@
 // The limiter by its worked rows.
-ghost use Rattle.std.specs.Prelude.{◌≡◌, ◌<◌, ◌^◌};
-ghost use Rattle.limiter_core.specs.Legal.{MayCome};
-ghost use Rattle.limiter_core.specs.Limiter.{gate_of, stands};
-
 use super::{Core, CoreFault, Counters, Event, Outcome, PermitFacts, Promotion, Reply};
 use limit_laws::{Fixed, Limit, SetFault, Settable};
 use partitions::{Part, PartitionTable};
@@ -13,57 +9,66 @@ const UNKNOWN: Part = Part::Unknown;
 const FIRST: Part = Part::Known(0);
 const SECOND: Part = Part::Known(1);
 
-const BYPASS: Event = Event::Acquire {
-    part: UNKNOWN,
-    bypass: true,
-    wait: false,
-    now: 2,
-};
+/// An event of a row.
+#[derive(Clone, Copy)]
+enum Ask {
+    /// An acquire of a part at a moment.
+    Get(Part, u64),
+    /// One that may wait.
+    Wait(Part, u64),
+    Bypass,
+    /// The ending of a permit, by its number, part, start and count in flight, at a moment.
+    End(u64, Part, u64, u32, Outcome, u64),
+    Claim(u64),
+    GiveUp(u64),
+    Set(u32),
+    Reset,
+    Look,
+}
 
-fn acquire(part: Part, now: u64) -> Event {
+use Ask::{Bypass, Claim, End, Get, GiveUp, Look, Reset, Set, Wait};
+use Outcome::{Ignored, Success};
+use Reply::{Admitted, BacklogFull, Bypassed, Ended, Full, LimitSet, Lost, Refused, ResetDone, StillWaiting, TimedOut, Waiting};
+
+fn event_of(ask: Ask) -> Event {
+    match ask {
+        Get(part, now) => acquire(part, false, now),
+        Wait(part, now) => acquire(part, true, now),
+        Bypass => Event::Acquire {
+            part: UNKNOWN,
+            bypass: true,
+            wait: false,
+            now: 0,
+        },
+        End(number, part, start, inflight, outcome, now) => Event::End {
+            permit: PermitFacts {
+                number,
+                part,
+                start,
+                inflight,
+            },
+            outcome,
+            now,
+        },
+        Claim(number) => Event::Claim { number },
+        GiveUp(number) => Event::GiveUp { number },
+        Set(n) => Event::SetLimit { n, now: 0 },
+        Reset => Event::Reset { now: 0 },
+        Look => Event::Look { part: UNKNOWN },
+    }
+}
+
+fn acquire(part: Part, wait: bool, now: u64) -> Event {
     Event::Acquire {
         part,
         bypass: false,
-        wait: false,
+        wait,
         now,
     }
-}
-
-fn wait(part: Part, now: u64) -> Event {
-    Event::Acquire {
-        part,
-        bypass: false,
-        wait: true,
-        now,
-    }
-}
-
-/// The ending of a permit, by its number, part, start and count in flight.
-fn end(facts: (u64, Part, u64, u32), outcome: Outcome, now: u64) -> Event {
-    let (number, part, start, inflight) = facts;
-    let permit = PermitFacts {
-        number,
-        part,
-        start,
-        inflight,
-    };
-    Event::End {
-        permit,
-        outcome,
-        now,
-    }
-}
-
-fn admitted(inflight: u32) -> Reply {
-    Reply::Admitted { inflight }
-}
-
-fn ended(promoted: u32) -> Reply {
-    Reply::Ended { promoted }
 }
 
 /// Asks an event that may come.
-fn ask<L: Limit, R: Abort>(rt: &R, core: &mut Core<L>, event: Event) -> Reply {
+fn reply_of<L: Limit, R: Abort>(rt: &R, core: &mut Core<L>, event: Event) -> Reply {
     assert!(rt; core.next_number() < 1_000);
     let Event::End { permit, .. } = event else {
         return core.apply(event);
@@ -73,98 +78,100 @@ fn ask<L: Limit, R: Abort>(rt: &R, core: &mut Core<L>, event: Event) -> Reply {
 }
 
 /// Asks one event after another, and compares the replies.
-fn check<L: Limit, R: Abort>(rt: &R, core: &mut Core<L>, rows: &[(Event, Reply)]) {
-    for (event, reply) in rows {
-        let said = ask(rt, core, *event);
+fn check<L: Limit, R: Abort>(rt: &R, core: &mut Core<L>, rows: &[(Ask, Reply)]) {
+    for (asked, reply) in rows {
+        let said = reply_of(rt, core, event_of(*asked));
         assert_eq!(rt; said, *reply);
     }
 }
+
+const ONE_AT_A_TIME: [(Ask, Reply); 5] = [
+    (Get(UNKNOWN, 0), Admitted { inflight: 1 }),
+    (Get(UNKNOWN, 1), Full),
+    (End(0, UNKNOWN, 0, 1, Success, 5), Ended { promoted: 0 }),
+    (Get(UNKNOWN, 6), Admitted { inflight: 1 }),
+    (Look, ONE_IN_FLIGHT),
+];
+
+/// What a look at the unknown part shows at a limit of 1 that is in use.
+const ONE_IN_FLIGHT: Reply = Reply::Seen {
+    limit: 1,
+    total: 1,
+    waiting: 0,
+    granted: 0,
+    inflight: 1,
+    share: 0,
+};
 
 #[test]
 fn one_permit_is_handed_out_at_a_time(rt: HostRuntime) -> Result<(), Fail> {
     let table = PartitionTable::unknown_only();
     let mut core = Core::new(rt.alloc(), Fixed::new(1)?, table, 100)?;
-    check(
-        &rt,
-        &mut core,
-        &[
-            (acquire(UNKNOWN, 0), admitted(1)),
-            (acquire(UNKNOWN, 1), Reply::Full),
-            (end((0, UNKNOWN, 0, 1), Outcome::Success, 5), ended(0)),
-            (acquire(UNKNOWN, 6), admitted(1)),
-            (Event::Look { part: UNKNOWN }, seen(1, 1)),
-        ],
-    );
+    check(&rt, &mut core, &ONE_AT_A_TIME);
     assert_eq!(rt; core.next_number(), 5);
-    assert!(rt; core.total() == 1 && core.inflight(UNKNOWN) == 1 && core.limit() == 1);
+    assert_eq!(rt; core.total(), 1);
+    assert_eq!(rt; core.inflight(UNKNOWN), 1);
+    assert_eq!(rt; core.limit(), 1);
     Ok(())
 }
 
-/// What a look at the unknown part shows where nobody waits.
-fn seen(limit: u32, total: u32) -> Reply {
-    Reply::Seen {
-        limit,
-        total,
-        waiting: 0,
-        granted: 0,
-        inflight: total,
-        share: 0,
-    }
-}
+const NEWEST_FIRST: [(Ask, Reply); 4] = [
+    (Get(FIRST, 0), Admitted { inflight: 1 }),
+    (Wait(FIRST, 1), Waiting),
+    (Wait(FIRST, 2), Waiting),
+    (End(0, FIRST, 0, 1, Success, 5), Ended { promoted: 1 }),
+];
+
+const TWO_IS_PROMOTED: Promotion = Promotion {
+    waiter: 2,
+    part: FIRST,
+    start: 5,
+    inflight: 1,
+};
+
+const TWO_IS_GRANTED: PermitFacts = PermitFacts {
+    number: 2,
+    part: FIRST,
+    start: 5,
+    inflight: 1,
+};
 
 #[test]
-fn a_share_of_all_is_one_permit_at_a_limit_of_one(rt: HostRuntime) -> Result<(), Fail> {
+fn the_newest_waiter_is_promoted(rt: HostRuntime) -> Result<(), Fail> {
     let table = PartitionTable::new(rt.alloc(), &[(b"a", 100)])?;
     let mut core = Core::new(rt.alloc(), Fixed::new(1)?, table, 100)?;
-    let rows = [
-        (acquire(FIRST, 0), admitted(1)),
-        (acquire(FIRST, 1), Reply::Full),
-    ];
-    check(&rt, &mut core, &rows);
+    check(&rt, &mut core, &NEWEST_FIRST);
+    assert_eq!(rt; core.promotions(), [TWO_IS_PROMOTED].as_slice());
+    assert_eq!(rt; core.granted_permit(2), Some(TWO_IS_GRANTED));
+    assert!(rt; core.is_granted(2));
+    assert!(rt; core.is_waiting(1));
+    assert_eq!(rt; core.waiting(), 1);
+    assert_eq!(rt; core.granted(), 1);
+    assert_eq!(rt; core.room(), 100);
     assert_eq!(rt; core.table().len(), 1);
     Ok(())
 }
 
+const PROMOTED_KEEPS_ITS_PERMIT: [(Ask, Reply); 5] = [
+    (Claim(1), StillWaiting),
+    (GiveUp(2), HANDED_OUT),
+    (GiveUp(1), TimedOut),
+    (Claim(1), Lost),
+    (End(2, FIRST, 5, 1, Ignored, 9), Ended { promoted: 0 }),
+];
+
+const HANDED_OUT: Reply = Reply::Granted {
+    part: FIRST,
+    start: 5,
+    inflight: 1,
+};
+
 #[test]
-fn the_newest_waiter_is_promoted_and_keeps_its_permit(rt: HostRuntime) -> Result<(), Fail> {
+fn a_promoted_waiter_keeps_its_permit(rt: HostRuntime) -> Result<(), Fail> {
     let table = PartitionTable::new(rt.alloc(), &[(b"a", 100)])?;
     let mut core = Core::new(rt.alloc(), Fixed::new(1)?, table, 100)?;
-    let rows = [
-        (acquire(FIRST, 0), admitted(1)),
-        (wait(FIRST, 1), Reply::Waiting),
-        (wait(FIRST, 2), Reply::Waiting),
-        (end((0, FIRST, 0, 1), Outcome::Success, 5), ended(1)),
-    ];
-    check(&rt, &mut core, &rows);
-    let promotion = Promotion {
-        waiter: 2,
-        part: FIRST,
-        start: 5,
-        inflight: 1,
-    };
-    assert_eq!(rt; core.promotions(), [promotion].as_slice());
-    assert!(rt; core.waiting() == 1 && core.granted() == 1 && core.room() == 100);
-    assert!(rt; core.is_waiting(1) && core.is_granted(2) && !core.is_waiting(2));
-    let permit = PermitFacts {
-        number: 2,
-        part: FIRST,
-        start: 5,
-        inflight: 1,
-    };
-    assert_eq!(rt; core.granted_permit(2), Some(permit));
-    let granted = Reply::Granted {
-        part: FIRST,
-        start: 5,
-        inflight: 1,
-    };
-    let rows = [
-        (Event::Claim { number: 1 }, Reply::StillWaiting),
-        (Event::GiveUp { number: 2 }, granted),
-        (Event::GiveUp { number: 1 }, Reply::TimedOut),
-        (Event::Claim { number: 1 }, Reply::Lost),
-        (end((2, FIRST, 5, 1), Outcome::Ignored, 9), ended(0)),
-    ];
-    check(&rt, &mut core, &rows);
+    check(&rt, &mut core, &NEWEST_FIRST);
+    check(&rt, &mut core, &PROMOTED_KEEPS_ITS_PERMIT);
     assert!(rt; core.promotions().is_empty());
     let counted = Counters {
         admitted: 1,
@@ -179,71 +186,82 @@ fn the_newest_waiter_is_promoted_and_keeps_its_permit(rt: HostRuntime) -> Result
     Ok(())
 }
 
+const UP_TO_THE_SHARES: [(Ask, Reply); 9] = [
+    (Get(UNKNOWN, 0), Admitted { inflight: 1 }),
+    (Get(UNKNOWN, 1), Admitted { inflight: 2 }),
+    (Get(FIRST, 2), Admitted { inflight: 3 }),
+    (Get(FIRST, 3), Admitted { inflight: 4 }),
+    (Get(SECOND, 4), Admitted { inflight: 5 }),
+    (Get(FIRST, 5), Full),
+    (Get(SECOND, 6), Full),
+    (Get(UNKNOWN, 7), Full),
+    (Get(Part::Known(9), 8), Full),
+];
+
 #[test]
 fn each_partition_is_admitted_up_to_its_share(rt: HostRuntime) -> Result<(), Fail> {
-    let table = PartitionTable::new(rt.alloc(), &[(b"live".as_slice(), 60), (b"batch".as_slice(), 30)])?;
+    let table = PartitionTable::new(rt.alloc(), &[(b"live".as_slice(), 60), (b"batch", 30)])?;
     let mut core = Core::new(rt.alloc(), Fixed::new(2)?, table, 100)?;
-    let rows = [
-        (acquire(UNKNOWN, 0), admitted(1)),
-        (acquire(UNKNOWN, 1), admitted(2)),
-        (acquire(FIRST, 2), admitted(3)),
-        (acquire(FIRST, 3), admitted(4)),
-        (acquire(SECOND, 4), admitted(5)),
-        (acquire(FIRST, 5), Reply::Full),
-        (acquire(SECOND, 6), Reply::Full),
-        (acquire(UNKNOWN, 7), Reply::Full),
-        (acquire(Part::Known(9), 8), Reply::Full),
-    ];
-    check(&rt, &mut core, &rows);
+    check(&rt, &mut core, &UP_TO_THE_SHARES);
     Ok(())
 }
 
+const ONE_PROMOTION_AT_MOST: [(Ask, Reply); 6] = [
+    (Get(FIRST, 0), Admitted { inflight: 1 }),
+    (Get(SECOND, 1), Admitted { inflight: 2 }),
+    (Wait(FIRST, 2), Waiting),
+    (Wait(SECOND, 3), Waiting),
+    (End(0, FIRST, 0, 1, Success, 4), Ended { promoted: 1 }),
+    (Get(FIRST, 5), Admitted { inflight: 3 }),
+];
+
 #[test]
 fn an_ending_promotes_one_waiter_at_most(rt: HostRuntime) -> Result<(), Fail> {
-    let table = PartitionTable::new(rt.alloc(), &[(b"live".as_slice(), 50), (b"batch".as_slice(), 50)])?;
+    let table = PartitionTable::new(rt.alloc(), &[(b"live".as_slice(), 50), (b"batch", 50)])?;
     let mut core = Core::new(rt.alloc(), Fixed::new(2)?, table, 100)?;
-    let rows = [
-        (acquire(FIRST, 0), admitted(1)),
-        (acquire(SECOND, 1), admitted(2)),
-        (wait(FIRST, 2), Reply::Waiting),
-        (wait(SECOND, 3), Reply::Waiting),
-        (end((0, FIRST, 0, 1), Outcome::Success, 4), ended(1)),
-        (acquire(FIRST, 5), admitted(3)),
-    ];
-    check(&rt, &mut core, &rows);
-    assert!(rt; core.is_granted(3) && core.is_waiting(2));
+    check(&rt, &mut core, &ONE_PROMOTION_AT_MOST);
+    assert!(rt; core.is_granted(3));
+    assert!(rt; core.is_waiting(2));
     Ok(())
 }
+
+const NOBODY_WAITS: [(Ask, Reply); 4] = [
+    (Get(UNKNOWN, 0), Admitted { inflight: 1 }),
+    (Wait(UNKNOWN, 1), BacklogFull),
+    (Bypass, Bypassed),
+    (Look, ONE_IN_FLIGHT),
+];
 
 #[test]
 fn nobody_waits_without_room_and_a_bypass_is_not_counted(rt: HostRuntime) -> Result<(), Fail> {
     let table = PartitionTable::unknown_only();
     let mut core = Core::new(rt.alloc(), Fixed::new(1)?, table, 0)?;
-    let rows = [
-        (acquire(UNKNOWN, 0), admitted(1)),
-        (wait(UNKNOWN, 1), Reply::BacklogFull),
-        (BYPASS, Reply::Bypassed),
-        (Event::Look { part: UNKNOWN }, seen(1, 1)),
-    ];
-    check(&rt, &mut core, &rows);
+    check(&rt, &mut core, &NOBODY_WAITS);
     Ok(())
 }
+
+const SET_AND_RESET: [(Ask, Reply); 5] = [
+    (Set(4), Refused(SetFault::OutOfRange)),
+    (Set(20), LimitSet),
+    (Get(UNKNOWN, 0), Admitted { inflight: 1 }),
+    (Reset, ResetDone),
+    (Look, AFTER_THE_RESET),
+];
+
+const AFTER_THE_RESET: Reply = Reply::Seen {
+    limit: 10,
+    total: 1,
+    waiting: 0,
+    granted: 0,
+    inflight: 1,
+    share: 0,
+};
 
 #[test]
 fn a_limit_is_set_and_reset_and_what_is_in_flight_stays(rt: HostRuntime) -> Result<(), Fail> {
     let table = PartitionTable::unknown_only();
     let mut core = Core::new(rt.alloc(), Settable::new(5, 10, 20)?, table, 100)?;
-    let rows = [
-        (
-            Event::SetLimit { n: 4, now: 0 },
-            Reply::Refused(SetFault::OutOfRange),
-        ),
-        (Event::SetLimit { n: 20, now: 0 }, Reply::LimitSet),
-        (acquire(UNKNOWN, 0), admitted(1)),
-        (Event::Reset { now: 0 }, Reply::ResetDone),
-        (Event::Look { part: UNKNOWN }, seen(10, 1)),
-    ];
-    check(&rt, &mut core, &rows);
+    check(&rt, &mut core, &SET_AND_RESET);
     Ok(())
 }
 
@@ -251,8 +269,7 @@ fn a_limit_is_set_and_reset_and_what_is_in_flight_stays(rt: HostRuntime) -> Resu
 fn a_fixed_limit_is_not_set(rt: HostRuntime) -> Result<(), Fail> {
     let table = PartitionTable::unknown_only();
     let mut core = Core::new(rt.alloc(), Fixed::new(5)?, table, 100)?;
-    let event = Event::SetLimit { n: 5, now: 0 };
-    check(&rt, &mut core, &[(event, Reply::Refused(SetFault::NotSettable))]);
+    check(&rt, &mut core, &[(Set(5), Refused(SetFault::NotSettable))]);
     Ok(())
 }
 
