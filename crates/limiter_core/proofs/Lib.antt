@@ -13,3 +13,4 @@ pub mod States
 pub mod Holding
 pub mod Applying
 pub mod Countings
+pub mod Comings
