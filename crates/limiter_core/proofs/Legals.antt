@@ -1,15 +1,15 @@
 -- Legal histories: they are backed, their answers depend on the image alone, and they concatenate.
-use Rattle.std.proofs.Common.{◌≡◌, ℕ, zero, suc, ◌+◌, ◌-◌, ◌<◌, ◌≤◌, ◌==◌, List, [], ◌∷◌, ◌++◌, Bool, true, false, cond, length, map, option_to_list, Option, None, Some, count_by, refl, sym, ap, ◌∙◌, subst, arith, append_assoc, append-nil, zero-le}
+use Rattle.std.proofs.Common.{◌≡◌, ℕ, ◌<◌, ◌≤◌, ◌==◌, List, [], ◌∷◌, ◌++◌, Bool, true, false, cond, length, map, option_to_list, Option, None, Some, refl, sym, ap, ◌∙◌, subst, arith, append_assoc, append-nil, zero-le}
 use Rattle.std.proofs.lemmas.List.Sums.{sum_by-append}
 use Rattle.limiter_core.specs.declared.event.Event.{Event}
 use Rattle.limiter_core.specs.declared.event.Event.TheVariants.{Acquire, End, Claim, GiveUp, SetLimit, Reset, Look}
 use Rattle.limiter_core.specs.declared.event.Reply.{Reply}
 use Rattle.limiter_core.specs.declared.event.Entry.{Entry}
-use Rattle.limiter_core.specs.declared.event.Entry.TheVariants.{Call, Promotion}
+use Rattle.limiter_core.specs.declared.event.Entry.TheVariants.{Call}
 use Rattle.lifo_backlog.specs.declared.waiter.Waiter.{Waiter}
 use Rattle.partitions.specs.Table.{place_of}
 use Rattle.limiter_core.specs.History.{Gate, Image, image_after, inflight_after, enters, leaves, ends}
-use Rattle.limiter_core.specs.Answer.{answer, granted_at, reply_to, promoted, promotions_at, promotion, next_waiter, moment_of, counting}
+use Rattle.limiter_core.specs.Answer.{answer, reply_to, promoted, promotions_at, promotion, next_waiter, moment_of, counting}
 use Rattle.limiter_core.specs.Legal.{IsLegal, nothing, more, MayCome}
 use Rattle.limiter_core.specs.Laws.{AnswersByImage, Concatenates}
 use Rattle.limiter_core.proofs.Images.{IsBacked, image_nil, image-append}
@@ -66,7 +66,7 @@ module _ {S : Type 0} (g : Gate S) where
       let i : Image S = image_after g o h in
       let back : i ≡ image_after g i [] = sym (image_nil g i) in
       let after : image_after g o (h ++ Call e (reply_to g i e) ∷ []) ≡ image_after g i (Call e (reply_to g (image_after g i []) e) ∷ [])
-          = image-append g o h (Call e (reply_to g i e) ∷ []) backed ∙ ap (λ (j : Image S). image_after g i (Call e (reply_to g j e) ∷ [])) back in
+      = image-append g o h (Call e (reply_to g i e) ∷ []) backed ∙ ap (λ (j : Image S). image_after g i (Call e (reply_to g j e) ∷ [])) back in
       let told : promoted g o h e ≡ promoted g i [] e = ap (λ (j : Image S). promotions_at g j (moment_of e)) after in
       λ k. Call e (counting (length (told k)) (reply_to g (back k) e)) ∷ told k
 
@@ -79,9 +79,9 @@ module _ {S : Type 0} (g : Gate S) where
       let both : IsLegal g o (h1 ++ h2) = joined o h1 h2 legal before in
       let stands : image_after g o (h1 ++ h2) ≡ image_after g (image_after g o h1) h2 = image-append g o h1 h2 (backed_legal o h1 legal) in
       let same : answer g o (h1 ++ h2) e ≡ answer g (image_after g o h1) h2 e
-          = answers_by_image o (h1 ++ h2) e both ∙ ap (λ (i : Image S). answer g i [] e) stands ∙ sym (answers_by_image (image_after g o h1) h2 e before) in
+      = answers_by_image o (h1 ++ h2) e both ∙ ap (λ (i : Image S). answer g i [] e) stands ∙ sym (answers_by_image (image_after g o h1) h2 e before) in
       subst (λ (xs : List Entry). IsLegal g o xs) (append_assoc h1 h2 (answer g o (h1 ++ h2) e) ∙ ap (λ (xs : List Entry). h1 ++ (h2 ++ xs)) same)
-        (more (h1 ++ h2) e both (subst (λ (i : Image S). MayCome g i e) (sym stands) may))
+      (more (h1 ++ h2) e both (subst (λ (i : Image S). MayCome g i e) (sym stands) may))
 
   pub concatenates : Concatenates g
   concatenates o h1 h2 legal after = (joined o h1 h2 legal after, image-append g o h1 h2 (backed_legal o h1 legal))
