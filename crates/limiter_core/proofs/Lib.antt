@@ -14,3 +14,4 @@ pub mod Holding
 pub mod Applying
 pub mod Countings
 pub mod Comings
+mod Rows
