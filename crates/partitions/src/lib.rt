@@ -1,0 +1,12 @@
+//! Partitions: the known classes of callers, by name, and the share of a limit that each is promised.
+//!
+//! `PartitionTable` is the crate's one type for the layers above. Contracts see it as its list of rows
+//! (`specs/Table.antt`), and cite from there the place of a part, its share of a limit and the bound on
+//! what is ever in flight.
+#![tactic(auto)]
+
+mod part;
+mod table;
+
+pub use part::Part;
+pub use table::PartitionTable;
