@@ -1,0 +1,38 @@
+ghost use Rattle.std.specs.Prelude.{◌≡◌};
+ghost use Rattle.classifier.specs.Class.{class_of, first_part};
+
+use crate::rules::Rules;
+use partitions::{Part, PartitionTable};
+use wire::Request;
+
+/// What the limiter is told of a request.
+#[derive(Clone, Copy, Debug, PartialEq, Eq)]
+pub struct Class {
+    /// Whether the request bypasses the limit.
+    pub bypass: bool,
+    /// The request's partition.
+    pub part: Part,
+}
+
+/// The class of a request: the first resolver that gives a partition of the table decides the part, which is
+/// unknown where none does; any bypass rule that holds sets `bypass`. Takes no memory.
+pub fn classify(rules: &Rules, table: &PartitionTable, request: &Request) -> Class
+    ensures { result ≡ class_of rules.now table.now request.now }
+{
+    Class {
+        bypass: rules.bypass().iter().any(|rule| rule.holds(request)),
+        part: first_part(rules, table, request).unwrap_or(Part::Unknown),
+    }
+}
+
+/// The part that the first deciding resolver gives.
+fn first_part(rules: &Rules, table: &PartitionTable, request: &Request) -> Option<Part>
+    ensures { result ≡ first_part table.now request.now rules.now.resolvers }
+{
+    for resolver in rules.resolvers() {
+        if let Some(part) = resolver.part(table, request) {
+            return Some(part);
+        }
+    }
+    None
+}

@@ -1,0 +1,17 @@
+//! The gateway's settings, read from TOML text.
+//!
+//! `read` is the crate's one call for the layers above. Its contract is by the list of keys in
+//! `specs/Rows.antt`, which holds every key's place in the order of faults, its name, its range and its
+//! default.
+#![tactic(auto)]
+
+mod entry;
+mod fault;
+mod key;
+mod limit;
+mod number;
+mod text;
+mod window;
+
+pub use fault::ConfigFault;
+pub use key::{Key, Section};
