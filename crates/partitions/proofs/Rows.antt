@@ -1,14 +1,14 @@
 -- Rows of a table, as they are kept and as contracts see them.
-use Rattle.std.proofs.Common.{◌≡◌, ℕ, ◌+◌, ◌<◌, ◌≤◌, Bool, true, false, not, ◌&&◌, cond, nat_le, nat_lt, IsTrue, List, [], ◌∷◌, length, map, get_or, slice_get, All, Option, None, Some, IfSome, is_some, Bor, option_map, position, bytes_eq, codes, string_bytes, refl, sym, ap, ◌∙◌, subst, arith}
+use Rattle.std.proofs.Common.{◌≡◌, ℕ, ◌+◌, ◌<◌, ◌≤◌, Bool, true, false, not, ◌&&◌, cond, nat_le, nat_lt, IsTrue, List, [], ◌∷◌, ◌++◌, length, map, take, get_or, slice_get, All, Option, None, Some, IfSome, is_some, Bor, option_map, position, bytes_eq, codes, string_bytes, refl, sym, ap, ◌∙◌, subst, arith}
 use Rattle.std.specs.List.{list_all, prefix_len, position_or_len}
 use Rattle.std.proofs.lemmas.Option.{slice_get-map, slice_get-get_or, slice_get_past}
-use Rattle.std.proofs.lemmas.List.{get_or-map, length-map}
+use Rattle.std.proofs.lemmas.List.{get_or-map, length-map, map-append, take_more}
 use Rattle.std.proofs.lemmas.List.Sums.{prefix_len_stops}
 use Rattle.std.proofs.lemmas.Bool.{leb-true, ltb-true}
 use Rattle.partitions.specs.Table.{Row, is_name_byte, is_name, is_percent, find_part}
 use Rattle.partitions.specs.Stored.{row_of}
 use Rattle.partitions.specs.declared.part.Part.TheVariants.{Known}
-use Rattle.partitions.specs.declared.table.NamedShare.{NamedShare}
+use Rattle.partitions.specs.declared.named_share.NamedShare.{NamedShare}
 
 -- the row at a place that holds one
 pub row_held : (kept : List NamedShare) (rows : List Row) (k : ℕ) (one : NamedShare) → map row_of kept ≡ rows → k < length kept → one ≡ get_or kept k one → Some (row_of one) ≡ slice_get rows k
@@ -24,6 +24,14 @@ row_missing kept rows k same beyond =
     sym (ap (option_map row_of) (slice_get_past kept k beyond))
     ∙ sym (slice_get-map row_of kept k)
     ∙ ap (λ (rs : List Row). slice_get rs k) same
+
+-- one more row kept
+pub rows_pushed : (kept : List NamedShare) (rows : List Row) (k : ℕ) (one : NamedShare) (d : Row) → map row_of kept ≡ take k rows → k < length rows → row_of one ≡ get_or rows k d → map row_of (kept ++ one ∷ []) ≡ take (k + 1) rows
+rows_pushed kept rows k one d same below at =
+    map-append row_of kept (one ∷ [])
+    ∙ ap (λ (front : List Row). front ++ row_of one ∷ []) same
+    ∙ ap (λ (row : Row). take k rows ++ row ∷ []) at
+    ∙ sym (take_more rows k d below)
 
 both_right : (a b : Bool) → (a && b) ≡ true → b ≡ true
 both_right true b h = h

@@ -2,7 +2,7 @@
 use Rattle.std.specs.Prelude.{List, [], map, Option, None, Some, Vec, string_bytes}
 use Rattle.std.specs.declared.alloc.Global.{Global}
 use Rattle.partitions.specs.Table.{Row}
-use Rattle.partitions.specs.declared.table.NamedShare.{NamedShare}
+use Rattle.partitions.specs.declared.named_share.NamedShare.{NamedShare}
 
 abbrev pub row_of : NamedShare → Row
 row_of kept = record { name = string_bytes kept.name; percent = kept.percent }

@@ -32,6 +32,12 @@ least test (suc bound) = elim (test zero) [ true ↦ zero | false ↦ suc (least
 unfoldable pub percent_share : ℕ → ℕ → ℕ
 percent_share percent limit = max 1 (least (λ n. nat_le (limit * percent) (100 * n)) (limit * percent))
 
+-- in other words: at least 1, enough for the percentage, and no more than any such number
+pub record IsShare (percent limit n : ℕ) : Type 0 where
+  pub at_least_one : 1 ≤ n
+  pub enough : limit * percent ≤ 100 * n
+  pub least : (m : ℕ) → 1 ≤ m → limit * percent ≤ 100 * m → n ≤ m
+
 -- the share of a row, and none where there is no row
 abbrev pub row_share : Option Row → ℕ → ℕ
 row_share None limit = 0

@@ -5,8 +5,12 @@
 //! what is ever in flight.
 #![tactic(auto)]
 
+mod check;
+mod fault;
+mod named_share;
 mod part;
 mod table;
 
+pub use fault::TableFault;
 pub use part::Part;
 pub use table::PartitionTable;

@@ -1,21 +1,22 @@
-ghost use Rattle.std.specs.Prelude.{◌≡◌, ℕ, ◌+◌, ◌*◌, ◌<◌, ◌≤◌, ◌↔◌, max, [], length, map, slice_get, option_map, position, bytes_eq, IfSome, IsTrue, codes};
-ghost use Rattle.partitions.specs.Table.{IsTable, place_of, find_part, name_of, percent_share, share, bound};
+ghost use Rattle.std.specs.Prelude.{◌≡◌, ℕ, ◌+◌, ◌*◌, ◌<◌, ◌≤◌, ◌↔◌, max, [], length, map, slice_get, option_map, position, bytes_eq, IfSome, IfOk, IsOkUnless, MatchOption, IsTrue, codes};
+ghost use Rattle.partitions.specs.Table.{IsTable, place_of, find_part, name_of, IsShare, share, bound};
+ghost use Rattle.partitions.specs.Faults.{given, fault_of};
 
+use crate::check::check;
+use crate::fault::TableFault;
+use crate::named_share::{NamedShare, copied_rows, kept_rows};
 use crate::part::Part;
+use std::alloc::Global;
 use std::marker::Model;
 
+/// How many partitions a table knows at most.
+pub(crate) const MOST_KNOWN: usize = 4;
+
 /// The place of the unknown partition, behind those of the known ones.
-const UNKNOWN_PLACE: usize = 4;
+const UNKNOWN_PLACE: usize = MOST_KNOWN;
 
 /// The name of every part that a table doesn't hold.
-const UNKNOWN_NAME: &str = "unknown";
-
-/// A known partition's name and percentage.
-#[derive(Debug, Drop)]
-struct NamedShare {
-    name: String,
-    percent: u32,
-}
+pub(crate) const UNKNOWN_NAME: &str = "unknown";
 
 /// The known partitions, at most four of them, with the shares that they are promised.
 #[derive(Debug, Drop)]
@@ -45,6 +46,31 @@ impl PartitionTable {
         ensures { result ≡ [] }
     {
         PartitionTable { rows: None }
+    }
+
+    /// The table of these rows, each a partition's name and its percentage of the limit.
+    pub fn new(alloc: Global, rows: &[(&[u8], u32)]) -> Result<PartitionTable, TableFault>
+        ensures rows { IfOk result (λ table. table ≡ given rows.now) }
+        ensures fault { MatchOption (fault_of (given rows.now))
+            (IsOkUnless result TableFault.Memory)
+            (λ fault. result ≡ Err fault) }
+    {
+        check(rows)?;
+        Ok(PartitionTable {
+            rows: Some(kept_rows(alloc, rows)?),
+        })
+    }
+
+    /// An equal table, on this table's allocator.
+    pub fn copy(&self) -> Result<PartitionTable, TableFault>
+        ensures rows { IfOk result (λ copy. copy ≡ self.now) }
+        ensures fault { IsOkUnless result TableFault.Memory }
+    {
+        let rows = match &self.rows {
+            Some(rows) => Some(copied_rows(*rows.allocator(), rows)?),
+            None => None,
+        };
+        Ok(PartitionTable { rows })
     }
 
     /// The kept rows, in their order.
@@ -131,6 +157,8 @@ impl PartitionTable {
     /// partition, and 0 for a part that the table doesn't hold.
     pub fn share(&self, part: Part, limit: u32) -> u32
         ensures share { result ≡ share self.now (place_of self.now part) limit }
+        ensures least { IfSome (slice_get self.now (place_of self.now part))
+            (λ row. IsShare row.percent limit result) }
         ensures within { result ≤ max 1 limit }
     {
         self.share_at(self.place(part), limit)
@@ -140,10 +168,11 @@ impl PartitionTable {
     fn share_at(&self, place: usize, limit: u32) -> u32
         requires { place < 5 }
         ensures share { result ≡ share self.now place limit }
+        ensures least { IfSome (slice_get self.now place) (λ row. IsShare row.percent limit result) }
         ensures within { result ≤ max 1 limit }
     {
         match self.row(place) {
-            Some(row) => percent_share(row.percent, limit),
+            Some(row) => row.share(limit),
             None => 0,
         }
     }
@@ -154,19 +183,9 @@ impl PartitionTable {
         ensures within { result ≤ hi + 4 * max 1 hi }
     {
         let mut most = u64::from(hi);
-        for place in 0..UNKNOWN_PLACE {
+        for place in 0..MOST_KNOWN {
             most += u64::from(self.share_at(place, hi));
         }
         most
     }
-}
-
-/// The greater of 1 and this percentage of a limit, rounded up.
-fn percent_share(percent: u32, limit: u32) -> u32
-    requires { percent ≤ 100 }
-    ensures share { result ≡ percent_share percent limit }
-    ensures within { result ≤ max 1 limit }
-{
-    let hundredfold = u64::from(limit) * u64::from(percent);
-    (hundredfold.div_ceil(100) as u32).max(1)
 }

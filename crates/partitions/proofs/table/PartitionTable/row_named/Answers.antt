@@ -1,7 +1,7 @@
 use Rattle.std.proofs.Common.{◌≡◌, Bool, position, bytes_eq, string_bytes, rules, tests, ◌∙◌}
 use Rattle.std.proofs.lemmas.Iterator.{YieldsList-from_slice}
 use Rattle.std.proofs.lemmas.Iterator.Search.{position_from_yields_List}
-use Rattle.partitions.specs.declared.table.NamedShare.{NamedShare}
+use Rattle.partitions.specs.declared.named_share.NamedShare.{NamedShare}
 use Rattle.partitions.proofs.Rows.{position_kept}
 use Rattle.partitions.proofs.table.PartitionTable.row_named.Goals as goal
 

@@ -1,0 +1,119 @@
+// A reader or a writer with its two counts.
+ghost use Rattle.std.specs.Prelude.{◌≡◌, ◌<◌, length, Ok, is_ok, if◌then◌else◌, IfOk};
+ghost use Rattle.std.specs.Io.{ReadsAtMost, WritesAtMost};
+ghost use Rattle.std.specs.Io.KnownBytes.{Keeps, ReadConsumes, WriteAppends};
+ghost use Rattle.counted_io.specs.Count.{raised};
+ghost use Rattle.counted_io.specs.Counted.{inner_of, calls_of, failures_of};
+
+use std::io::{Error, ErrorKind, Read, Result, Write};
+
+/// A reader or a writer, with the number of its reads or writes and of its failures.
+///
+/// A read or a write is a call; a flush is none, but counts as a failure where it fails.
+/// A write of some bytes that takes none is answered as an error of the kind `WriteZero`.
+/// Each count stays at `u64::MAX` once it is there.
+#[derive(Drop)]
+pub struct Counted<T> {
+    inner: T,
+    calls: u64,
+    failures: u64,
+}
+
+impl<T> Counted<T> {
+    /// Nothing was called yet.
+    pub fn new(inner: T) -> Self
+        ensures inner { inner_of result ≡ inner }
+        ensures calls { calls_of result ≡ 0 }
+        ensures failures { failures_of result ≡ 0 }
+    {
+        Counted {
+            inner,
+            calls: 0,
+            failures: 0,
+        }
+    }
+
+    /// How many reads and writes were made.
+    pub fn calls(&self) -> u64
+        ensures { result ≡ calls_of self.now }
+    {
+        self.calls
+    }
+
+    /// How many reads, writes and flushes failed.
+    pub fn failures(&self) -> u64
+        ensures { result ≡ failures_of self.now }
+    {
+        self.failures
+    }
+
+    // One more call.
+    fn count_call(&mut self)
+        ensures inner { inner_of self.new ≡ inner_of self.old }
+        ensures calls { calls_of self.new ≡ raised (calls_of self.old) }
+        ensures failures { failures_of self.new ≡ failures_of self.old }
+    {
+        self.calls = self.calls.saturating_add(1);
+    }
+
+    // One more failure.
+    fn count_failure(&mut self)
+        ensures inner { inner_of self.new ≡ inner_of self.old }
+        ensures calls { calls_of self.new ≡ calls_of self.old }
+        ensures failures { failures_of self.new ≡ raised (failures_of self.old) }
+    {
+        self.failures = self.failures.saturating_add(1);
+    }
+}
+
+impl<R: Read> Read for Counted<R> {
+    ghost remaining = { λ c. R.remaining (inner_of c) };
+
+    fn read(&mut self, buf: &mut [u8]) -> Result<usize>
+        ensures bound { ReadsAtMost result buf.new }
+        ensures bytes { ReadConsumes (R.remaining (inner_of self.old)) (R.remaining (inner_of self.new)) result buf.new }
+        ensures calls { calls_of self.new ≡ raised (calls_of self.old) }
+        ensures failures { failures_of self.new ≡ (if is_ok result then failures_of self.old else raised (failures_of self.old)) }
+    {
+        self.count_call();
+        let outcome = self.inner.read(buf);
+        if outcome.is_err() {
+            self.count_failure();
+        }
+        outcome
+    }
+}
+
+impl<W: Write> Write for Counted<W> {
+    ghost contents = { λ c. W.contents (inner_of c) };
+
+    fn write(&mut self, buf: &[u8]) -> Result<usize>
+        ensures bound { WritesAtMost result buf.now }
+        ensures bytes { WriteAppends (W.contents (inner_of self.old)) (W.contents (inner_of self.new)) result buf.now }
+        ensures takes_some { IfOk result (λ count. 0 < length buf.now → 0 < count) }
+        ensures calls { calls_of self.new ≡ raised (calls_of self.old) }
+        ensures failures { failures_of self.new ≡ (if is_ok result then failures_of self.old else raised (failures_of self.old)) }
+    {
+        self.count_call();
+        let outcome = match self.inner.write(buf) {
+            Ok(0) if !buf.is_empty() => Err(Error::new(ErrorKind::WriteZero, "nothing was taken")),
+            outcome => outcome,
+        };
+        if outcome.is_err() {
+            self.count_failure();
+        }
+        outcome
+    }
+
+    fn flush(&mut self) -> Result<()>
+        ensures bytes { Keeps (W.contents (inner_of self.old)) (W.contents (inner_of self.new)) }
+        ensures calls { calls_of self.new ≡ calls_of self.old }
+        ensures failures { failures_of self.new ≡ (if is_ok result then failures_of self.old else raised (failures_of self.old)) }
+    {
+        let outcome = self.inner.flush();
+        if outcome.is_err() {
+            self.count_failure();
+        }
+        outcome
+    }
+}

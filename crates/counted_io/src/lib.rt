@@ -1,0 +1,17 @@
+//! Readers and writers that count their calls and their failures.
+//!
+//! A caller that gives up can say why: a fault of reading or writing comes with a count that rose.
+//! [`Counted`] goes round any reader or writer of std; its contract stands at its implementations
+//! of `Read` and `Write`. [`read_all`] and [`write_all`] move whole texts through one, and say
+//! when each of their faults comes. `specs/` has the words that the contracts are written in.
+#![tactic(auto)]
+
+mod counted;
+mod reading;
+#[cfg(test)]
+mod tests;
+mod writing;
+
+pub use counted::Counted;
+pub use reading::{ReadFault, read_all};
+pub use writing::{WriteFault, write_all};

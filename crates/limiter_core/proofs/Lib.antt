@@ -1,0 +1,9 @@
+pub mod Images
+pub mod Steps
+pub mod Counts
+pub mod Endings
+pub mod Sounds
+pub mod Fields
+pub mod Finds
+pub mod Broughts
+pub mod Opens

@@ -1,0 +1,34 @@
+// Numbers in decimal digits.
+ghost use Rattle.std.specs.Prelude.{◌≡◌, true, nat_lt, ◌&&◌, ◌^◌, length, if◌then◌else◌};
+ghost use Rattle.std.specs.Char.{is_ascii_digit};
+ghost use Rattle.std.specs.List.{list_all};
+ghost use Rattle.std.specs.Str.Parse.{digits_value};
+ghost use Rattle.load_driver.specs.Words.{number_of};
+
+/// Whether each byte is a decimal digit.
+fn all_digits(word: &[u8]) -> bool
+    ensures { result ≡ list_all is_ascii_digit word.now }
+{
+    word.iter().all(|byte| byte.is_ascii_digit())
+}
+
+/// The number that digits spell, where it fits.
+fn parse_digits(text: &str) -> Option<u64>
+    requires { list_all is_ascii_digit text.now ≡ true }
+    ensures { result ≡ (if nat_lt 0 (length text.now) && nat_lt (digits_value 10 text.now) (2 ^ 64) then Some (digits_value 10 text.now) else None) }
+{
+    text.parse().ok()
+}
+
+/// The number that a word spells in 1 to 20 digits, where it fits a `u64`; leading zeros are allowed.
+pub(crate) fn read_number(word: &[u8]) -> Option<u64>
+    ensures { result ≡ number_of word.now }
+{
+    if word.len() > 20 || !all_digits(word) {
+        return None;
+    }
+    match str::from_utf8(word) {
+        Ok(text) => parse_digits(text),
+        Err(_) => None,
+    }
+}
