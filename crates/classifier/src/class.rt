@@ -1,5 +1,6 @@
 ghost use Rattle.std.specs.Prelude.{◌≡◌};
-ghost use Rattle.classifier.specs.Class.{class_of, first_part};
+ghost use Rattle.std.specs.List.{list_any};
+ghost use Rattle.classifier.specs.Class.{class_of, first_part, is_bypassed_by};
 
 use crate::rules::Rules;
 use partitions::{Part, PartitionTable};
@@ -19,10 +20,19 @@ pub struct Class {
 pub fn classify(rules: &Rules, table: &PartitionTable, request: &Request) -> Class
     ensures { result ≡ class_of rules.now table.now request.now }
 {
-    Class {
-        bypass: rules.bypass().iter().any(|rule| rule.holds(request)),
-        part: first_part(rules, table, request).unwrap_or(Part::Unknown),
-    }
+    let bypass = is_bypassed(rules, request);
+    let part = match first_part(rules, table, request) {
+        Some(part) => part,
+        None => Part::Unknown,
+    };
+    Class { bypass, part }
+}
+
+/// Whether some bypass rule holds.
+fn is_bypassed(rules: &Rules, request: &Request) -> bool
+    ensures { result ≡ list_any (is_bypassed_by request.now) rules.now.bypass }
+{
+    rules.bypass().iter().any(|rule| rule.holds(request))
 }
 
 /// The part that the first deciding resolver gives.

@@ -15,34 +15,48 @@ fn bytes(alloc: Global, text: &str) -> Result<Bytes, AllocError> {
     Bytes::from_slice(alloc, text.as_bytes())
 }
 
-/// A GET request with one header line.
-fn request(alloc: Global, path: &str, name: &str, value: &str) -> Result<Request, AllocError> {
-    let line = Header {
-        name: bytes(alloc, name)?,
-        value: bytes(alloc, value)?,
-    };
-    let mut lines = Vec::new(alloc);
-    lines.push(line)?;
+fn header(alloc: Global, name: &str, value: &str) -> Result<Headers, AllocError> {
+    let name = bytes(alloc, name)?;
+    let value = bytes(alloc, value)?;
+    Ok(Headers::new(vec![in alloc; Header { name, value }]?))
+}
+
+/// A request with one header line.
+fn request(alloc: Global, method: Method, path: &str, headers: Headers) -> Result<Request, AllocError> {
     Ok(Request {
-        method: Method::GET,
+        method,
         target: Text::copy_of(alloc, path)?,
         path: Text::copy_of(alloc, path)?,
         version: Version::Http11,
-        headers: Headers::new(lines),
+        headers,
         body: None,
     })
 }
 
-fn table(rt: &(impl Alloc<A = Global> + Abort)) -> PartitionTable {
+/// The class of a GET request with one header line, where `live` and `batch` are known.
+fn class(rt: &impl Abort, alloc: Global, rules: &Rules, path: &str, name: &str, value: &str) -> Class {
+    let headers = header(alloc, name, value).expect(rt, "headers");
+    let request = request(alloc, Method::GET, path, headers).expect(rt, "a request");
     let rows = [(b"live".as_slice(), 60), (b"batch".as_slice(), 30)];
-    PartitionTable::new(rt.alloc(), &rows).expect(rt, "a table")
+    let table = PartitionTable::new(alloc, &rows).expect(rt, "a table");
+    classify(rules, &table, &request)
+}
+
+fn by_header(alloc: Global) -> Result<Resolver, AllocError> {
+    Ok(Resolver::Header(bytes(alloc, "X-Class")?))
+}
+
+fn by_route(rt: &impl Abort, alloc: Global) -> Resolver {
+    let mut router = Router::new(alloc);
+    assert!(rt; router.insert("/jobs/{id}", BATCH).is_ok());
+    assert!(rt; router.insert("/lost", LOST).is_ok());
+    Resolver::Route(router)
 }
 
 #[test]
 fn names_of_classes_are_compared_byte_for_byte(rt: HostRuntime) -> Result<(), Fail> {
-    let table = table(&rt);
-    let header = Resolver::Header(bytes(rt.alloc(), "X-Class")?);
-    let rules = Rules::new(vec![in rt.alloc(); header]?, Vec::new(rt.alloc()));
+    let alloc = rt.alloc();
+    let rules = Rules::new(vec![in alloc; by_header(alloc)?]?, Vec::new(alloc));
     let cases = [
         ("X-Class", "live", LIVE),
         ("x-cLASS", "batch", BATCH),
@@ -51,23 +65,17 @@ fn names_of_classes_are_compared_byte_for_byte(rt: HostRuntime) -> Result<(), Fa
         ("X-Classes", "live", Part::Unknown),
     ];
     for (name, value, part) in cases {
-        let class = classify(&rules, &table, &request(rt.alloc(), "/", name, value)?);
-        assert!(rt; class == Class { bypass: false, part });
+        assert!(rt; class(&rt, alloc, &rules, "/", name, value).part == part);
     }
     Ok(())
 }
 
 #[test]
 fn the_first_resolver_that_knows_decides(rt: HostRuntime) -> Result<(), Fail> {
-    let table = table(&rt);
-    let mut router = Router::new(rt.alloc());
-    assert!(rt; router.insert("/jobs/{id}", BATCH).is_ok());
-    assert!(rt; router.insert("/lost", LOST).is_ok());
-    let mut resolvers = Vec::new(rt.alloc());
-    resolvers.push(Resolver::Header(bytes(rt.alloc(), "X-Class")?))?;
-    resolvers.push(Resolver::Route(router))?;
-    resolvers.push(Resolver::Method(Method::GET, LIVE))?;
-    let rules = Rules::new(resolvers, Vec::new(rt.alloc()));
+    let alloc = rt.alloc();
+    let last = Resolver::Method(Method::GET, LIVE);
+    let resolvers = vec![in alloc; by_header(alloc)?, by_route(&rt, alloc), last]?;
+    let rules = Rules::new(resolvers, Vec::new(alloc));
     assert_eq!(rt; rules.resolvers().len(), 3);
     let cases = [
         ("/jobs/7", "live", LIVE),
@@ -76,21 +84,19 @@ fn the_first_resolver_that_knows_decides(rt: HostRuntime) -> Result<(), Fail> {
         ("/jobs", "other", LIVE),
     ];
     for (path, value, part) in cases {
-        let class = classify(&rules, &table, &request(rt.alloc(), path, "X-Class", value)?);
-        assert!(rt; class == Class { bypass: false, part });
+        assert!(rt; class(&rt, alloc, &rules, path, "X-Class", value).part == part);
     }
     Ok(())
 }
 
 #[test]
 fn any_bypass_rule_bypasses_and_the_part_is_resolved(rt: HostRuntime) -> Result<(), Fail> {
-    let table = table(&rt);
-    let live = Resolver::Method(Method::GET, LIVE);
-    let mut bypass = Vec::new(rt.alloc());
-    bypass.push(Bypass::Method(Method::OPTIONS))?;
-    bypass.push(Bypass::Prefix(bytes(rt.alloc(), "/health")?))?;
-    bypass.push(Bypass::HeaderEquals(bytes(rt.alloc(), "X-Probe")?, bytes(rt.alloc(), "1")?))?;
-    let rules = Rules::new(vec![in rt.alloc(); live]?, bypass);
+    let alloc = rt.alloc();
+    let prefix = Bypass::Prefix(bytes(alloc, "/health")?);
+    let equals = Bypass::HeaderEquals(bytes(alloc, "X-Probe")?, bytes(alloc, "1")?);
+    let bypass = vec![in alloc; Bypass::Method(Method::PUT), prefix, equals]?;
+    let live = vec![in alloc; Resolver::Method(Method::GET, LIVE)]?;
+    let rules = Rules::new(live, bypass);
     assert_eq!(rt; rules.bypass().len(), 3);
     let cases = [
         ("/healthy", "X-Probe", "0", true),
@@ -98,18 +104,19 @@ fn any_bypass_rule_bypasses_and_the_part_is_resolved(rt: HostRuntime) -> Result<
         ("/a", "X-Probe", "10", false),
         ("/a/health", "Y", "1", false),
     ];
-    for (path, name, value, expected) in cases {
-        let request = request(rt.alloc(), path, name, value)?;
-        let class = classify(&rules, &table, &request);
-        assert!(rt; class == Class { bypass: expected, part: LIVE });
-        for resolver in rules.resolvers() {
-            assert!(rt; resolver.part(&table, &request) == Some(LIVE));
-        }
-        assert!(rt; rules.bypass().iter().any(|rule| rule.holds(&request)) == expected);
+    for (path, name, value, bypass) in cases {
+        assert!(rt; class(&rt, alloc, &rules, path, name, value) == Class { bypass, part: LIVE });
     }
-    let mut asked = request(rt.alloc(), "/a", "Y", "1")?;
-    asked.method = Method::OPTIONS;
-    let class = classify(&rules, &table, &asked);
-    assert!(rt; class == Class { bypass: true, part: Part::Unknown });
+    Ok(())
+}
+
+#[test]
+fn each_rule_is_asked_by_itself(rt: HostRuntime) -> Result<(), Fail> {
+    let alloc = rt.alloc();
+    let headers = header(alloc, "A", "b")?;
+    let asked = request(alloc, Method::PUT, "/", headers)?;
+    let table = PartitionTable::unknown_only();
+    assert!(rt; Bypass::Method(Method::PUT).holds(&asked));
+    assert!(rt; Resolver::Method(Method::PUT, LIVE).part(&table, &asked).is_none());
     Ok(())
 }
