@@ -1,2 +1,4 @@
+pub mod Addresses
 pub mod Chains
 pub mod Limits
+pub mod Lists

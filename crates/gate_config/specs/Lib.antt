@@ -2,5 +2,9 @@ pub mod Address
 pub mod Key
 pub mod Rows
 pub mod Values
+pub mod Tables
 pub mod Limit
+pub mod Classes
+pub mod Resolvers
+pub mod Bypasses
 pub mod Sections

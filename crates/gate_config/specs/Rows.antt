@@ -95,18 +95,24 @@ window_rows =
 abbrev pub class_rows : List Row
 class_rows = row Key.ClassName new_name ∷ row Key.ClassPercent (number (at 1) left_of_hundred None) ∷ []
 
+abbrev pub resolver_kinds : List (List ℕ)
+resolver_kinds = codes "header" ∷ codes "method" ∷ codes "route" ∷ []
+
 abbrev pub resolver_rows : List Row
 resolver_rows =
-    row Key.ResolverKind (word (codes "header" ∷ codes "method" ∷ codes "route" ∷ []))
+    row Key.ResolverKind (word resolver_kinds)
     ∷ row_of (codes "header" ∷ []) Key.ResolverHeader token
     ∷ row_of (codes "method" ∷ []) Key.ResolverMethod token
     ∷ row_of (codes "method" ∷ []) Key.ResolverClass class_name
     ∷ row_of (codes "route" ∷ []) Key.ResolverRoutes routes
     ∷ []
 
+abbrev pub bypass_kinds : List (List ℕ)
+bypass_kinds = codes "method" ∷ codes "prefix" ∷ codes "header" ∷ []
+
 abbrev pub bypass_rows : List Row
 bypass_rows =
-    row Key.BypassKind (word (codes "method" ∷ codes "prefix" ∷ codes "header" ∷ []))
+    row Key.BypassKind (word bypass_kinds)
     ∷ row_of (codes "method" ∷ []) Key.BypassMethod token
     ∷ row_of (codes "prefix" ∷ []) Key.BypassPrefix prefix
     ∷ row_of (codes "header" ∷ []) Key.BypassHeader token

@@ -1,7 +1,14 @@
 -- What the readers of the sections keep of them, as values.
 use Rattle.std.specs.Prelude.{[], ◌∷◌, codes}
+use Rattle.gate_config.specs.declared.top.TopKeys.{TopKeys}
 use Rattle.gate_config.specs.declared.window.WindowKeys.{WindowKeys}
-use Rattle.gate_config.specs.Values.{Given, number_is, Values}
+use Rattle.gate_config.specs.Values.{Given, number_is, flag_is, text_is, Values}
+
+abbrev pub top_values : TopKeys → Values
+top_values k =
+    (codes "listen", text_is k.listen) ∷ (codes "backend", text_is k.backend)
+    ∷ (codes "backlog", number_is k.backlog) ∷ (codes "wait", flag_is k.wait)
+    ∷ (codes "timeout_ms", number_is k.timeout_ms) ∷ (codes "keep", number_is k.keep) ∷ []
 
 abbrev pub window_values : WindowKeys → Values
 window_values w =

@@ -1,9 +1,9 @@
 -- What one key holds, and the keys of a section, read one after the other.
-use Rattle.std.specs.Prelude.{ℕ, ◌-◌, min, max, ℤ, pos, negsuc, Bool, true, false, ◌&&◌, ◌||◌, not, List, [], ◌∷◌, ◌++◌, length, map, find, fold, sum_by, Option, Some, None, option_map, Result, Ok, Err, bytes_eq, nat_eq, nat_le, ◌==◌, codes, if◌then◌else◌, ◌≡◌, ◌≢◌}
+use Rattle.std.specs.Prelude.{ℕ, ◌-◌, min, max, ℤ, pos, negsuc, Bool, true, false, ◌&&◌, ◌||◌, not, List, [], ◌∷◌, ◌++◌, length, map, find, fold, sum_by, Option, Some, None, option_map, unwrap_or, is_some, Result, Ok, Err, bytes_eq, nat_eq, nat_le, ◌==◌, codes, if◌then◌else◌, ◌≡◌, ◌≢◌}
 use Rattle.std.specs.List.{list_all, list_any, starts_with}
 use Rattle.http_header.specs.Token.{is_token_byte}
 use Rattle.partitions.specs.Table.{Row as ClassRow, is_name}
-use Rattle.toml.specs.Data.{Data, string, integer, boolean, table, Members, no_members, member, get_member}
+use Rattle.toml.specs.Data.{Data, string, integer, boolean, table, Members, no_members, member, get_member, as_str}
 use Rattle.gate_config.specs.declared.key.Key.{Key}
 use Rattle.gate_config.specs.declared.fault.ConfigFault.{ConfigFault}
 use Rattle.gate_config.specs.declared.fault.ConfigFault.TheVariants as Fault
@@ -94,22 +94,20 @@ abbrev pub pairs_of : Members → List (List ℕ × Data)
 pairs_of no_members = []
 pairs_of (member key d t) = (key, d) ∷ pairs_of t
 
--- the text is that of a string
-abbrev pub is_string : Data → Bool
-is_string (string s) = true
-is_string _ = false
-
 -- the text of a string
 abbrev pub string_of : Data → List ℕ
-string_of (string s) = s
-string_of _ = []
+string_of d = unwrap_or (as_str d) []
 
 -- a table of at most 256 patterns, each with the name of a class
 abbrev pub routes_in : Key → List ClassRow → Members → Result (List (List ℕ × List ℕ)) ConfigFault
 routes_in key classes t =
-    if not (list_all (λ pair. is_string pair.1) (pairs_of t)) then Err (Fault.Kind key) else (
+    if not (list_all (λ pair. is_some (as_str pair.1)) (pairs_of t)) then Err (Fault.Kind key) else (
     if nat_le (length (pairs_of t)) 256 && list_all (λ pair. is_class classes (string_of pair.1)) (pairs_of t)
     then Ok (map (λ pair. (pair.0, string_of pair.1)) (pairs_of t)) else Err (Fault.Value key))
+
+-- the table of patterns
+abbrev pub routes_from : Key → List ClassRow → Option Data → Result (List (List ℕ × List ℕ)) ConfigFault
+routes_from key classes d = table_from key d >>= routes_in key classes
 
 -- what was read at a key
 pub data Given : Type 0 where
@@ -172,7 +170,7 @@ read_key classes values key class_name d = result_map text_is (text_from key (is
 read_key classes values key token d = result_map text_is (text_from key is_token d)
 read_key classes values key prefix d = result_map text_is (text_from key begins_path d)
 read_key classes values key text d = result_map text_is (text_from key (λ s. true) d)
-read_key classes values key routes d = result_map routes_are (table_from key d >>= routes_in key classes)
+read_key classes values key routes d = result_map routes_are (routes_from key classes d)
 
 -- the section's kind, which its values begin with, has the key
 abbrev pub has_key : Values → Row → Bool

@@ -1,4 +1,5 @@
 use crate::key::Key;
+use std::alloc::AllocError;
 use wire::Text;
 
 /// Why a configuration was refused. Of several faults the first in this order is told, and of several keys the
@@ -21,4 +22,15 @@ pub enum ConfigFault {
     Unknown(Text),
     /// Two patterns can't stand together, or one can't be read.
     Route,
+}
+
+impl From<AllocError> for ConfigFault {
+    ghost use Rattle.std.specs.Prelude.{◌≡◌};
+    ghost use Rattle.gate_config.specs.declared.fault.ConfigFault.TheVariants.{Memory};
+
+    ghost from_gives = { λ _ fault. fault ≡ Memory };
+
+    fn from(_: AllocError) -> ConfigFault {
+        ConfigFault::Memory
+    }
 }

@@ -5,13 +5,20 @@
 //! default.
 #![tactic(auto)]
 
+mod address;
+mod bypass;
+mod class;
 mod entry;
 mod fault;
 mod key;
 mod limit;
 mod number;
+mod resolver;
+mod tables;
 mod text;
+mod top;
 mod window;
 
+pub use address::Address;
 pub use fault::ConfigFault;
 pub use key::{Key, Section};

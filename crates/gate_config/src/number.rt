@@ -1,4 +1,4 @@
-ghost use Rattle.std.specs.Prelude.{◌≡◌, ◌≤◌, Some, IfOk};
+ghost use Rattle.std.specs.Prelude.{◌≡◌, ◌≤◌, Some, None, IfOk};
 ghost use Rattle.toml.specs.Data.{get_member};
 ghost use Rattle.toml.specs.View.{table_view};
 ghost use Rattle.gate_config.specs.Key.{name_of};
@@ -32,17 +32,27 @@ impl Range {
             default: Some(default),
         }
     }
+
+    /// The numbers from `low` to `high`, of which one is required.
+    pub fn required(low: u32, high: u32) -> Range
+        ensures { result ≡ record { low = low; high = high; default = None } }
+    {
+        Range {
+            low,
+            high,
+            default: None,
+        }
+    }
 }
 
 /// The whole number at a key, or where the key is absent the number of its range nearest to its default.
 pub fn number(table: &Table, key: Key, range: Range) -> Result<u32, ConfigFault>
-    requires { range.low ≤ range.high }
-    ensures within { IfOk result (λ n. (range.low ≤ n) × (n ≤ range.high)) }
+    ensures within { range.low ≤ range.high → IfOk result (λ n. (range.low ≤ n) × (n ≤ range.high)) }
     ensures value { result ≡ number_from key range.low range.high range.default (get_member (name_of key) (table_view table.now)) }
 {
     let Some(value) = entry(table, key) else {
         return match range.default {
-            Some(default) => Ok(default.clamp(range.low, range.high)),
+            Some(default) => Ok(default.min(range.high).max(range.low)),
             None => Err(ConfigFault::Missing(key)),
         };
     };
