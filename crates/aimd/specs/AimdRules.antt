@@ -1,0 +1,70 @@
+-- Additive increase, multiplicative decrease.
+use Rattle.std.specs.Prelude.{ℕ, zero, suc, ◌+◌, ◌*◌, ◌≤◌, Bool, Err, min, max, nat_lt, nat_le, ◌||◌, if◌then◌else◌}
+use Rattle.limit_laws.specs.declared.limit.SetFault.TheVariants.{NotSettable}
+use Rattle.limit_laws.specs.Facts.{SampleFacts, hour}
+use Rattle.limit_laws.specs.Algorithm.{Algorithm}
+
+-- the bounds, the limit now and the first one in permits, the ratio of a decrease in thousandths, and the longest round trip that is no drop in nanoseconds
+pub record AimdState : Type 0 where
+  pub lo : ℕ
+  pub limit : ℕ
+  pub hi : ℕ
+  pub first : ℕ
+  pub ratio : ℕ
+  pub timeout : ℕ
+
+-- 1 ≤ lo ≤ first ≤ hi ≤ 10,000, and a timeout of 1 ns to one hour
+pub record IsInRange (lo first hi timeout : ℕ) : Type 0 where
+  pub positive : 1 ≤ lo
+  pub first_least : lo ≤ first
+  pub first_most : first ≤ hi
+  pub small : hi ≤ 10000
+  pub timeout_least : 1 ≤ timeout
+  pub timeout_most : timeout ≤ hour
+
+-- a ratio in thousandths
+pub record IsRatio (ratio : ℕ) : Type 0 where
+  pub least : 500 ≤ ratio
+  pub most : ratio ≤ 999
+
+-- what is true of every AIMD
+pub record IsAimd (s : AimdState) : Type 0 where
+  pub positive : 1 ≤ s.lo
+  pub least : s.lo ≤ s.limit
+  pub most : s.limit ≤ s.hi
+  pub first_least : s.lo ≤ s.first
+  pub first_most : s.first ≤ s.hi
+  pub small : s.hi ≤ 10000
+  pub ratio_least : 500 ≤ s.ratio
+  pub ratio_most : s.ratio ≤ 999
+  pub timeout_least : 1 ≤ s.timeout
+  pub timeout_most : s.timeout ≤ hour
+
+-- the greatest number up to n that passes a test, 0 where none does
+unfoldable pub greatest : (ℕ → Bool) → ℕ → ℕ
+greatest test zero = 0
+greatest test (suc n) = if test (suc n) then suc n else greatest test n
+
+-- what a drop leaves of a limit: the greatest m with 1000 * m ≤ limit * ratio
+unfoldable pub decreased : ℕ → ℕ → ℕ
+decreased limit ratio = greatest (λ m. nat_le (1000 * m) (limit * ratio)) (limit * ratio)
+
+-- a drop, and a round trip above the timeout, decrease the limit; else it rises by one where at least half of it was in use, and stays where less was
+abbrev pub aimd_step : AimdState → SampleFacts → ℕ
+aimd_step s x =
+    if x.dropped || nat_lt s.timeout x.rtt then decreased s.limit s.ratio
+    else (if nat_le s.limit (2 * x.inflight) then s.limit + 1 else s.limit)
+
+-- the next limit is brought into the bounds
+abbrev pub aimd_next : AimdState → SampleFacts → AimdState
+aimd_next s x = record s { limit = min (max (aimd_step s x) s.lo) s.hi }
+
+abbrev pub aimd_rules : Algorithm AimdState
+aimd_rules = record {
+  lo = λ s. s.lo;
+  limit = λ s. s.limit;
+  hi = λ s. s.hi;
+  next = aimd_next;
+  put = λ s n. Err NotSettable;
+  first = λ s. record s { limit = s.first };
+}

@@ -1,0 +1,3 @@
+pub mod AimdRules
+pub mod AimdLaws
+pub mod Falls

@@ -1,0 +1,115 @@
+// A limit that rises by one and falls by a ratio.
+ghost use Rattle.std.specs.Prelude.{◌≡◌, ◌≤◌, ◌<◌, ◌↔◌, ◌⊎◌, IfOk, IfErr, IsOk};
+ghost use Rattle.aimd.specs.AimdRules.{aimd_rules, decreased, IsInRange, IsRatio};
+ghost use Rattle.aimd.specs.AimdLaws.{IsLawful-aimd};
+
+use limit_laws::{HOUR, Limit, MOST_LIMIT, MakeFault, Sample, SetFault};
+use std::marker::Model;
+
+/// Rises by one permit after a sample that found at least half of the limit in use, and falls to
+/// its ratio after a drop or a round trip above the timeout.
+#[derive(Clone, Copy, Debug, PartialEq, Eq)]
+pub struct Aimd {
+    lo: u32,
+    limit: u32,
+    hi: u32,
+    first: u32,
+    ratio: u32,
+    timeout: u64,
+}
+
+impl Model for Aimd {
+    ghost use Rattle.aimd.specs.AimdRules.{AimdState, IsAimd};
+
+    ghost Value = { AimdState };
+
+    ghost view = { λ a. record { lo = a.lo; limit = a.limit; hi = a.hi; first = a.first; ratio = a.ratio; timeout = a.timeout } };
+
+    ghost invariant = { λ a. IsAimd (record { lo = a.lo; limit = a.limit; hi = a.hi; first = a.first; ratio = a.ratio; timeout = a.timeout }) };
+
+    ghost inverse = { λ v. record { lo = v.lo; limit = v.limit; hi = v.hi; first = v.first; ratio = v.ratio; timeout = v.timeout } };
+}
+
+impl Aimd {
+    /// The limit `first`, between `lo` and `hi` permits, which a drop leaves at `ratio` thousandths
+    /// of itself; a round trip above `timeout` nanoseconds counts as a drop.
+    ///
+    /// The faults, the first that applies: [`MakeFault::Range`] unless
+    /// `1 <= lo <= first <= hi <= 10,000` and `timeout` is 1 ns to one hour; [`MakeFault::Ratio`]
+    /// unless `ratio` is 500 to 999.
+    pub fn new(lo: u32, first: u32, hi: u32, ratio: u32, timeout: u64) -> Result<Aimd, MakeFault>
+        ensures made { IsOk result ↔ (IsInRange lo first hi timeout × IsRatio ratio) }
+        ensures value { IfOk result (λ aimd. aimd ≡ record { lo = lo; limit = first; hi = hi; first = first; ratio = ratio; timeout = timeout }) }
+        ensures ratio { (result ≡ Err MakeFault.Ratio) ↔ (IsInRange lo first hi timeout × ((ratio < 500) ⊎ (999 < ratio))) }
+        ensures range { IfErr result (λ fault. (fault ≡ MakeFault.Range) ⊎ (fault ≡ MakeFault.Ratio)) }
+    {
+        if lo < 1 || first < lo || hi < first || MOST_LIMIT < hi {
+            return Err(MakeFault::Range);
+        }
+        if timeout < 1 || HOUR < timeout {
+            return Err(MakeFault::Range);
+        }
+        if ratio < 500 || 999 < ratio {
+            return Err(MakeFault::Ratio);
+        }
+        Ok(Aimd {
+            lo,
+            limit: first,
+            hi,
+            first,
+            ratio,
+            timeout,
+        })
+    }
+}
+
+impl Limit for Aimd {
+    ghost rules = { aimd_rules };
+
+    fn lo(&self) -> u32 {
+        self.lo
+    }
+
+    fn hi(&self) -> u32 {
+        self.hi
+    }
+
+    fn limit(&self) -> u32 {
+        self.limit
+    }
+
+    fn on_sample(&mut self, sample: &Sample) {
+        let next = if sample.dropped() || self.timeout < sample.rtt() {
+            decrease(self.limit, self.ratio)
+        } else if u64::from(self.limit) <= 2 * u64::from(sample.inflight()) {
+            self.limit + 1
+        } else {
+            self.limit
+        };
+        self.limit = next.max(self.lo).min(self.hi);
+    }
+
+    fn set(&mut self, _n: u32) -> Result<(), SetFault> {
+        Err(SetFault::NotSettable)
+    }
+
+    fn reset(&mut self) {
+        self.limit = self.first;
+    }
+
+    fn copy(&self) -> Self {
+        *self
+    }
+
+    ghost lawful = { IsLawful-aimd };
+}
+
+/// What a drop leaves of a limit.
+#[tactic(auto, using(crate::proofs::Decrease::decreases))]
+fn decrease(limit: u32, ratio: u32) -> u32
+    requires limit { limit ≤ 10000 }
+    requires ratio { ratio ≤ 999 }
+    ensures { result ≡ decreased limit ratio }
+{
+    limit * ratio / 1000
+}

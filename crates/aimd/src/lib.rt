@@ -1,0 +1,14 @@
+//! Additive increase, multiplicative decrease: [`Aimd`], a limit that rises by one while it is in
+//! use and falls by a ratio at a drop or a slow answer.
+//!
+//! Its rule is `specs/AimdRules.antt`, and each call's contract is that of [`limit_laws::Limit`] at
+//! that rule. What an operator may rely on whatever the samples stands on the functions of `laws`.
+#![tactic(auto)]
+
+mod aimd;
+mod laws;
+#[cfg(test)]
+mod tests;
+
+pub use aimd::Aimd;
+pub use laws::{falls_by_the_ratio_at_most, falls_no_faster_than_drops};

@@ -1,0 +1,3 @@
+pub mod VegasRules
+pub mod VegasLaws
+pub mod Queues

@@ -1,0 +1,90 @@
+-- A limit by the length of its queue, after TCP Vegas.
+use Rattle.std.specs.Prelude.{ℕ, ◌+◌, ◌-◌, ◌*◌, ◌≤◌, Bool, true, false, Option, Some, None, Err, min, max, nat_eq, nat_lt, nat_le, ◌||◌, if◌then◌else◌, find, unwrap_or}
+use Rattle.std.specs.List.{range_with_len}
+use Rattle.limit_laws.specs.declared.limit.SetFault.TheVariants.{NotSettable}
+use Rattle.limit_laws.specs.Facts.{SampleFacts}
+use Rattle.limit_laws.specs.Algorithm.{Algorithm}
+
+-- the bounds, the limit now and the first one in permits; the thresholds of the queue in permits; how many samples come to a probe, none where that is 0; the base round trip in nanoseconds, once there is one; the samples since the last probe
+pub record VegasState : Type 0 where
+  pub lo : ℕ
+  pub limit : ℕ
+  pub hi : ℕ
+  pub first : ℕ
+  pub alpha : ℕ
+  pub beta : ℕ
+  pub probe_every : ℕ
+  pub base : Option ℕ
+  pub count : ℕ
+
+-- 1 ≤ lo ≤ first ≤ hi ≤ 10,000, and a probe each 1,000,000 samples or more often
+pub record IsInRange (lo first hi probe_every : ℕ) : Type 0 where
+  pub positive : 1 ≤ lo
+  pub first_least : lo ≤ first
+  pub first_most : first ≤ hi
+  pub small : hi ≤ 10000
+  pub probe_most : probe_every ≤ 1000000
+
+-- thresholds of a queue
+pub record AreThresholds (alpha beta : ℕ) : Type 0 where
+  pub least : 1 ≤ alpha
+  pub order : alpha ≤ beta
+  pub most : beta ≤ 100
+
+-- what is true of every Vegas limit
+pub record IsVegas (s : VegasState) : Type 0 where
+  pub positive : 1 ≤ s.lo
+  pub least : s.lo ≤ s.limit
+  pub most : s.limit ≤ s.hi
+  pub first_least : s.lo ≤ s.first
+  pub first_most : s.first ≤ s.hi
+  pub small : s.hi ≤ 10000
+  pub alpha_least : 1 ≤ s.alpha
+  pub alpha_most : s.alpha ≤ s.beta
+  pub beta_most : s.beta ≤ 100
+  pub probe_most : s.probe_every ≤ 1000000
+  pub counted : s.count ≤ s.probe_every
+
+-- whether the next sample is a probe: the count reaches its end with it
+abbrev pub probes : VegasState → Bool
+probes s = if nat_eq s.probe_every 0 then false else nat_le s.probe_every (s.count + 1)
+
+-- the count after the next sample: it begins again at a probe, and stays 0 where there are none
+abbrev pub count_after : VegasState → ℕ
+count_after s = if nat_eq s.probe_every 0 then s.count else (if nat_le s.probe_every (s.count + 1) then 0 else s.count + 1)
+
+-- whether a round trip is below the base, or the first one
+abbrev pub is_new_base : Option ℕ → ℕ → Bool
+is_new_base None rtt = true
+is_new_base (Some base) rtt = nat_lt rtt base
+
+-- the queue: the least q with q * rtt ≥ limit * (rtt - base), sought among 0 to the limit, which is one
+unfoldable pub queue : ℕ → ℕ → ℕ → ℕ
+queue limit rtt base = unwrap_or (find (λ q. nat_le (limit * (rtt - base)) (q * rtt)) (range_with_len 0 (limit + 1))) limit
+
+-- one more below alpha, one less above beta
+abbrev pub by_queue : VegasState → ℕ → ℕ
+by_queue s q = if nat_lt q s.alpha then s.limit + 1 else (if nat_lt s.beta q then s.limit - 1 else s.limit)
+
+-- the limit after a sample that is measured against a base: one less at a drop, the same where less than half of it was in use, else by the queue
+abbrev pub measured : VegasState → ℕ → SampleFacts → ℕ
+measured s base x =
+    if x.dropped then s.limit - 1
+    else (if nat_lt (2 * x.inflight) s.limit then s.limit else by_queue s (queue s.limit x.rtt base))
+
+-- a probe and a new base set the base and leave the limit; every other sample is measured, and the limit brought into the bounds
+abbrev pub vegas_next : VegasState → SampleFacts → VegasState
+vegas_next s x =
+    if probes s || is_new_base s.base x.rtt
+    then record s { base = Some x.rtt; count = count_after s }
+    else record s { limit = min (max (measured s (unwrap_or s.base 0) x) s.lo) s.hi; count = count_after s }
+
+abbrev pub vegas_rules : Algorithm VegasState
+vegas_rules = record {
+  lo = λ s. s.lo;
+  limit = λ s. s.limit;
+  hi = λ s. s.hi;
+  next = vegas_next;
+  put = λ s n. Err NotSettable;
+  first = λ s. record s { limit = s.first; base = None; count = 0 };
+}

@@ -1,0 +1,177 @@
+// A limit that follows the queue behind it.
+ghost use Rattle.std.specs.Prelude.{◌≡◌, ◌≤◌, ◌<◌, ◌↔◌, ◌⊎◌, IfOk, IfErr, IsOk, None};
+ghost use Rattle.vegas.specs.VegasRules.{vegas_rules, queue as queue_lem, measured, probes, count_after, IsInRange, AreThresholds};
+ghost use Rattle.vegas.specs.VegasLaws.{IsLawful-vegas};
+
+use limit_laws::{Limit, MOST_LIMIT, MakeFault, Sample, SetFault};
+use std::marker::Model;
+
+/// The most samples between two probes.
+const MOST_PROBE: u32 = 1_000_000;
+
+/// Rises by one permit while the queue behind it is short, and falls by one where it is long or a
+/// call was dropped.
+///
+/// The base round trip is the least one seen; every `probe_every` samples it is measured anew, so
+/// that a backend which became slower is not taken for a queue for good.
+#[derive(Clone, Copy, Debug, PartialEq, Eq)]
+pub struct Vegas {
+    lo: u32,
+    limit: u32,
+    hi: u32,
+    first: u32,
+    alpha: u32,
+    beta: u32,
+    probe_every: u32,
+    base: Option<u64>,
+    count: u32,
+}
+
+impl Model for Vegas {
+    ghost use Rattle.vegas.specs.VegasRules.{VegasState, IsVegas};
+
+    ghost Value = { VegasState };
+
+    ghost view = { λ v. record { lo = v.lo; limit = v.limit; hi = v.hi; first = v.first; alpha = v.alpha; beta = v.beta; probe_every = v.probe_every; base = v.base; count = v.count } };
+
+    ghost invariant = { λ v. IsVegas (record { lo = v.lo; limit = v.limit; hi = v.hi; first = v.first; alpha = v.alpha; beta = v.beta; probe_every = v.probe_every; base = v.base; count = v.count }) };
+
+    ghost inverse = { λ s. record { lo = s.lo; limit = s.limit; hi = s.hi; first = s.first; alpha = s.alpha; beta = s.beta; probe_every = s.probe_every; base = s.base; count = s.count } };
+}
+
+impl Vegas {
+    /// The limit `first`, between `lo` and `hi` permits. A queue below `alpha` permits raises it
+    /// and one above `beta` lowers it; every `probe_every` samples the base round trip is measured
+    /// anew, never where that is 0.
+    ///
+    /// The faults, the first that applies: [`MakeFault::Range`] unless
+    /// `1 <= lo <= first <= hi <= 10,000` and `probe_every <= 1,000,000`; [`MakeFault::Alpha`]
+    /// unless `1 <= alpha <= beta <= 100`.
+    pub fn new(
+        lo: u32,
+        first: u32,
+        hi: u32,
+        alpha: u32,
+        beta: u32,
+        probe_every: u32,
+    ) -> Result<Vegas, MakeFault>
+        ensures made { IsOk result ↔ (IsInRange lo first hi probe_every × AreThresholds alpha beta) }
+        ensures value { IfOk result (λ vegas. vegas ≡ record { lo = lo; limit = first; hi = hi; first = first; alpha = alpha; beta = beta; probe_every = probe_every; base = None; count = 0 }) }
+        ensures alpha { (result ≡ Err MakeFault.Alpha) ↔ (IsInRange lo first hi probe_every × ((alpha < 1) ⊎ (beta < alpha) ⊎ (100 < beta))) }
+        ensures range { IfErr result (λ fault. (fault ≡ MakeFault.Range) ⊎ (fault ≡ MakeFault.Alpha)) }
+    {
+        if lo < 1 || first < lo || hi < first || MOST_LIMIT < hi {
+            return Err(MakeFault::Range);
+        }
+        if MOST_PROBE < probe_every {
+            return Err(MakeFault::Range);
+        }
+        if alpha < 1 || beta < alpha || 100 < beta {
+            return Err(MakeFault::Alpha);
+        }
+        Ok(Vegas {
+            lo,
+            limit: first,
+            hi,
+            first,
+            alpha,
+            beta,
+            probe_every,
+            base: None,
+            count: 0,
+        })
+    }
+
+    /// Counts a sample, and says whether the base is to be measured anew by it.
+    fn count_sample(&mut self) -> bool
+        ensures probes { result ≡ probes self.old }
+        ensures counted { self.new ≡ record self.old { count = count_after self.old } }
+    {
+        if self.probe_every == 0 {
+            return false;
+        }
+        self.count += 1;
+        if self.count < self.probe_every {
+            return false;
+        }
+        self.count = 0;
+        true
+    }
+
+    /// The limit after a sample that took no less than the base, before it is brought into bounds.
+    fn measured(&self, base: u64, sample: &Sample) -> u32
+        requires { base ≤ sample.now.rtt }
+        ensures { result ≡ measured self.now base sample.now }
+    {
+        if sample.dropped() {
+            return self.limit - 1;
+        }
+        if 2 * u64::from(sample.inflight()) < u64::from(self.limit) {
+            return self.limit;
+        }
+        let queue = queue(self.limit, sample.rtt(), base);
+        if queue < u64::from(self.alpha) {
+            self.limit + 1
+        } else if u64::from(self.beta) < queue {
+            self.limit - 1
+        } else {
+            self.limit
+        }
+    }
+}
+
+impl Limit for Vegas {
+    ghost rules = { vegas_rules };
+
+    fn lo(&self) -> u32 {
+        self.lo
+    }
+
+    fn hi(&self) -> u32 {
+        self.hi
+    }
+
+    fn limit(&self) -> u32 {
+        self.limit
+    }
+
+    fn on_sample(&mut self, sample: &Sample) {
+        let probes = self.count_sample();
+        match self.base {
+            Some(base) if !probes && base <= sample.rtt() => {
+                let next = self.measured(base, sample);
+                self.limit = next.max(self.lo).min(self.hi);
+            }
+            _ => self.base = Some(sample.rtt()),
+        }
+    }
+
+    fn set(&mut self, _n: u32) -> Result<(), SetFault> {
+        Err(SetFault::NotSettable)
+    }
+
+    fn reset(&mut self) {
+        self.limit = self.first;
+        self.base = None;
+        self.count = 0;
+    }
+
+    fn copy(&self) -> Self {
+        *self
+    }
+
+    ghost lawful = { IsLawful-vegas };
+}
+
+/// How many of the permits of a limit wait in a queue, rounded up: the part of the round trip that
+/// is above the base, as a part of the limit.
+#[tactic(auto, using(crate::proofs::Least::queues))]
+fn queue(limit: u32, rtt: u64, base: u64) -> u64
+    requires limit { limit ≤ 10000 }
+    requires base { base ≤ rtt }
+    requires least { 1 ≤ rtt }
+    requires most { rtt ≤ 3600000000000 }
+    ensures { result ≡ queue_lem limit rtt base }
+{
+    (u64::from(limit) * (rtt - base)).div_ceil(rtt)
+}

@@ -1,0 +1,4 @@
+pub mod Totals
+pub mod Cuttings
+pub mod Steps
+pub mod Runs

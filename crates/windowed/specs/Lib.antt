@@ -1,0 +1,3 @@
+pub mod WindowedRules
+pub mod WindowedLaws
+pub mod Windows

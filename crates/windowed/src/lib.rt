@@ -1,0 +1,17 @@
+//! Windows over any limit algorithm: [`Windowed`] gathers samples into windows and hands the inner
+//! algorithm one mean sample for each window that holds enough of them, so that a single slow
+//! answer doesn't move the limit.
+//!
+//! `specs/WindowedRules.antt` has the rule over the five totals that are kept, by which each call
+//! meets the contract of [`limit_laws::Limit`]. `specs/Windows.antt` says what windows are, as a
+//! cutting of the whole list of samples and settings, and [`inner_runs_over_windows`] that the
+//! inner algorithm learns from those windows' mean samples alone.
+#![tactic(auto)]
+
+mod laws;
+#[cfg(test)]
+mod tests;
+mod windowed;
+
+pub use laws::{cuts_into_windows, inner_runs_over_windows};
+pub use windowed::Windowed;

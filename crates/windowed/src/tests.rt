@@ -1,0 +1,59 @@
+// Windows over the limits that don't learn.
+use super::Windowed;
+use limit_laws::{Fixed, HOUR, Limit, MakeFault, Sample, SetFault, Settable};
+use std::test::Fail;
+
+#[test]
+fn a_refusal_hands_the_inner_limit_back(rt: HostRuntime) -> Result<(), Fail> {
+    let rows = [
+        (0u32, 1u64, 1u64, 0u64),
+        (1_000_001, 1, 1, 0),
+        (1, 0, 1, 0),
+        (1, 2, 1, 0),
+        (1, 1, HOUR + 1, 0),
+        (1, 1, 1, HOUR + 1),
+    ];
+    for (size, min_window, max_window, min_rtt) in rows {
+        let (fault, limit) = match Windowed::new(
+            Fixed::new(7)?,
+            size,
+            min_window,
+            max_window,
+            min_rtt,
+        ) {
+            Ok(_) => (MakeFault::Range, 0),
+            Err((fault, inner)) => (fault, inner.limit()),
+        };
+        assert!(rt; fault == MakeFault::Window);
+        assert_eq!(rt; limit, 7);
+    }
+    Ok(())
+}
+
+#[test]
+fn settings_and_resets_are_passed_on(rt: HostRuntime) -> Result<(), Fail> {
+    let inner = Settable::new(5, 10, 20)?;
+    let mut windowed = Windowed::new(inner, 1_000_000, HOUR, HOUR, HOUR).map_err(
+        |refusal| refusal.0,
+    )?;
+    assert!(rt; (windowed.lo(), windowed.limit(), windowed.hi()) == (5, 10, 20));
+    assert!(rt; windowed.set(4) == Err(SetFault::OutOfRange));
+    assert!(rt; windowed.set(20) == Ok(()));
+    assert_eq!(rt; windowed.limit(), 20);
+    assert_eq!(rt; windowed.copy().limit(), 20);
+    windowed.reset();
+    assert_eq!(rt; windowed.limit(), 10);
+    Ok(())
+}
+
+#[test]
+fn windows_go_over_windows(rt: HostRuntime) -> Result<(), Fail> {
+    let inner = Windowed::new(Fixed::new(9)?, 1, 1, 1, 0).map_err(|refusal| refusal.0)?;
+    let mut outer = Windowed::new(inner, 2, 1, 5, 0).map_err(|refusal| refusal.0)?;
+    for start in 0u64..4 {
+        outer.on_sample(&Sample::of(start, start + 3, 9, false));
+        assert_eq!(rt; outer.limit(), 9);
+    }
+    assert!(rt; outer.set(3) == Err(SetFault::NotSettable));
+    Ok(())
+}
