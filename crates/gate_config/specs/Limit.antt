@@ -1,5 +1,5 @@
 -- The section `limit`: its keys kind by kind, and as the values of the section.
-use Rattle.std.specs.Prelude.{ℕ, List, [], ◌∷◌, Some, Result, Ok, codes}
+use Rattle.std.specs.Prelude.{ℕ, ◌≤◌, List, [], ◌∷◌, Some, Result, Ok, codes}
 use Rattle.toml.specs.Data.{Members, get_member}
 use Rattle.gate_config.specs.declared.fault.ConfigFault.{ConfigFault}
 use Rattle.gate_config.specs.declared.key.Key.TheVariants as Key
@@ -64,3 +64,19 @@ limit_values (Keys.Aimd m ratio timeout_us) =
 limit_values (Keys.Vegas m alpha beta probe_every) =
     moving_values vegas m ((codes "alpha", number_is alpha) ∷ (codes "beta", number_is beta)
     ∷ (codes "probe_every", number_is probe_every) ∷ [])
+
+-- a limit that lies between its ends
+pub record IsMoving (m : Moving) : Type 0 where
+  pub positive : 1 ≤ m.min
+  pub least : m.min ≤ m.initial
+  pub most : m.initial ≤ m.max
+  pub small : m.max ≤ 10000
+
+-- the keys are in their ranges
+abbrev pub AreInRange : LimitKeys → Type 0
+AreInRange (Keys.Fixed initial) = (1 ≤ initial) × (initial ≤ 10000)
+AreInRange (Keys.Settable m) = IsMoving m
+AreInRange (Keys.Aimd m ratio timeout_us) =
+    IsMoving m × (500 ≤ ratio) × (ratio ≤ 999) × (1 ≤ timeout_us) × (timeout_us ≤ 3600000000)
+AreInRange (Keys.Vegas m alpha beta probe_every) =
+    IsMoving m × (1 ≤ alpha) × (alpha ≤ beta) × (beta ≤ 100) × (probe_every ≤ 1000000)

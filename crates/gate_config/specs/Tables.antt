@@ -31,7 +31,7 @@ tables_from key most None = Ok []
 tables_from key most (Some (array items)) = tables_in key most (items_in items)
 tables_from key most (Some _) = Err (Fault.Kind key)
 
--- the tables read one after the other, each given what was read before it
-abbrev pub read_each : {A : Type 0} → (List A → Members → Result A ConfigFault) → List A → List Members → Result (List A) ConfigFault
+-- what is read one after the other, each given what was read before it
+abbrev pub read_each : {T A : Type 0} → (List A → T → Result A ConfigFault) → List A → List T → Result (List A) ConfigFault
 read_each read done [] = Ok done
-read_each read done (t ∷ tables) = read done t >>= λ a. read_each read (done ++ a ∷ []) tables
+read_each read done (t ∷ more) = read done t >>= λ a. read_each read (done ++ a ∷ []) more

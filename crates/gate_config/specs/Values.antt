@@ -1,5 +1,5 @@
 -- What one key holds, and the keys of a section, read one after the other.
-use Rattle.std.specs.Prelude.{ℕ, ◌-◌, min, max, ℤ, pos, negsuc, Bool, true, false, ◌&&◌, ◌||◌, not, List, [], ◌∷◌, ◌++◌, length, map, find, fold, sum_by, Option, Some, None, option_map, unwrap_or, is_some, Result, Ok, Err, bytes_eq, nat_eq, nat_le, ◌==◌, codes, if◌then◌else◌, ◌≡◌, ◌≢◌}
+use Rattle.std.specs.Prelude.{ℕ, ◌-◌, min, max, ℤ, pos, negsuc, Bool, true, false, ◌&&◌, ◌||◌, not, List, [], ◌∷◌, ◌++◌, length, map, filter, find, fold, sum_by, Option, Some, None, option_map, unwrap_or, is_some, Result, Ok, Err, bytes_eq, nat_eq, nat_le, ◌==◌, codes, if◌then◌else◌, ◌≡◌, ◌≢◌}
 use Rattle.std.specs.List.{list_all, list_any, starts_with}
 use Rattle.http_header.specs.Token.{is_token_byte}
 use Rattle.partitions.specs.Table.{Row as ClassRow, is_name}
@@ -188,3 +188,7 @@ read_row classes t so_far row =
 -- the values of a section, read key by key in the order of the rows
 abbrev pub section_of : List ClassRow → List Row → Members → Result Values ConfigFault
 section_of classes rows t = fold (read_row classes t) (Ok []) rows
+
+-- the names of the keys that a section with these values may have
+abbrev pub names_of : List Row → Values → List (List ℕ)
+names_of rows values = map (λ row. name_of row.key) (filter (has_key values) rows)

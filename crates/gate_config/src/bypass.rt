@@ -1,14 +1,16 @@
-ghost use Rattle.std.specs.Prelude.{◌≡◌, [], Ok, Some, None, codes, option_map, if◌then◌else◌};
+ghost use Rattle.std.specs.Prelude.{◌≡◌, [], Ok, Some, None, codes, map, option_map, if◌then◌else◌};
 ghost use Rattle.toml.specs.Data.{get_member};
 ghost use Rattle.toml.specs.View.{table_view};
 ghost use Rattle.gate_config.specs.Key.{name_of};
 ghost use Rattle.gate_config.specs.Rows.{bypass_kinds, bypass_rows};
-ghost use Rattle.gate_config.specs.Values.{is_among, result_map, section_of, text_from};
-ghost use Rattle.gate_config.specs.Bypasses.{bypass_values, word_of};
+ghost use Rattle.gate_config.specs.Values.{Answers, is_among, names_of, result_map, section_of, text_from};
+ghost use Rattle.gate_config.specs.Tables.{read_each};
+ghost use Rattle.gate_config.specs.Bypasses.{bypass_member, bypass_of, bypass_values, word_of};
 
 use crate::fault::ConfigFault;
 use crate::key::Key;
 use crate::text::{prefix, text, token};
+use std::alloc::{AllocError, Global};
 use toml::Table;
 
 /// What a bypass rule looks at.
@@ -42,6 +44,31 @@ pub enum BypassKeys<'a> {
     Prefix(&'a str),
     /// The header's name and its value.
     Header(&'a str, &'a str),
+}
+
+impl BypassKeys<'_> {
+    /// The keys that a rule of this kind has.
+    pub fn keys(&self) -> &'static [Key]
+        ensures { map name_of result.now ≡ names_of bypass_rows (bypass_values self.now) }
+    {
+        match self {
+            BypassKeys::Method(_) => &[Key::BypassKind, Key::BypassMethod],
+            BypassKeys::Prefix(_) => &[Key::BypassKind, Key::BypassPrefix],
+            BypassKeys::Header(..) => &[Key::BypassKind, Key::BypassHeader, Key::BypassEquals],
+        }
+    }
+}
+
+/// The bypass rules, each with its table.
+pub fn read_bypasses<'a>(alloc: Global, tables: &[&'a Table]) -> Result<Vec<(&'a Table, BypassKeys<'a>)>, ConfigFault>
+    ensures { Answers (λ rules. map bypass_member rules.items) (read_each bypass_of [] (map (λ t. table_view t.now) tables.now)) result }
+{
+    let mut rules = Vec::new(alloc);
+    for table in tables {
+        let keys = read_bypass(table)?;
+        rules.push((*table, keys)).map_err(AllocError::from)?;
+    }
+    Ok(rules)
 }
 
 /// The keys of a bypass rule.

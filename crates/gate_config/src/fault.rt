@@ -1,5 +1,9 @@
+ghost use Rattle.std.specs.Prelude.{Some};
+
 use crate::key::Key;
 use std::alloc::AllocError;
+use std::error::Error;
+use std::fmt;
 use wire::Text;
 
 /// Why a configuration was refused. Of several faults the first in this order is told, and of several keys the
@@ -34,3 +38,27 @@ impl From<AllocError> for ConfigFault {
         ConfigFault::Memory
     }
 }
+
+impl fmt::Display for ConfigFault {
+    ghost use Rattle.gate_config.specs.FaultText.{fault_text};
+
+    ghost output = { λ fault. Some (fault_text fault) };
+
+    fn fmt<W: fmt::Write>(&self, f: &mut fmt::Formatter<W>) -> fmt::Result {
+        match self {
+            ConfigFault::Memory => write!(f, "memory"),
+            ConfigFault::Toml => write!(f, "toml"),
+            ConfigFault::Version => write!(f, "version"),
+            ConfigFault::Missing(key) => write!(f, "missing {key}"),
+            ConfigFault::Kind(key) => write!(f, "kind {key}"),
+            ConfigFault::Value(key) => write!(f, "value {key}"),
+            ConfigFault::Unknown(path) => {
+                let path = path.as_str();
+                write!(f, "unknown {path}")
+            }
+            ConfigFault::Route => write!(f, "route"),
+        }
+    }
+}
+
+impl Error for ConfigFault {}

@@ -6,19 +6,30 @@
 #![tactic(auto)]
 
 mod address;
+mod build;
 mod bypass;
 mod class;
+mod document;
 mod entry;
 mod fault;
 mod key;
+mod kinds;
 mod limit;
+mod make;
 mod number;
+mod reading;
 mod resolver;
+mod settings;
+mod strangers;
 mod tables;
 mod text;
 mod top;
+mod unknown;
 mod window;
 
 pub use address::Address;
 pub use fault::ConfigFault;
 pub use key::{Key, Section};
+pub use kinds::{AnyLimit, BaseLimit};
+pub use reading::read;
+pub use settings::Settings;

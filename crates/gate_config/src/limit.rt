@@ -1,10 +1,10 @@
-ghost use Rattle.std.specs.Prelude.{◌≡◌, [], Ok, Some, None, option_map, if◌then◌else◌};
+ghost use Rattle.std.specs.Prelude.{◌≡◌, [], IfOk, Ok, Some, None, map, option_map, if◌then◌else◌};
 ghost use Rattle.toml.specs.Data.{get_member};
 ghost use Rattle.toml.specs.View.{table_view};
 ghost use Rattle.gate_config.specs.Key.{name_of};
 ghost use Rattle.gate_config.specs.Rows.{limit_kinds, limit_rows};
-ghost use Rattle.gate_config.specs.Values.{is_among, result_map, section_of, text_from};
-ghost use Rattle.gate_config.specs.Limit.{aimd_of, fixed_of, limit_values, moving_of, settable_of, vegas_of, word_of};
+ghost use Rattle.gate_config.specs.Values.{is_among, names_of, result_map, section_of, text_from};
+ghost use Rattle.gate_config.specs.Limit.{AreInRange, IsMoving, aimd_of, fixed_of, limit_values, moving_of, settable_of, vegas_of, word_of};
 
 use crate::fault::ConfigFault;
 use crate::key::Key;
@@ -59,9 +59,41 @@ pub enum LimitKeys {
     Vegas(Moving, u32, u32, u32),
 }
 
+impl LimitKeys {
+    /// The keys that a limit of this kind has.
+    pub fn keys(&self) -> &'static [Key]
+        ensures { map name_of result.now ≡ names_of limit_rows (limit_values self.now) }
+    {
+        match self {
+            LimitKeys::Fixed(_) => &[Key::LimitKind, Key::LimitInitial],
+            LimitKeys::Settable(_) => {
+                &[Key::LimitKind, Key::LimitMin, Key::LimitMax, Key::LimitInitial]
+            }
+            LimitKeys::Aimd(..) => &[
+                Key::LimitKind,
+                Key::LimitMin,
+                Key::LimitMax,
+                Key::LimitInitial,
+                Key::LimitRatio,
+                Key::LimitTimeoutUs,
+            ],
+            LimitKeys::Vegas(..) => &[
+                Key::LimitKind,
+                Key::LimitMin,
+                Key::LimitMax,
+                Key::LimitInitial,
+                Key::LimitAlpha,
+                Key::LimitBeta,
+                Key::LimitProbeEvery,
+            ],
+        }
+    }
+}
+
 /// The keys of the section `limit`.
 pub fn read_limit(table: &Table) -> Result<LimitKeys, ConfigFault>
-    ensures { result_map limit_values result ≡ section_of [] limit_rows (table_view table.now) }
+    ensures within { IfOk result AreInRange }
+    ensures value { result_map limit_values result ≡ section_of [] limit_rows (table_view table.now) }
 {
     match limit_kind(table)? {
         LimitKind::Fixed => read_fixed(table),
@@ -84,7 +116,8 @@ fn limit_kind(table: &Table) -> Result<LimitKind, ConfigFault>
 
 /// The keys of a fixed limit.
 fn read_fixed(table: &Table) -> Result<LimitKeys, ConfigFault>
-    ensures { result ≡ fixed_of (table_view table.now) }
+    ensures within { IfOk result AreInRange }
+    ensures value { result ≡ fixed_of (table_view table.now) }
 {
     let initial = number(table, Key::LimitInitial, Range::new(1, MOST, 20))?;
     Ok(LimitKeys::Fixed(initial))
@@ -92,14 +125,16 @@ fn read_fixed(table: &Table) -> Result<LimitKeys, ConfigFault>
 
 /// The keys of a limit that is set by hand.
 fn read_settable(table: &Table) -> Result<LimitKeys, ConfigFault>
-    ensures { result ≡ settable_of (table_view table.now) }
+    ensures within { IfOk result AreInRange }
+    ensures value { result ≡ settable_of (table_view table.now) }
 {
     Ok(LimitKeys::Settable(read_moving(table)?))
 }
 
 /// The keys of an AIMD limit.
 fn read_aimd(table: &Table) -> Result<LimitKeys, ConfigFault>
-    ensures { result ≡ aimd_of (table_view table.now) }
+    ensures within { IfOk result AreInRange }
+    ensures value { result ≡ aimd_of (table_view table.now) }
 {
     let moving = read_moving(table)?;
     let ratio = number(table, Key::LimitRatio, Range::new(500, 999, 900))?;
@@ -109,7 +144,8 @@ fn read_aimd(table: &Table) -> Result<LimitKeys, ConfigFault>
 
 /// The keys of a Vegas limit.
 fn read_vegas(table: &Table) -> Result<LimitKeys, ConfigFault>
-    ensures { result ≡ vegas_of (table_view table.now) }
+    ensures within { IfOk result AreInRange }
+    ensures value { result ≡ vegas_of (table_view table.now) }
 {
     let moving = read_moving(table)?;
     let alpha = number(table, Key::LimitAlpha, Range::new(1, 100, 3))?;
@@ -120,7 +156,8 @@ fn read_vegas(table: &Table) -> Result<LimitKeys, ConfigFault>
 
 /// The keys that each limit but a fixed one has.
 fn read_moving(table: &Table) -> Result<Moving, ConfigFault>
-    ensures { result ≡ moving_of (table_view table.now) }
+    ensures within { IfOk result IsMoving }
+    ensures value { result ≡ moving_of (table_view table.now) }
 {
     let min = number(table, Key::LimitMin, Range::new(1, MOST, 1))?;
     let max = number(table, Key::LimitMax, Range::new(min, MOST, 200))?;

@@ -1,19 +1,21 @@
-ghost use Rattle.std.specs.Prelude.{◌≡◌, codes, Ok, Some, None, is_some, map, option_map, if◌then◌else◌};
+ghost use Rattle.std.specs.Prelude.{◌≡◌, [], codes, Ok, Some, None, is_some, length, map, option_map, if◌then◌else◌};
 ghost use Rattle.std.specs.List.{list_all};
 ghost use Rattle.std.specs.BTreeMap.{values};
 ghost use Rattle.toml.specs.Data.{as_str, get_member};
 ghost use Rattle.toml.specs.View.{table_view, view};
 ghost use Rattle.gate_config.specs.Key.{name_of};
 ghost use Rattle.gate_config.specs.Rows.{resolver_kinds, resolver_rows};
-ghost use Rattle.gate_config.specs.Values.{is_among, is_class, pairs_of, result_map, routes_from, section_of, string_of, text_from};
+ghost use Rattle.gate_config.specs.Values.{Answers, is_among, names_of, is_class, pairs_of, result_map, routes_from, section_of, string_of, text_from};
 ghost use Rattle.gate_config.specs.Classes.{row_of};
-ghost use Rattle.gate_config.specs.Resolvers.{resolver_values, routes_of, word_of};
+ghost use Rattle.gate_config.specs.Tables.{read_each};
+ghost use Rattle.gate_config.specs.Resolvers.{resolver_member, resolver_of, resolver_values, routes_of, word_of};
 
 use crate::class::{ClassKeys, class_name, is_class};
 use crate::fault::ConfigFault;
 use crate::key::Key;
 use crate::tables::table_at;
 use crate::text::{text, token};
+use std::alloc::{AllocError, Global};
 use toml::{Table, Value};
 
 /// The most routes of a resolver.
@@ -50,6 +52,31 @@ pub enum ResolverKeys<'a> {
     Method(&'a str, &'a str),
     /// The patterns, each with its class's name.
     Route(&'a Table),
+}
+
+impl ResolverKeys<'_> {
+    /// The keys that a resolver of this kind has.
+    pub fn keys(&self) -> &'static [Key]
+        ensures { map name_of result.now ≡ names_of resolver_rows (resolver_values self.now) }
+    {
+        match self {
+            ResolverKeys::Header(_) => &[Key::ResolverKind, Key::ResolverHeader],
+            ResolverKeys::Method(..) => &[Key::ResolverKind, Key::ResolverMethod, Key::ResolverClass],
+            ResolverKeys::Route(_) => &[Key::ResolverKind, Key::ResolverRoutes],
+        }
+    }
+}
+
+/// The resolvers, each with its table.
+pub fn read_resolvers<'a>(alloc: Global, classes: &[ClassKeys], tables: &[&'a Table]) -> Result<Vec<(&'a Table, ResolverKeys<'a>)>, ConfigFault>
+    ensures { Answers (λ resolvers. map resolver_member resolvers.items) (read_each (resolver_of (map row_of classes.now)) [] (map (λ t. table_view t.now) tables.now)) result }
+{
+    let mut resolvers = Vec::new(alloc);
+    for table in tables {
+        let keys = read_resolver(classes, table)?;
+        resolvers.push((*table, keys)).map_err(AllocError::from)?;
+    }
+    Ok(resolvers)
 }
 
 /// The keys of a resolver among these classes.
@@ -93,11 +120,18 @@ fn routes_at<'a>(classes: &[ClassKeys], table: &'a Table) -> Result<&'a Table, C
     if !are_strings(routes) {
         return Err(ConfigFault::Kind(Key::ResolverRoutes));
     }
-    if routes.len() <= MOST_ROUTES && are_classes(classes, routes) {
+    if count_of(routes) <= MOST_ROUTES && are_classes(classes, routes) {
         Ok(routes)
     } else {
         Err(ConfigFault::Value(Key::ResolverRoutes))
     }
+}
+
+/// How many patterns there are.
+fn count_of(routes: &Table) -> usize
+    ensures { result ≡ length (pairs_of (table_view routes.now)) }
+{
+    routes.len()
 }
 
 /// Whether each pattern has a text.

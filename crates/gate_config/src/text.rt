@@ -50,7 +50,7 @@ pub fn prefix<'a>(table: &'a Table, key: Key) -> Result<&'a str, ConfigFault>
 }
 
 /// Whether the bytes are a token.
-fn is_token(text: &[u8]) -> bool
+pub fn is_token(text: &[u8]) -> bool
     ensures { result ≡ is_token text.now }
 {
     1 <= text.len() && has_token_bytes(text)

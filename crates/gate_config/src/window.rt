@@ -1,8 +1,8 @@
-ghost use Rattle.std.specs.Prelude.{◌≡◌, []};
+ghost use Rattle.std.specs.Prelude.{◌≡◌, [], IfOk};
 ghost use Rattle.toml.specs.View.{table_view};
 ghost use Rattle.gate_config.specs.Rows.{window_rows};
 ghost use Rattle.gate_config.specs.Values.{result_map, section_of};
-ghost use Rattle.gate_config.specs.Sections.{window_values};
+ghost use Rattle.gate_config.specs.Sections.{IsWindow, window_values};
 
 use crate::fault::ConfigFault;
 use crate::key::Key;
@@ -20,7 +20,8 @@ pub struct WindowKeys {
 
 /// The keys of the section `window`.
 pub fn read_window(table: &Table) -> Result<WindowKeys, ConfigFault>
-    ensures { result_map window_values result ≡ section_of [] window_rows (table_view table.now) }
+    ensures within { IfOk result IsWindow }
+    ensures value { result_map window_values result ≡ section_of [] window_rows (table_view table.now) }
 {
     let size = number(table, Key::WindowSize, Range::new(1, 1_000_000, 10))?;
     let min_us = number(table, Key::WindowMinUs, Range::new(1, HOUR_US, 1_000_000))?;
