@@ -17,7 +17,6 @@ Ok a >>= next = next a
 Err fault >>= next = Err fault
 
 infixl 15 ◌>>=◌
-
 abbrev pub result_map : {A B : Type 0} → (A → B) → Result A ConfigFault → Result B ConfigFault
 result_map f (Ok a) = Ok (f a)
 result_map f (Err fault) = Err fault

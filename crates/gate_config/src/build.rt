@@ -59,7 +59,11 @@ fn class_fault(fault: TableFault) -> ConfigFault
 }
 
 /// The resolver of these keys.
-pub fn resolver_of(alloc: Global, table: &PartitionTable, keys: &ResolverKeys) -> Result<Resolver, ConfigFault>
+pub fn resolver_of(
+    alloc: Global,
+    table: &PartitionTable,
+    keys: &ResolverKeys,
+) -> Result<Resolver, ConfigFault>
     ensures { Answers (λ resolver. resolver) (resolver_from table.now (resolver_values keys.now)) result }
 {
     match keys {
@@ -77,7 +81,11 @@ pub fn bypass_of(alloc: Global, keys: &BypassKeys) -> Result<Bypass, ConfigFault
     ensures { Answers (λ rule. rule) (bypass_from (bypass_values keys.now)) result }
 {
     match keys {
-        BypassKeys::Method(method) => Ok(Bypass::Method(method_of(alloc, Key::BypassMethod, method)?)),
+        BypassKeys::Method(method) => Ok(Bypass::Method(method_of(
+            alloc,
+            Key::BypassMethod,
+            method,
+        )?)),
         BypassKeys::Prefix(prefix) => Ok(Bypass::Prefix(bytes_of(alloc, prefix)?)),
         BypassKeys::Header(header, equals) => {
             let name = bytes_of(alloc, header)?;
@@ -118,7 +126,11 @@ fn part_named(table: &PartitionTable, name: &str) -> Part
 }
 
 /// The router of these patterns, added in their order.
-fn router_of(alloc: Global, table: &PartitionTable, routes: &Table) -> Result<Router<Part>, ConfigFault>
+fn router_of(
+    alloc: Global,
+    table: &PartitionTable,
+    routes: &Table,
+) -> Result<Router<Part>, ConfigFault>
     ensures { Answers (λ router. router) (router_from table.now (routes_of (table_view routes.now))) result }
 {
     let mut router = Router::new(alloc);

@@ -60,7 +60,10 @@ impl BypassKeys<'_> {
 }
 
 /// The bypass rules, each with its table.
-pub fn read_bypasses<'a>(alloc: Global, tables: &[&'a Table]) -> Result<Vec<(&'a Table, BypassKeys<'a>)>, ConfigFault>
+pub fn read_bypasses<'a>(
+    alloc: Global,
+    tables: &[&'a Table],
+) -> Result<Vec<(&'a Table, BypassKeys<'a>)>, ConfigFault>
     ensures { Answers (λ rules. map bypass_member rules.items) (read_each bypass_of [] (map (λ t. table_view t.now) tables.now)) result }
 {
     let mut rules = Vec::new(alloc);

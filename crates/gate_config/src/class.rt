@@ -40,7 +40,11 @@ fn read_class(alloc: Global, before: &[ClassKeys], table: &Table) -> Result<Clas
     ensures { Answers class_values (section_of (map row_of before.now) class_rows (table_view table.now)) result }
 {
     let name = new_name(before, table, Key::ClassName)?;
-    let percent = number(table, Key::ClassPercent, Range::required(1, left_by(before)))?;
+    let percent = number(
+        table,
+        Key::ClassPercent,
+        Range::required(1, left_by(before)),
+    )?;
     Ok(ClassKeys {
         name: Text::copy_of(alloc, name)?,
         percent,
@@ -61,7 +65,11 @@ fn new_name<'a>(classes: &[ClassKeys], table: &'a Table, key: Key) -> Result<&'a
 }
 
 /// The name of one of the classes.
-pub fn class_name<'a>(classes: &[ClassKeys], table: &'a Table, key: Key) -> Result<&'a str, ConfigFault>
+pub fn class_name<'a>(
+    classes: &[ClassKeys],
+    table: &'a Table,
+    key: Key,
+) -> Result<&'a str, ConfigFault>
     ensures { result_map (λ s. s.now) result
         ≡ text_from key (is_class (map row_of classes.now)) (get_member (name_of key) (table_view table.now)) }
 {

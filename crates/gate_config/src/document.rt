@@ -81,7 +81,10 @@ fn window_in<'a>(table: &'a Table) -> Result<Option<(&'a Table, WindowKeys)>, Co
 }
 
 /// The tables of the array `class`, and their keys.
-fn classes_in<'a>(alloc: Global, table: &'a Table) -> Result<(Vec<&'a Table>, Vec<ClassKeys>), ConfigFault>
+fn classes_in<'a>(
+    alloc: Global,
+    table: &'a Table,
+) -> Result<(Vec<&'a Table>, Vec<ClassKeys>), ConfigFault>
     ensures { Answers tables_and_rows (classes_in (table_view table.now)) result }
 {
     let tables = tables_at(alloc, table, Key::Class, MOST_CLASSES)?;
@@ -90,7 +93,11 @@ fn classes_in<'a>(alloc: Global, table: &'a Table) -> Result<(Vec<&'a Table>, Ve
 }
 
 /// The tables of the array `resolver`, and their keys.
-fn resolvers_in<'a>(alloc: Global, classes: &[ClassKeys], table: &'a Table) -> Result<Vec<(&'a Table, ResolverKeys<'a>)>, ConfigFault>
+fn resolvers_in<'a>(
+    alloc: Global,
+    classes: &[ClassKeys],
+    table: &'a Table,
+) -> Result<Vec<(&'a Table, ResolverKeys<'a>)>, ConfigFault>
     ensures { Answers (λ resolvers. map resolver_member resolvers.items) (resolvers_of (map row_of classes.now) (table_view table.now)) result }
 {
     let tables = tables_at(alloc, table, Key::Resolver, MOST_RULES)?;
@@ -98,7 +105,10 @@ fn resolvers_in<'a>(alloc: Global, classes: &[ClassKeys], table: &'a Table) -> R
 }
 
 /// The tables of the array `bypass`, and their keys.
-fn bypasses_in<'a>(alloc: Global, table: &'a Table) -> Result<Vec<(&'a Table, BypassKeys<'a>)>, ConfigFault>
+fn bypasses_in<'a>(
+    alloc: Global,
+    table: &'a Table,
+) -> Result<Vec<(&'a Table, BypassKeys<'a>)>, ConfigFault>
     ensures { Answers (λ rules. map bypass_member rules.items) (bypasses_of (table_view table.now)) result }
 {
     let tables = tables_at(alloc, table, Key::Bypass, MOST_RULES)?;

@@ -33,3 +33,6 @@ pub use key::{Key, Section};
 pub use kinds::{AnyLimit, BaseLimit};
 pub use reading::read;
 pub use settings::Settings;
+
+#[cfg(test)]
+mod tests;

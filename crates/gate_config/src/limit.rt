@@ -67,7 +67,12 @@ impl LimitKeys {
         match self {
             LimitKeys::Fixed(_) => &[Key::LimitKind, Key::LimitInitial],
             LimitKeys::Settable(_) => {
-                &[Key::LimitKind, Key::LimitMin, Key::LimitMax, Key::LimitInitial]
+                &[
+                    Key::LimitKind,
+                    Key::LimitMin,
+                    Key::LimitMax,
+                    Key::LimitInitial,
+                ]
             }
             LimitKeys::Aimd(..) => &[
                 Key::LimitKind,
@@ -138,7 +143,11 @@ fn read_aimd(table: &Table) -> Result<LimitKeys, ConfigFault>
 {
     let moving = read_moving(table)?;
     let ratio = number(table, Key::LimitRatio, Range::new(500, 999, 900))?;
-    let timeout_us = number(table, Key::LimitTimeoutUs, Range::new(1, HOUR_US, 5_000_000))?;
+    let timeout_us = number(
+        table,
+        Key::LimitTimeoutUs,
+        Range::new(1, HOUR_US, 5_000_000),
+    )?;
     Ok(LimitKeys::Aimd(moving, ratio, timeout_us))
 }
 

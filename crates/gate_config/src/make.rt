@@ -64,7 +64,14 @@ fn base_limit(keys: LimitKeys) -> BaseLimit
             }
         }
         LimitKeys::Vegas(moving, alpha, beta, probe_every) => {
-            match Vegas::new(moving.min, moving.initial, moving.max, alpha, beta, probe_every) {
+            match Vegas::new(
+                moving.min,
+                moving.initial,
+                moving.max,
+                alpha,
+                beta,
+                probe_every,
+            ) {
                 Ok(limit) => BaseLimit::Vegas(limit),
                 Err(_) => unreachable!(),
             }

@@ -120,7 +120,11 @@ fn made_of(alloc: Global, document: Document) -> Result<Settings, ConfigFault>
 }
 
 /// The resolvers of all their keys.
-fn resolvers_made(alloc: Global, table: &PartitionTable, members: &[(&Table, ResolverKeys)]) -> Result<Vec<Resolver>, ConfigFault>
+fn resolvers_made(
+    alloc: Global,
+    table: &PartitionTable,
+    members: &[(&Table, ResolverKeys)],
+) -> Result<Vec<Resolver>, ConfigFault>
     ensures { Answers (λ resolvers. resolvers.items) (resolvers_made table.now (map resolver_member members.now)) result }
 {
     let mut resolvers = Vec::new(alloc);
@@ -132,7 +136,10 @@ fn resolvers_made(alloc: Global, table: &PartitionTable, members: &[(&Table, Res
 }
 
 /// The bypass rules of all their keys.
-fn bypasses_made(alloc: Global, members: &[(&Table, BypassKeys)]) -> Result<Vec<Bypass>, ConfigFault>
+fn bypasses_made(
+    alloc: Global,
+    members: &[(&Table, BypassKeys)],
+) -> Result<Vec<Bypass>, ConfigFault>
     ensures { Answers (λ rules. rules.items) (bypasses_made (map bypass_member members.now)) result }
 {
     let mut rules = Vec::new(alloc);

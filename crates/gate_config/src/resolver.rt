@@ -61,14 +61,22 @@ impl ResolverKeys<'_> {
     {
         match self {
             ResolverKeys::Header(_) => &[Key::ResolverKind, Key::ResolverHeader],
-            ResolverKeys::Method(..) => &[Key::ResolverKind, Key::ResolverMethod, Key::ResolverClass],
+            ResolverKeys::Method(..) => &[
+                Key::ResolverKind,
+                Key::ResolverMethod,
+                Key::ResolverClass,
+            ],
             ResolverKeys::Route(_) => &[Key::ResolverKind, Key::ResolverRoutes],
         }
     }
 }
 
 /// The resolvers, each with its table.
-pub fn read_resolvers<'a>(alloc: Global, classes: &[ClassKeys], tables: &[&'a Table]) -> Result<Vec<(&'a Table, ResolverKeys<'a>)>, ConfigFault>
+pub fn read_resolvers<'a>(
+    alloc: Global,
+    classes: &[ClassKeys],
+    tables: &[&'a Table],
+) -> Result<Vec<(&'a Table, ResolverKeys<'a>)>, ConfigFault>
     ensures { Answers (λ resolvers. map resolver_member resolvers.items) (read_each (resolver_of (map row_of classes.now)) [] (map (λ t. table_view t.now) tables.now)) result }
 {
     let mut resolvers = Vec::new(alloc);
@@ -80,7 +88,10 @@ pub fn read_resolvers<'a>(alloc: Global, classes: &[ClassKeys], tables: &[&'a Ta
 }
 
 /// The keys of a resolver among these classes.
-pub fn read_resolver<'a>(classes: &[ClassKeys], table: &'a Table) -> Result<ResolverKeys<'a>, ConfigFault>
+pub fn read_resolver<'a>(
+    classes: &[ClassKeys],
+    table: &'a Table,
+) -> Result<ResolverKeys<'a>, ConfigFault>
     ensures { result_map resolver_values result ≡ section_of (map row_of classes.now) resolver_rows (table_view table.now) }
 {
     match resolver_kind(table)? {
@@ -159,7 +170,9 @@ fn are_classes(classes: &[ClassKeys], routes: &Table) -> bool
 fn have_classes(classes: &[ClassKeys], routes: &Table) -> bool
     ensures { result ≡ list_all (λ value. is_class (map row_of classes.now) (string_of (view value))) (values routes.now) }
 {
-    routes.values().all(|value| is_class(classes, string_of(value)))
+    routes
+        .values()
+        .all(|value| is_class(classes, string_of(value)))
 }
 
 /// The text of a value that is one, and else the empty text, which no class has for its name.

@@ -67,7 +67,11 @@ fn add_of_classes(alloc: Global, paths: &mut Vec<Text>, tables: &[&Table]) -> Re
     Ok(())
 }
 
-fn add_of_resolvers(alloc: Global, paths: &mut Vec<Text>, resolvers: &[(&Table, ResolverKeys)]) -> Result<(), AllocError>
+fn add_of_resolvers(
+    alloc: Global,
+    paths: &mut Vec<Text>,
+    resolvers: &[(&Table, ResolverKeys)],
+) -> Result<(), AllocError>
     ensures { OnOk result (paths.new.items ≡ paths.old.items ++ flat_map resolver_strangers (map resolver_member resolvers.now)) }
 {
     for (table, keys) in resolvers {
@@ -76,7 +80,11 @@ fn add_of_resolvers(alloc: Global, paths: &mut Vec<Text>, resolvers: &[(&Table, 
     Ok(())
 }
 
-fn add_of_bypasses(alloc: Global, paths: &mut Vec<Text>, rules: &[(&Table, BypassKeys)]) -> Result<(), AllocError>
+fn add_of_bypasses(
+    alloc: Global,
+    paths: &mut Vec<Text>,
+    rules: &[(&Table, BypassKeys)],
+) -> Result<(), AllocError>
     ensures { OnOk result (paths.new.items ≡ paths.old.items ++ flat_map bypass_strangers (map bypass_member rules.now)) }
 {
     for (table, keys) in rules {

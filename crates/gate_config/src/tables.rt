@@ -39,7 +39,12 @@ pub fn optional_table_at<'a>(table: &'a Table, key: Key) -> Result<Option<&'a Ta
 }
 
 /// The tables of the array at a key, of which there are at most `most`; none where it is absent.
-pub fn tables_at<'a>(alloc: Global, table: &'a Table, key: Key, most: usize) -> Result<Vec<&'a Table>, ConfigFault>
+pub fn tables_at<'a>(
+    alloc: Global,
+    table: &'a Table,
+    key: Key,
+    most: usize,
+) -> Result<Vec<&'a Table>, ConfigFault>
     ensures { Answers (λ tables. map (λ t. table_view t.now) tables.items) (tables_from key most (get_member (name_of key) (table_view table.now))) result }
 {
     let Some(value) = entry(table, key) else {
@@ -52,7 +57,12 @@ pub fn tables_at<'a>(alloc: Global, table: &'a Table, key: Key, most: usize) -> 
 }
 
 /// The items, which all are to be tables, and at most `most`.
-fn tables_in<'a>(alloc: Global, items: &'a [Value], key: Key, most: usize) -> Result<Vec<&'a Table>, ConfigFault>
+fn tables_in<'a>(
+    alloc: Global,
+    items: &'a [Value],
+    key: Key,
+    most: usize,
+) -> Result<Vec<&'a Table>, ConfigFault>
     ensures { Answers (λ tables. map (λ t. table_view t.now) tables.items) (tables_in key most (map view items.now)) result }
 {
     if !are_tables(items) {

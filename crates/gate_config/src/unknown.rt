@@ -11,7 +11,13 @@ use toml::Table;
 use wire::Text;
 
 /// Adds the paths of a table's keys that its section doesn't have.
-pub fn add_strangers(alloc: Global, paths: &mut Vec<Text>, section: Section, keys: &[Key], table: &Table) -> Result<(), AllocError>
+pub fn add_strangers(
+    alloc: Global,
+    paths: &mut Vec<Text>,
+    section: Section,
+    keys: &[Key],
+    table: &Table,
+) -> Result<(), AllocError>
     ensures { OnOk result (paths.new.items ≡ paths.old.items ++ strangers_in section (map name_of keys.now) (table_view table.now)) }
 {
     for name in table.keys() {

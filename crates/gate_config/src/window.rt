@@ -25,7 +25,11 @@ pub fn read_window(table: &Table) -> Result<WindowKeys, ConfigFault>
 {
     let size = number(table, Key::WindowSize, Range::new(1, 1_000_000, 10))?;
     let min_us = number(table, Key::WindowMinUs, Range::new(1, HOUR_US, 1_000_000))?;
-    let max_us = number(table, Key::WindowMaxUs, Range::new(min_us, HOUR_US, 1_000_000))?;
+    let max_us = number(
+        table,
+        Key::WindowMaxUs,
+        Range::new(min_us, HOUR_US, 1_000_000),
+    )?;
     let min_rtt_us = number(table, Key::WindowMinRttUs, Range::new(0, HOUR_US, 100))?;
     Ok(WindowKeys {
         size,

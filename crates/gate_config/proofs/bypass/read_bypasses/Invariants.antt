@@ -1,6 +1,5 @@
 use Rattle.std.proofs.Common.{◌≡◌, [], drop, map}
 use Rattle.toml.specs.View.{table_view}
-
 use Rattle.gate_config.specs.Bypasses.{bypass_member, bypass_of}
 use Rattle.gate_config.specs.Tables.{read_each}
 use Rattle.gate_config.proofs.bypass.read_bypasses.Given as goal
