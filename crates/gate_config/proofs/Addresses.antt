@@ -1,10 +1,10 @@
 -- Which texts are addresses.
-use Rattle.std.proofs.Common.{◌≡◌, refl, ap, ◌∙◌, sym, ℕ, Bool, true, false, ◌&&◌, List, [], ◌∷◌, ◌++◌, Option, Some, None, Result, Ok, Err, length, append-nil, bytes_eq, nat_le, ◌==◌, arith}
+use Rattle.std.proofs.Common.{◌≡◌, refl, ℕ, Bool, false, ◌&&◌, List, [], ◌∷◌, Option, Some, None, length, append-nil, bytes_eq, nat_le, ◌==◌, arith}
 use Rattle.std.proofs.lemmas.Bool.Decides.{nat_tests}
 use Rattle.std.specs.Option.{option_map_or}
 use Rattle.std.specs.declared.net.socket_addr.SocketAddrV4.{SocketAddrV4}
 use Rattle.std.specs.Net.Grammar.{IsSocketV4Text}
-use Rattle.std.specs.Net.Reader.{read_socket_v4, v4_parts, whole_value}
+use Rattle.std.specs.Net.Reader.{read_socket_v4, whole_value}
 use Rattle.std.specs.Net.Socket.{v4_port}
 use Rattle.std.specs.Net.Text.{socket_v4_text}
 use Rattle.std.proofs.NetLemmas.Sockets.{read_socket_v4_complete, read_socket_v4_sound}

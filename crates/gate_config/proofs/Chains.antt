@@ -1,5 +1,5 @@
 -- Steps that may fail.
-use Rattle.std.proofs.Common.{◌≡◌, refl, Bool, true, List, ℕ, Option, Some, None, Result, Ok, Err, ◌⊎◌, inl, inr}
+use Rattle.std.proofs.Common.{◌≡◌, refl, Result, Ok, Err, ◌⊎◌, inl, inr}
 use Rattle.gate_config.specs.declared.fault.ConfigFault.{ConfigFault}
 
 -- an answer is a value or a fault

@@ -1,11 +1,9 @@
 -- The section `limit`, kind by kind, is the section by its rows.
-use Rattle.std.proofs.Common.{◌≡◌, refl, ℕ, List, [], ◌∷◌, Some, Result, Ok, Err, inl, inr, codes}
+use Rattle.std.proofs.Common.{◌≡◌, ℕ, List, [], Some, Result, Ok, inl, inr, codes}
 use Rattle.toml.specs.Data.{Members, get_member}
 use Rattle.gate_config.specs.declared.fault.ConfigFault.{ConfigFault}
 use Rattle.gate_config.specs.declared.key.Key.TheVariants as Key
-use Rattle.gate_config.specs.declared.limit.LimitKind.{LimitKind}
-use Rattle.gate_config.specs.declared.limit.LimitKind.TheVariants as Kind
-use Rattle.gate_config.specs.Limit.{aimd_of, fixed_of, limit_values, moving_of, settable_of, vegas_of, word_of}
+use Rattle.gate_config.specs.Limit.{aimd_of, fixed_of, limit_values, settable_of, vegas_of}
 use Rattle.gate_config.specs.Rows.{limit_kinds, limit_rows, fixed, settable, aimd, vegas}
 use Rattle.gate_config.specs.Values.{is_among, number_from, result_map, section_of, text_from}
 use Rattle.gate_config.proofs.Chains.{either}

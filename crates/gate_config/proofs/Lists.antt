@@ -1,5 +1,5 @@
 -- Lists seen through a function, and the members of tables.
-use Rattle.std.proofs.Common.{◌≡◌, refl, ap, ℕ, ◌+◌, Bool, ◌||◌, ◌&&◌, List, [], ◌∷◌, map, String, Global, BTreeMap, string_bytes, length, sym, ◌∙◌}
+use Rattle.std.proofs.Common.{◌≡◌, refl, ap, Bool, ◌||◌, ◌&&◌, List, [], ◌∷◌, map, String, Global, BTreeMap, string_bytes, length, sym, ◌∙◌}
 use Rattle.std.proofs.lemmas.List.{length-map}
 use Rattle.std.specs.BTreeMap.{keys, values}
 use Rattle.std.specs.List.{list_all, list_any}

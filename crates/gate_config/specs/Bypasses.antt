@@ -12,7 +12,7 @@ use Rattle.gate_config.specs.declared.bypass.BypassKeys.TheVariants as Keys
 use Rattle.gate_config.specs.declared.bypass.BypassKind.{BypassKind}
 use Rattle.gate_config.specs.declared.bypass.BypassKind.TheVariants as Kind
 use Rattle.gate_config.specs.Rows.{bypass_rows}
-use Rattle.gate_config.specs.Values.{◌>>=◌, section_of, Given, text_is, Values}
+use Rattle.gate_config.specs.Values.{◌>>=◌, section_of, text_is, Values}
 
 -- the word of a kind
 abbrev pub word_of : BypassKind → List ℕ

@@ -1,12 +1,12 @@
 -- The classes of a configuration.
-use Rattle.std.specs.Prelude.{ℕ, List, [], ◌∷◌, Result, Ok, codes}
+use Rattle.std.specs.Prelude.{List, [], ◌∷◌, Result, Ok, codes}
 use Rattle.partitions.specs.Table.{Row}
 use Rattle.toml.specs.Data.{Members}
 use Rattle.gate_config.specs.declared.class.ClassKeys.{ClassKeys}
 use Rattle.gate_config.specs.declared.fault.ConfigFault.{ConfigFault}
 use Rattle.gate_config.specs.Rows.{class_rows}
 use Rattle.gate_config.specs.Tables.{read_each}
-use Rattle.gate_config.specs.Values.{◌>>=◌, Given, number_is, text_is, number_at, text_at, section_of, Values}
+use Rattle.gate_config.specs.Values.{◌>>=◌, number_is, text_is, number_at, text_at, section_of, Values}
 
 -- a class as a row of the table of partitions, from its keys and from its values
 abbrev pub row_of : ClassKeys → Row

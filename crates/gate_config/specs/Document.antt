@@ -1,5 +1,5 @@
 -- A whole configuration: its tables, each with the values of its keys.
-use Rattle.std.specs.Prelude.{ℕ, List, [], ◌∷◌, ◌++◌, map, flat_map, Option, Some, None, option_map, Result, Ok, Err, String, Vec, codes}
+use Rattle.std.specs.Prelude.{List, [], map, Option, Some, None, option_map, Result, Ok, String, Vec, codes}
 use Rattle.std.specs.Borrow.{Bor}
 use Rattle.std.specs.BTreeMap.{BTreeMap}
 use Rattle.std.specs.declared.alloc.Global.{Global}
@@ -11,7 +11,6 @@ use Rattle.gate_config.specs.declared.class.ClassKeys.{ClassKeys}
 use Rattle.gate_config.specs.declared.document.Document.{Document}
 use Rattle.gate_config.specs.declared.fault.ConfigFault.{ConfigFault}
 use Rattle.gate_config.specs.declared.key.Key.TheVariants as Key
-use Rattle.gate_config.specs.declared.key.Section.TheVariants as In
 use Rattle.gate_config.specs.declared.limit.LimitKeys.{LimitKeys}
 use Rattle.gate_config.specs.declared.window.WindowKeys.{WindowKeys}
 use Rattle.gate_config.specs.Bypasses.{bypass_member, bypass_of}

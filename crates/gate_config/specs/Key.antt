@@ -1,7 +1,6 @@
 -- The keys of a configuration, and what they are called.
 use Rattle.std.specs.Prelude.{ℕ, List, [], ◌++◌, codes}
 use Rattle.gate_config.specs.declared.key.Key.{Key}
-use Rattle.gate_config.specs.declared.key.Key.TheVariants as Key
 use Rattle.gate_config.specs.declared.key.Section.{Section}
 use Rattle.gate_config.specs.declared.key.Section.TheVariants as In
 

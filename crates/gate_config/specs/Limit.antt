@@ -9,7 +9,7 @@ use Rattle.gate_config.specs.declared.limit.LimitKeys.{LimitKeys}
 use Rattle.gate_config.specs.declared.limit.LimitKeys.TheVariants as Keys
 use Rattle.gate_config.specs.declared.limit.Moving.{Moving}
 use Rattle.gate_config.specs.Rows.{fixed, settable, aimd, vegas}
-use Rattle.gate_config.specs.Values.{◌>>=◌, number_from, Given, number_is, text_is, Values}
+use Rattle.gate_config.specs.Values.{◌>>=◌, number_from, number_is, text_is, Values}
 
 -- the word of a kind
 abbrev pub word_of : LimitKind → List ℕ

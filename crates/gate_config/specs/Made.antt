@@ -1,5 +1,5 @@
 -- The limit that keys make.
-use Rattle.std.specs.Prelude.{ℕ, ◌*◌, [], Option, Some, None, bytes_eq, codes, if◌then◌else◌}
+use Rattle.std.specs.Prelude.{◌*◌, [], Option, Some, None, bytes_eq, codes, if◌then◌else◌}
 use Rattle.sample_window.specs.Totals.{totals}
 use Rattle.gate_config.specs.declared.kinds.AnyLimit.{AnyLimit}
 use Rattle.gate_config.specs.declared.kinds.AnyLimit.TheVariants as Any

@@ -13,7 +13,7 @@ use Rattle.gate_config.specs.declared.resolver.ResolverKeys.TheVariants as Keys
 use Rattle.gate_config.specs.declared.resolver.ResolverKind.{ResolverKind}
 use Rattle.gate_config.specs.declared.resolver.ResolverKind.TheVariants as Kind
 use Rattle.gate_config.specs.Rows.{resolver_rows}
-use Rattle.gate_config.specs.Values.{◌>>=◌, section_of, Given, text_is, routes_are, pairs_of, string_of, Values}
+use Rattle.gate_config.specs.Values.{◌>>=◌, section_of, text_is, routes_are, pairs_of, string_of, Values}
 
 -- the word of a kind
 abbrev pub word_of : ResolverKind → List ℕ

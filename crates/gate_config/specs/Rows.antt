@@ -1,7 +1,6 @@
 -- The table of keys: which keys there are, in the order in which faults are looked for, and what each may hold.
 use Rattle.std.specs.Prelude.{ℕ, Bool, true, List, [], ◌∷◌, Option, Some, None, codes}
 use Rattle.gate_config.specs.declared.key.Key.{Key}
-use Rattle.gate_config.specs.declared.key.Key.TheVariants as Key
 
 -- an end of a range: a number, the number of an earlier key of the section, or what the classes so far leave
 -- of a hundred

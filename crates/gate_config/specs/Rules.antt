@@ -18,7 +18,6 @@ use Rattle.classifier.specs.declared.resolver.Resolver.TheVariants as Read
 use Rattle.gate_config.specs.declared.fault.ConfigFault.{ConfigFault}
 use Rattle.gate_config.specs.declared.fault.ConfigFault.TheVariants as Fault
 use Rattle.gate_config.specs.declared.key.Key.{Key}
-use Rattle.gate_config.specs.declared.key.Key.TheVariants as Key
 use Rattle.gate_config.specs.Values.{◌>>=◌, is_token, routes_at, text_at, Values}
 
 -- the key at fault where classes make no table

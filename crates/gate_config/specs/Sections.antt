@@ -2,7 +2,7 @@
 use Rattle.std.specs.Prelude.{◌≤◌, [], ◌∷◌, codes}
 use Rattle.gate_config.specs.declared.top.TopKeys.{TopKeys}
 use Rattle.gate_config.specs.declared.window.WindowKeys.{WindowKeys}
-use Rattle.gate_config.specs.Values.{Given, number_is, flag_is, text_is, Values}
+use Rattle.gate_config.specs.Values.{number_is, flag_is, text_is, Values}
 
 abbrev pub top_values : TopKeys → Values
 top_values k =

@@ -1,5 +1,5 @@
 -- The settings that a text holds.
-use Rattle.std.specs.Prelude.{◌≡◌, ℕ, ◌*◌, ℤ, pos, Bool, true, false, ◌==◌, List, [], map, Option, Some, None, option_map, Result, Ok, Err, codes, IsUtf8, if◌then◌else◌}
+use Rattle.std.specs.Prelude.{◌≡◌, ℕ, ◌*◌, ℤ, pos, Bool, false, ◌==◌, List, [], Option, Some, None, option_map, Result, Ok, Err, codes, IsUtf8, if◌then◌else◌}
 use Rattle.partitions.specs.Table.{Row}
 use Rattle.toml.specs.Data.{Data, integer, Members, get_member}
 use Rattle.toml.specs.Parse.{parse_document}

@@ -2,11 +2,10 @@
 use Rattle.std.specs.Prelude.{ℕ, List, [], ◌∷◌, ◌++◌, map, flat_map, Option, Some, None}
 use Rattle.toml.specs.Data.{Members}
 use Rattle.gate_config.specs.declared.key.Key.{Key}
-use Rattle.gate_config.specs.declared.key.Key.TheVariants as Key
 use Rattle.gate_config.specs.declared.key.Section.TheVariants as In
 use Rattle.gate_config.specs.Document.{DocumentValues}
 use Rattle.gate_config.specs.Key.{name_of}
-use Rattle.gate_config.specs.Rows.{Row, top_rows, limit_rows, window_rows, class_rows, resolver_rows, bypass_rows}
+use Rattle.gate_config.specs.Rows.{top_rows, limit_rows, window_rows, class_rows, resolver_rows, bypass_rows}
 use Rattle.gate_config.specs.Unknown.{strangers_in}
 use Rattle.gate_config.specs.Values.{names_of, Values}
 

@@ -1,5 +1,5 @@
 -- Keys that aren't allowed where they stand.
-use Rattle.std.specs.Prelude.{ℕ, Bool, not, List, ◌++◌, map, filter, fold, Option, Some, None, if◌then◌else◌}
+use Rattle.std.specs.Prelude.{ℕ, not, List, ◌++◌, map, filter, fold, Option, Some, None, if◌then◌else◌}
 use Rattle.std.specs.Cmp.Lexicographic.{slice_cmp}
 use Rattle.std.specs.Ordering.{is_lt, nat_cmp}
 use Rattle.toml.specs.Data.{Members}

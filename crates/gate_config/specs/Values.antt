@@ -1,5 +1,5 @@
 -- What one key holds, and the keys of a section, read one after the other.
-use Rattle.std.specs.Prelude.{ℕ, ◌-◌, min, max, ℤ, pos, negsuc, Bool, true, false, ◌&&◌, ◌||◌, not, List, [], ◌∷◌, ◌++◌, length, map, filter, find, fold, sum_by, Option, Some, None, option_map, unwrap_or, is_some, Result, Ok, Err, bytes_eq, nat_eq, nat_le, ◌==◌, codes, if◌then◌else◌, ◌≡◌, ◌≢◌}
+use Rattle.std.specs.Prelude.{ℕ, ◌-◌, min, max, ℤ, pos, negsuc, Bool, true, ◌&&◌, ◌||◌, not, List, [], ◌∷◌, ◌++◌, length, map, filter, find, fold, sum_by, Option, Some, None, option_map, unwrap_or, is_some, Result, Ok, Err, bytes_eq, nat_eq, nat_le, ◌==◌, codes, if◌then◌else◌, ◌≡◌, ◌≢◌}
 use Rattle.std.specs.List.{list_all, list_any, starts_with}
 use Rattle.http_header.specs.Token.{is_token_byte}
 use Rattle.partitions.specs.Table.{Row as ClassRow, is_name}

@@ -1,4 +1,4 @@
-use Rattle.std.proofs.Common.{◌≡◌, rules, ap, sym, ◌∙◌, get_or}
+use Rattle.std.proofs.Common.{rules, ap}
 use Rattle.gate_config.proofs.Given.{given_more}
 use Rattle.gate_config.proofs.build.pairs_of.Goals as goal
 

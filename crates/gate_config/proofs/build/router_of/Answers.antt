@@ -1,4 +1,4 @@
-use Rattle.std.proofs.Common.{◌≡◌, rules}
+use Rattle.std.proofs.Common.{rules}
 use Rattle.gate_config.proofs.Lists.{routes_view}
 use Rattle.gate_config.proofs.build.router_of.Goals as goal
 

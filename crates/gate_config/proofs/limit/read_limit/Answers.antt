@@ -1,4 +1,4 @@
-use Rattle.std.proofs.Common.{◌≡◌, sym, ap, ◌∙◌, Result, Ok, List, ℕ}
+use Rattle.std.proofs.Common.{◌≡◌, sym, ap, ◌∙◌, Ok}
 use Rattle.toml.specs.View.{table_view}
 use Rattle.gate_config.specs.Limit.{limit_values, word_of}
 use Rattle.gate_config.specs.Rows.{fixed, settable, aimd, vegas}

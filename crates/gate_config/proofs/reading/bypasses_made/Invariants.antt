@@ -3,7 +3,6 @@ use Rattle.toml.specs.Data.{Members}
 use Rattle.classifier.specs.declared.bypass.Bypass.{Bypass}
 use Rattle.gate_config.specs.Bypasses.{bypass_member}
 use Rattle.gate_config.specs.Rules.{bypass_from}
-use Rattle.gate_config.specs.Settings.{bypasses_made}
 use Rattle.gate_config.specs.Tables.{read_each}
 use Rattle.gate_config.specs.Values.{Values}
 use Rattle.gate_config.proofs.reading.bypasses_made.Given as goal

@@ -3,7 +3,6 @@ use Rattle.toml.specs.Data.{Members}
 use Rattle.classifier.specs.declared.resolver.Resolver.{Resolver}
 use Rattle.gate_config.specs.Resolvers.{resolver_member}
 use Rattle.gate_config.specs.Rules.{resolver_from}
-use Rattle.gate_config.specs.Settings.{resolvers_made}
 use Rattle.gate_config.specs.Tables.{read_each}
 use Rattle.gate_config.specs.Values.{Values}
 use Rattle.gate_config.proofs.reading.resolvers_made.Given as goal

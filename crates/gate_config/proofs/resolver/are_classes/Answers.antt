@@ -1,4 +1,4 @@
-use Rattle.std.proofs.Common.{◌≡◌, sym, ◌∙◌, map}
+use Rattle.std.proofs.Common.{sym, ◌∙◌, map}
 use Rattle.gate_config.specs.Classes.{row_of}
 use Rattle.gate_config.specs.Values.{is_class, string_of}
 use Rattle.gate_config.proofs.Lists.{all_values}

@@ -1,4 +1,4 @@
-use Rattle.std.proofs.Common.{◌≡◌, sym, ◌∙◌}
+use Rattle.std.proofs.Common.{sym, ◌∙◌}
 use Rattle.gate_config.proofs.Lists.{length_pairs}
 use Rattle.gate_config.proofs.resolver.count_of.Goals as goal
 

@@ -1,4 +1,4 @@
-use Rattle.std.proofs.Common.{◌≡◌, sym, ◌∙◌, is_some}
+use Rattle.std.proofs.Common.{sym, ◌∙◌, is_some}
 use Rattle.toml.specs.Data.{as_table}
 use Rattle.toml.specs.View.{view}
 use Rattle.gate_config.proofs.Lists.{list_all_map}

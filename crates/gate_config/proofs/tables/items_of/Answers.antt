@@ -1,4 +1,4 @@
-use Rattle.std.proofs.Common.{rules, ◌≡◌}
+use Rattle.std.proofs.Common.{rules}
 use Rattle.gate_config.proofs.Lists.{items_back}
 use Rattle.gate_config.proofs.tables.items_of.Goals as goal
 

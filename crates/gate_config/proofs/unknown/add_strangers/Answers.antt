@@ -1,4 +1,4 @@
-use Rattle.std.proofs.Common.{◌≡◌, rules}
+use Rattle.std.proofs.Common.{rules}
 use Rattle.gate_config.proofs.Lists.{names_view}
 use Rattle.gate_config.proofs.unknown.add_strangers.Goals as goal
 

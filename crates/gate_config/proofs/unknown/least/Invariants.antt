@@ -1,5 +1,5 @@
-use Rattle.std.proofs.Common.{◌≡◌, fold}
-use Rattle.gate_config.specs.Unknown.{least_path, lesser}
+use Rattle.std.proofs.Common.{◌≡◌}
+use Rattle.gate_config.specs.Unknown.{least_path}
 use Rattle.gate_config.proofs.unknown.least.Given as goal
 
 -- the least of those so far

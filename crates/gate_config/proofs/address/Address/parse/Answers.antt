@@ -1,7 +1,4 @@
-use Rattle.std.proofs.Common.{◌≡◌, ap, sym, ◌∙◌, rules, Bool, true, false, ◌&&◌, bytes_eq, nat_le, List, ℕ}
-use Rattle.std.specs.Net.Socket.{v4_port}
-use Rattle.std.specs.Net.Text.{socket_v4_text}
-use Rattle.gate_config.specs.Address.{is_address}
+use Rattle.std.proofs.Common.{rules}
 use Rattle.gate_config.proofs.Addresses.{is_address_none, is_address_read}
 use Rattle.gate_config.proofs.address.Address.parse.Goals as goal
 
