@@ -1,5 +1,5 @@
 -- Counts of a list of places.
-use Rattle.std.proofs.Common.{◌≡◌, ℕ, zero, suc, ◌+◌, ◌-◌, ◌<◌, ◌≤◌, ◌==◌, List, [], ◌∷◌, ◌++◌, Bool, true, false, not, cond, length, get_or, Option, Some, None, is_some, position, count_by, swap_remove, refl, sym, ap, ◌∙◌, subst, arith, ltb, eqb-true, lt-ltb, true≢false, ne_eqb, sum, zero-le}
+use Rattle.std.proofs.Common.{◌≡◌, ℕ, zero, suc, ◌+◌, ◌-◌, ◌<◌, ◌≤◌, ◌==◌, List, [], ◌∷◌, ◌++◌, Bool, true, false, not, cond, length, get_or, Some, None, is_some, position, count_by, swap_remove, refl, sym, ap, ◌∙◌, subst, arith, eqb-true, lt-ltb, true≢false, ne_eqb, sum, zero-le}
 use Rattle.std.proofs.lemmas.List.Sums.{sum_by-swap_remove, sum_by-append, sum_by-cons}
 use Rattle.std.proofs.lemmas.List.Quantifiers.{position-Some}
 use Rattle.std.specs.List.{position_or_len}
@@ -10,9 +10,9 @@ use Rattle.limiter_core.proofs.Sounds.{ones}
 has_place : {X : Type 0} (p : X → Bool) (xs : List X) → 0 < count_by p xs → position_or_len p xs < length xs
 has_place p [] some = omega (arith, some)
 has_place p (x ∷ xs) some = elim (p x) as (λ b. 0 < cond b 1 0 + count_by p xs → cond (not b) (1 + position_or_len p xs) 0 < suc (length xs)) [
-    true ↦ λ h. omega arith
+  | true ↦ λ h. omega arith
   | false ↦ λ h. omega (arith, has_place p xs (omega (arith, h)))
-  ] (omega (arith, some, sum_by-cons (λ y. cond (p y) 1 0) x xs))
+] (omega (arith, some, sum_by-cons (λ y. cond (p y) 1 0) x xs))
 
 pub not_none : {X : Type 0} (p : X → Bool) (xs : List X) → 0 < count_by p xs → position p xs ≡ None → ⊥
 not_none p xs some none =
@@ -69,5 +69,6 @@ sum_drop xs ys k h some dropped =
     at : (p : ℕ) (b : Bool) → (k == p) ≡ b → cond b 1 0 ≤ get_or (counts_of xs) p 0
     at p true e = subst (λ (q : ℕ). 1 ≤ get_or (counts_of xs) q 0) (eqb-true k p e) some
     at p false e = zero-le
+
     fits : (p : ℕ) → cond (k == p) 1 0 ≤ get_or (counts_of xs) p 0
     fits p = at p (k == p) refl

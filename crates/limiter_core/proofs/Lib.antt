@@ -17,3 +17,5 @@ pub mod Finds
 pub mod Broughts
 pub mod Agreeing
 pub mod Opens
+pub mod Comings
+mod Rows

@@ -1,7 +1,7 @@
 -- Served events find their places: each entry that is added beyond the kept ones was owed before it.
-use Rattle.std.proofs.Common.{◌≡◌, ℕ, zero, suc, ◌+◌, ◌-◌, ◌*◌, ◌<◌, ◌≤◌, ◌==◌, List, [], ◌∷◌, ◌++◌, Bool, true, false, not, ◌||◌, cond, length, map, option_to_list, Option, None, Some, is_some, filter, find, count_by, sum_by, refl, sym, ap, ◌∙◌, subst, arith, append_assoc, append-nil, length-append, zero-le, true≢false, leb-false, leb, ◌&&◌, ◌^◌}
+use Rattle.std.proofs.Common.{◌≡◌, ℕ, ◌+◌, ◌-◌, ◌*◌, ◌<◌, ◌≤◌, ◌==◌, List, [], ◌∷◌, ◌++◌, Bool, true, false, not, ◌||◌, cond, length, map, option_to_list, Option, None, Some, is_some, filter, find, count_by, sum_by, refl, sym, ap, ◌∙◌, subst, arith, append_assoc, append-nil, length-append, true≢false, leb-false, leb, ◌&&◌, ◌^◌}
 use Rattle.std.specs.List.{list_any}
-use Rattle.std.proofs.lemmas.List.Sums.{sum_by-cons, length-filter, sum_by-append}
+use Rattle.std.proofs.lemmas.List.Sums.{sum_by-cons, length-filter}
 use Rattle.std.proofs.lemmas.List.Filters.{length-filter_both}
 use Rattle.limit_laws.specs.Algorithm.{IsLawful}
 use Rattle.limiter_core.specs.declared.event.Event.{Event}
@@ -12,14 +12,14 @@ use Rattle.limiter_core.specs.declared.event.Entry.{Entry}
 use Rattle.limiter_core.specs.declared.event.Entry.TheVariants.{Call}
 use Rattle.limiter_core.specs.declared.event.PermitFacts.{PermitFacts}
 use Rattle.lifo_backlog.specs.declared.waiter.Waiter.{Waiter}
-use Rattle.partitions.specs.Table.{Row, place_of, share, places, bound}
+use Rattle.partitions.specs.Table.{place_of, places, bound}
 use Rattle.limiter_core.specs.History.{Gate, Image, image_after, total}
-use Rattle.limiter_core.specs.Answer.{answer, reply_to, granted_at, granted_of, granted_or, waits, promoted, promotions_at, promotion, next_waiter, moment_of, counting}
+use Rattle.limiter_core.specs.Answer.{answer, reply_to, granted_of, granted_or, waits, promoted, promotions_at, promotion, next_waiter, moment_of, counting}
 use Rattle.limiter_core.specs.Legal.{IsLegal, nothing, more, MayCome}
-use Rattle.limiter_core.specs.Bound.{IsSound, IsServed, none_yet, served, owed, most_owed, bound_at, is_always_served, is_exhausted, kept_places}
+use Rattle.limiter_core.specs.Bound.{IsSound, IsServed, none_yet, served, owed, is_always_served, is_exhausted, kept_places}
 use Rattle.limiter_core.specs.Laws.{KeepsPlaces}
 use Rattle.limiter_core.proofs.Images.{IsBacked, image_nil, image-append}
-use Rattle.limiter_core.proofs.Sounds.{ones, fits-at}
+use Rattle.limiter_core.proofs.Sounds.{ones}
 use Rattle.limiter_core.proofs.Soundness.{small-place, stays_sound, next_counted, sound-call, image-counting}
 use Rattle.limiter_core.proofs.Steps.{after_promotion, after_end, after_timed_out, after_give_up_granted}
 use Rattle.limiter_core.proofs.Legals.{backed-push, backed_legal, call-fits}
@@ -65,7 +65,7 @@ module _ {S : Type 0} (g : Gate S) (four : length g.rows ≤ 4) where
       let out : length (filter (λ v. not (v.number == w.number)) i.waiters) + count_by (λ v. v.number == w.number) i.waiters ≡ length i.waiters = gone (λ (v : Waiter). v.number == w.number) i.waiters in
       let one : PermitFacts = record { number = w.number; part = w.part; start = start; inflight = total i + 1 } in
       subst (λ (j : Image S). owed j + 1 ≤ owed i) (sym (after_promotion g i w.number w.part start (total i + 1)))
-        (omega (arith, out, next_counted g i w e, ones k (small-place g.rows w.part four), length-append i.granted (one ∷ [])))
+      (omega (arith, out, next_counted g i w e, ones k (small-place g.rows w.part four), length-append i.granted (one ∷ [])))
 
   module _ (o : Image S) where
     owed-promotion : (start : ℕ) (h : List Entry) → IsBacked g o h → (w : Option Waiter) → next_waiter g (image_after g o h) ≡ w
@@ -73,7 +73,7 @@ module _ {S : Type 0} (g : Gate S) (four : length g.rows ≤ 4) where
     owed-promotion start h backed None q = subst (λ (xs : List Entry). 0 + owed (image_after g o xs) ≤ owed (image_after g o h)) (sym (append-nil h)) (omega arith)
     owed-promotion start h backed (Some w) q =
         let own : owed (image_after g o (h ++ promotion (image_after g o h) start w ∷ [])) + 1 ≤ owed (image_after g o h)
-            = subst (λ (j : Image S). owed j + 1 ≤ owed (image_after g o h)) (sym (image-append g o h (promotion (image_after g o h) start w ∷ []) backed)) (owed-next (image_after g o h) start w q) in
+        = subst (λ (j : Image S). owed j + 1 ≤ owed (image_after g o h)) (sym (image-append g o h (promotion (image_after g o h) start w ∷ []) backed)) (owed-next (image_after g o h) start w q) in
         omega (arith, own)
 
   -- an event that is always served lowers what is owed
@@ -122,26 +122,30 @@ module _ {S : Type 0} (g : Gate S) (k : ℕ) (o : Image S) (lawful : IsLawful g.
       let hi : g.rules.hi j.state ≡ g.rules.hi o.state = hi_stays_over g.rules lawful i.state (Call e (reply_to g i e) ∷ []) now.within ∙ hi_stays_over g.rules lawful o.state h s.within in
       omega (arith, below, subst (λ (m : ℕ). owed j ≤ 2 * bound g.rows m + 3 * g.room) hi (owed-most g j (sound-call g lawful i now e may)))
 
-  places-kept : (h : List Entry) → IsServed g k o h → length h + owed (image_after g o h) ≤ kept_places g o k
-  places-kept [] none_yet = subst (λ (j : Image S). 0 + owed j ≤ kept_places g o k) (sym (image_nil g o)) (omega (arith, owed-most g o s))
-  places-kept _ (served h e before may free) =
+  -- one answer more finds its places
+  pub answer_keeps_places : (h : List Entry) (e : Event) → IsBacked g o h → IsSound g (image_after g o h) → MayCome g (image_after g o h) e → is_exhausted k false (image_after g o h) (length h) e ≡ false
+      → length h + owed (image_after g o h) ≤ kept_places g o k → length (h ++ answer g o h e) + owed (image_after g o (h ++ answer g o h e)) ≤ kept_places g o k
+  answer_keeps_places h e backed sound may free room =
       let i : Image S = image_after g o h in
       let r : Reply = reply_to g i e in
       let ps : List Entry = promoted g o h e in
       let x : Entry = Call e r in
       let y : Entry = Call e (counting (length ps) r) in
-      let legal : IsLegal g o h = legal-served h before in
-      let backed : IsBacked g o h = backed_legal g o h legal in
       let bx : IsBacked g o (h ++ x ∷ []) = backed-push g o h x backed (call-fits g i e may) in
       let bz : IsBacked g o (h ++ y ∷ []) = backed-push g o h y backed (call-fits g i e may) in
       let first : image_after g o (h ++ x ∷ []) ≡ image_after g i (x ∷ []) = image-append g o h (x ∷ []) backed in
       let same : image_after g o (h ++ x ∷ []) ≡ image_after g o (h ++ y ∷ []) = first ∙ sym (image-counting g lawful i e r (length ps)) ∙ sym (image-append g o h (y ∷ []) backed) in
       let moved : image_after g o ((h ++ x ∷ []) ++ ps) ≡ image_after g o (h ++ y ∷ ps)
-          = image-append g o (h ++ x ∷ []) ps bx ∙ ap (λ (j : Image S). image_after g j ps) same ∙ sym (image-append g o (h ++ y ∷ []) ps bz) ∙ ap (image_after g o) (append_assoc h (y ∷ []) ps) in
-      let call : length h + 1 + owed (image_after g i (x ∷ [])) ≤ kept_places g o k = after-call h e (is_always_served i e) refl free may (stays_sound g o h lawful s legal) (places-kept h before) in
+      = image-append g o (h ++ x ∷ []) ps bx ∙ ap (λ (j : Image S). image_after g j ps) same ∙ sym (image-append g o (h ++ y ∷ []) ps bz) ∙ ap (image_after g o) (append_assoc h (y ∷ []) ps) in
+      let call : length h + 1 + owed (image_after g i (x ∷ [])) ≤ kept_places g o k = after-call h e (is_always_served i e) refl free may sound room in
       let tail : length ps + owed (image_after g o ((h ++ x ∷ []) ++ ps)) ≤ owed (image_after g o (h ++ x ∷ [])) = owed-promotions_at g s.four o (moment_of e) (h ++ x ∷ []) bx in
       let tail2 : length ps + owed (image_after g o (h ++ y ∷ ps)) ≤ owed (image_after g i (x ∷ [])) = subst (λ (j : Image S). length ps + owed (image_after g o (h ++ y ∷ ps)) ≤ owed j) first (subst (λ (j : Image S). length ps + owed j ≤ owed (image_after g o (h ++ x ∷ []))) moved tail) in
       omega (arith, call, tail2, length-append h (y ∷ ps))
+
+  places-kept : (h : List Entry) → IsServed g k o h → length h + owed (image_after g o h) ≤ kept_places g o k
+  places-kept [] none_yet = subst (λ (j : Image S). 0 + owed j ≤ kept_places g o k) (sym (image_nil g o)) (omega (arith, owed-most g o s))
+  places-kept _ (served h e before may free) =
+      answer_keeps_places h e (backed_legal g o h (legal-served h before)) (stays_sound g o h lawful s (legal-served h before)) may free (places-kept h before)
 
 pub keeps_places : {S : Type 0} (g : Gate S) → KeepsPlaces g
 keeps_places g k o h lawful s kept = places-kept g k o lawful s h kept

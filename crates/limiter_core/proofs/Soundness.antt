@@ -1,6 +1,6 @@
 -- A legal history from a sound opening ends sound.
-use Rattle.std.proofs.Common.{◌≡◌, ℕ, zero, suc, ◌+◌, ◌<◌, ◌≤◌, ◌==◌, List, [], ◌∷◌, ◌++◌, Bool, true, false, cond, length, Option, None, Some, option_to_list, map, unwrap_or, filter, find, count_by, nat_lt, Result, Ok, Err, IfOk, refl, sym, ap, ◌∙◌, subst, arith, append_assoc, append-nil, ltb, ltb-true, zero-le, inl, inr, ◌⊎◌, ⊎_elim, le_trans, is_some, true≢false, eq-eqb, eqb-true, get_or, ◌-◌}
-use Rattle.std.specs.List.{last_or, list_any}
+use Rattle.std.proofs.Common.{◌≡◌, ℕ, ◌+◌, ◌<◌, ◌≤◌, ◌==◌, List, [], ◌∷◌, ◌++◌, Bool, true, false, cond, length, Option, None, Some, option_to_list, map, unwrap_or, filter, count_by, Result, Ok, Err, IfOk, refl, sym, ap, ◌∙◌, subst, arith, append_assoc, append-nil, ltb, ltb-true, inl, inr, ◌⊎◌, ⊎_elim, is_some, true≢false, eq-eqb, eqb-true, get_or, ◌-◌}
+use Rattle.std.specs.List.{last_or}
 use Rattle.std.proofs.lemmas.List.Sums.{sum_by-cons}
 use Rattle.std.proofs.lemmas.Option.{get_or_from_slice_get}
 use Rattle.lifo_backlog.specs.Waiters.{newest_of}
@@ -13,11 +13,11 @@ use Rattle.limiter_core.specs.declared.event.Event.TheVariants.{Acquire, End, Cl
 use Rattle.limiter_core.specs.declared.event.Reply.{Reply}
 use Rattle.limiter_core.specs.declared.event.Reply.TheVariants.{Admitted, Bypassed, Full, BacklogFull, Waiting, Ended, Granted, StillWaiting, TimedOut, Lost, LimitSet, Refused, ResetDone, Seen}
 use Rattle.limiter_core.specs.declared.event.Entry.{Entry}
-use Rattle.limiter_core.specs.declared.event.Entry.TheVariants.{Call, Promotion}
+use Rattle.limiter_core.specs.declared.event.Entry.TheVariants.{Call}
 use Rattle.limiter_core.specs.declared.event.PermitFacts.{PermitFacts}
 use Rattle.lifo_backlog.specs.declared.waiter.Waiter.{Waiter}
-use Rattle.partitions.specs.Table.{Row, place_of, share}
-use Rattle.limiter_core.specs.History.{Gate, Image, image_after, limit, total, accepted_or}
+use Rattle.partitions.specs.Table.{Row, place_of}
+use Rattle.limiter_core.specs.History.{Gate, Image, image_after, total, accepted_or}
 use Rattle.limiter_core.specs.Answer.{answer, reply_to, has_room, queued, granted_of, granted_or, set_reply, waits, promoted, promotions_at, promotion, next_waiter, moment_of, candidates, counting}
 use Rattle.limiter_core.specs.Legal.{IsLegal, nothing, more, MayCome}
 use Rattle.limiter_core.specs.Bound.{IsSound}
@@ -134,7 +134,7 @@ module _ {S : Type 0} (g : Gate S) (lawful : IsLawful g.rules) where
     sound-next start w e =
         let found : Found (λ v. has_room g i (place_of g.rows v.part)) (candidates i.waiters) w = ⊎_elim (none-some w) (λ f. f) (last-found (λ v. has_room g i (place_of g.rows v.part)) w None (candidates i.waiters) e) in
         subst (IsSound g) (sym (after_promotion g i w.number w.part start (total i + 1)))
-          (sound_promotion g i s w.number start (total i + 1) w.part (small-place g.rows w.part s.four) found.0 (candidate-in w i.waiters found.1))
+        (sound_promotion g i s w.number start (total i + 1) w.part (small-place g.rows w.part s.four) found.0 (candidate-in w i.waiters found.1))
 
   pub image-counting : (i : Image S) (e : Event) (r : Reply) (n : ℕ) → image_after g i (Call e (counting n r) ∷ []) ≡ image_after g i (Call e r ∷ [])
   image-counting i (Acquire part bypass wait now) (Ended m) n = refl
@@ -181,7 +181,7 @@ module _ {S : Type 0} (g : Gate S) (lawful : IsLawful g.rules) where
         let all : IsSound g (image_after g o ((h ++ x ∷ []) ++ ps)) = sound-promotions_at (moment_of e) (h ++ x ∷ []) bx sx in
         let same : image_after g o (h ++ x ∷ []) ≡ image_after g o (h ++ y ∷ []) = image-append g o h (x ∷ []) backed ∙ sym (image-counting i e r (length ps)) ∙ sym (image-append g o h (y ∷ []) backed) in
         let moved : image_after g o ((h ++ x ∷ []) ++ ps) ≡ image_after g o ((h ++ y ∷ []) ++ ps)
-            = image-append g o (h ++ x ∷ []) ps bx ∙ ap (λ (j : Image S). image_after g j ps) same ∙ sym (image-append g o (h ++ y ∷ []) ps bz) in
+        = image-append g o (h ++ x ∷ []) ps bx ∙ ap (λ (j : Image S). image_after g j ps) same ∙ sym (image-append g o (h ++ y ∷ []) ps bz) in
         subst (λ (xs : List Entry). IsSound g (image_after g o xs)) (append_assoc h (y ∷ []) ps) (subst (IsSound g) moved all)
 
     sound-legal : (h : List Entry) → IsSound g o → IsLegal g o h → IsSound g (image_after g o h)

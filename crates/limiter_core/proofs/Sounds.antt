@@ -1,15 +1,15 @@
 -- A sound image stays sound with each entry that is an answer.
-use Rattle.std.proofs.Common.{◌≡◌, ℕ, zero, suc, ◌+◌, ◌-◌, ◌*◌, ◌<◌, ◌≤◌, ◌==◌, List, [], ◌∷◌, ◌++◌, Bool, true, false, not, ◌||◌, cond, length, min, Option, None, Some, sum_by, count_by, filter, refl, sym, ap, ◌∙◌, subst, arith, zero-le, le_trans, slice_get, ltb, max, ◌/◌, mul-le-mul_right, div-mul-le_self, ⊎_elim, ltb-true, eqb-true, length-append, get_or, nat_lt, ltb-false, eq-eqb}
+use Rattle.std.proofs.Common.{◌≡◌, ℕ, zero, suc, ◌+◌, ◌-◌, ◌*◌, ◌<◌, ◌≤◌, ◌==◌, List, [], ◌∷◌, ◌++◌, Bool, true, false, not, cond, length, min, Option, None, Some, sum_by, count_by, filter, refl, sym, ap, ◌∙◌, subst, arith, zero-le, le_trans, slice_get, ltb, ◌/◌, mul-le-mul_right, div-mul-le_self, ⊎_elim, ltb-true, eqb-true, length-append, get_or, nat_lt, ltb-false, eq-eqb}
 use Rattle.std.proofs.lemmas.List.Sums.{sum_by-append, sum_by-cons, length-filter, count_by-le-length}
 use Rattle.std.proofs.lemmas.List.Quantifiers.{all_pairs_push}
 use Rattle.std.proofs.lemmas.List.Kept.{AllPairs-filter}
 use Rattle.std.proofs.lemmas.Bool.{or_cases}
 use Rattle.std.proofs.lemmas.Nat.{le-div}
-use Rattle.limit_laws.specs.Algorithm.{IsWithin, IsLawful}
+use Rattle.limit_laws.specs.Algorithm.{IsWithin}
 use Rattle.partitions.specs.declared.part.Part.{Part}
 use Rattle.limiter_core.specs.declared.event.PermitFacts.{PermitFacts}
 use Rattle.lifo_backlog.specs.declared.waiter.Waiter.{Waiter}
-use Rattle.partitions.specs.Table.{Row, place_of, share, row_share, percent_share, known_places, places, bound}
+use Rattle.partitions.specs.Table.{Row, place_of, share, row_share, percent_share, places}
 use Rattle.partitions.proofs.Shares.{percent_share-divides}
 use Rattle.limiter_core.specs.History.{Gate, Image, limit, total}
 use Rattle.limiter_core.specs.Answer.{granted_at, has_room}
@@ -66,9 +66,20 @@ enters-bounded-share rows hi k f small below bounded =
 
 leaves-bounded : (rows : List Row) (hi k : ℕ) (f : ℕ → ℕ) → k < 5 → ((p : ℕ) → cond (k == p) 1 0 ≤ f p) → sum_by f places ≤ bound_at rows hi f → sum_by (λ p. f p - cond (k == p) 1 0) places ≤ bound_at rows hi (λ p. f p - cond (k == p) 1 0)
 leaves-bounded rows hi k f small fits bounded =
-    omega (arith, ones k small, bounded, fits 0, fits 1, fits 2, fits 3, fits 4,
-      min-down (f 0) (share rows 0 hi) (cond (k == 0) 1 0) (bit-small (k == 0)), min-down (f 1) (share rows 1 hi) (cond (k == 1) 1 0) (bit-small (k == 1)),
-      min-down (f 2) (share rows 2 hi) (cond (k == 2) 1 0) (bit-small (k == 2)), min-down (f 3) (share rows 3 hi) (cond (k == 3) 1 0) (bit-small (k == 3)))
+    omega (
+      arith,
+      ones k small,
+      bounded,
+      fits 0,
+      fits 1,
+      fits 2,
+      fits 3,
+      fits 4,
+      min-down (f 0) (share rows 0 hi) (cond (k == 0) 1 0) (bit-small (k == 0)),
+      min-down (f 1) (share rows 1 hi) (cond (k == 1) 1 0) (bit-small (k == 1)),
+      min-down (f 2) (share rows 2 hi) (cond (k == 2) 1 0) (bit-small (k == 2)),
+      min-down (f 3) (share rows 3 hi) (cond (k == 3) 1 0) (bit-small (k == 3)),
+    )
 
 -- a share grows with the limit
 percent-mono : (percent a b : ℕ) → a ≤ b → percent_share percent a ≤ percent_share percent b
@@ -91,7 +102,7 @@ module _ {S : Type 0} (g : Gate S) (i : Image S) where
   enters-bounded k small s room = ⊎_elim
       (λ e. enters-bounded-total g.rows (g.rules.hi i.state) k i.inflight small (omega (arith, ltb-true (total i) (limit g i) e, s.within.most)))
       (λ e. enters-bounded-share g.rows (g.rules.hi i.state) k i.inflight small
-          (omega (arith, ltb-true (i.inflight k) (share g.rows k (limit g i)) e, share-mono g.rows k (limit g i) (g.rules.hi i.state) s.within.most)) s.bounded)
+      (omega (arith, ltb-true (i.inflight k) (share g.rows k (limit g i)) e, share-mono g.rows k (limit g i) (g.rules.hi i.state) s.within.most)) s.bounded)
       (or_cases (ltb (total i) (limit g i)) (ltb (i.inflight k) (share g.rows k (limit g i))) room)
 
   pub sound_admitted : (k : ℕ) → k < 5 → IsSound g i → has_room g i k ≡ true → IsSound g (record i { inflight = λ p. i.inflight p + cond (k == p) 1 0; next = i.next + 1 })
@@ -100,7 +111,8 @@ module _ {S : Type 0} (g : Gate S) (i : Image S) where
     within = s.within;
     bounded = enters-bounded k small s room;
     backed = λ p. omega (arith, s.backed p);
-    few = s.few; rising = s.rising;
+    few = s.few;
+    rising = s.rising;
     distinct = s.distinct;
     below = λ n h. s.below n (omega (arith, h));
   }
@@ -132,6 +144,7 @@ module _ {S : Type 0} (g : Gate S) (i : Image S) where
       own : (n : ℕ) (b : Bool) → (i.next == n) ≡ b → count_by (λ w. w.number == n) (i.waiters ++ record { number = i.next; part = part } ∷ []) ≡ count_by (λ w. w.number == n) i.waiters + (0 + cond b 1 0) → named i n ≤ 1 → (i.next ≤ n → named i n ≡ 0) → count_by (λ w. w.number == n) (i.waiters ++ record { number = i.next; part = part } ∷ []) + count_by (λ permit. permit.number == n) i.granted ≤ 1
       own n true e c d z = omega (arith, c, z (omega (arith, eqb-true i.next n e)))
       own n false e c d z = omega (arith, c, d)
+
       later : (n : ℕ) (b : Bool) → (i.next == n) ≡ b → i.next + 1 ≤ n → count_by (λ w. w.number == n) (i.waiters ++ record { number = i.next; part = part } ∷ []) ≡ count_by (λ w. w.number == n) i.waiters + (0 + cond b 1 0) → named i n ≡ 0 → count_by (λ w. w.number == n) (i.waiters ++ record { number = i.next; part = part } ∷ []) + count_by (λ permit. permit.number == n) i.granted ≡ 0
       later n true e h c z = absurd (omega (arith, h, eqb-true i.next n e))
       later n false e h c z = omega (arith, c, z)
@@ -140,9 +153,9 @@ module _ {S : Type 0} (g : Gate S) (i : Image S) where
     count-filter-le : {X : Type 0} (t q : X → Bool) (xs : List X) → count_by t (filter q xs) ≤ count_by t xs
     count-filter-le t q [] = zero-le
     count-filter-le t q (x ∷ xs) = elim (q x) as (λ b. count_by t (cond b (x ∷ filter q xs) (filter q xs)) ≤ count_by t (x ∷ xs)) [
-        true ↦ omega (arith, count-filter-le t q xs, sum_by-cons (λ y. cond (t y) 1 0) x xs, sum_by-cons (λ y. cond (t y) 1 0) x (filter q xs))
+      | true ↦ omega (arith, count-filter-le t q xs, sum_by-cons (λ y. cond (t y) 1 0) x xs, sum_by-cons (λ y. cond (t y) 1 0) x (filter q xs))
       | false ↦ omega (arith, count-filter-le t q xs, sum_by-cons (λ y. cond (t y) 1 0) x xs)
-      ]
+    ]
 
     gone-at : {X : Type 0} (t : X → Bool) (x : X) (xs : List X) (b : Bool) → t x ≡ b → count_by t (filter (λ y. not (t y)) xs) ≡ 0 → count_by t (cond (not b) (x ∷ filter (λ y. not (t y)) xs) (filter (λ y. not (t y)) xs)) ≡ 0
     gone-at t x xs true e rest = rest
@@ -163,7 +176,8 @@ module _ {S : Type 0} (g : Gate S) (i : Image S) where
           within = s.within;
           bounded = s.bounded;
           backed = λ p. le_trans (fewer (λ permit. place_of g.rows permit.part == p)) (s.backed p);
-          few = s.few; rising = s.rising;
+          few = s.few;
+          rising = s.rising;
           distinct = λ n. omega (arith, fewer (λ permit. permit.number == n), s.distinct n);
           below = λ n h. omega (arith, fewer (λ permit. permit.number == n), s.below n (omega (arith, h)));
         }
@@ -188,7 +202,8 @@ module _ {S : Type 0} (g : Gate S) (i : Image S) where
       within = within;
       bounded = subst (λ (m : ℕ). total i ≤ bound_at g.rows m i.inflight) (sym hi) s.bounded;
       backed = s.backed;
-      few = s.few; rising = s.rising;
+      few = s.few;
+      rising = s.rising;
       distinct = s.distinct;
       below = λ n h. s.below n (omega (arith, h));
     }
@@ -208,7 +223,8 @@ module _ {S : Type 0} (g : Gate S) (i : Image S) where
       bounded = subst (λ (m : ℕ). sum_by (λ p. i.inflight p - cond (k == p) 1 0) places ≤ bound_at g.rows m (λ p. i.inflight p - cond (k == p) 1 0)) (sym hi)
           (leaves-bounded g.rows (g.rules.hi i.state) k i.inflight small (λ p. fits-at k p (k == p) refl more) s.bounded);
       backed = λ p. backed-leave k p (k == p) refl more (s.backed p);
-      few = s.few; rising = s.rising;
+      few = s.few;
+      rising = s.rising;
       distinct = s.distinct;
       below = λ n h. s.below n (omega (arith, h));
     }
@@ -243,6 +259,7 @@ module _ {S : Type 0} (g : Gate S) (i : Image S) where
             let here : 0 < count_by (λ w. w.number == n) i.waiters = subst (λ (x : ℕ). 0 < count_by (λ w. w.number == x) i.waiters) q waits in
             omega (arith, c, gone, here, s.distinct n)
         at n false e f c = omega (arith, c, f, s.distinct n)
+
         later : (n : ℕ) (b : Bool) → (waiter == n) ≡ b → count_by (λ w. w.number == n) (filter (λ w. not (w.number == waiter)) i.waiters) ≤ count_by (λ w. w.number == n) i.waiters
             → count_by (λ permit. permit.number == n) (i.granted ++ record { number = waiter; part = part; start = start; inflight = m } ∷ []) ≡ count_by (λ permit. permit.number == n) i.granted + (0 + cond b 1 0)
             → named i n ≡ 0

@@ -1,19 +1,16 @@
 -- The image after one entry, of each kind.
-use Rattle.std.proofs.Common.{◌≡◌, ℕ, zero, suc, ◌+◌, ◌-◌, ◌≤◌, ◌==◌, List, [], ◌∷◌, ◌++◌, Bool, true, false, not, ◌||◌, cond, length, Option, None, Some, fold, filter, Result, Ok, Err, refl, sym, ap, ◌∙◌, arith, append-nil}
+use Rattle.std.proofs.Common.{◌≡◌, ℕ, ◌+◌, ◌-◌, ◌==◌, List, [], ◌∷◌, ◌++◌, Bool, true, false, not, ◌||◌, cond, fold, filter, refl, ◌∙◌, arith, append-nil}
 use Rattle.std.proofs.lemmas.List.Elements.{filter_agree}
 use Rattle.partitions.specs.declared.part.Part.{Part}
-use Rattle.limiter_core.specs.declared.event.Event.{Event}
 use Rattle.limiter_core.specs.declared.event.Event.TheVariants.{Acquire, End, Claim, GiveUp, SetLimit, Reset, Look}
 use Rattle.limiter_core.specs.declared.event.Reply.{Reply}
-use Rattle.limiter_core.specs.declared.event.Reply.TheVariants.{Admitted, Bypassed, Full, BacklogFull, Waiting, Ended, Granted, StillWaiting, TimedOut, Lost, LimitSet, Refused, ResetDone, Seen}
-use Rattle.limiter_core.specs.declared.event.Entry.{Entry}
+use Rattle.limiter_core.specs.declared.event.Reply.TheVariants.{Admitted, Bypassed, Full, BacklogFull, Waiting, Granted, StillWaiting, TimedOut, Lost}
 use Rattle.limiter_core.specs.declared.event.Entry.TheVariants.{Call, Promotion}
 use Rattle.limiter_core.specs.declared.event.Outcome.{Outcome}
-use Rattle.limiter_core.specs.declared.event.Outcome.TheVariants.{Success, Ignored, Dropped}
 use Rattle.limiter_core.specs.declared.event.PermitFacts.{PermitFacts}
 use Rattle.lifo_backlog.specs.declared.waiter.Waiter.{Waiter}
 use Rattle.partitions.specs.Table.{place_of}
-use Rattle.limiter_core.specs.History.{Gate, Image, image_after, state_after_entry, ending_samples, accepted_or}
+use Rattle.limiter_core.specs.History.{Gate, Image, image_after, ending_samples, accepted_or}
 use Rattle.limiter_core.proofs.Images.{filter-all}
 
 or-false : (b : Bool) → not (b || false) ≡ not b

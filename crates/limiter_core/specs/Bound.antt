@@ -4,7 +4,7 @@ use Rattle.limit_laws.specs.Algorithm.{IsWithin}
 use Rattle.partitions.specs.Table.{Row, share, known_places, bound}
 use Rattle.lifo_backlog.specs.Waiters.{IsRising}
 use Rattle.limiter_core.specs.declared.event.Event.{Event}
-use Rattle.limiter_core.specs.declared.event.Event.TheVariants.{Acquire, End, Claim, GiveUp, SetLimit, Reset, Look}
+use Rattle.limiter_core.specs.declared.event.Event.TheVariants.{End, GiveUp}
 use Rattle.limiter_core.specs.declared.event.Entry.{Entry}
 use Rattle.limiter_core.specs.History.{Gate, Image, image_after, total}
 use Rattle.limiter_core.specs.Answer.{answer, granted_at, granted_of, waits}

@@ -10,7 +10,7 @@ use Rattle.limiter_core.specs.declared.event.Outcome.{Outcome}
 use Rattle.limiter_core.specs.declared.event.Outcome.TheVariants.{Success, Ignored, Dropped}
 use Rattle.limiter_core.specs.declared.event.PermitFacts.{PermitFacts}
 use Rattle.limiter_core.specs.declared.event.Event.{Event}
-use Rattle.limiter_core.specs.declared.event.Event.TheVariants.{Acquire, End, Claim, GiveUp, SetLimit, Reset, Look}
+use Rattle.limiter_core.specs.declared.event.Event.TheVariants.{Acquire, End, Claim, GiveUp, SetLimit, Reset}
 use Rattle.limiter_core.specs.declared.event.Reply.{Reply}
 use Rattle.limiter_core.specs.declared.event.Reply.TheVariants.{Admitted, Waiting, Granted, TimedOut}
 use Rattle.limiter_core.specs.declared.event.Entry.{Entry}

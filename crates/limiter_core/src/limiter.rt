@@ -51,7 +51,12 @@ impl<L: Limit> Core<L> {
     ///
     /// [`CoreFault::Room`] where `room` is above 10,000, else [`CoreFault::Memory`] where memory is
     /// wanting: all that a core ever needs is taken here.
-    pub fn new(alloc: Global, limit: L, table: PartitionTable, room: u32) -> Result<Core<L>, CoreFault>
+    pub fn new(
+        alloc: Global,
+        limit: L,
+        table: PartitionTable,
+        room: u32,
+    ) -> Result<Core<L>, CoreFault>
         ensures made { IfOk result (λ core. core ≡ record { rows = table; room = room; state = limit; counts = 0 ∷ 0 ∷ 0 ∷ 0 ∷ 0 ∷ []; waiters = []; granted = []; next = 0; promoted = []; counters = no_counts }) }
         ensures room { IsErrOf result CoreFault.Room ↔ (10000 < room) }
     {

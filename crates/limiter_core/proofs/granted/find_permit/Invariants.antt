@@ -1,4 +1,4 @@
-use Rattle.std.proofs.Common.{◌≡◌, ◌==◌, find, take, drop}
+use Rattle.std.proofs.Common.{◌≡◌, ◌==◌, find, drop}
 use Rattle.limiter_core.proofs.granted.find_permit.Given as goal
 
 abbrev pub invariant-loop-permit : goal.invariant-loop-permit

@@ -1,4 +1,4 @@
-use Rattle.std.proofs.Common.{ℕ, List, ◌≡◌, None, Some, position, arith, ◌∙◌, sym, ap, count_by, cond, ◌==◌}
+use Rattle.std.proofs.Common.{ℕ, List, ◌≡◌, None, Some, position, ◌∙◌, sym, ap, count_by, ◌==◌}
 use Rattle.limiter_core.proofs.Counts.{not_none, dropped_count}
 use Rattle.limiter_core.proofs.permits.drop_one.Goals as goal
 

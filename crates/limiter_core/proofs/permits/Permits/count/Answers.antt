@@ -1,5 +1,5 @@
-use Rattle.std.proofs.Common.{ℕ, List, ◌≡◌, ◌+◌, ◌-◌, ◌<◌, ◌==◌, ◌++◌, ◌∷◌, [], get_or, count_by, cond, length, sum, arith, sym, ap, ◌∙◌, subst, rules}
-use Rattle.limiter_core.specs.Held.{Counted, counts_of}
+use Rattle.std.proofs.Common.{ℕ, List, ◌≡◌, ◌==◌, get_or, count_by, sym, ap, ◌∙◌, subst}
+use Rattle.limiter_core.specs.Held.{Counted}
 use Rattle.limiter_core.proofs.Counts.{counts_get}
 use Rattle.limiter_core.proofs.permits.Permits.count.Goals as goal
 

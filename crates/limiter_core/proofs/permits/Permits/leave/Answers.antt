@@ -1,4 +1,4 @@
-use Rattle.std.proofs.Common.{ℕ, List, ◌≡◌, ◌+◌, ◌-◌, ◌<◌, ◌==◌, ◌++◌, ◌∷◌, [], get_or, count_by, cond, length, sum, arith, sym, ap, ◌∙◌, subst, rules}
+use Rattle.std.proofs.Common.{◌≡◌, ◌+◌, ◌-◌, ◌<◌, ◌==◌, get_or, cond, sum, arith, sym, subst}
 use Rattle.limiter_core.specs.Held.{Counted, counts_of}
 use Rattle.limiter_core.proofs.Counts.{counts_drop, sum_drop}
 use Rattle.limiter_core.proofs.permits.Permits.leave.Goals as goal
@@ -12,4 +12,4 @@ invariant_of-self c =
 pub returns-clause-counts : goal.returns-clause-counts
 returns-clause-counts c = λ p.
     subst (λ (v : Counted). get_or (counts_of c.drop_one.new.places.items) p 0 ≡ get_or v.counts p 0 - cond (c.args.place == p) 1 0) c.self.view_is
-      (counts_drop c.self.inside.places.items c.drop_one.new.places.items c.args.place c.drop_one.ensures.counts p)
+    (counts_drop c.self.inside.places.items c.drop_one.new.places.items c.args.place c.drop_one.ensures.counts p)

@@ -1,7 +1,6 @@
-use Rattle.std.proofs.Common.{ℕ, ◌≡◌, ◌<◌, ◌∙◌, true, refl, sym, ap, subst}
+use Rattle.std.proofs.Common.{ℕ, ◌<◌, ◌∙◌, refl, sym, ap, subst}
 use Rattle.partitions.specs.Table.{place_of}
 use Rattle.lifo_backlog.specs.Waiters.{Waiters}
-use Rattle.limiter_core.specs.Answer.{has_room}
 use Rattle.limiter_core.specs.Held.{Kept}
 use Rattle.limiter_core.specs.Standing.{gate_in, stands_in}
 use Rattle.limiter_core.proofs.Images.{image_nil}
@@ -26,11 +25,11 @@ push-requires g c =
 pub returns-clause-stands : goal.returns-clause-stands
 returns-clause-stands g c =
     stands_promoted g.L.Limit.rules c.args.self.now c.in-Some.waiter c.args.start _ c.place.result c.enter.new.self c.take.new.self c.push.new.self c.place.ensures.place c.enter.ensures.counts
-      (ap (λ (s : Waiters). s.waiting) c.take.ensures.others) (ap (λ (k : Kept). k.permits) c.push.ensures)
+    (ap (λ (s : Waiters). s.waiting) c.take.ensures.others) (ap (λ (k : Kept). k.permits) c.push.ensures)
 
 pub returns-clause-held : goal.returns-clause-held
 returns-clause-held g c =
     held_promoted g.L.Limit.rules g.met.L.Limit.lawful c.args.self.now c.requires _ c.in-Some.waiter c.args.start c.total-inflight.result (sym c.newest.ensures.last ∙ c.in-Some.is) (sym c.has_room.ensures ∙ c.if-not-has_room.false) c.total-inflight.ensures.value
-      (stands_promoted g.L.Limit.rules c.args.self.now c.in-Some.waiter c.args.start _ c.place.result c.enter.new.self c.take.new.self c.push.new.self c.place.ensures.place c.enter.ensures.counts
-        (ap (λ (s : Waiters). s.waiting) c.take.ensures.others) (ap (λ (k : Kept). k.permits) c.push.ensures))
-      (record { table = refl; waiters = ap (λ (s : Waiters). s.room) c.take.ensures.others; permits = c.enter.ensures.room; granted = ap (λ (k : Kept). k.room) c.push.ensures })
+    (stands_promoted g.L.Limit.rules c.args.self.now c.in-Some.waiter c.args.start _ c.place.result c.enter.new.self c.take.new.self c.push.new.self c.place.ensures.place c.enter.ensures.counts
+    (ap (λ (s : Waiters). s.waiting) c.take.ensures.others) (ap (λ (k : Kept). k.permits) c.push.ensures))
+    (record { table = refl; waiters = ap (λ (s : Waiters). s.room) c.take.ensures.others; permits = c.enter.ensures.room; granted = ap (λ (k : Kept). k.room) c.push.ensures })
