@@ -14,7 +14,7 @@ const MOST_ROOM: u32 = 10_000;
 #[derive(Debug, Drop)]
 pub struct Backlog {
     waiters: Vec<Waiter>,
-    room: u32,
+    room: usize,
 }
 
 impl Model for Backlog {
@@ -39,7 +39,8 @@ impl Backlog {
         if room > MOST_ROOM {
             return Err(BacklogFault::Room);
         }
-        let waiters = Vec::with_capacity(alloc, room as usize)?;
+        let room = room as usize;
+        let waiters = Vec::with_capacity(alloc, room)?;
         Ok(Backlog { waiters, room })
     }
 
@@ -51,7 +52,7 @@ impl Backlog {
         ensures full { IsErr result ↔ (length self.old.waiting ≡ self.old.room) }
         ensures unchanged { OnErr result (self.new ≡ self.old) }
     {
-        if self.waiters.len() == self.room as usize {
+        if self.len() == self.room {
             return Err(Full);
         }
         self.waiters.push_reserved(waiter);
@@ -116,6 +117,6 @@ impl Backlog {
         ensures room { result ≡ self.now.room }
         ensures at_most { result ≤ 10000 }
     {
-        self.room
+        self.room as u32
     }
 }
