@@ -12,11 +12,6 @@ pub mod Unknown
 pub mod Document
 pub mod Strangers
 pub mod Rules
-pub mod Wrapped
-pub mod Kinds
-pub mod KindsLaws
-pub mod AnyKinds
-pub mod AnyKindsLaws
 pub mod Made
 pub mod Settings
 pub mod FaultText

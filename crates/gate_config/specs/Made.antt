@@ -1,10 +1,10 @@
 -- The limit that keys make.
 use Rattle.std.specs.Prelude.{◌*◌, [], Option, Some, None, bytes_eq, codes, if◌then◌else◌}
 use Rattle.sample_window.specs.Totals.{totals}
-use Rattle.gate_config.specs.declared.kinds.AnyLimit.{AnyLimit}
-use Rattle.gate_config.specs.declared.kinds.AnyLimit.TheVariants as Any
-use Rattle.gate_config.specs.declared.kinds.BaseLimit.{BaseLimit}
-use Rattle.gate_config.specs.declared.kinds.BaseLimit.TheVariants as Base
+use Rattle.limit_kinds.specs.declared.kinds.AnyLimit.{AnyLimit}
+use Rattle.limit_kinds.specs.declared.kinds.AnyLimit.TheVariants as Any
+use Rattle.limit_kinds.specs.declared.kinds.BaseLimit.{BaseLimit}
+use Rattle.limit_kinds.specs.declared.kinds.BaseLimit.TheVariants as Base
 use Rattle.gate_config.specs.declared.limit.LimitKeys.{LimitKeys}
 use Rattle.gate_config.specs.declared.limit.LimitKeys.TheVariants as Keys
 use Rattle.gate_config.specs.declared.limit.Moving.{Moving}

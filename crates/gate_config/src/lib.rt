@@ -13,7 +13,6 @@ mod document;
 mod entry;
 mod fault;
 mod key;
-mod kinds;
 mod limit;
 mod make;
 mod number;
@@ -30,7 +29,7 @@ mod window;
 pub use address::Address;
 pub use fault::ConfigFault;
 pub use key::{Key, Section};
-pub use kinds::{AnyLimit, BaseLimit};
+pub use limit_kinds::{AnyLimit, BaseLimit};
 pub use reading::read;
 pub use settings::Settings;
 

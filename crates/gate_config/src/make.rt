@@ -4,10 +4,10 @@ ghost use Rattle.gate_config.specs.Limit.{AreInRange};
 ghost use Rattle.gate_config.specs.Sections.{IsWindow};
 ghost use Rattle.gate_config.specs.Made.{any_of, base_of, windowed_of};
 
-use crate::kinds::{AnyLimit, BaseLimit};
 use crate::limit::LimitKeys;
 use crate::window::WindowKeys;
 use aimd::Aimd;
+use limit_kinds::{AnyLimit, BaseLimit};
 use limit_laws::{Fixed, Settable};
 use vegas::Vegas;
 use windowed::Windowed;

@@ -1,6 +1,6 @@
 use crate::address::Address;
-use crate::kinds::AnyLimit;
 use classifier::Rules;
+use limit_kinds::AnyLimit;
 use partitions::PartitionTable;
 
 /// Everything that a gateway is told by its configuration.

@@ -3,12 +3,12 @@ use Rattle.std.proofs.Common.{ℕ, IfOk, refl}
 use Rattle.limit_laws.specs.Facts.{SampleFacts, IsSample}
 use Rattle.limit_laws.specs.Algorithm.{IsLawful, IsWithin, Follows}
 use Rattle.windowed.specs.WindowedLaws.{IsLawful-windowed}
-use Rattle.load_driver.specs.declared.kinds.AnyLimit.{AnyLimit}
-use Rattle.load_driver.specs.declared.kinds.AnyLimit.TheVariants.{Plain, Windowed}
-use Rattle.load_driver.specs.Kinds.{base_rules}
-use Rattle.load_driver.specs.KindsLaws.{IsLawful-base}
-use Rattle.load_driver.specs.AnyKinds.{window_rules, any_rules}
-use Rattle.load_driver.specs.Wrapped.{PassesOn, wrapped_sample, wrapped_setting, wrapped_reset}
+use Rattle.limit_kinds.specs.declared.kinds.AnyLimit.{AnyLimit}
+use Rattle.limit_kinds.specs.declared.kinds.AnyLimit.TheVariants.{Plain, Windowed}
+use Rattle.limit_kinds.specs.Kinds.{base_rules}
+use Rattle.limit_kinds.specs.KindsLaws.{IsLawful-base}
+use Rattle.limit_kinds.specs.AnyKinds.{window_rules, any_rules}
+use Rattle.limit_kinds.specs.Wrapped.{PassesOn, wrapped_sample, wrapped_setting, wrapped_reset}
 
 IsLawful-windows : IsLawful window_rules
 IsLawful-windows = IsLawful-windowed base_rules IsLawful-base

@@ -7,8 +7,8 @@ use Rattle.limit_laws.specs.FixedRules.{fixed_rules}
 use Rattle.limit_laws.specs.SettableRules.{settable_rules}
 use Rattle.aimd.specs.AimdRules.{aimd_rules}
 use Rattle.vegas.specs.VegasRules.{vegas_rules}
-use Rattle.load_driver.specs.declared.kinds.BaseLimit.{BaseLimit}
-use Rattle.load_driver.specs.declared.kinds.BaseLimit.TheVariants.{Fixed, Settable, Aimd, Vegas}
+use Rattle.limit_kinds.specs.declared.kinds.BaseLimit.{BaseLimit}
+use Rattle.limit_kinds.specs.declared.kinds.BaseLimit.TheVariants.{Fixed, Settable, Aimd, Vegas}
 
 -- a setting that is taken, in a state of another type
 abbrev pub set_in : {S T : Type 0} → (S → T) → Result S SetFault → Result T SetFault

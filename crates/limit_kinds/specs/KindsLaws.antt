@@ -10,10 +10,10 @@ use Rattle.aimd.specs.AimdRules.{aimd_rules}
 use Rattle.aimd.specs.AimdLaws.{IsLawful-aimd}
 use Rattle.vegas.specs.VegasRules.{vegas_rules}
 use Rattle.vegas.specs.VegasLaws.{IsLawful-vegas}
-use Rattle.load_driver.specs.declared.kinds.BaseLimit.{BaseLimit}
-use Rattle.load_driver.specs.declared.kinds.BaseLimit.TheVariants.{Fixed, Settable, Aimd, Vegas}
-use Rattle.load_driver.specs.Kinds.{base_rules}
-use Rattle.load_driver.specs.Wrapped.{PassesOn, wrapped_sample, wrapped_setting, wrapped_reset}
+use Rattle.limit_kinds.specs.declared.kinds.BaseLimit.{BaseLimit}
+use Rattle.limit_kinds.specs.declared.kinds.BaseLimit.TheVariants.{Fixed, Settable, Aimd, Vegas}
+use Rattle.limit_kinds.specs.Kinds.{base_rules}
+use Rattle.limit_kinds.specs.Wrapped.{PassesOn, wrapped_sample, wrapped_setting, wrapped_reset}
 
 -- each kind is passed on to as it stands
 fixed_in : PassesOn fixed_rules base_rules Fixed

@@ -4,10 +4,10 @@ use Rattle.limit_laws.specs.declared.limit.SetFault.{SetFault}
 use Rattle.limit_laws.specs.Facts.{SampleFacts}
 use Rattle.limit_laws.specs.Algorithm.{Algorithm}
 use Rattle.windowed.specs.WindowedRules.{WindowedState, windowed_rules}
-use Rattle.load_driver.specs.declared.kinds.BaseLimit.{BaseLimit}
-use Rattle.load_driver.specs.declared.kinds.AnyLimit.{AnyLimit}
-use Rattle.load_driver.specs.declared.kinds.AnyLimit.TheVariants.{Plain, Windowed}
-use Rattle.load_driver.specs.Kinds.{base_rules, set_in}
+use Rattle.limit_kinds.specs.declared.kinds.BaseLimit.{BaseLimit}
+use Rattle.limit_kinds.specs.declared.kinds.AnyLimit.{AnyLimit}
+use Rattle.limit_kinds.specs.declared.kinds.AnyLimit.TheVariants.{Plain, Windowed}
+use Rattle.limit_kinds.specs.Kinds.{base_rules, set_in}
 
 -- the rule over windows
 abbrev pub window_rules : Algorithm (WindowedState BaseLimit)

@@ -3,7 +3,7 @@ use Rattle.std.proofs.Common.{◌≡◌, ℕ, Result, Ok, Err, IfOk, ap, ◌∙�
 use Rattle.limit_laws.specs.declared.limit.SetFault.{SetFault}
 use Rattle.limit_laws.specs.Facts.{SampleFacts, IsSample}
 use Rattle.limit_laws.specs.Algorithm.{Algorithm, IsLawful, IsWithin, Follows}
-use Rattle.load_driver.specs.Kinds.{set_in}
+use Rattle.limit_kinds.specs.Kinds.{set_in}
 
 -- an algorithm that passes each call on to what it wraps
 pub record PassesOn {S T : Type 0} (inner : Algorithm S) (outer : Algorithm T) (wrap : S → T) : Type 0 where

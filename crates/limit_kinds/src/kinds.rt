@@ -1,4 +1,7 @@
 // The kinds of limit, as one.
+ghost use Rattle.std.specs.Prelude.{◌≡◌};
+ghost use Rattle.limit_kinds.specs.KindNames.{base_name, kind_name};
+
 use aimd::Aimd;
 use limit_laws::{Fixed, Limit, Sample, SetFault, Settable};
 use vegas::Vegas;
@@ -6,16 +9,30 @@ use windowed::Windowed;
 
 /// A limit of one of the kinds.
 #[derive(Clone, Copy, Debug, PartialEq, Eq)]
-pub(crate) enum BaseLimit {
+pub enum BaseLimit {
     Fixed(Fixed),
     Settable(Settable),
     Aimd(Aimd),
     Vegas(Vegas),
 }
 
+impl BaseLimit {
+    /// What the kind is called: `fixed`, `settable`, `aimd` or `vegas`.
+    pub fn kind(&self) -> &'static str
+        ensures { result.now ≡ base_name self.now }
+    {
+        match self {
+            BaseLimit::Fixed(_) => "fixed",
+            BaseLimit::Settable(_) => "settable",
+            BaseLimit::Aimd(_) => "aimd",
+            BaseLimit::Vegas(_) => "vegas",
+        }
+    }
+}
+
 impl Limit for BaseLimit {
-    ghost use Rattle.load_driver.specs.Kinds.{base_rules};
-    ghost use Rattle.load_driver.specs.KindsLaws.{IsLawful-base};
+    ghost use Rattle.limit_kinds.specs.Kinds.{base_rules};
+    ghost use Rattle.limit_kinds.specs.KindsLaws.{IsLawful-base};
 
     ghost rules = { base_rules };
 
@@ -82,14 +99,26 @@ impl Limit for BaseLimit {
 
 /// A limit that learns from each sample, or from windows of samples.
 #[derive(Drop)]
-pub(crate) enum AnyLimit {
+pub enum AnyLimit {
     Plain(BaseLimit),
     Windowed(Windowed<BaseLimit>),
 }
 
+impl AnyLimit {
+    /// What the kind is called; over windows, that of the limit inside.
+    pub fn kind(&self) -> &'static str
+        ensures { result.now ≡ kind_name self.now }
+    {
+        match self {
+            AnyLimit::Plain(limit) => limit.kind(),
+            AnyLimit::Windowed(limit) => limit.inner().kind(),
+        }
+    }
+}
+
 impl Limit for AnyLimit {
-    ghost use Rattle.load_driver.specs.AnyKinds.{any_rules};
-    ghost use Rattle.load_driver.specs.AnyKindsLaws.{IsLawful-any};
+    ghost use Rattle.limit_kinds.specs.AnyKinds.{any_rules};
+    ghost use Rattle.limit_kinds.specs.AnyKindsLaws.{IsLawful-any};
 
     ghost rules = { any_rules };
 
