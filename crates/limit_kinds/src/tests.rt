@@ -60,7 +60,8 @@ fn rows() -> Result<[Row; 4], MakeFault> {
 
 #[test]
 fn each_kind_passes_its_calls_on(rt: HostRuntime) -> Result<(), Fail> {
-    for row in rows()? {
+    let rows = rows()?;
+    for row in &rows {
         let mut limit = row.limit;
         assert_eq!(rt; limit.kind(), row.name);
         assert!(rt; (limit.lo(), limit.hi()) == row.ends);
@@ -80,7 +81,8 @@ fn each_kind_passes_its_calls_on(rt: HostRuntime) -> Result<(), Fail> {
 
 #[test]
 fn each_kind_passes_its_calls_on_from_windows(rt: HostRuntime) -> Result<(), Fail> {
-    for row in rows()? {
+    let rows = rows()?;
+    for row in &rows {
         let plain = AnyLimit::Plain(row.limit);
         let windowed = Windowed::new(row.limit, 1, 1, 1, 0).map_err(|refusal| refusal.0)?;
         for mut limit in [plain, AnyLimit::Windowed(windowed)] {
