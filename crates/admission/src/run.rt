@@ -11,12 +11,12 @@ use std::alloc::Global;
 use std::io::{Read, Write};
 
 /// The status of a command that was carried out.
-const DONE: u8 = 0;
+pub const DONE: u8 = 0;
 
 /// The status after a fault.
-const FAULT: u8 = 1;
+pub const FAULT: u8 = 1;
 
-/// Carries a command out, writes the line of its fault to `errors`, and answers the exit status.
+/// Carries out a command that answers a script, writes the line of its fault to `errors`, and answers the exit status.
 ///
 /// The line comes after all output; where it can't be written itself, it is dropped.
 pub fn run_text<R: Read, W: Write, E: Write>(
@@ -26,6 +26,7 @@ pub fn run_text<R: Read, W: Write, E: Write>(
     writer: &mut Counted<W>,
     errors: &mut Counted<E>,
 ) -> u8
+    requires script { run.task ≡ Task.Replay }
     requires least { 1 ≤ run.limit }
     requires most { run.limit ≤ 10000 }
     ensures status { (result ≡ DONE) ⊎ (result ≡ FAULT) }
@@ -35,6 +36,7 @@ pub fn run_text<R: Read, W: Write, E: Write>(
 {
     let outcome = match run.task {
         Task::Replay => replay(alloc, reader, writer, run.limit),
+        Task::Check(_) => unreachable!(),
     };
     match outcome {
         Ok(()) => DONE,

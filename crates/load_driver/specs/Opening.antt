@@ -1,10 +1,10 @@
 -- The text of a whole script: its settings first, and then its other lines.
 use Rattle.std.specs.Prelude.{ℕ, ◌+◌, ◌==◌, Bool, true, List, [], ◌∷◌, slice_index, Option, None, Some, Ok, Err, if◌then◌else◌}
 use Rattle.std.specs.Str.Lines.{lines}
-use Rattle.load_driver.specs.declared.kinds.AnyLimit.{AnyLimit}
+use Rattle.limit_kinds.specs.declared.kinds.AnyLimit.{AnyLimit}
 use Rattle.load_driver.specs.declared.script.Why.{Why}
 use Rattle.load_driver.specs.declared.answers.LineFault.{LineFault}
-use Rattle.load_driver.specs.AnyKinds.{any_rules}
+use Rattle.limit_kinds.specs.AnyKinds.{any_rules}
 use Rattle.load_driver.specs.Words.{words}
 use Rattle.load_driver.specs.Settings.{SettingFacts, Setting, no_settings, setting_of, limit_of, room_of}
 use Rattle.load_driver.specs.Journal.{Journal}

@@ -4,10 +4,10 @@ use Rattle.limit_laws.specs.Facts.{hour}
 use Rattle.partitions.specs.Table.{Row}
 use Rattle.partitions.specs.Faults.{fault_of}
 use Rattle.windowed.specs.WindowedRules.{WindowSettings}
-use Rattle.load_driver.specs.declared.kinds.BaseLimit.{BaseLimit}
-use Rattle.load_driver.specs.declared.kinds.BaseLimit.TheVariants.{Fixed, Settable, Aimd, Vegas}
-use Rattle.load_driver.specs.declared.kinds.AnyLimit.{AnyLimit}
-use Rattle.load_driver.specs.declared.kinds.AnyLimit.TheVariants.{Plain, Windowed}
+use Rattle.limit_kinds.specs.declared.kinds.BaseLimit.{BaseLimit}
+use Rattle.limit_kinds.specs.declared.kinds.BaseLimit.TheVariants.{Fixed, Settable, Aimd, Vegas}
+use Rattle.limit_kinds.specs.declared.kinds.AnyLimit.{AnyLimit}
+use Rattle.limit_kinds.specs.declared.kinds.AnyLimit.TheVariants.{Plain, Windowed}
 use Rattle.load_driver.specs.declared.formats.LimitLine.{LimitLine}
 use Rattle.load_driver.specs.declared.formats.LimitLine.TheVariants as line
 use Rattle.load_driver.specs.declared.formats.WindowLine.{WindowLine}

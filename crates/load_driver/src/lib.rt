@@ -10,7 +10,6 @@ mod driver;
 mod faults;
 mod formats;
 mod journal;
-mod kinds;
 mod lines;
 mod makers;
 mod numbers;

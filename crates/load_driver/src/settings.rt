@@ -7,10 +7,10 @@ ghost use Rattle.load_driver.specs.Stored.{window_of};
 ghost use Rattle.load_driver.specs.Settings.{windowed_if};
 
 use super::formats::{read_class, read_limit, read_lone_number, read_window};
-use super::kinds::{AnyLimit, BaseLimit};
 use super::makers::{Windows, make_limit, make_windows};
 use super::script::Why;
 use super::words::next_word;
+use limit_kinds::{AnyLimit, BaseLimit};
 use limit_laws::Fixed;
 use partitions::{PartitionTable, TableFault};
 use std::alloc::{AllocError, Global};
