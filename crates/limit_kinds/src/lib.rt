@@ -8,5 +8,7 @@
 mod kinds;
 #[cfg(test)]
 mod tests;
+#[cfg(test)]
+mod window_tests;
 
 pub use kinds::{AnyLimit, BaseLimit};
