@@ -113,7 +113,23 @@ fn note(permits: &mut HashMap<u64, PermitFacts>, number: u64, event: Event, repl
             keep(permits, permit);
         }
         (
-            Event::Claim { number } | Event::GiveUp { number },
+            Event::Claim { number },
+            Reply::Granted {
+                part,
+                start,
+                inflight,
+            },
+        ) => {
+            let permit = PermitFacts {
+                number,
+                part,
+                start,
+                inflight,
+            };
+            keep(permits, permit);
+        }
+        (
+            Event::GiveUp { number },
             Reply::Granted {
                 part,
                 start,
