@@ -1,5 +1,5 @@
 -- What `check` answers a configuration.
-use Rattle.std.specs.Prelude.{◌≡◌, ◌≢◌, ℕ, List, [], ◌∷◌, length, Result, Ok, Err, codes, decimal}
+use Rattle.std.specs.Prelude.{◌≡◌, ◌≢◌, ℕ, List, [], ◌∷◌, ◌++◌, length, Result, Ok, Err, codes, decimal}
 use Rattle.std.specs.List.{concat}
 use Rattle.toml.specs.Data.{Members}
 use Rattle.counted_io.specs.declared.counted.Counted.{Counted}
@@ -12,14 +12,22 @@ use Rattle.gate_config.specs.FaultText.{fault_text}
 use Rattle.limit_kinds.specs.KindNames.{kind_name}
 use Rattle.gate_config.specs.Settings.{Reads, settings_of}
 use Rattle.admission.specs.declared.check.CheckFault.{CheckFault}
+use Rattle.admission.specs.declared.check.Summary.{Summary}
 use Rattle.admission.specs.declared.check.CheckFault.TheVariants as Check
+
+-- what there is to say of a configuration
+abbrev pub text_of : List ℕ → ℕ → ℕ → ℕ → ℕ → ℕ → List ℕ
+text_of kind initial classes resolvers bypass backlog = concat
+    (codes "ok " ∷ kind ∷ codes " " ∷ decimal initial ∷ codes " classes " ∷ decimal classes ∷ codes " resolvers " ∷ decimal resolvers
+    ∷ codes " bypass " ∷ decimal bypass ∷ codes " backlog " ∷ decimal backlog ∷ [])
+
+abbrev pub summary_text : Summary → List ℕ
+summary_text s = text_of s.kind.now s.initial s.classes s.resolvers s.bypass s.backlog
 
 -- the line of a configuration that is accepted
 abbrev pub accepted_line : Settings → List ℕ
-accepted_line s = concat
-    (codes "ok " ∷ kind_name s.limit ∷ codes " " ∷ decimal (any_limit s.limit) ∷ codes " classes " ∷ decimal (length s.table)
-    ∷ codes " resolvers " ∷ decimal (length s.rules.resolvers) ∷ codes " bypass " ∷ decimal (length s.rules.bypass)
-    ∷ codes " backlog " ∷ decimal s.backlog ∷ codes "\n" ∷ [])
+accepted_line s = text_of (kind_name s.limit) (any_limit s.limit) (length s.table) (length s.rules.resolvers)
+    (length s.rules.bypass) s.backlog ++ codes "\n"
 
 -- the text of a fault
 abbrev pub check_text : CheckFault → List ℕ

@@ -1,10 +1,10 @@
 // A configuration, checked.
-ghost use Rattle.std.specs.Prelude.{◌≡◌, ◌≤◌, ◌⊎◌, ℕ, length, string_bytes, Some, Ok, IfOk, IfErr, OnOk, IfSome, IsErrOf};
+ghost use Rattle.std.specs.Prelude.{◌≡◌, ◌≤◌, ◌⊎◌, ◌++◌, codes, ℕ, length, string_bytes, Some, Ok, IfOk, IfErr, OnOk, IfSome, IsErrOf};
 ghost use Rattle.std.specs.Io.KnownBytes.{Appends};
 ghost use Rattle.counted_io.specs.Counted.{inner_of};
 ghost use Rattle.counted_io.specs.Causes.{IsReadCause, IsWriteCause};
 ghost use Rattle.gate_config.specs.declared.settings.Settings.{Settings as SettingsValue};
-ghost use Rattle.admission.specs.Check.{IsWhy, Says, accepted_line, fault_line};
+ghost use Rattle.admission.specs.Check.{IsWhy, Says, accepted_line, fault_line, summary_text};
 
 use super::run::{DONE, FAULT};
 use counted_io::{Counted, ReadFault, read_all, write_all};
@@ -129,29 +129,98 @@ fn check<W: Write>(alloc: Global, bytes: &[u8], writer: &mut Counted<W>) -> Resu
     Ok(())
 }
 
+/// What there is to say of a configuration that is accepted.
+#[derive(Clone, Copy, Debug)]
+struct Summary<'a> {
+    kind: &'a str,
+    initial: u32,
+    classes: usize,
+    resolvers: usize,
+    bypass: usize,
+    backlog: u32,
+}
+
+impl<'a> fmt::Display for Summary<'a> {
+    ghost use Rattle.admission.specs.Check.{summary_text};
+
+    ghost output = { λ summary. Some (summary_text summary) };
+
+    fn fmt<W: fmt::Write>(&self, f: &mut fmt::Formatter<W>) -> fmt::Result {
+        let kind = self.kind;
+        let initial = self.initial;
+        let classes = self.classes;
+        let resolvers = self.resolvers;
+        let bypass = self.bypass;
+        let backlog = self.backlog;
+        write!(
+            f,
+            "ok {kind} {initial} classes {classes} resolvers {resolvers} bypass {bypass} backlog {backlog}"
+        )
+    }
+}
+
 /// The line of settings.
 fn accepted_line(alloc: Global, settings: &Settings) -> Result<String, AllocError>
     ensures { IfOk result (λ line. string_bytes line ≡ accepted_line settings.now) }
 {
-    let kind = settings.limit.kind();
-    let initial = settings.limit.limit();
-    let classes = settings.table.len();
-    let resolvers = settings.rules.resolvers().len();
-    let bypass = settings.rules.bypass().len();
-    let backlog = settings.backlog;
-    format!(in alloc; "ok {kind} {initial} classes {classes} resolvers {resolvers} bypass {bypass} backlog {backlog}\n")
+    let summary = Summary {
+        kind: settings.limit.kind(),
+        initial: settings.limit.limit(),
+        classes: settings.table.len(),
+        resolvers: settings.rules.resolvers().len(),
+        bypass: settings.rules.bypass().len(),
+        backlog: settings.backlog,
+    };
+    summary_line(alloc, summary)
 }
 
-/// Writes the line of a fault.
+/// The line of a summary.
+fn summary_line(alloc: Global, summary: Summary) -> Result<String, AllocError>
+    ensures { IfOk result (λ line. string_bytes line ≡ summary_text summary.entry ++ codes "\n") }
+{
+    let mut line = String::new(alloc);
+    writeln!(line, "{summary}")?;
+    Ok(line)
+}
+
+/// Writes the line of a fault, and answers the status after it.
 fn report<E: Write>(alloc: Global, errors: &mut Counted<E>, fault: CheckFault) -> u8
     ensures status { result ≡ FAULT }
     ensures told { (Appends (E.contents (inner_of errors.old)) (E.contents (inner_of errors.new)) (fault_line fault))
         ⊎ (Appends (E.contents (inner_of errors.old)) (E.contents (inner_of errors.new)) (fault_line (CheckFault.Config ConfigFault.Memory)))
         ⊎ IsWriteCause errors.old errors.new }
 {
-    let _ = match format!(in alloc; "admission: {fault}\n") {
-        Ok(line) => write_all(errors, line.as_bytes()),
-        Err(_) => write_all(errors, b"admission: config: memory\n"),
-    };
+    tell_fault(alloc, errors, &fault);
     FAULT
+}
+
+/// Writes the line of a fault, or where memory is wanting for it, a line that says so.
+fn tell_fault<E: Write>(alloc: Global, errors: &mut Counted<E>, fault: &CheckFault)
+    ensures told { (Appends (E.contents (inner_of errors.old)) (E.contents (inner_of errors.new)) (fault_line fault.now))
+        ⊎ (Appends (E.contents (inner_of errors.old)) (E.contents (inner_of errors.new)) (fault_line (CheckFault.Config ConfigFault.Memory)))
+        ⊎ IsWriteCause errors.old errors.new }
+{
+    match fault_line(alloc, fault) {
+        Ok(line) => tell(errors, line.as_bytes()),
+        Err(_) => tell(errors, b"admission: config: memory\n"),
+    }
+}
+
+/// Writes a line that is dropped where it can't be written.
+fn tell<E: Write>(errors: &mut Counted<E>, line: &[u8])
+    ensures { (Appends (E.contents (inner_of errors.old)) (E.contents (inner_of errors.new)) line.now) ⊎ IsWriteCause errors.old errors.new }
+{
+    match write_all(errors, line) {
+        Ok(()) => {}
+        Err(_) => {}
+    }
+}
+
+/// The line of a fault.
+fn fault_line(alloc: Global, fault: &CheckFault) -> Result<String, AllocError>
+    ensures { IfOk result (λ line. string_bytes line ≡ fault_line fault.now) }
+{
+    let mut line = String::new(alloc);
+    writeln!(line, "admission: {fault}")?;
+    Ok(line)
 }

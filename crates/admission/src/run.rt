@@ -31,8 +31,8 @@ pub fn run_text<R: Read, W: Write, E: Write>(
     requires most { run.limit ≤ 10000 }
     ensures status { (result ≡ DONE) ⊎ (result ≡ FAULT) }
     ensures done { result ≡ DONE → IfSome (R.remaining (inner_of reader.old)) (λ script.
-        ((replay_text run.limit KEPT script).fault ≡ None)
-        × Appends (W.contents (inner_of writer.old)) (W.contents (inner_of writer.new)) (replay_text run.limit KEPT script).out) }
+        ((replay_text run.entry.limit KEPT script).fault ≡ None)
+        × Appends (W.contents (inner_of writer.old)) (W.contents (inner_of writer.new)) (replay_text run.entry.limit KEPT script).out) }
 {
     let outcome = match run.task {
         Task::Replay => replay(alloc, reader, writer, run.limit),
