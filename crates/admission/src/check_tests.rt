@@ -8,10 +8,15 @@ use std::test::Fail;
 
 /// The sample configuration of docs/FORMATS.md, in the pieces that rows change.
 const VERSION: &str = "version = 1\n";
+
 const LISTEN: &str = "listen = \"127.0.0.1:8080\"\n";
+
 const BACKEND: &str = "backend = \"127.0.0.1:9000\"\n";
+
 const LIMIT: &str = "[limit]\nkind = \"fixed\"\ninitial = 4\n";
-const REST: &str = "[[class]]\nname = \"live\"\npercent = 60\n[[resolver]]\nkind = \"header\"\nheader = \"X-Class\"\n";
+
+const REST: &str =
+    "[[class]]\nname = \"live\"\npercent = 60\n[[resolver]]\nkind = \"header\"\nheader = \"X-Class\"\n";
 
 /// A configuration in pieces, and its line on standard output or on standard error.
 #[derive(Drop)]
@@ -28,12 +33,26 @@ const ROWS: [Row; 9] = [
         fault: b"",
     },
     Row {
-        text: [VERSION, LISTEN, BACKEND, LIMIT, REST, "[[class]]\nname = \"batch\"\npercent = 50\n"],
+        text: [
+            VERSION,
+            LISTEN,
+            BACKEND,
+            LIMIT,
+            REST,
+            "[[class]]\nname = \"batch\"\npercent = 50\n",
+        ],
         output: b"",
         fault: b"admission: config: value class.percent\n",
     },
     Row {
-        text: [VERSION, "listen = \"127.0.0.1:0\"\n", BACKEND, LIMIT, REST, ""],
+        text: [
+            VERSION,
+            "listen = \"127.0.0.1:0\"\n",
+            BACKEND,
+            LIMIT,
+            REST,
+            "",
+        ],
         output: b"",
         fault: b"admission: config: value listen\n",
     },
@@ -63,7 +82,14 @@ const ROWS: [Row; 9] = [
         fault: b"admission: config: toml\n",
     },
     Row {
-        text: [VERSION, LISTEN, BACKEND, LIMIT, REST, "[[resolver]]\nkind = \"route\"\nroutes = { \"/a/{x}\" = \"live\", \"/a/{y}\" = \"live\" }\n"],
+        text: [
+            VERSION,
+            LISTEN,
+            BACKEND,
+            LIMIT,
+            REST,
+            "[[resolver]]\nkind = \"route\"\nroutes = { \"/a/{x}\" = \"live\", \"/a/{y}\" = \"live\" }\n",
+        ],
         output: b"",
         fault: b"admission: config: route\n",
     },
@@ -92,7 +118,9 @@ fn configurations_are_answered_by_one_line(rt: HostRuntime) -> Result<(), Fail> 
 }
 
 #[test]
-fn a_line_that_cannot_be_written_is_told_and_a_fault_line_is_dropped(rt: HostRuntime) -> Result<(), Fail> {
+fn a_line_that_cannot_be_written_is_told_and_a_fault_line_is_dropped(
+    rt: HostRuntime,
+) -> Result<(), Fail> {
     let text = format!(in rt.alloc(); "{VERSION}{LISTEN}{BACKEND}{LIMIT}{REST}")?;
     let mut fault = Vec::new(rt.alloc());
     let status = check_text(
@@ -143,7 +171,14 @@ fn length_read<R: Read + Drop>(alloc: Global, reader: R) -> Option<usize> {
 fn a_file_of_a_mebibyte_is_read_and_a_longer_one_is_not(rt: HostRuntime) -> Result<(), Fail> {
     let alloc = rt.alloc();
     assert!(rt; length_read(alloc, Spaces { left: MOST_CONFIG }) == Some(MOST_CONFIG));
-    assert!(rt; length_read(alloc, Spaces { left: MOST_CONFIG + 1 }) == None);
+    assert!(rt;
+        length_read(
+            alloc,
+            Spaces {
+                left: MOST_CONFIG + 1
+            }
+        ) == None
+    );
     assert!(rt; length_read(alloc, Broken) == None);
     Ok(())
 }
