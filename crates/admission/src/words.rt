@@ -39,18 +39,25 @@ Settings, before any other line:
   limit vegas LO N HI ALPHA BETA PROBE   by the length of the queue, after TCP Vegas
   window SIZE MIN MAX MINRTT             the limit learns from windows of samples; nanoseconds
   class NAME PERCENT                     a class and its share of the limit
+  backlog N                              how many may wait, 0 to 10000; 100 where no line says
 
 Then, with every NOW in nanoseconds:
   acquire CLASS NOW        asks for a permit; CLASS is a name above, or unknown
+  acquire CLASS NOW wait   the same, and waits where there is none
   bypass NOW               lets a call through, neither limited nor counted
-  end N OUTCOME NOW        ends the permit of acquire number N: success, ignored or dropped
+  end N OUTCOME NOW        ends the permit of acquire number N: success, ignored or dropped;
+                           the newest waiter gets a permit where it then has room
+  claim N                  asks for the permit of acquire number N, which waits or was promoted
+  giveup N                 ends the wait of acquire number N, or takes its permit if it got one
   set N NOW                sets a settable limit
   reset NOW                puts the algorithm into its first state
-  look CLASS               shows the limit, what is in flight, and the share of the class
+  look CLASS               shows the limit, what is in flight, who waits, and the share of the class
   # ..                     a comment; empty lines are skipped too
 
-Writes `NUMBER admitted CLASS inflight I`, `NUMBER refused full`, `NUMBER ended promoted K` and the
-like; `- not open` for an ending of no open permit, and `- exhausted` once 100,000 entries are kept.
+Writes `NUMBER admitted CLASS inflight I`, `NUMBER waiting`, `NUMBER refused full`, `NUMBER ended
+promoted K`, `NUMBER promoted WAITER inflight I`, `NUMBER granted inflight I` and the like; `- not open`
+for an ending of no open permit, and `- exhausted` once 100,000 entries are kept (what waits may still
+be given up, and what is open ended).
 
 Ends with status 0; with 1 and a line `admission: line L: WHY` (words, late, twice, value, class)
 where a line is at fault, after the text of the lines before it.";
