@@ -6,6 +6,7 @@ ghost use Rattle.counted_io.specs.Causes.{IsReadCause, IsWriteCause};
 ghost use Rattle.gate_config.specs.declared.settings.Settings.{Settings as SettingsValue};
 ghost use Rattle.admission.specs.Check.{IsWhy, Says, accepted_line, fault_line, summary_text};
 
+use super::error_line::tell;
 use super::run::{DONE, FAULT};
 use counted_io::{Counted, ReadFault, read_all, write_all};
 use gate_config::{ConfigFault, Settings, read};
@@ -203,16 +204,6 @@ fn tell_fault<E: Write>(alloc: Global, errors: &mut Counted<E>, fault: &CheckFau
     match fault_line(alloc, fault) {
         Ok(line) => tell(errors, line.as_bytes()),
         Err(_) => tell(errors, b"admission: config: memory\n"),
-    }
-}
-
-/// Writes a line that is dropped where it can't be written.
-fn tell<E: Write>(errors: &mut Counted<E>, line: &[u8])
-    ensures { (Appends (E.contents (inner_of errors.old)) (E.contents (inner_of errors.new)) line.now) ⊎ IsWriteCause errors.old errors.new }
-{
-    match write_all(errors, line) {
-        Ok(()) => {}
-        Err(_) => {}
     }
 }
 

@@ -6,6 +6,7 @@
 mod check;
 #[cfg(test)]
 mod check_tests;
+mod error_line;
 mod run;
 #[cfg(test)]
 mod tests;
