@@ -23,7 +23,11 @@ impl Bypass {
     {
         match self {
             Bypass::Method(method) => request.method.as_str() == method.as_str(),
-            Bypass::Prefix(prefix) => request.path.as_str().as_bytes().starts_with(prefix.as_slice()),
+            Bypass::Prefix(prefix) => request
+                .path
+                .as_str()
+                .as_bytes()
+                .starts_with(prefix.as_slice()),
             Bypass::HeaderEquals(name, value) => {
                 has_value(&request.headers, name.as_slice(), value.as_slice())
             }

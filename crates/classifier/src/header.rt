@@ -15,7 +15,10 @@ fn is_same_name(one: &[u8], other: &[u8]) -> bool
 pub fn first_value<'a>(headers: &'a Headers, name: &[u8]) -> Option<&'a [u8]>
     ensures { option_map (λ value. value.now) result ≡ header_value name.now headers.now }
 {
-    let line = headers.as_slice().iter().find(|line| is_same_name(line.name.as_slice(), name));
+    let line = headers
+        .as_slice()
+        .iter()
+        .find(|line| is_same_name(line.name.as_slice(), name));
     match line {
         Some(line) => Some(line.value.as_slice()),
         None => None,
@@ -26,7 +29,10 @@ pub fn first_value<'a>(headers: &'a Headers, name: &[u8]) -> Option<&'a [u8]>
 pub fn has_value(headers: &Headers, name: &[u8], value: &[u8]) -> bool
     ensures { result ≡ list_any (has_line name.now value.now) headers.now }
 {
-    headers.as_slice().iter().any(|line| is_line(line, name, value))
+    headers
+        .as_slice()
+        .iter()
+        .any(|line| is_line(line, name, value))
 }
 
 fn is_line(line: &Header, name: &[u8], value: &[u8]) -> bool

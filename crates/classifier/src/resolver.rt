@@ -48,5 +48,9 @@ impl Resolver {
 fn held(table: &PartitionTable, part: Part) -> Option<Part>
     ensures { result ≡ held_part table.now part }
 {
-    if table.place(part) < 4 { Some(part) } else { None }
+    if table.place(part) < 4 {
+        Some(part)
+    } else {
+        None
+    }
 }

@@ -8,7 +8,9 @@ use std::test::Fail;
 use wire::{Bytes, Header, Headers, Request, Text, Version};
 
 const LIVE: Part = Part::Known(0);
+
 const BATCH: Part = Part::Known(1);
+
 const LOST: Part = Part::Known(2);
 
 fn bytes(alloc: Global, text: &str) -> Result<Bytes, AllocError> {
@@ -22,7 +24,12 @@ fn header(alloc: Global, name: &str, value: &str) -> Result<Headers, AllocError>
 }
 
 /// A request with one header line.
-fn request(alloc: Global, method: Method, path: &str, headers: Headers) -> Result<Request, AllocError> {
+fn request(
+    alloc: Global,
+    method: Method,
+    path: &str,
+    headers: Headers,
+) -> Result<Request, AllocError> {
     Ok(Request {
         method,
         target: Text::copy_of(alloc, path)?,
@@ -34,7 +41,14 @@ fn request(alloc: Global, method: Method, path: &str, headers: Headers) -> Resul
 }
 
 /// The class of a GET request with one header line, where `live` and `batch` are known.
-fn class(rt: &impl Abort, alloc: Global, rules: &Rules, path: &str, name: &str, value: &str) -> Class {
+fn class(
+    rt: &impl Abort,
+    alloc: Global,
+    rules: &Rules,
+    path: &str,
+    name: &str,
+    value: &str,
+) -> Class {
     let headers = header(alloc, name, value).expect(rt, "headers");
     let request = request(alloc, Method::GET, path, headers).expect(rt, "a request");
     let rows = [(b"live".as_slice(), 60), (b"batch".as_slice(), 30)];
@@ -117,6 +131,10 @@ fn each_rule_is_asked_by_itself(rt: HostRuntime) -> Result<(), Fail> {
     let asked = request(alloc, Method::PUT, "/", headers)?;
     let table = PartitionTable::unknown_only();
     assert!(rt; Bypass::Method(Method::PUT).holds(&asked));
-    assert!(rt; Resolver::Method(Method::PUT, LIVE).part(&table, &asked).is_none());
+    assert!(rt;
+        Resolver::Method(Method::PUT, LIVE)
+            .part(&table, &asked)
+            .is_none()
+    );
     Ok(())
 }
