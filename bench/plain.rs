@@ -1,49 +1,136 @@
-//! A plain program that answers scripts of acquires, looks and endings under a fixed limit, with
-//! running counts and a map of open permits and no history: the peer of the replay benchmark.
+//! A plain program that answers scripts of one class under a fixed limit, with running counts, a
+//! stack of waiters and maps of permits, and no history: the peer of the replay benchmark.
 use std::collections::HashMap;
 use std::env;
 use std::io::{self, Read, Write};
 
 const KEPT: u64 = 100_000;
+const ROOM: usize = 100;
 
 struct Limiter {
     limit: u64,
     total: u64,
     next: u64,
     open: HashMap<u64, u64>,
+    waiters: Vec<u64>,
+    granted: HashMap<u64, u64>,
+    out: Vec<u8>,
 }
 
 impl Limiter {
-    fn is_exhausted(&self) -> bool {
-        self.next >= KEPT
-    }
-
-    fn acquire(&mut self, now: u64, out: &mut Vec<u8>) {
-        let number = self.next;
-        self.next += 1;
-        if self.total < self.limit {
-            self.total += 1;
-            self.open.insert(number, now);
-            writeln!(out, "{number} admitted unknown inflight {}", self.total).unwrap();
-        } else {
-            writeln!(out, "{number} refused full").unwrap();
+    fn new(limit: u64) -> Limiter {
+        Limiter {
+            limit,
+            total: 0,
+            next: 0,
+            open: HashMap::new(),
+            waiters: Vec::with_capacity(ROOM),
+            granted: HashMap::new(),
+            out: Vec::new(),
         }
     }
 
-    fn end(&mut self, number: u64, out: &mut Vec<u8>) {
+    /// Writes one entry's line and returns its number.
+    fn tell(&mut self, text: std::fmt::Arguments) -> u64 {
+        let number = self.next;
+        writeln!(self.out, "{number} {text}").unwrap();
+        self.next += 1;
+        number
+    }
+
+    fn acquire(&mut self, now: u64, wait: bool) {
+        if self.total < self.limit {
+            self.total += 1;
+            let inflight = self.total;
+            let number = self.tell(format_args!("admitted unknown inflight {inflight}"));
+            self.open.insert(number, now);
+        } else if !wait {
+            self.tell(format_args!("refused full"));
+        } else if self.waiters.len() < ROOM {
+            let number = self.tell(format_args!("waiting"));
+            self.waiters.push(number);
+        } else {
+            self.tell(format_args!("refused backlog"));
+        }
+    }
+
+    fn end(&mut self, number: u64) {
         if self.open.remove(&number).is_none() {
-            writeln!(out, "- not open").unwrap();
+            writeln!(self.out, "- not open").unwrap();
             return;
         }
         self.total -= 1;
-        writeln!(out, "{} ended promoted 0", self.next).unwrap();
-        self.next += 1;
+        let promoted = if self.total < self.limit { self.waiters.pop() } else { None };
+        self.tell(format_args!("ended promoted {}", u8::from(promoted.is_some())));
+        if let Some(waiter) = promoted {
+            self.total += 1;
+            let inflight = self.total;
+            self.granted.insert(waiter, inflight);
+            self.tell(format_args!("promoted {waiter} inflight {inflight}"));
+        }
     }
 
-    fn look(&mut self, out: &mut Vec<u8>) {
-        let (number, limit, total) = (self.next, self.limit, self.total);
-        writeln!(out, "{number} seen limit {limit} total {total} waiting 0 granted 0 inflight {total} share 0").unwrap();
-        self.next += 1;
+    fn hand_out(&mut self, number: u64) -> bool {
+        let Some(inflight) = self.granted.remove(&number) else { return false };
+        self.tell(format_args!("granted inflight {inflight}"));
+        self.open.insert(number, 0);
+        true
+    }
+
+    fn claim(&mut self, number: u64) {
+        if self.hand_out(number) {
+            return;
+        }
+        let waits = self.waiters.contains(&number);
+        self.tell(format_args!("{}", if waits { "still waiting" } else { "lost" }));
+    }
+
+    fn give_up(&mut self, number: u64) {
+        if self.hand_out(number) {
+            return;
+        }
+        match self.waiters.iter().rposition(|&waiter| waiter == number) {
+            Some(place) => {
+                self.waiters.remove(place);
+                self.tell(format_args!("timed out"));
+            }
+            None => {
+                self.tell(format_args!("lost"));
+            }
+        }
+    }
+
+    fn look(&mut self) {
+        let (limit, total, waiting, granted) = (self.limit, self.total, self.waiters.len(), self.granted.len());
+        self.tell(format_args!(
+            "seen limit {limit} total {total} waiting {waiting} granted {granted} inflight {total} share 0"
+        ));
+    }
+
+    /// Past what is kept, endings are answered and givings up of what waits or lies granted.
+    fn is_exhausted(&self, words: &[&str]) -> bool {
+        self.next >= KEPT
+            && match words {
+                ["end", ..] => false,
+                ["giveup", number] => {
+                    let number = number.parse().unwrap();
+                    !self.waiters.contains(&number) && !self.granted.contains_key(&number)
+                }
+                _ => true,
+            }
+    }
+
+    fn answer(&mut self, words: &[&str]) {
+        match words {
+            _ if self.is_exhausted(words) => self.out.extend_from_slice(b"- exhausted\n"),
+            ["acquire", "unknown", now] => self.acquire(now.parse().unwrap(), false),
+            ["acquire", "unknown", now, "wait"] => self.acquire(now.parse().unwrap(), true),
+            ["end", number, _, _] => self.end(number.parse().unwrap()),
+            ["claim", number] => self.claim(number.parse().unwrap()),
+            ["giveup", number] => self.give_up(number.parse().unwrap()),
+            ["look", "unknown"] => self.look(),
+            _ => panic!("no line of this benchmark: {words:?}"),
+        }
     }
 }
 
@@ -51,19 +138,10 @@ fn main() {
     let limit = env::args().nth(1).map_or(20, |word| word.parse().unwrap());
     let mut script = String::new();
     io::stdin().read_to_string(&mut script).unwrap();
-    let mut limiter = Limiter { limit, total: 0, next: 0, open: HashMap::new() };
-    let mut out = Vec::new();
+    let mut limiter = Limiter::new(limit);
     for line in script.lines() {
         let words: Vec<&str> = line.split(' ').filter(|word| !word.is_empty()).collect();
-        match words.as_slice() {
-            ["acquire", "unknown", _] | ["look", "unknown"] if limiter.is_exhausted() => {
-                out.extend_from_slice(b"- exhausted\n");
-            }
-            ["acquire", "unknown", now] => limiter.acquire(now.parse().unwrap(), &mut out),
-            ["look", "unknown"] => limiter.look(&mut out),
-            ["end", number, _, _] => limiter.end(number.parse().unwrap(), &mut out),
-            _ => panic!("no line of this benchmark: {line}"),
-        }
+        limiter.answer(&words);
     }
-    io::stdout().write_all(&out).unwrap();
+    io::stdout().write_all(&limiter.out).unwrap();
 }

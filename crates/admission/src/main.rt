@@ -1,8 +1,12 @@
-//! The program `admission`: it reads its words, carries the command out over the standard streams,
-//! and ends with status 0, with 1 and one line on standard error after a fault, or with 2 and the
+//! The program `admission`: it reads its words, carries the command out over the standard streams
+//! or a configuration's file, and ends with status 0, with 1 and one line on standard error after a fault, or with 2 and the
 //! text of a fault of the words.
 #![tactic(auto)]
 
+mod check;
+#[cfg(test)]
+mod check_tests;
+mod error_line;
 mod run;
 #[cfg(test)]
 mod tests;
@@ -11,6 +15,7 @@ mod words;
 use counted_io::Counted;
 use std::env;
 use std::process::ExitCode;
+use words::Task;
 
 /// The status after a fault of the words, and where memory is wanting to read them.
 const WORDS_FAULT: u8 = 2;
@@ -34,5 +39,8 @@ fn main(rt: HostRuntime) -> ExitCode {
     let mut reader = Counted::new(rt.stdin());
     let mut writer = Counted::new(rt.stdout());
     let mut errors = Counted::new(rt.stderr());
-    ExitCode::from(run::run_text(alloc, run, &mut reader, &mut writer, &mut errors))
+    ExitCode::from(match run.task {
+        Task::Replay => run::run_text(alloc, run, &mut reader, &mut writer, &mut errors),
+        Task::Check(path) => check::check_file(&rt, alloc, path, &mut writer, &mut errors),
+    })
 }

@@ -98,7 +98,7 @@ fn scripts_are_answered_with_their_text_status_and_fault_line(rt: HostRuntime) -
 
 /// Fails at each call.
 #[derive(Drop)]
-struct Broken;
+pub struct Broken;
 
 impl Read for Broken {
     fn read(&mut self, _buf: &mut [u8]) -> IoResult<usize> {
@@ -145,35 +145,47 @@ fn a_failing_reader_and_a_failing_writer_are_named(rt: HostRuntime) -> Result<()
     Ok(())
 }
 
-/// What the words after the program's name give: the limit, or the exit code of their fault.
-fn limit_of(rt: &HostRuntime, list: &[&str]) -> Result<Result<u32, i32>, Fail> {
+/// What the words after the program's name give: the limit and the path, or the exit code of their fault.
+fn run_of(rt: &HostRuntime, list: &[&str], wanted: Result<(u32, &str), i32>) -> Result<bool, Fail> {
     let mut all = Vec::new(rt.alloc());
     all.push(String::from_str(rt.alloc(), "admission")?)?;
     for word in list {
         all.push(String::from_str(rt.alloc(), word)?)?;
     }
-    Ok(match words(rt.alloc(), &all) {
-        Ok(run) => Ok(run.limit),
-        Err(error) => Err(error.exit_code()),
-    })
+    let found = match words(rt.alloc(), &all) {
+        Ok(run) => {
+            let path = match run.task {
+                Task::Replay => "",
+                Task::Check(path) => path,
+            };
+            wanted == Ok((run.limit, path))
+        }
+        Err(error) => wanted == Err(error.exit_code()),
+    };
+    Ok(found)
 }
 
 #[test]
-fn words_give_the_limit_or_a_status(rt: HostRuntime) -> Result<(), Fail> {
-    let rows: [(&[&str], Result<u32, i32>); 10] = [
-        (&["replay"], Ok(20)),
-        (&["replay", "--limit", "1"], Ok(1)),
-        (&["replay", "--limit=10000"], Ok(10_000)),
+fn words_give_the_run_or_a_status(rt: HostRuntime) -> Result<(), Fail> {
+    let rows: [(&[&str], Result<(u32, &str), i32>); 15] = [
+        (&["replay"], Ok((20, ""))),
+        (&["replay", "--limit", "1"], Ok((1, ""))),
+        (&["replay", "--limit=10000"], Ok((10_000, ""))),
         (&["replay", "--limit", "0"], Err(2)),
         (&["replay", "--limit", "10001"], Err(2)),
         (&["replay", "--limit"], Err(2)),
         (&["replay", "more"], Err(2)),
+        (&["check", "a.toml"], Ok((20, "a.toml"))),
+        (&["check"], Err(2)),
+        (&["check", "a.toml", "b.toml"], Err(2)),
+        (&["check", "a.toml", "--limit", "1"], Err(2)),
+        (&["check", "--help"], Err(0)),
         (&["forward"], Err(2)),
         (&[], Err(2)),
         (&["replay", "--help"], Err(0)),
     ];
     for (list, wanted) in rows {
-        assert!(rt; limit_of(&rt, list)? == wanted);
+        assert!(rt; run_of(&rt, list, wanted)?);
     }
     Ok(())
 }

@@ -1,1 +1,2 @@
 pub mod Waiters
+pub mod Faults

@@ -12,6 +12,11 @@ pub enum BacklogFault {
 }
 
 impl fmt::Display for BacklogFault {
+    ghost use Rattle.std.specs.Prelude.{Some};
+    ghost use Rattle.lifo_backlog.specs.Faults.{fault_text};
+
+    ghost output = { λ fault. Some (fault_text fault) };
+
     fn fmt<W: fmt::Write>(&self, f: &mut fmt::Formatter<W>) -> fmt::Result {
         f.write_str(match self {
             BacklogFault::Memory => "out of memory",
@@ -38,6 +43,10 @@ impl From<AllocError> for BacklogFault {
 pub struct Full;
 
 impl fmt::Display for Full {
+    ghost use Rattle.std.specs.Prelude.{Some, codes};
+
+    ghost output = { λ _. Some (codes "the backlog is full") };
+
     fn fmt<W: fmt::Write>(&self, f: &mut fmt::Formatter<W>) -> fmt::Result {
         f.write_str("the backlog is full")
     }

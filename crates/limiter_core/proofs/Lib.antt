@@ -1,12 +1,21 @@
 pub mod Images
 pub mod Steps
-pub mod Counts
+pub mod Legals
 pub mod Endings
 pub mod Sounds
-pub mod Fields
+pub mod Soundness
+pub mod Bounded
+pub mod Owed
+pub mod Refusals
+pub mod Admissions
+pub mod Counts
+pub mod States
+pub mod Holding
+pub mod Applying
+pub mod Countings
 pub mod Finds
 pub mod Broughts
+pub mod Agreeing
 pub mod Opens
-pub mod Soundness
-pub mod Legals
-pub mod Refusals
+pub mod Comings
+mod Rows

@@ -1,28 +1,33 @@
 -- Histories: what stands after a list of entries, each quantity by a filter or a fold over the whole list.
-use Rattle.std.specs.Prelude.{ℕ, ◌+◌, ◌-◌, ◌==◌, Bool, true, false, List, [], ◌∷◌, length, Result, Ok, Err, fold, count_by, sum_by}
+use Rattle.std.specs.Prelude.{ℕ, ◌+◌, ◌-◌, ◌==◌, Bool, true, false, not, List, [], ◌∷◌, ◌++◌, length, Option, None, Some, option_to_list, Result, Ok, Err, fold, count_by, sum_by, filter}
+use Rattle.std.specs.List.{list_any}
 use Rattle.limit_laws.specs.declared.limit.SetFault.{SetFault}
 use Rattle.limit_laws.specs.Facts.{SampleFacts, sample_of}
 use Rattle.limit_laws.specs.Algorithm.{Algorithm}
 use Rattle.partitions.specs.Table.{Row, place_of, places}
+use Rattle.lifo_backlog.specs.declared.waiter.Waiter.{Waiter}
 use Rattle.limiter_core.specs.declared.event.Outcome.{Outcome}
 use Rattle.limiter_core.specs.declared.event.Outcome.TheVariants.{Success, Ignored, Dropped}
 use Rattle.limiter_core.specs.declared.event.PermitFacts.{PermitFacts}
 use Rattle.limiter_core.specs.declared.event.Event.{Event}
-use Rattle.limiter_core.specs.declared.event.Event.TheVariants.{Acquire, End, SetLimit, Reset, Look}
+use Rattle.limiter_core.specs.declared.event.Event.TheVariants.{Acquire, End, Claim, GiveUp, SetLimit, Reset}
 use Rattle.limiter_core.specs.declared.event.Reply.{Reply}
-use Rattle.limiter_core.specs.declared.event.Reply.TheVariants.{Admitted}
+use Rattle.limiter_core.specs.declared.event.Reply.TheVariants.{Admitted, Waiting, Granted, TimedOut}
 use Rattle.limiter_core.specs.declared.event.Entry.{Entry}
-use Rattle.limiter_core.specs.declared.event.Entry.TheVariants.{Call}
+use Rattle.limiter_core.specs.declared.event.Entry.TheVariants.{Call, Promotion}
 
--- what a limiter is made with: its algorithm and its known partitions
+-- what a limiter is made with: its algorithm, its known partitions, and how many may wait
 pub record Gate (S : Type 0) : Type 0 where
   pub rules : Algorithm S
   pub rows : List Row
+  pub room : ℕ
 
--- what stands at a moment: the algorithm's state, how many permits of each place aren't ended, and the number of the next entry
+-- what stands at a moment: the algorithm's state, how many permits of each place aren't ended, who waits (the newest last), the promoted permits that nobody has got yet, and the number of the next entry
 pub record Image (S : Type 0) : Type 0 where
   pub state : S
   pub inflight : ℕ → ℕ
+  pub waiters : List Waiter
+  pub granted : List PermitFacts
   pub next : ℕ
 
 -- the sample of an ending: none where its outcome is ignored
@@ -45,13 +50,14 @@ state_after_event rules s _ = s
 
 abbrev pub state_after_entry : {S : Type 0} → Algorithm S → S → Entry → S
 state_after_entry rules s (Call event reply) = state_after_event rules s event
+state_after_entry rules s (Promotion waiter part start inflight) = s
 
 abbrev pub state_after : {S : Type 0} → Algorithm S → Image S → List Entry → S
 state_after rules o h = fold (state_after_entry rules) o.state h
 
--- IN FLIGHT at a place: the opening's count and the acquires of it that were admitted, less the endings of it
+-- IN FLIGHT at a place: the opening's count, the acquires of it that were admitted and the promotions of it, less the endings of it
 abbrev pub admits : List Row → ℕ → Event → Reply → Bool
-admits rows p (Acquire part bypass now) (Admitted inflight) = place_of rows part == p
+admits rows p (Acquire part bypass wait now) (Admitted inflight) = place_of rows part == p
 admits rows p _ _ = false
 
 abbrev pub ends : List Row → ℕ → Event → Bool
@@ -60,18 +66,56 @@ ends rows p _ = false
 
 abbrev pub enters : List Row → ℕ → Entry → Bool
 enters rows p (Call event reply) = admits rows p event reply
+enters rows p (Promotion waiter part start inflight) = place_of rows part == p
 
 abbrev pub leaves : List Row → ℕ → Entry → Bool
 leaves rows p (Call event reply) = ends rows p event
+leaves rows p (Promotion waiter part start inflight) = false
 
 abbrev pub inflight_after : {S : Type 0} → List Row → Image S → List Entry → ℕ → ℕ
 inflight_after rows o h p = o.inflight p + count_by (enters rows p) h - count_by (leaves rows p) h
+
+-- what stays of a list that entries add to and take from: those that no entry takes, and those that an entry brings and no later one takes
+abbrev pub untaken : {X : Type 0} → (X → Entry → Bool) → List Entry → List X → List X
+untaken takes h xs = filter (λ x. not (list_any (takes x) h)) xs
+
+abbrev pub brought : {X : Type 0} → (ℕ → Entry → Option X) → (X → Entry → Bool) → ℕ → List Entry → List X
+brought brings takes number [] = []
+brought brings takes number (e ∷ es) = untaken takes es (option_to_list (brings number e)) ++ brought brings takes (number + 1) es
+
+-- WAITING: the waiters of the opening and the acquires that were answered Waiting, which no later promotion and no later TimedOut names
+abbrev pub starts_waiting : ℕ → Entry → Option Waiter
+starts_waiting number (Call (Acquire part bypass wait now) Waiting) = Some (record { number = number; part = part })
+starts_waiting number _ = None
+
+abbrev pub stops_waiting : Waiter → Entry → Bool
+stops_waiting w (Promotion waiter part start inflight) = w.number == waiter
+stops_waiting w (Call (GiveUp number) TimedOut) = w.number == number
+stops_waiting w _ = false
+
+abbrev pub waiters_after : {S : Type 0} → Image S → List Entry → List Waiter
+waiters_after o h = untaken stops_waiting h o.waiters ++ brought starts_waiting stops_waiting o.next h
+
+-- GRANTED: the granted permits of the opening and those of promotions, which no later Granted names
+abbrev pub grants : ℕ → Entry → Option PermitFacts
+grants number (Promotion waiter part start inflight) = Some (record { number = waiter; part = part; start = start; inflight = inflight })
+grants number _ = None
+
+abbrev pub hands : PermitFacts → Entry → Bool
+hands permit (Call (Claim number) (Granted part start inflight)) = permit.number == number
+hands permit (Call (GiveUp number) (Granted part start inflight)) = permit.number == number
+hands permit _ = false
+
+abbrev pub granted_after : {S : Type 0} → Image S → List Entry → List PermitFacts
+granted_after o h = untaken hands h o.granted ++ brought grants hands o.next h
 
 -- the image after the entries, from an opening
 abbrev pub image_after : {S : Type 0} → Gate S → Image S → List Entry → Image S
 image_after g o h = record {
   state = state_after g.rules o h;
   inflight = inflight_after g.rows o h;
+  waiters = waiters_after o h;
+  granted = granted_after o h;
   next = o.next + length h;
 }
 
@@ -84,4 +128,4 @@ total i = sum_by i.inflight places
 
 -- nothing was asked yet
 abbrev pub empty_image : {S : Type 0} → S → Image S
-empty_image s = record { state = s; inflight = λ p. 0; next = 0 }
+empty_image s = record { state = s; inflight = λ p. 0; waiters = []; granted = []; next = 0 }

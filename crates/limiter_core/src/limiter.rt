@@ -1,69 +1,124 @@
-// The limiter: the algorithm, the partitions, and a place for each permit that isn't ended.
-ghost use Rattle.std.specs.Prelude.{◌≡◌, ◌≤◌, ◌<◌, ◌+◌, ◌^◌, ◌∷◌, [], fold, IfOk};
+// The sequential limiter.
+ghost use Rattle.std.specs.Prelude.{◌≡◌, ◌≤◌, ◌<◌, ◌+◌, ◌*◌, ◌^◌, ◌∷◌, [], ◌↔◌, IsTrue, map, length, find, is_some, option_to_list, vec_capacity, IfOk, IsErrOf};
+ghost use Rattle.std.specs.List.{list_any};
 ghost use Rattle.partitions.specs.Table.{place_of, bound};
 ghost use Rattle.limiter_core.specs.declared.event.Entry.TheVariants.{Call};
-ghost use Rattle.limiter_core.specs.declared.event.Event.TheVariants.{Acquire, End, SetLimit, Reset, Look};
-ghost use Rattle.limiter_core.specs.declared.event.Reply.TheVariants.{Ended};
-ghost use Rattle.limiter_core.specs.History.{image_after, empty_image, total, limit, ending_samples};
-ghost use Rattle.limiter_core.specs.Answer.{answer, reply_to, has_room};
+ghost use Rattle.limiter_core.specs.History.{image_after, total, limit};
+ghost use Rattle.limiter_core.specs.Answer.{answer, granted_of, waits};
 ghost use Rattle.limiter_core.specs.Legal.{MayCome};
-ghost use Rattle.limiter_core.specs.Bound.{IsNumbered};
-ghost use Rattle.limiter_core.specs.Limiter.{Limiter, gate_of, stands};
+ghost use Rattle.limiter_core.specs.Bound.{IsNumbered, owed, most_owed};
+ghost use Rattle.limiter_core.specs.Counting.{counters_after, no_counts};
+ghost use Rattle.limiter_core.specs.Limiter.{Limiter, gate_of, stands, entry_of};
 
-use super::event::{Entry, Event, Outcome, PermitFacts, Reply};
-use super::permits::{count_at, drop_one};
-use limit_laws::{Limit, Sample};
+use super::counters::Counters;
+use super::event::{Event, PermitFacts, Promotion, Reply};
+use super::fault::CoreFault;
+use super::granted::GrantedPermits;
+use super::permits::Permits;
+use super::state::State;
+use lifo_backlog::Backlog;
+use limit_laws::Limit;
 use partitions::{Part, PartitionTable};
-use std::alloc::{AllocError, Global};
+use std::alloc::Global;
 use std::marker::Model;
 
 /// The sequential limiter over an algorithm.
+///
+/// Contracts see it as its settings, what stands, the promotions of the last call and the counters
+/// (`specs/Limiter.antt`).
 #[derive(Drop)]
 pub struct Core<L: Limit> {
-    limit: L,
-    table: PartitionTable,
-    permits: Vec<usize>,
-    next: u64,
+    state: State<L>,
+    promoted: Vec<Promotion>,
+    counters: Counters,
 }
 
 impl<L: Limit> Model for Core<L> {
-    ghost use Rattle.std.specs.Prelude.{vec_capacity};
-    ghost use Rattle.limiter_core.specs.Limiter.{Limiter, IsHeld, image_with, gate_with, counts_of};
+    ghost use Rattle.std.specs.Prelude.{◌≤◌, vec_capacity};
+    ghost use Rattle.limiter_core.specs.Limiter.{Limiter};
+    ghost use Rattle.limiter_core.specs.Standing.{IsHeld};
+    ghost use Rattle.limiter_core.specs.Counting.{AreAtMost};
 
     ghost Value = { Limiter L };
 
-    ghost view = { λ c. record { rows = c.table; state = c.limit; counts = counts_of c.permits.items; next = c.next } };
+    ghost view = { λ c. record { rows = c.state.table; room = c.state.backlog.room; state = c.state.limit; counts = c.state.permits.counts; waiters = c.state.backlog.waiting; granted = c.state.granted.permits; next = c.state.next; promoted = c.promoted.items; counters = c.counters } };
 
-    ghost invariant = { λ c. IsHeld (gate_with L.rules c.table) c.permits.items (image_with c.limit (counts_of c.permits.items) c.next) (vec_capacity c.permits) };
+    ghost invariant = { λ c. IsHeld L.rules c.state × (1 ≤ vec_capacity c.promoted) × AreAtMost c.counters c.state.next };
 }
 
 impl<L: Limit> Core<L> {
-    /// A limiter over these partitions, in which nothing is in flight.
-    pub fn new(alloc: Global, limit: L, table: PartitionTable) -> Result<Core<L>, AllocError>
-        ensures { IfOk result (λ core. core ≡ record { rows = table; state = limit; counts = 0 ∷ 0 ∷ 0 ∷ 0 ∷ 0 ∷ []; next = 0 }) }
+    /// A limiter over these partitions, in which nothing is in flight and up to `room` may wait.
+    ///
+    /// [`CoreFault::Room`] where `room` is above 10,000, else [`CoreFault::Memory`] where memory is
+    /// wanting: all that a core ever needs is taken here.
+    pub fn new(
+        alloc: Global,
+        limit: L,
+        table: PartitionTable,
+        room: u32,
+    ) -> Result<Core<L>, CoreFault>
+        ensures made { IfOk result (λ core. core ≡ record { rows = table; room = room; state = limit; counts = 0 ∷ 0 ∷ 0 ∷ 0 ∷ 0 ∷ []; waiters = []; granted = []; next = 0; promoted = []; counters = no_counts }) }
+        ensures room { IsErrOf result CoreFault.Room ↔ (10000 < room) }
     {
-        let most = table.most(limit.hi());
-        let permits = Vec::with_capacity(alloc, most as usize)?;
+        let backlog = Backlog::new(alloc, room)?;
+        prove!(table.len() <= 4);
+        let most = table.most(limit.hi()) as u32;
+        let permits = Permits::new(alloc, most)?;
+        let granted = GrantedPermits::new(alloc, most)?;
+        let promoted = Vec::with_capacity(alloc, 1)?;
         Ok(Core {
-            limit,
-            table,
-            permits,
-            next: 0,
+            state: State {
+                limit,
+                table,
+                permits,
+                backlog,
+                granted,
+                next: 0,
+            },
+            promoted,
+            counters: Counters::default(),
         })
     }
 
-    /// The number of the next entry.
-    pub fn next_number(&self) -> u64
-        ensures { result ≡ self.now.next }
+    /// Answers an event by the reply rule, and then stands where that answer leaves it.
+    ///
+    /// An ending asks that more of its partition are in flight than lie granted. The next number is
+    /// below 2^62, but for endings and for givings up of a number that waits or lies granted, which
+    /// are answered as long as something is owed. Takes no memory.
+    pub fn apply(&mut self, event: Event) -> Reply
+        requires may { MayCome (gate_of L.rules self.old) (stands self.old) event }
+        requires number { IsNumbered (gate_of L.rules self.old) (stands self.old) event }
+        ensures entries { Call event result ∷ map entry_of self.new.promoted ≡ answer (gate_of L.rules self.old) (stands self.old) [] event }
+        ensures stands { stands self.new ≡ image_after (gate_of L.rules self.old) (stands self.old) (Call event result ∷ map entry_of self.new.promoted) }
+        ensures gate { gate_of L.rules self.new ≡ gate_of L.rules self.old }
+        ensures counters { self.new.counters ≡ counters_after self.old.counters (Call event result ∷ map entry_of self.new.promoted) }
     {
-        self.next
+        let (reply, promotion) = self.state.apply(event);
+        self.counters.count(event, reply, promotion);
+        keep(&mut self.promoted, promotion);
+        reply
+    }
+
+    /// The promotions of the last call.
+    pub fn promotions(&self) -> &[Promotion]
+        ensures { result.now ≡ self.now.promoted }
+    {
+        &self.promoted
+    }
+
+    /// The number of the next entry. It leaves room for the numbers of all entries that are owed.
+    pub fn next_number(&self) -> u64
+        ensures value { result ≡ self.now.next }
+        ensures owed { result + owed (stands self.now) ≤ 2 ^ 62 + most_owed (gate_of L.rules self.now) (stands self.now) }
+    {
+        self.state.next
     }
 
     /// The limit now, in permits.
     pub fn limit(&self) -> u32
         ensures { result ≡ limit (gate_of L.rules self.now) (stands self.now) }
     {
-        self.limit.limit()
+        self.state.limit.limit()
     }
 
     /// How many permits aren't ended.
@@ -71,147 +126,83 @@ impl<L: Limit> Core<L> {
         ensures value { result ≡ total (stands self.now) }
         ensures bounded { result ≤ bound self.now.rows (L.rules.hi self.now.state) }
     {
-        self.permits.len() as u32
+        self.state.permits.total()
     }
 
     /// How many permits of a partition aren't ended.
     pub fn inflight(&self, part: Part) -> u32
         ensures { result ≡ (stands self.now).inflight (place_of self.now.rows part) }
     {
-        count_at(&self.permits, self.table.place(part))
+        self.state.permits.count(self.state.table.place(part))
+    }
+
+    /// How many wait.
+    pub fn waiting(&self) -> u32
+        ensures { result ≡ length self.now.waiters }
+    {
+        self.state.backlog.len() as u32
+    }
+
+    /// How many promoted permits lie granted, which nobody has got yet.
+    pub fn granted(&self) -> u32
+        ensures { result ≡ length self.now.granted }
+    {
+        self.state.granted.len()
+    }
+
+    /// Whether this number waits.
+    pub fn is_waiting(&self, number: u64) -> bool
+        ensures { result ≡ waits (stands self.now) number }
+    {
+        self.state.backlog.waits(number)
+    }
+
+    /// Whether a permit of this number lies granted.
+    pub fn is_granted(&self, number: u64) -> bool
+        ensures { result ≡ is_some (granted_of (stands self.now) number) }
+    {
+        self.granted_permit(number).is_some()
+    }
+
+    /// The permit of this number that lies granted.
+    pub fn granted_permit(&self, number: u64) -> Option<PermitFacts>
+        ensures { result ≡ granted_of (stands self.now) number }
+    {
+        self.state.granted.find(number)
+    }
+
+    /// How many replies, promotions and outcomes of each kind there were since this core was made.
+    pub fn counters(&self) -> Counters
+        ensures { result ≡ self.now.counters }
+    {
+        self.counters
     }
 
     /// The known partitions and their shares.
     pub fn table(&self) -> &PartitionTable
         ensures { result.now ≡ self.now.rows }
     {
-        &self.table
+        &self.state.table
     }
 
-    /// Whether a partition has room for one more.
-    fn has_room(&self, part: Part) -> bool
-        ensures { result ≡ has_room (gate_of L.rules self.now) (stands self.now) (place_of self.now.rows part) }
+    /// How many may wait: 0 to 10,000.
+    pub fn room(&self) -> u32
+        ensures value { result ≡ self.now.room }
+        ensures most { result ≤ 10000 }
     {
-        let limit = self.limit.limit();
-        self.total() < limit || self.inflight(part) < self.table.share(part, limit)
-    }
-
-    /// Answers an acquire.
-    fn acquire(&mut self, part: Part, bypass: bool, now: u64) -> Reply
-        requires { self.old.next < 2 ^ 62 }
-        ensures reply { result ≡ reply_to (gate_of L.rules self.old) (stands self.old) (Acquire part bypass now) }
-        ensures stands { stands self.new ≡ image_after (gate_of L.rules self.old) (stands self.old) (Call (Acquire part bypass now) result ∷ []) }
-        ensures rows { self.new.rows ≡ self.old.rows }
-    {
-        if bypass {
-            self.next += 1;
-            return Reply::Bypassed;
-        }
-        if self.has_room(part) {
-            let inflight = self.permits.len() as u32 + 1;
-            if self.permits.push(self.table.place(part)).is_err() {
-                unreachable!()
-            }
-            self.next += 1;
-            return Reply::Admitted { inflight };
-        }
-        self.next += 1;
-        Reply::Full
-    }
-
-    /// Ends a permit.
-    fn end(&mut self, permit: PermitFacts, outcome: Outcome, now: u64) -> Reply
-        requires may { MayCome (gate_of L.rules self.old) (stands self.old) (End permit outcome now) }
-        requires number { IsNumbered (gate_of L.rules self.old) (stands self.old) (End permit outcome now) }
-        ensures reply { result ≡ Ended 0 }
-        ensures stands { stands self.new ≡ image_after (gate_of L.rules self.old) (stands self.old) (Call (End permit outcome now) result ∷ []) }
-        ensures rows { self.new.rows ≡ self.old.rows }
-    {
-        drop_one(&mut self.permits, self.table.place(permit.part));
-        learn(&mut self.limit, permit, outcome, now);
-        self.next += 1;
-        Reply::Ended { promoted: 0 }
-    }
-
-    /// Sets the limit by hand.
-    fn set(&mut self, n: u32, now: u64) -> Reply
-        requires { self.old.next < 2 ^ 62 }
-        ensures reply { result ≡ reply_to (gate_of L.rules self.old) (stands self.old) (SetLimit n now) }
-        ensures stands { stands self.new ≡ image_after (gate_of L.rules self.old) (stands self.old) (Call (SetLimit n now) result ∷ []) }
-        ensures rows { self.new.rows ≡ self.old.rows }
-    {
-        let answer = self.limit.set(n);
-        self.next += 1;
-        match answer {
-            Ok(()) => Reply::LimitSet,
-            Err(fault) => Reply::Refused(fault),
-        }
-    }
-
-    /// Puts the algorithm back into its first state.
-    fn reset(&mut self, now: u64) -> Reply
-        requires { self.old.next < 2 ^ 62 }
-        ensures reply { result ≡ reply_to (gate_of L.rules self.old) (stands self.old) (Reset now) }
-        ensures stands { stands self.new ≡ image_after (gate_of L.rules self.old) (stands self.old) (Call (Reset now) result ∷ []) }
-        ensures rows { self.new.rows ≡ self.old.rows }
-    {
-        self.limit.reset();
-        self.next += 1;
-        Reply::ResetDone
-    }
-
-    /// Shows what stands.
-    fn look(&mut self, part: Part) -> Reply
-        requires { self.old.next < 2 ^ 62 }
-        ensures reply { result ≡ reply_to (gate_of L.rules self.old) (stands self.old) (Look part) }
-        ensures stands { stands self.new ≡ image_after (gate_of L.rules self.old) (stands self.old) (Call (Look part) result ∷ []) }
-        ensures rows { self.new.rows ≡ self.old.rows }
-    {
-        let limit = self.limit.limit();
-        let inflight = self.inflight(part);
-        self.next += 1;
-        Reply::Seen {
-            limit,
-            total: self.permits.len() as u32,
-            waiting: 0,
-            granted: 0,
-            inflight,
-            share: self.table.share(part, limit),
-        }
-    }
-
-    /// Answers an event by the reply rule, and then stands where that answer leaves it.
-    ///
-    /// An ending asks that its partition has a permit in flight. The next number is below 2^62, but
-    /// for endings, which are answered as long as permits are out. Takes no memory.
-    pub fn apply(&mut self, event: Event) -> Reply
-        requires may { MayCome (gate_of L.rules self.old) (stands self.old) event }
-        requires number { IsNumbered (gate_of L.rules self.old) (stands self.old) event }
-        ensures reply { result ≡ reply_to (gate_of L.rules self.old) (stands self.old) event }
-        ensures stands { stands self.new ≡ image_after (gate_of L.rules self.old) (stands self.old) (Call event result ∷ []) }
-        ensures rows { self.new.rows ≡ self.old.rows }
-    {
-        match event {
-            Event::Acquire { part, bypass, now } => self.acquire(part, bypass, now),
-            Event::End {
-                permit,
-                outcome,
-                now,
-            } => self.end(permit, outcome, now),
-            Event::SetLimit { n, now } => self.set(n, now),
-            Event::Reset { now } => self.reset(now),
-            Event::Look { part } => self.look(part),
-        }
+        self.state.backlog.room()
     }
 }
 
-/// What an algorithm learns from an ending.
-fn learn<L: Limit>(limit: &mut L, permit: PermitFacts, outcome: Outcome, now: u64)
-    ensures { limit.new ≡ fold L.rules.next limit.old (ending_samples permit outcome now) }
+/// Keeps one promotion, or none.
+fn keep(promoted: &mut Vec<Promotion>, promotion: Option<Promotion>)
+    requires { 1 ≤ vec_capacity promoted.old }
+    ensures items { promoted.new.items ≡ option_to_list promotion }
+    ensures room { 1 ≤ vec_capacity promoted.new }
 {
-    match outcome {
-        Outcome::Success => limit.on_sample(&Sample::of(permit.start, now, permit.inflight, false)),
-        Outcome::Dropped => limit.on_sample(&Sample::of(permit.start, now, permit.inflight, true)),
-        Outcome::Ignored => {}
+    promoted.clear();
+    match promotion {
+        Some(promotion) => promoted.push_reserved(promotion),
+        None => {}
     }
 }

@@ -1,17 +1,14 @@
 -- The event of a request names an open permit where it is an ending.
-use Rattle.std.proofs.Common.{◌≡◌, ℕ, List, Option, None, Some, option_map, refl, ap, sym, ◌∙◌, subst, true≢false, is_some, unwrap_or}
-use Rattle.std.specs.Prelude.{find}
+use Rattle.std.proofs.Common.{◌≡◌, ℕ, Option, None, Some, option_map, refl, sym, subst}
 use Rattle.limiter_core.specs.declared.event.Outcome.{Outcome}
 use Rattle.limiter_core.specs.declared.event.PermitFacts.{PermitFacts}
 use Rattle.limiter_core.specs.declared.event.Event.{Event}
 use Rattle.limiter_core.specs.declared.event.Event.TheVariants as event
-use Rattle.limiter_core.specs.declared.event.Entry.{Entry}
-use Rattle.limiter_core.specs.History.{Image}
 use Rattle.limiter_core.specs.Open.{open_permit}
 use Rattle.limiter_core.specs.Handed.{NamesOpen}
 use Rattle.limiter_core.proofs.Finds.{found_number}
 use Rattle.load_driver.specs.declared.script.Request.{Request}
-use Rattle.load_driver.specs.declared.script.Request.TheVariants.{Acquire, End, SetLimit, Reset, Look}
+use Rattle.load_driver.specs.declared.script.Request.TheVariants.{Acquire, End, Claim, GiveUp, SetLimit, Reset, Look}
 use Rattle.load_driver.specs.Replay.{event_of}
 use Rattle.load_driver.specs.Journal.{Journal, opening}
 
@@ -25,8 +22,10 @@ module _ {S : Type 0} (j : Journal S) where
   ended number now outcome (Some permit) e = subst (λ (n : ℕ). open_permit 0 j.entries n ≡ Some permit) (sym (found_number _ number permit e)) e
 
   event_named : (request : Request) → Named (event_of j.entries request)
-  event_named (Acquire part bypass now) = tt
+  event_named (Acquire part bypass wait now) = tt
   event_named (End number outcome now) = ended number now outcome (open_permit 0 j.entries number) refl
+  event_named (Claim number) = tt
+  event_named (GiveUp number) = tt
   event_named (SetLimit n now) = tt
   event_named (Reset now) = tt
   event_named (Look part) = tt

@@ -1,9 +1,9 @@
 -- The text after the settings, from a session that they begin.
-use Rattle.std.proofs.Common.{◌≡◌, ℕ, List, [], Bool, true, false, Option, None, Some, is_some, true≢false}
+use Rattle.std.proofs.Common.{◌≡◌, ℕ, List, [], false, Option, None, Some, is_some, true≢false}
 use Rattle.std.specs.Str.Lines.{lines}
-use Rattle.load_driver.specs.declared.kinds.AnyLimit.{AnyLimit}
+use Rattle.limit_kinds.specs.declared.kinds.AnyLimit.{AnyLimit}
 use Rattle.load_driver.specs.declared.answers.LineFault.{LineFault}
-use Rattle.load_driver.specs.AnyKinds.{any_rules}
+use Rattle.limit_kinds.specs.AnyKinds.{any_rules}
 use Rattle.load_driver.specs.Settings.{SettingFacts}
 use Rattle.load_driver.specs.Journal.{Journal}
 use Rattle.load_driver.specs.Replay.{after_text, lines_text}

@@ -9,6 +9,11 @@ use Rattle.load_driver.specs.Words.{number_of}
 abbrev pub with_number : {A : Type 0} → List ℕ → (ℕ → Option A) → Option A
 with_number word f = option_and_then f (number_of word)
 
+-- the number of a line that has no other word
+abbrev pub lone_number : List (List ℕ) → Option ℕ
+lone_number (word ∷ []) = number_of word
+lone_number _ = None
+
 -- the numbers of each kind of limit
 abbrev pub fixed_line : List (List ℕ) → Option LimitLine
 fixed_line (n ∷ []) = with_number n (λ n. Some (Fixed n))

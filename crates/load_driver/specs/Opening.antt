@@ -1,12 +1,12 @@
 -- The text of a whole script: its settings first, and then its other lines.
-use Rattle.std.specs.Prelude.{◌≡◌, ℕ, ◌+◌, ◌≤◌, ◌==◌, Bool, true, List, [], ◌∷◌, length, slice_index, Option, None, Some, Result, Ok, Err, if◌then◌else◌}
+use Rattle.std.specs.Prelude.{ℕ, ◌+◌, ◌==◌, Bool, true, List, [], ◌∷◌, slice_index, Option, None, Some, Ok, Err, if◌then◌else◌}
 use Rattle.std.specs.Str.Lines.{lines}
-use Rattle.load_driver.specs.declared.kinds.AnyLimit.{AnyLimit}
+use Rattle.limit_kinds.specs.declared.kinds.AnyLimit.{AnyLimit}
 use Rattle.load_driver.specs.declared.script.Why.{Why}
 use Rattle.load_driver.specs.declared.answers.LineFault.{LineFault}
-use Rattle.load_driver.specs.AnyKinds.{any_rules}
+use Rattle.limit_kinds.specs.AnyKinds.{any_rules}
 use Rattle.load_driver.specs.Words.{words}
-use Rattle.load_driver.specs.Settings.{SettingFacts, Setting, no_settings, setting_of, limit_of}
+use Rattle.load_driver.specs.Settings.{SettingFacts, Setting, no_settings, setting_of, limit_of, room_of}
 use Rattle.load_driver.specs.Journal.{Journal}
 use Rattle.load_driver.specs.Replay.{Told, lines_text}
 
@@ -17,7 +17,7 @@ is_skipped (first ∷ rest) = slice_index first 0 == 35
 
 -- the journal that the settings begin, fixed at n where they give no limit
 abbrev pub journal_of : ℕ → ℕ → SettingFacts → Journal AnyLimit
-journal_of n kept s = record { rows = s.rows; first = limit_of n s; entries = []; kept = kept }
+journal_of n kept s = record { rows = s.rows; room = room_of s; first = limit_of n s; entries = []; kept = kept }
 
 -- nothing is written, and this line is at fault
 abbrev pub faulty : ℕ → Why → Told

@@ -1,18 +1,15 @@
 -- The text of a script once its settings are over: line by line, each answered after all entries so far.
-use Rattle.std.specs.Prelude.{ℕ, ◌+◌, List, [], ◌∷◌, ◌++◌, length, codes, Option, None, Some, option_map, Result, Ok, Err, is_ok, if◌then◌else◌}
+use Rattle.std.specs.Prelude.{ℕ, ◌+◌, List, [], ◌∷◌, ◌++◌, false, length, codes, Option, None, Some, option_map, Ok, Err, is_ok, if◌then◌else◌}
 use Rattle.limit_laws.specs.Algorithm.{Algorithm}
 use Rattle.partitions.specs.Table.{Row}
-use Rattle.limiter_core.specs.declared.event.Outcome.{Outcome}
-use Rattle.limiter_core.specs.declared.event.PermitFacts.{PermitFacts}
 use Rattle.limiter_core.specs.declared.event.Event.{Event}
 use Rattle.limiter_core.specs.declared.event.Event.TheVariants as event
 use Rattle.limiter_core.specs.declared.event.Entry.{Entry}
 use Rattle.limiter_core.specs.Answer.{answer}
 use Rattle.limiter_core.specs.Bound.{is_exhausted}
 use Rattle.limiter_core.specs.Open.{open_permit}
-use Rattle.load_driver.specs.declared.script.Why.{Why}
 use Rattle.load_driver.specs.declared.script.Request.{Request}
-use Rattle.load_driver.specs.declared.script.Request.TheVariants.{Acquire, End, SetLimit, Reset, Look}
+use Rattle.load_driver.specs.declared.script.Request.TheVariants.{Acquire, End, Claim, GiveUp, SetLimit, Reset, Look}
 use Rattle.load_driver.specs.declared.answers.LineFault.{LineFault}
 use Rattle.load_driver.specs.Words.{words}
 use Rattle.load_driver.specs.Script.{Asked, request_of}
@@ -35,15 +32,17 @@ entries_text rows number (e ∷ es) = entry_text rows number e ++ entries_text r
 
 -- the event of a request: an ending is one only where its number names an open permit
 abbrev pub event_of : List Entry → Request → Option Event
-event_of entries (Acquire part bypass now) = Some (event.Acquire part bypass now)
+event_of entries (Acquire part bypass wait now) = Some (event.Acquire part bypass wait now)
 event_of entries (End number outcome now) = option_map (λ permit. event.End permit outcome now) (open_permit 0 entries number)
+event_of entries (Claim number) = Some (event.Claim number)
+event_of entries (GiveUp number) = Some (event.GiveUp number)
 event_of entries (SetLimit n now) = Some (event.SetLimit n now)
 event_of entries (Reset now) = Some (event.Reset now)
 event_of entries (Look part) = Some (event.Look part)
 
 -- the entries that an event adds to a journal: none where it is exhausted
 abbrev pub added : {S : Type 0} → Algorithm S → Journal S → Event → List Entry
-added rules j e = if is_exhausted j.kept (image rules j) (length j.entries) e then [] else answer (gate rules j) (opening j) j.entries e
+added rules j e = if is_exhausted j.kept false (image rules j) (length j.entries) e then [] else answer (gate rules j) (opening j) j.entries e
 
 -- the journal after an event, if there is one
 abbrev pub after_event : {S : Type 0} → Algorithm S → Journal S → Option Event → Journal S
@@ -54,7 +53,7 @@ after_event rules j (Some e) = record j { entries = j.entries ++ added rules j e
 abbrev pub event_text : {S : Type 0} → Algorithm S → Journal S → Option Event → List ℕ
 event_text rules j None = codes "- not open\n"
 event_text rules j (Some e) =
-    if is_exhausted j.kept (image rules j) (length j.entries) e then codes "- exhausted\n"
+    if is_exhausted j.kept false (image rules j) (length j.entries) e then codes "- exhausted\n"
     else entries_text j.rows (length j.entries) (answer (gate rules j) (opening j) j.entries e)
 
 -- the same of what a line asks

@@ -8,9 +8,9 @@ use Rattle.limiter_core.specs.declared.event.Outcome.TheVariants.{Success, Ignor
 use Rattle.load_driver.specs.declared.script.Why.{Why}
 use Rattle.load_driver.specs.declared.script.Why.TheVariants.{Words, Late, Value, Class}
 use Rattle.load_driver.specs.declared.script.Request.{Request}
-use Rattle.load_driver.specs.declared.script.Request.TheVariants.{Acquire, End, SetLimit, Reset, Look}
+use Rattle.load_driver.specs.declared.script.Request.TheVariants.{Acquire, End, Claim, GiveUp, SetLimit, Reset, Look}
 use Rattle.load_driver.specs.Words.{number_of}
-use Rattle.load_driver.specs.Formats.{limit_line, window_line, class_line}
+use Rattle.load_driver.specs.Formats.{limit_line, window_line, class_line, lone_number}
 
 -- what a line asks: nothing, a request, or why it is at fault
 abbrev pub Asked : Type 0
@@ -33,25 +33,35 @@ outcome_of word =
     else (if bytes_eq word (codes "dropped") then Some Dropped
     else None))
 
--- `acquire CLASS NOW`
-abbrev pub acquire_of : List Row → List (List ℕ) → Asked
-acquire_of rows (class ∷ now ∷ []) = or_fault Words (number_of now) (λ t. or_fault Class (part_of rows class) (λ part. Ok (Some (Acquire part false t))))
-acquire_of rows _ = Err Words
+-- whether the rest of a line says `wait`, where it says nothing else
+abbrev pub wait_of : List (List ℕ) → Option Bool
+wait_of [] = Some false
+wait_of (word ∷ []) = if bytes_eq word (codes "wait") then Some true else None
+wait_of _ = None
 
--- the number of a line that has no other word
-abbrev pub moment_of : List (List ℕ) → Option ℕ
-moment_of (now ∷ []) = number_of now
-moment_of _ = None
+-- `acquire CLASS NOW`, with `wait` or without it
+abbrev pub acquire_of : List Row → List (List ℕ) → Asked
+acquire_of rows (class ∷ now ∷ rest) =
+    or_fault Words (wait_of rest) (λ wait. or_fault Words (number_of now) (λ t. or_fault Class (part_of rows class) (λ part. Ok (Some (Acquire part false wait t)))))
+acquire_of rows _ = Err Words
 
 -- `bypass NOW`
 abbrev pub bypass_of : List (List ℕ) → Asked
-bypass_of rest = or_fault Words (moment_of rest) (λ t. Ok (Some (Acquire Unknown true t)))
+bypass_of rest = or_fault Words (lone_number rest) (λ t. Ok (Some (Acquire Unknown true false t)))
 
 -- `end N OUTCOME NOW`
 abbrev pub end_of : List (List ℕ) → Asked
 end_of (number ∷ outcome ∷ now ∷ []) =
     or_fault Words (number_of number) (λ n. or_fault Words (outcome_of outcome) (λ o. or_fault Words (number_of now) (λ t. Ok (Some (End n o t)))))
 end_of _ = Err Words
+
+-- `claim N`
+abbrev pub claim_of : List (List ℕ) → Asked
+claim_of rest = or_fault Words (lone_number rest) (λ n. Ok (Some (Claim n)))
+
+-- `giveup N`
+abbrev pub give_up_of : List (List ℕ) → Asked
+give_up_of rest = or_fault Words (lone_number rest) (λ n. Ok (Some (GiveUp n)))
 
 -- `set N NOW`, where a limit is 32 bits long
 abbrev pub set_of : List (List ℕ) → Asked
@@ -61,7 +71,7 @@ set_of _ = Err Words
 
 -- `reset NOW`
 abbrev pub reset_of : List (List ℕ) → Asked
-reset_of rest = or_fault Words (moment_of rest) (λ t. Ok (Some (Reset t)))
+reset_of rest = or_fault Words (lone_number rest) (λ t. Ok (Some (Reset t)))
 
 -- `look CLASS`
 abbrev pub look_of : List Row → List (List ℕ) → Asked
@@ -80,10 +90,13 @@ request_of rows (first ∷ rest) =
     else (if bytes_eq first (codes "acquire") then acquire_of rows rest
     else (if bytes_eq first (codes "bypass") then bypass_of rest
     else (if bytes_eq first (codes "end") then end_of rest
+    else (if bytes_eq first (codes "claim") then claim_of rest
+    else (if bytes_eq first (codes "giveup") then give_up_of rest
     else (if bytes_eq first (codes "set") then set_of rest
     else (if bytes_eq first (codes "reset") then reset_of rest
     else (if bytes_eq first (codes "look") then look_of rows rest
     else (if bytes_eq first (codes "limit") then late_if (is_some (limit_line rest))
     else (if bytes_eq first (codes "window") then late_if (is_some (window_line rest))
     else (if bytes_eq first (codes "class") then late_if (is_some (class_line rest))
-    else Err Words)))))))))
+    else (if bytes_eq first (codes "backlog") then late_if (is_some (lone_number rest))
+    else Err Words))))))))))))

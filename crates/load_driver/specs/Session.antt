@@ -1,21 +1,23 @@
 -- A session: a journal with the permits that are open in it, kept by number.
-use Rattle.std.specs.Prelude.{◌≡◌, ℕ, Option, nat_eq}
+use Rattle.std.specs.Prelude.{◌≡◌, ℕ, nat_eq}
 use Rattle.std.specs.HashMap.{get, HashMap}
 use Rattle.std.specs.declared.hash.FoldHasher.{FoldHasher}
 use Rattle.std.specs.declared.hash.BuildHasherDefault.{BuildHasherDefault}
 use Rattle.limit_laws.specs.Algorithm.{Algorithm}
 use Rattle.limiter_core.specs.declared.event.PermitFacts.{PermitFacts}
+use Rattle.limiter_core.specs.Legal.{IsLegal}
 use Rattle.limiter_core.specs.Open.{open_permit}
 use Rattle.limiter_core.specs.Handed.{IsHanded}
-use Rattle.limiter_core.proofs.Images.{IsBacked}
-use Rattle.load_driver.specs.Journal.{Journal, gate, opening}
+use Rattle.limiter_core.specs.Bound.{IsSound}
+use Rattle.load_driver.specs.Journal.{Journal, gate, opening, image}
 
 -- permits by number
 abbrev pub Permits : Type 0
 Permits = HashMap ℕ PermitFacts (BuildHasherDefault FoldHasher)
 
--- what a session keeps: the open permits are those in flight, and each is found by its number
+-- what a session keeps: its history is legal, what stands is sound, the open permits with the granted ones are those in flight, and each is found by its number
 pub record IsSession {S : Type 0} (rules : Algorithm S) (j : Journal S) (permits : Permits) : Type 0 where
-  pub backed : IsBacked (gate rules j) (opening j) j.entries
+  pub legal : IsLegal (gate rules j) (opening j) j.entries
+  pub sound : IsSound (gate rules j) (image rules j)
   pub handed : IsHanded (gate rules j) (opening j) j.entries
   pub found : (n : ℕ) → get nat_eq permits n ≡ open_permit 0 j.entries n

@@ -1,19 +1,19 @@
 -- The settings of a script, line by line.
-use Rattle.std.specs.Prelude.{◌≡◌, ℕ, ◌^◌, Bool, false, nat_lt, nat_le, ◌&&◌, List, [], ◌∷◌, ◌++◌, bytes_eq, codes, Option, None, Some, is_none, Result, Ok, Err, MatchOption, MatchResult, if◌then◌else◌}
+use Rattle.std.specs.Prelude.{◌≡◌, ℕ, ◌^◌, Bool, false, nat_lt, nat_le, ◌&&◌, List, [], ◌∷◌, ◌++◌, bytes_eq, codes, Option, None, Some, is_none, unwrap_or, Result, Ok, Err, MatchOption, MatchResult, if◌then◌else◌}
 use Rattle.limit_laws.specs.Facts.{hour}
 use Rattle.partitions.specs.Table.{Row}
 use Rattle.partitions.specs.Faults.{fault_of}
 use Rattle.windowed.specs.WindowedRules.{WindowSettings}
-use Rattle.load_driver.specs.declared.kinds.BaseLimit.{BaseLimit}
-use Rattle.load_driver.specs.declared.kinds.BaseLimit.TheVariants.{Fixed, Settable, Aimd, Vegas}
-use Rattle.load_driver.specs.declared.kinds.AnyLimit.{AnyLimit}
-use Rattle.load_driver.specs.declared.kinds.AnyLimit.TheVariants.{Plain, Windowed}
+use Rattle.limit_kinds.specs.declared.kinds.BaseLimit.{BaseLimit}
+use Rattle.limit_kinds.specs.declared.kinds.BaseLimit.TheVariants.{Fixed, Settable, Aimd, Vegas}
+use Rattle.limit_kinds.specs.declared.kinds.AnyLimit.{AnyLimit}
+use Rattle.limit_kinds.specs.declared.kinds.AnyLimit.TheVariants.{Plain, Windowed}
 use Rattle.load_driver.specs.declared.formats.LimitLine.{LimitLine}
 use Rattle.load_driver.specs.declared.formats.LimitLine.TheVariants as line
 use Rattle.load_driver.specs.declared.formats.WindowLine.{WindowLine}
 use Rattle.load_driver.specs.declared.script.Why.{Why}
 use Rattle.load_driver.specs.declared.script.Why.TheVariants.{Words, Twice, Value}
-use Rattle.load_driver.specs.Formats.{limit_line, window_line, class_line}
+use Rattle.load_driver.specs.Formats.{limit_line, window_line, class_line, lone_number}
 
 -- a limit, and the least and the greatest one: 1 ≤ lo ≤ n ≤ hi ≤ 10,000
 abbrev pub is_limit : ℕ → ℕ → ℕ → Bool
@@ -40,14 +40,15 @@ base_of (line.Vegas lo n hi alpha beta probe) =
     then Some (Vegas (record { lo = lo; limit = n; hi = hi; first = n; alpha = alpha; beta = beta; probe_every = probe; base = None; count = 0 }))
     else None
 
--- the settings so far: the limit and the windows over it, where a line gave them, and the known partitions
+-- the settings so far: the limit, the windows over it and how many may wait, where a line gave them, and the known partitions
 pub record SettingFacts : Type 0 where
   pub limit : Option BaseLimit
   pub window : Option WindowSettings
+  pub backlog : Option ℕ
   pub rows : List Row
 
 abbrev pub no_settings : SettingFacts
-no_settings = record { limit = None; window = None; rows = [] }
+no_settings = record { limit = None; window = None; backlog = None; rows = [] }
 
 -- the windows of a line, where each number of it is in its range
 abbrev pub windows_of : WindowLine → Option WindowSettings
@@ -65,7 +66,7 @@ abbrev pub or_fault : {A : Type 0} → Why → Option A → (A → Setting) → 
 or_fault why None f = Err why
 or_fault why (Some a) f = f a
 
--- a limit and windows are set once
+-- a limit, windows and a backlog are set once
 abbrev pub once : {A : Type 0} → Option A → Setting → Setting
 once None setting = setting
 once (Some before) setting = Err Twice
@@ -75,6 +76,10 @@ with_limit s rest = or_fault Words (limit_line rest) (λ line. once s.limit (or_
 
 abbrev pub with_window : SettingFacts → List (List ℕ) → Setting
 with_window s rest = or_fault Words (window_line rest) (λ line. once s.window (or_fault Value (windows_of line) (λ window. Ok (record s { window = Some window }))))
+
+-- at most 10,000 may wait
+abbrev pub with_backlog : SettingFacts → List (List ℕ) → Setting
+with_backlog s rest = or_fault Words (lone_number rest) (λ room. once s.backlog (if nat_le room 10000 then Ok (record s { backlog = Some room }) else Err Value))
 
 -- one more partition: its percentage fits 32 bits, and the partitions with it make a table
 abbrev pub with_row : SettingFacts → Row → Setting
@@ -93,7 +98,8 @@ setting_of s (first ∷ rest) =
     if bytes_eq first (codes "limit") then Some (with_limit s rest)
     else (if bytes_eq first (codes "window") then Some (with_window s rest)
     else (if bytes_eq first (codes "class") then Some (with_class s rest)
-    else None))
+    else (if bytes_eq first (codes "backlog") then Some (with_backlog s rest)
+    else None)))
 
 -- the limit of the settings, which is fixed at n where no line gave one
 abbrev pub base_or : ℕ → Option BaseLimit → BaseLimit
@@ -107,6 +113,10 @@ windowed_if (Some window) limit = Windowed (record { inner = limit; totals = rec
 
 abbrev pub limit_of : ℕ → SettingFacts → AnyLimit
 limit_of n s = windowed_if s.window (base_or n s.limit)
+
+-- how many may wait: 100 where no line says it
+abbrev pub room_of : SettingFacts → ℕ
+room_of s = unwrap_or s.backlog 100
 
 -- what is answered to a setting: that it is taken, or why it is at fault, and then the settings stay
 abbrev pub Answers : Setting → SettingFacts → SettingFacts → Result (Unit {0}) Why → Type 0

@@ -35,8 +35,7 @@ fn push_entries(
 {
     let mut number = first as u64;
     for entry in entries {
-        let Entry::Call { event, reply } = *entry;
-        push_entry(text, table, number, event, reply)?;
+        push_entry(text, table, number, *entry)?;
         number += 1;
     }
     Ok(())
@@ -47,7 +46,17 @@ fn read_event<L: Limit>(session: &Session<L>, request: Request) -> Option<Event>
     ensures { result ≡ event_of session.now.entries request }
 {
     match request {
-        Request::Acquire { part, bypass, now } => Some(Event::Acquire { part, bypass, now }),
+        Request::Acquire {
+            part,
+            bypass,
+            wait,
+            now,
+        } => Some(Event::Acquire {
+            part,
+            bypass,
+            wait,
+            now,
+        }),
         Request::End {
             number,
             outcome,
@@ -60,6 +69,8 @@ fn read_event<L: Limit>(session: &Session<L>, request: Request) -> Option<Event>
                 now,
             })
         }
+        Request::Claim { number } => Some(Event::Claim { number }),
+        Request::GiveUp { number } => Some(Event::GiveUp { number }),
         Request::SetLimit { n, now } => Some(Event::SetLimit { n, now }),
         Request::Reset { now } => Some(Event::Reset { now }),
         Request::Look { part } => Some(Event::Look { part }),

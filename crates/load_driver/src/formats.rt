@@ -1,7 +1,7 @@
 // The formats of the setting lines.
 ghost use Rattle.std.specs.Prelude.{◌≡◌, option_map};
 ghost use Rattle.load_driver.specs.Words.{words};
-ghost use Rattle.load_driver.specs.Formats.{fixed_line, settable_line, aimd_line, vegas_line, limit_line, window_line, class_line};
+ghost use Rattle.load_driver.specs.Formats.{fixed_line, settable_line, aimd_line, vegas_line, limit_line, window_line, class_line, lone_number};
 
 use super::numbers::read_number;
 use super::words::next_word;
@@ -165,4 +165,15 @@ pub(crate) fn read_class(line: &[u8]) -> Option<(&[u8], u64)>
         return None;
     }
     Some((name, read_number(percent)?))
+}
+
+/// The number of a line that has no other word.
+pub(crate) fn read_lone_number(line: &[u8]) -> Option<u64>
+    ensures { result ≡ lone_number (words line.now) }
+{
+    let (word, line) = next_word(line)?;
+    if next_word(line).is_some() {
+        return None;
+    }
+    read_number(word)
 }

@@ -1,13 +1,14 @@
 // The limiter with the history of all that it was asked and answered.
-ghost use Rattle.std.specs.Prelude.{◌≡◌, ◌≤◌, ◌++◌, ◌∷◌, [], length, IfOk, IfSome, OnSome, IfNone, is_none};
+ghost use Rattle.std.specs.Prelude.{◌≡◌, ◌≤◌, ◌+◌, ◌++◌, ◌∷◌, [], false, map, length, vec_capacity, slice_get, IfOk, IfSome, OnSome, OnErr, IfNone, is_none};
 ghost use Rattle.limiter_core.specs.declared.event.Entry.TheVariants.{Call};
 ghost use Rattle.limiter_core.specs.Answer.{answer};
 ghost use Rattle.limiter_core.specs.Legal.{MayCome};
-ghost use Rattle.limiter_core.specs.Bound.{is_exhausted, is_always_served};
+ghost use Rattle.limiter_core.specs.Bound.{IsSound, is_exhausted, is_always_served};
+ghost use Rattle.limiter_core.specs.Limiter.{stands, entry_of};
 ghost use Rattle.load_driver.specs.Journal.{gate, opening, image};
 
 use limit_laws::Limit;
-use limiter_core::{Core, Entry, Event, Reply};
+use limiter_core::{Core, CoreFault, Entry, Event, Promotion, Reply};
 use partitions::PartitionTable;
 use std::alloc::{AllocError, Global};
 use std::marker::Model;
@@ -15,13 +16,14 @@ use std::marker::Model;
 /// The most entries that a journal may be asked to keep.
 pub(crate) const MOST_KEPT: usize = 1_000_000;
 
-/// From this number on only endings are answered.
+/// From this number on only what is owed is answered.
 const LAST_NUMBER: u64 = 4_611_686_018_427_387_904;
 
 /// A limiter with all that it was asked and answered.
 ///
-/// It answers until it holds as many entries as it keeps, and then endings alone, for each of which
-/// it has a place from the start: no answer takes memory.
+/// It answers until it holds as many entries as it keeps. Then endings alone are answered, and
+/// givings up of what waits or lies granted; for all entries that may still come there is a place
+/// from the start, so no answer takes memory.
 #[derive(Drop)]
 pub(crate) struct Journal<L: Limit> {
     first: L,
@@ -36,26 +38,33 @@ impl<L: Limit> Model for Journal<L> {
 
     ghost Value = { Journal L };
 
-    ghost view = { λ j. record { rows = j.core.rows; first = j.first; entries = j.entries.items; kept = j.kept } };
+    ghost view = { λ j. record { rows = j.core.rows; room = j.core.room; first = j.first; entries = j.entries.items; kept = j.kept } };
 
-    ghost invariant = { λ j. IsJournal L.rules (record { rows = j.core.rows; first = j.first; entries = j.entries.items; kept = j.kept }) j.core (vec_capacity j.entries) };
+    ghost invariant = { λ j. IsJournal L.rules (record { rows = j.core.rows; room = j.core.room; first = j.first; entries = j.entries.items; kept = j.kept }) j.core (vec_capacity j.entries) };
 }
 
 impl<L: Limit> Journal<L> {
-    /// Nothing was asked yet.
+    /// Nothing was asked yet; up to `room` may wait.
     pub(crate) fn new(
         alloc: Global,
         limit: L,
         table: PartitionTable,
+        room: u32,
         kept: usize,
     ) -> Result<Journal<L>, AllocError>
-        requires { kept ≤ MOST_KEPT }
-        ensures { IfOk result (λ journal. journal ≡ record { rows = table; first = limit; entries = []; kept = kept }) }
+        requires room { room ≤ 10000 }
+        requires kept { kept ≤ MOST_KEPT }
+        ensures made { IfOk result (λ journal. journal ≡ record { rows = table; room = room; first = limit; entries = []; kept = kept }) }
+        ensures sound { IfOk result (λ journal. IsSound (gate L.rules journal) (opening journal)) }
     {
         let most = table.most(limit.hi()) as usize;
         let first = limit.copy();
-        let core = Core::new(alloc, limit, table)?;
-        let entries = Vec::with_capacity(alloc, kept + 2 * most)?;
+        let core = match Core::new(alloc, limit, table, room) {
+            Ok(core) => core,
+            Err(CoreFault::Memory) => return Err(AllocError),
+            Err(CoreFault::Room) => unreachable!(),
+        };
+        let entries = Vec::with_capacity(alloc, kept + 2 * most + 3 * room as usize)?;
         Ok(Journal {
             first,
             core,
@@ -80,19 +89,33 @@ impl<L: Limit> Journal<L> {
 
     /// Whether an event isn't answered any more.
     fn is_exhausted(&self, event: Event) -> bool
-        ensures { result ≡ is_exhausted self.now.kept (image L.rules self.now) (length self.now.entries) event }
+        ensures { result ≡ is_exhausted self.now.kept false (image L.rules self.now) (length self.now.entries) event }
     {
-        !is_always_served(event)
+        !self.is_always_served(event)
             && (self.entries.len() >= self.kept || self.core.next_number() >= LAST_NUMBER)
     }
 
-    /// Answers an event, and keeps both under the next number; nothing where no place is left.
+    /// Whether an event is answered however many entries are held.
+    fn is_always_served(&self, event: Event) -> bool
+        ensures { result ≡ is_always_served (image L.rules self.now) event }
+    {
+        match event {
+            Event::End { .. } => true,
+            Event::GiveUp { number } => {
+                self.core.is_waiting(number) || self.core.is_granted(number)
+            }
+            _ => false,
+        }
+    }
+
+    /// Answers an event, and keeps what that adds from the next number on; nothing where no place
+    /// is left.
     pub(crate) fn apply(&mut self, event: Event) -> Option<(u64, Reply)>
         requires { MayCome (gate L.rules self.old) (image L.rules self.old) event }
-        ensures exhausted { is_none result ≡ is_exhausted self.old.kept (image L.rules self.old) (length self.old.entries) event }
+        ensures exhausted { is_none result ≡ is_exhausted self.old.kept false (image L.rules self.old) (length self.old.entries) event }
         ensures unchanged { IfNone result (self.new ≡ self.old) }
         ensures number { IfSome result (λ found. found.0 ≡ length self.old.entries) }
-        ensures reply { IfSome result (λ found. answer (gate L.rules self.old) (opening self.old) self.old.entries event ≡ Call event found.1 ∷ []) }
+        ensures reply { IfSome result (λ found. slice_get (answer (gate L.rules self.old) (opening self.old) self.old.entries event) 0 ≡ Some (Call event found.1)) }
         ensures entries { OnSome result (self.new ≡ record self.old { entries = self.old.entries ++ answer (gate L.rules self.old) (opening self.old) self.old.entries event }) }
     {
         if self.is_exhausted(event) {
@@ -100,16 +123,24 @@ impl<L: Limit> Journal<L> {
         }
         let number = self.entries.len();
         let reply = self.core.apply(event);
-        if self.entries.push(Entry::Call { event, reply }).is_err() {
-            unreachable!()
-        }
+        push_answer(&mut self.entries, event, reply, self.core.promotions());
         Some((number as u64, reply))
     }
 }
 
-/// Whether an event is answered however many entries are held.
-fn is_always_served(event: Event) -> bool
-    ensures { result ≡ is_always_served event }
+/// Keeps a call and the promotions that it caused.
+fn push_answer(entries: &mut Vec<Entry>, event: Event, reply: Reply, promotions: &[Promotion])
+    requires { length entries.old.items + 1 + length promotions.now ≤ vec_capacity entries.old }
+    ensures items { entries.new.items ≡ entries.old.items ++ Call event reply ∷ map entry_of promotions.now }
+    ensures room { vec_capacity entries.old ≤ vec_capacity entries.new }
 {
-    matches!(event, Event::End { .. })
+    entries.push_reserved(Entry::Call { event, reply });
+    for promotion in promotions {
+        entries.push_reserved(Entry::Promotion {
+            waiter: promotion.waiter,
+            part: promotion.part,
+            start: promotion.start,
+            inflight: promotion.inflight,
+        });
+    }
 }

@@ -10,11 +10,12 @@ mod driver;
 mod faults;
 mod formats;
 mod journal;
-mod kinds;
 mod lines;
 mod makers;
 mod numbers;
 mod opening;
+#[cfg(test)]
+mod replay_tests;
 mod script;
 #[cfg(test)]
 mod script_tests;

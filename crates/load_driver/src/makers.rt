@@ -6,8 +6,8 @@ ghost use Rattle.load_driver.specs.Settings.{base_of, windows_of};
 ghost use Rattle.load_driver.specs.Stored.{window_of};
 
 use super::formats::{LimitLine, WindowLine};
-use super::kinds::BaseLimit;
 use aimd::Aimd;
+use limit_kinds::BaseLimit;
 use limit_laws::{Fixed, HOUR, Settable};
 use vegas::Vegas;
 

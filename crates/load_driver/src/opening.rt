@@ -101,7 +101,8 @@ pub(crate) fn answer_script(
         return Ok((text, fault));
     }
     let limit = settings.limit(n);
-    let mut session = Session::new(alloc, limit, settings.into_table(), kept)?;
+    let room = settings.room();
+    let mut session = Session::new(alloc, limit, settings.into_table(), room, kept)?;
     let fault = answer_lines(&mut session, &mut text, rest, line)?;
     Ok((text, fault))
 }

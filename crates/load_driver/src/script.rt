@@ -1,9 +1,9 @@
 // What a line of a script asks.
 ghost use Rattle.std.specs.Prelude.{◌≡◌};
 ghost use Rattle.load_driver.specs.Words.{words};
-ghost use Rattle.load_driver.specs.Script.{part_of, outcome_of, acquire_of, moment_of, bypass_of, end_of, set_of, reset_of, look_of, late_if, request_of};
+ghost use Rattle.load_driver.specs.Script.{part_of, outcome_of, wait_of, acquire_of, bypass_of, end_of, claim_of, give_up_of, set_of, reset_of, look_of, late_if, request_of};
 
-use super::formats::{read_class, read_limit, read_window};
+use super::formats::{read_class, read_limit, read_lone_number, read_window};
 use super::numbers::read_number;
 use super::words::next_word;
 use limiter_core::Outcome;
@@ -27,10 +27,11 @@ pub enum Why {
 /// What a line asks.
 #[derive(Clone, Copy, Debug, PartialEq, Eq)]
 pub(crate) enum Request {
-    /// A permit, or the way past the limit.
+    /// A permit, at once or after waiting for it, or the way past the limit.
     Acquire {
         part: Part,
         bypass: bool,
+        wait: bool,
         now: u64,
     },
     /// The end of the permit with this number, where one is open.
@@ -38,6 +39,14 @@ pub(crate) enum Request {
         number: u64,
         outcome: Outcome,
         now: u64,
+    },
+    /// The permit of the waiter with this number.
+    Claim {
+        number: u64,
+    },
+    /// The end of this number's waiting.
+    GiveUp {
+        number: u64,
     },
     /// Another limit.
     SetLimit {
@@ -64,6 +73,19 @@ fn read_part(table: &PartitionTable, class: &[u8]) -> Option<Part>
     table.find(class)
 }
 
+/// Whether the rest of a line says `wait`; nothing where it says anything else.
+fn read_wait(line: &[u8]) -> Option<bool>
+    ensures { result ≡ wait_of (words line.now) }
+{
+    let Some((word, line)) = next_word(line) else {
+        return Some(false);
+    };
+    if next_word(line).is_some() || word != b"wait".as_slice() {
+        return None;
+    }
+    Some(true)
+}
+
 /// What follows `acquire`.
 fn read_acquire(table: &PartitionTable, line: &[u8]) -> Result<Option<Request>, Why>
     ensures { result ≡ acquire_of table.now (words line.now) }
@@ -74,9 +96,9 @@ fn read_acquire(table: &PartitionTable, line: &[u8]) -> Result<Option<Request>, 
     let Some((now, line)) = next_word(line) else {
         return Err(Why::Words);
     };
-    if next_word(line).is_some() {
+    let Some(wait) = read_wait(line) else {
         return Err(Why::Words);
-    }
+    };
     let Some(now) = read_number(now) else {
         return Err(Why::Words);
     };
@@ -86,29 +108,20 @@ fn read_acquire(table: &PartitionTable, line: &[u8]) -> Result<Option<Request>, 
     Ok(Some(Request::Acquire {
         part,
         bypass: false,
+        wait,
         now,
     }))
-}
-
-/// The moment that a line of one number names.
-fn read_moment(line: &[u8]) -> Option<u64>
-    ensures { result ≡ moment_of (words line.now) }
-{
-    let (now, line) = next_word(line)?;
-    if next_word(line).is_some() {
-        return None;
-    }
-    read_number(now)
 }
 
 /// What follows `bypass`.
 fn read_bypass(line: &[u8]) -> Result<Option<Request>, Why>
     ensures { result ≡ bypass_of (words line.now) }
 {
-    let now = read_moment(line).ok_or(Why::Words)?;
+    let now = read_lone_number(line).ok_or(Why::Words)?;
     Ok(Some(Request::Acquire {
         part: Part::Unknown,
         bypass: true,
+        wait: false,
         now,
     }))
 }
@@ -160,6 +173,22 @@ fn read_end(line: &[u8]) -> Result<Option<Request>, Why>
     }))
 }
 
+/// What follows `claim`.
+fn read_claim(line: &[u8]) -> Result<Option<Request>, Why>
+    ensures { result ≡ claim_of (words line.now) }
+{
+    let number = read_lone_number(line).ok_or(Why::Words)?;
+    Ok(Some(Request::Claim { number }))
+}
+
+/// What follows `giveup`.
+fn read_give_up(line: &[u8]) -> Result<Option<Request>, Why>
+    ensures { result ≡ give_up_of (words line.now) }
+{
+    let number = read_lone_number(line).ok_or(Why::Words)?;
+    Ok(Some(Request::GiveUp { number }))
+}
+
 /// What follows `set`.
 fn read_set(line: &[u8]) -> Result<Option<Request>, Why>
     ensures { result ≡ set_of (words line.now) }
@@ -189,7 +218,7 @@ fn read_set(line: &[u8]) -> Result<Option<Request>, Why>
 fn read_reset(line: &[u8]) -> Result<Option<Request>, Why>
     ensures { result ≡ reset_of (words line.now) }
 {
-    let now = read_moment(line).ok_or(Why::Words)?;
+    let now = read_lone_number(line).ok_or(Why::Words)?;
     Ok(Some(Request::Reset { now }))
 }
 
@@ -239,6 +268,12 @@ pub(crate) fn read_request(table: &PartitionTable, line: &[u8]) -> Result<Option
     if first == b"end".as_slice() {
         return read_end(line);
     }
+    if first == b"claim".as_slice() {
+        return read_claim(line);
+    }
+    if first == b"giveup".as_slice() {
+        return read_give_up(line);
+    }
     if first == b"set".as_slice() {
         return read_set(line);
     }
@@ -256,6 +291,9 @@ pub(crate) fn read_request(table: &PartitionTable, line: &[u8]) -> Result<Option
     }
     if first == b"class".as_slice() {
         return late_if(read_class(line).is_some());
+    }
+    if first == b"backlog".as_slice() {
+        return late_if(read_lone_number(line).is_some());
     }
     Err(Why::Words)
 }

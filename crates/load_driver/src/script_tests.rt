@@ -2,7 +2,7 @@
 use super::script::{Request, Why, read_request};
 use super::text::push_entry;
 use limit_laws::SetFault;
-use limiter_core::{Event, Outcome, PermitFacts, Reply};
+use limiter_core::{Entry, Event, Outcome, PermitFacts, Reply};
 use partitions::{Part, PartitionTable, TableFault};
 use std::alloc::Global;
 use std::test::Fail;
@@ -21,20 +21,26 @@ fn classes(alloc: Global) -> Result<PartitionTable, TableFault> {
 #[test]
 fn a_line_asks_what_its_words_say(rt: HostRuntime) -> Result<(), Fail> {
     let table = classes(rt.alloc())?;
-    let acquire = |part, bypass, now| Request::Acquire { part, bypass, now };
+    let acquire = |part, bypass, wait, now| Request::Acquire {
+        part,
+        bypass,
+        wait,
+        now,
+    };
     let end = |outcome| Request::End {
         number: 7,
         outcome,
         now: 9,
     };
-    let rows: [(&[u8], Request); 12] = [
-        (b"acquire live 5", acquire(LIVE, false, 5)),
-        (b"  acquire   batch 0 ", acquire(BATCH, false, 0)),
+    let rows: [(&[u8], Request); 16] = [
+        (b"acquire live 5", acquire(LIVE, false, false, 5)),
+        (b"acquire live 5 wait", acquire(LIVE, false, true, 5)),
+        (b"  acquire   batch 0 ", acquire(BATCH, false, false, 0)),
         (
             b"acquire unknown 18446744073709551615",
-            acquire(Part::Unknown, false, u64::MAX),
+            acquire(Part::Unknown, false, false, u64::MAX),
         ),
-        (b"bypass 3", acquire(Part::Unknown, true, 3)),
+        (b"bypass 3", acquire(Part::Unknown, true, false, 3)),
         (b"end 7 success 9", end(Outcome::Success)),
         (b"end 7 ignored 9", end(Outcome::Ignored)),
         (b"end 0007 dropped 09", end(Outcome::Dropped)),
@@ -46,6 +52,12 @@ fn a_line_asks_what_its_words_say(rt: HostRuntime) -> Result<(), Fail> {
             },
         ),
         (b"set 0 1", Request::SetLimit { n: 0, now: 1 }),
+        (b"claim 07", Request::Claim { number: 7 }),
+        (b"giveup 7", Request::GiveUp { number: 7 }),
+        (
+            b"claim 18446744073709551615",
+            Request::Claim { number: u64::MAX },
+        ),
         (b"reset 8", Request::Reset { now: 8 }),
         (b"look batch", Request::Look { part: BATCH }),
         (
@@ -73,7 +85,9 @@ acquire live
 acquire live x
 acquire nobody x
 acquire live 5 5
-acquire live 5 wait
+acquire live 5 Wait
+acquire live 5 wait wait
+acquire live wait
 acquire\tlive 5
 Acquire live 5
 acquire live -1
@@ -87,6 +101,12 @@ end 1 failed 2
 end x success 2
 end 1 success x
 end 1 success 2 3
+claim
+claim x
+claim 1 2
+giveup
+giveup x
+giveup 1 2
 set 1
 set 4294967296 x
 set 1 2 3
@@ -98,6 +118,9 @@ limit slow 1
 limit fixed
 window 1 2 3
 class live
+backlog
+backlog x
+backlog 1 2
 ";
 
 const LATE: &str = "\
@@ -109,6 +132,8 @@ window 0 0 0 0
 class other 10
 class live 60
 class unknown 0
+backlog 10001
+backlog 5
 ";
 
 const PAST_32_BITS: &str = "\
@@ -146,6 +171,7 @@ fn an_entry_is_written_with_its_number_in_front(rt: HostRuntime) -> Result<(), F
     let acquire = |part, bypass| Event::Acquire {
         part,
         bypass,
+        wait: false,
         now: 0,
     };
     let permit = PermitFacts {
@@ -168,7 +194,14 @@ fn an_entry_is_written_with_its_number_in_front(rt: HostRuntime) -> Result<(), F
         share: 5,
     };
     let set = Event::SetLimit { n: 1, now: 0 };
-    let rows: [(u64, Event, Reply, &str); 12] = [
+    let claim = Event::Claim { number: 1 };
+    let give_up = Event::GiveUp { number: 1 };
+    let granted = Reply::Granted {
+        part: LIVE,
+        start: 5,
+        inflight: 6,
+    };
+    let rows: [(u64, Event, Reply, &str); 19] = [
         (
             0,
             acquire(LIVE, false),
@@ -194,6 +227,18 @@ fn an_entry_is_written_with_its_number_in_front(rt: HostRuntime) -> Result<(), F
             "3 bypassed\n",
         ),
         (4, acquire(LIVE, false), Reply::Full, "4 refused full\n"),
+        (
+            12,
+            acquire(LIVE, false),
+            Reply::BacklogFull,
+            "12 refused backlog\n",
+        ),
+        (13, acquire(LIVE, false), Reply::Waiting, "13 waiting\n"),
+        (14, claim, granted, "14 granted inflight 6\n"),
+        (15, give_up, granted, "15 granted inflight 6\n"),
+        (16, claim, Reply::StillWaiting, "16 still waiting\n"),
+        (17, give_up, Reply::TimedOut, "17 timed out\n"),
+        (18, claim, Reply::Lost, "18 lost\n"),
         (
             u64::MAX,
             end,
@@ -224,8 +269,17 @@ fn an_entry_is_written_with_its_number_in_front(rt: HostRuntime) -> Result<(), F
     ];
     for (number, event, reply, wanted) in rows {
         let mut text = String::new(rt.alloc());
-        push_entry(&mut text, &table, number, event, reply)?;
+        push_entry(&mut text, &table, number, Entry::Call { event, reply })?;
         assert_eq!(rt; text.as_str(), wanted);
     }
+    let mut text = String::new(rt.alloc());
+    let promotion = Entry::Promotion {
+        waiter: 2,
+        part: LIVE,
+        start: 5,
+        inflight: 7,
+    };
+    push_entry(&mut text, &table, 19, promotion)?;
+    assert_eq!(rt; text.as_str(), "19 promoted 2 inflight 7\n");
     Ok(())
 }

@@ -1,5 +1,5 @@
 // A journal with the permits that are open in it.
-ghost use Rattle.std.specs.Prelude.{◌≡◌, ◌≤◌, ◌<◌, ◌++◌, ◌∷◌, [], ℕ, length, nat_eq, IfOk, IfSome, OnSome, IfNone, is_none};
+ghost use Rattle.std.specs.Prelude.{◌≡◌, ◌≤◌, ◌<◌, ◌++◌, ◌∷◌, [], ℕ, length, nat_eq, false, Some, ◌==◌, if◌then◌else◌, IfOk, IfSome, OnSome, IfNone, is_none};
 ghost use Rattle.std.specs.HashMap.{get, spare};
 ghost use Rattle.limiter_core.specs.declared.event.Entry.TheVariants.{Call};
 ghost use Rattle.limiter_core.specs.Answer.{answer};
@@ -36,17 +36,19 @@ impl<L: Limit> Model for Session<L> {
 }
 
 impl<L: Limit> Session<L> {
-    /// Nothing was asked yet.
+    /// Nothing was asked yet; up to `room` may wait.
     pub(crate) fn new(
         alloc: Global,
         limit: L,
         table: PartitionTable,
+        room: u32,
         kept: usize,
     ) -> Result<Session<L>, AllocError>
-        requires { kept ≤ MOST_KEPT }
-        ensures { IfOk result (λ session. session ≡ record { rows = table; first = limit; entries = []; kept = kept }) }
+        requires room { room ≤ 10000 }
+        requires kept { kept ≤ MOST_KEPT }
+        ensures { IfOk result (λ session. session ≡ record { rows = table; room = room; first = limit; entries = []; kept = kept }) }
     {
-        let journal = Journal::new(alloc, limit, table, kept)?;
+        let journal = Journal::new(alloc, limit, table, room, kept)?;
         Ok(Session {
             journal,
             permits: HashMap::new(alloc),
@@ -78,7 +80,7 @@ impl<L: Limit> Session<L> {
     /// journal is exhausted. An ending names an open permit.
     pub(crate) fn ask(&mut self, event: Event) -> Result<Option<usize>, AllocError>
         requires { NamesOpen (opening self.old) self.old.entries event }
-        ensures exhausted { IfOk result (λ answered. is_none answered ≡ is_exhausted self.old.kept (image L.rules self.old) (length self.old.entries) event) }
+        ensures exhausted { IfOk result (λ answered. is_none answered ≡ is_exhausted self.old.kept false (image L.rules self.old) (length self.old.entries) event) }
         ensures unchanged { IfOk result (λ answered. IfNone answered (self.new ≡ self.old)) }
         ensures first { IfOk result (λ answered. IfSome answered (λ first. first ≡ length self.old.entries)) }
         ensures entries { IfOk result (λ answered. OnSome answered (self.new ≡ record self.old { entries = self.old.entries ++ answer (gate L.rules self.old) (opening self.old) self.old.entries event })) }
@@ -108,13 +110,53 @@ fn note(permits: &mut HashMap<u64, PermitFacts>, number: u64, event: Event, repl
                 start: now.min(LAST_MOMENT),
                 inflight,
             };
-            if permits.insert(number, permit).is_err() {
-                unreachable!()
-            }
+            keep(permits, permit);
+        }
+        (
+            Event::Claim { number },
+            Reply::Granted {
+                part,
+                start,
+                inflight,
+            },
+        ) => {
+            let permit = PermitFacts {
+                number,
+                part,
+                start,
+                inflight,
+            };
+            keep(permits, permit);
+        }
+        (
+            Event::GiveUp { number },
+            Reply::Granted {
+                part,
+                start,
+                inflight,
+            },
+        ) => {
+            let permit = PermitFacts {
+                number,
+                part,
+                start,
+                inflight,
+            };
+            keep(permits, permit);
         }
         (Event::End { permit, .. }, _) => {
             permits.remove(&permit.number);
         }
         _ => {}
+    }
+}
+
+/// Keeps a permit by its number.
+fn keep(permits: &mut HashMap<u64, PermitFacts>, permit: PermitFacts)
+    requires { 0 < spare permits.old }
+    ensures { (n : ℕ) → get nat_eq permits.new n ≡ (if permit.number == n then Some permit else get nat_eq permits.old n) }
+{
+    if permits.insert(permit.number, permit).is_err() {
+        unreachable!()
     }
 }

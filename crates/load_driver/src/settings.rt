@@ -6,28 +6,35 @@ ghost use Rattle.load_driver.specs.Words.{words};
 ghost use Rattle.load_driver.specs.Stored.{window_of};
 ghost use Rattle.load_driver.specs.Settings.{windowed_if};
 
-use super::formats::{read_class, read_limit, read_window};
-use super::kinds::{AnyLimit, BaseLimit};
+use super::formats::{read_class, read_limit, read_lone_number, read_window};
 use super::makers::{Windows, make_limit, make_windows};
 use super::script::Why;
 use super::words::next_word;
+use limit_kinds::{AnyLimit, BaseLimit};
 use limit_laws::Fixed;
 use partitions::{PartitionTable, TableFault};
 use std::alloc::{AllocError, Global};
 use std::marker::Model;
 use windowed::Windowed;
 
+/// The most that may be let wait.
+const MOST_WAITING: u32 = 10_000;
+
+/// How many may wait where no line says it.
+const USUAL_BACKLOG: u32 = 100;
+
 /// The settings that the lines of a script gave so far.
 #[derive(Drop)]
 pub(crate) struct Settings<'a> {
     limit: Option<BaseLimit>,
     windows: Option<Windows>,
+    backlog: Option<u32>,
     rows: Vec<(&'a [u8], u32)>,
     table: PartitionTable,
 }
 
 impl<'a> Model for Settings<'a> {
-    ghost use Rattle.std.specs.Prelude.{◌≡◌, option_map, IfSome};
+    ghost use Rattle.std.specs.Prelude.{◌≡◌, ◌≤◌, option_map, IfSome};
     ghost use Rattle.windowed.specs.WindowedRules.{AreSettings};
     ghost use Rattle.partitions.specs.Faults.{given};
     ghost use Rattle.load_driver.specs.Stored.{window_of};
@@ -35,13 +42,13 @@ impl<'a> Model for Settings<'a> {
 
     ghost Value = { SettingFacts };
 
-    ghost view = { λ s. record { limit = s.limit; window = option_map window_of s.windows; rows = given s.rows.items } };
+    ghost view = { λ s. record { limit = s.limit; window = option_map window_of s.windows; backlog = s.backlog; rows = given s.rows.items } };
 
-    ghost invariant = { λ s. (s.table ≡ given s.rows.items) × IfSome s.windows (λ w. AreSettings (window_of w)) };
+    ghost invariant = { λ s. (s.table ≡ given s.rows.items) × IfSome s.windows (λ w. AreSettings (window_of w)) × IfSome s.backlog (λ room. room ≤ 10000) };
 }
 
 impl<'a> Settings<'a> {
-    ghost use Rattle.load_driver.specs.Settings.{no_settings, with_limit, with_window, with_row, with_class, Answers, AnswersLine, limit_of};
+    ghost use Rattle.load_driver.specs.Settings.{no_settings, with_limit, with_window, with_backlog, with_row, with_class, Answers, AnswersLine, limit_of, room_of};
 
     /// No settings.
     pub(crate) fn new(alloc: Global) -> Settings<'a>
@@ -50,6 +57,7 @@ impl<'a> Settings<'a> {
         Settings {
             limit: None,
             windows: None,
+            backlog: None,
             rows: Vec::new(alloc),
             table: PartitionTable::unknown_only(),
         }
@@ -71,6 +79,9 @@ impl<'a> Settings<'a> {
         }
         if first == b"class".as_slice() {
             return Ok(Some(self.read_class(line)?));
+        }
+        if first == b"backlog".as_slice() {
+            return Ok(Some(self.read_backlog(line)));
         }
         Ok(None)
     }
@@ -100,6 +111,23 @@ impl<'a> Settings<'a> {
             return Err(Why::Twice);
         }
         self.windows = Some(make_windows(line).ok_or(Why::Value)?);
+        Ok(())
+    }
+
+    /// What follows `backlog`.
+    fn read_backlog(&mut self, line: &[u8]) -> Result<(), Why>
+        ensures taken { OnOk result (with_backlog self.old (words line.now) ≡ Ok self.new) }
+        ensures fault { IfErr result (λ why. with_backlog self.old (words line.now) ≡ Err why) }
+        ensures unchanged { OnErr result (self.new ≡ self.old) }
+    {
+        let room = read_lone_number(line).ok_or(Why::Words)?;
+        if self.backlog.is_some() {
+            return Err(Why::Twice);
+        }
+        if room > MOST_WAITING as u64 {
+            return Err(Why::Value);
+        }
+        self.backlog = Some(room as u32);
         Ok(())
     }
 
@@ -154,6 +182,14 @@ impl<'a> Settings<'a> {
             Some(windows) => windowed(base, windows),
             None => AnyLimit::Plain(base),
         }
+    }
+
+    /// How many may wait.
+    pub(crate) fn room(&self) -> u32
+        ensures value { result ≡ room_of self.now }
+        ensures most { result ≤ 10000 }
+    {
+        self.backlog.unwrap_or(USUAL_BACKLOG)
     }
 
     /// The table of the known partitions.

@@ -28,6 +28,8 @@ class a 1
 class a-b_9 100
   class   a   00050 \n\
 class abcdefghijklmnopqrstuvwxyz012345 10
+backlog 0
+backlog 10000
 ";
 
 const NO_FORMAT: &str = "\
@@ -49,6 +51,9 @@ window 1 2 3 x
 class
 class a
 class a 10 10
+backlog
+backlog x
+backlog 1 2
 ";
 
 const OUT_OF_RANGE: &str = "\
@@ -83,6 +88,8 @@ class unknown 1
 class A 1
 class a.b 1
 class abcdefghijklmnopqrstuvwxyz0123456 1
+backlog 10001
+backlog 4294967296
 ";
 
 #[test]
@@ -131,6 +138,10 @@ fn a_limit_and_windows_are_set_once_and_classes_while_they_make_a_table(
         ("limit fixed 1\nlimit fixed x", words),
         ("window 1 1 1 0\nwindow 0 0 0 0", twice),
         ("window 1 1 1 0\nlimit fixed 1", taken),
+        ("backlog 5\nbacklog 5", twice),
+        ("backlog 5\nbacklog 10001", twice),
+        ("backlog 5\nbacklog x", words),
+        ("backlog 5\nlimit fixed 1", taken),
         ("class a 60\nclass b 40", taken),
         ("class a 60\nclass b 41", value),
         ("class a 60\nclass a 10", value),

@@ -1,10 +1,9 @@
 // The line that is written of an entry.
 ghost use Rattle.std.specs.Prelude.{◌≡◌, ◌++◌, Some, OnOk, string_bytes};
-ghost use Rattle.limiter_core.specs.declared.event.Entry.TheVariants.{Call};
 ghost use Rattle.load_driver.specs.Text.{part_about, entry_text};
 
 use limit_laws::SetFault;
-use limiter_core::{Event, Reply};
+use limiter_core::{Entry, Event, Reply};
 use partitions::{Part, PartitionTable};
 use std::alloc::AllocError;
 use std::fmt;
@@ -27,7 +26,13 @@ impl fmt::Display for ReplyText<'_> {
             Reply::Admitted { inflight } => write!(f, "admitted {class} inflight {inflight}"),
             Reply::Bypassed => write!(f, "bypassed"),
             Reply::Full => write!(f, "refused full"),
+            Reply::BacklogFull => write!(f, "refused backlog"),
+            Reply::Waiting => write!(f, "waiting"),
             Reply::Ended { promoted } => write!(f, "ended promoted {promoted}"),
+            Reply::Granted { inflight, .. } => write!(f, "granted inflight {inflight}"),
+            Reply::StillWaiting => write!(f, "still waiting"),
+            Reply::TimedOut => write!(f, "timed out"),
+            Reply::Lost => write!(f, "lost"),
             Reply::LimitSet => write!(f, "limit set"),
             Reply::Refused(SetFault::NotSettable) => write!(f, "refused not settable"),
             Reply::Refused(SetFault::OutOfRange) => write!(f, "refused out of range"),
@@ -54,7 +59,8 @@ fn part_about(event: Event) -> Part
     match event {
         Event::Acquire { part, .. } => part,
         Event::End { permit, .. } => permit.part,
-        Event::SetLimit { .. } | Event::Reset { .. } => Part::Unknown,
+        Event::Claim { .. } | Event::GiveUp { .. } | Event::SetLimit { .. } | Event::Reset { .. } =>
+            Part::Unknown,
         Event::Look { part } => part,
     }
 }
@@ -64,14 +70,22 @@ pub(crate) fn push_entry(
     text: &mut String,
     table: &PartitionTable,
     number: u64,
-    event: Event,
-    reply: Reply,
+    entry: Entry,
 ) -> Result<(), AllocError>
-    ensures { OnOk result (string_bytes text.new ≡ string_bytes text.old ++ entry_text table.now number (Call event reply)) }
+    ensures { OnOk result (string_bytes text.new ≡ string_bytes text.old ++ entry_text table.now number entry) }
 {
-    let line = ReplyText {
-        class: table.name(part_about(event)),
-        reply,
-    };
-    writeln!(text, "{number} {line}")
+    match entry {
+        Entry::Call { event, reply } => {
+            let line = ReplyText {
+                class: table.name(part_about(event)),
+                reply,
+            };
+            writeln!(text, "{number} {line}")
+        }
+        Entry::Promotion {
+            waiter,
+            inflight,
+            ..
+        } => writeln!(text, "{number} promoted {waiter} inflight {inflight}"),
+    }
 }

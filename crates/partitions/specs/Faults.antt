@@ -1,10 +1,10 @@
 -- Why rows make no table: the faults of single rows, and of all rows the first.
-use Rattle.std.specs.Prelude.{ℕ, ◌+◌, not, List, length, map, take, slice_get, sum_by, Option, None, Some, option_and_then, filter_map, bytes_eq, nat_lt, ◌==◌, if◌then◌else◌}
+use Rattle.std.specs.Prelude.{ℕ, ◌+◌, not, List, length, map, take, slice_get, sum_by, Option, None, Some, option_and_then, filter_map, bytes_eq, nat_lt, ◌==◌, if◌then◌else◌, codes}
 use Rattle.std.specs.List.{list_any, range_with_len}
 use Rattle.std.specs.Borrow.{Bor}
 use Rattle.partitions.specs.Table.{Row, is_name, is_percent}
 use Rattle.partitions.specs.declared.fault.TableFault.{TableFault}
-use Rattle.partitions.specs.declared.fault.TableFault.TheVariants.{Empty, Name, Twice, Percent, Over100, TooMany}
+use Rattle.partitions.specs.declared.fault.TableFault.TheVariants.{Memory, Empty, Name, Twice, Percent, Over100, TooMany}
 
 -- the rows that pairs of a name and a percentage give
 abbrev pub given : List (Bor (List ℕ) × ℕ) → List Row
@@ -29,3 +29,13 @@ fault_of rows =
     if length rows == 0 then Some Empty else (
     if nat_lt 4 (length rows) then Some TooMany else
     slice_get (filter_map (fault_at rows) (range_with_len 0 (length rows))) 0)
+
+-- the text of a fault
+abbrev pub fault_text : TableFault → List ℕ
+fault_text Memory = codes "out of memory"
+fault_text Empty = codes "no partition is named"
+fault_text Name = codes "a partition's name is not allowed"
+fault_text Twice = codes "two partitions have one name"
+fault_text Percent = codes "a percentage is not 1 to 100"
+fault_text Over100 = codes "the percentages come to more than 100"
+fault_text TooMany = codes "more than four partitions are named"

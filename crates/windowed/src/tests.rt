@@ -41,6 +41,7 @@ fn settings_and_resets_are_passed_on(rt: HostRuntime) -> Result<(), Fail> {
     assert!(rt; windowed.set(20) == Ok(()));
     assert_eq!(rt; windowed.limit(), 20);
     assert_eq!(rt; windowed.copy().limit(), 20);
+    assert_eq!(rt; windowed.inner().limit(), 20);
     windowed.reset();
     assert_eq!(rt; windowed.limit(), 10);
     Ok(())

@@ -68,6 +68,13 @@ impl<L: Limit> Windowed<L> {
             min_rtt,
         })
     }
+
+    /// The inner limit, in the state in which the windows so far left it.
+    pub fn inner(&self) -> &L
+        ensures { result.now ≡ self.now.inner }
+    {
+        &self.inner
+    }
 }
 
 impl<L: Limit> Limit for Windowed<L> {

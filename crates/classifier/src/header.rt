@@ -1,0 +1,42 @@
+ghost use Rattle.std.specs.Prelude.{◌≡◌, option_map};
+ghost use Rattle.std.specs.List.{list_any};
+ghost use Rattle.classifier.specs.Class.{header_value, has_line, same_name};
+
+use wire::{Header, Headers};
+
+/// Whether two header names are the same, read without ASCII case (RFC 9110, section 5.1).
+fn is_same_name(one: &[u8], other: &[u8]) -> bool
+    ensures { result ≡ same_name one.now other.now }
+{
+    one.eq_ignore_ascii_case(other)
+}
+
+/// The value of the first line of this name.
+pub fn first_value<'a>(headers: &'a Headers, name: &[u8]) -> Option<&'a [u8]>
+    ensures { option_map (λ value. value.now) result ≡ header_value name.now headers.now }
+{
+    let line = headers
+        .as_slice()
+        .iter()
+        .find(|line| is_same_name(line.name.as_slice(), name));
+    match line {
+        Some(line) => Some(line.value.as_slice()),
+        None => None,
+    }
+}
+
+/// Whether some line of this name has exactly this value.
+pub fn has_value(headers: &Headers, name: &[u8], value: &[u8]) -> bool
+    ensures { result ≡ list_any (has_line name.now value.now) headers.now }
+{
+    headers
+        .as_slice()
+        .iter()
+        .any(|line| is_line(line, name, value))
+}
+
+fn is_line(line: &Header, name: &[u8], value: &[u8]) -> bool
+    ensures { result ≡ has_line name.now value.now line.now }
+{
+    is_same_name(line.name.as_slice(), name) && line.value.as_slice() == value
+}

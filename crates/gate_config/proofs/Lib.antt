@@ -1,0 +1,5 @@
+pub mod Addresses
+pub mod Chains
+pub mod Given
+pub mod Limits
+pub mod Lists

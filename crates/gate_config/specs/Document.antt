@@ -1,0 +1,93 @@
+-- A whole configuration: its tables, each with the values of its keys.
+use Rattle.std.specs.Prelude.{List, [], map, Option, Some, None, option_map, Result, Ok, String, Vec, codes}
+use Rattle.std.specs.Borrow.{Bor}
+use Rattle.std.specs.BTreeMap.{BTreeMap}
+use Rattle.std.specs.declared.alloc.Global.{Global}
+use Rattle.partitions.specs.Table.{Row}
+use Rattle.toml.specs.Data.{Members, get_member}
+use Rattle.toml.specs.View.{table_view}
+use Rattle.toml.specs.declared.value.Value.{Value}
+use Rattle.gate_config.specs.declared.class.ClassKeys.{ClassKeys}
+use Rattle.gate_config.specs.declared.document.Document.{Document}
+use Rattle.gate_config.specs.declared.fault.ConfigFault.{ConfigFault}
+use Rattle.gate_config.specs.declared.key.Key.TheVariants as Key
+use Rattle.gate_config.specs.declared.limit.LimitKeys.{LimitKeys}
+use Rattle.gate_config.specs.declared.window.WindowKeys.{WindowKeys}
+use Rattle.gate_config.specs.Bypasses.{bypass_member, bypass_of}
+use Rattle.gate_config.specs.Classes.{classes_of, row_of}
+use Rattle.gate_config.specs.Limit.{limit_values}
+use Rattle.gate_config.specs.Resolvers.{resolver_member, resolver_of}
+use Rattle.gate_config.specs.Rows.{top_rows, limit_rows, window_rows}
+use Rattle.gate_config.specs.Sections.{top_values, window_values}
+use Rattle.gate_config.specs.Tables.{optional_from, read_each, tables_from}
+use Rattle.gate_config.specs.Values.{◌>>=◌, section_of, table_from, Values}
+
+-- what a configuration holds
+pub record DocumentValues : Type 0 where
+  pub top : Values
+  pub limit : Members × Values
+  pub window : Option (Members × Values)
+  pub classes : List Members × List Row
+  pub resolvers : List (Members × Values)
+  pub bypasses : List (Members × Values)
+
+-- a reference to a table of the text
+abbrev pub TableRef : Type 0
+TableRef = Bor (BTreeMap (String Global) Value)
+
+abbrev pub limit_member : TableRef × LimitKeys → Members × Values
+limit_member member = (table_view member.0.now, limit_values member.1)
+
+abbrev pub window_member : TableRef × WindowKeys → Members × Values
+window_member member = (table_view member.0.now, window_values member.1)
+
+abbrev pub tables_and_rows : Vec TableRef Global × Vec ClassKeys Global → List Members × List Row
+tables_and_rows classes = (map (λ t. table_view t.now) classes.0.items, map row_of classes.1.items)
+
+abbrev pub document_values : Document → DocumentValues
+document_values d = record {
+  top = top_values d.top;
+  limit = limit_member d.limit;
+  window = option_map window_member d.window;
+  classes = tables_and_rows d.classes;
+  resolvers = map resolver_member d.resolvers.items;
+  bypasses = map bypass_member d.bypasses.items;
+}
+
+-- the table `limit` and its keys
+abbrev pub limit_of : Members → Result (Members × Values) ConfigFault
+limit_of t = table_from Key.Limit (get_member (codes "limit") t) >>= λ limit.
+    section_of [] limit_rows limit >>= λ values. Ok (limit, values)
+
+-- the keys of a window, where there is one
+abbrev pub read_window : Option Members → Result (Option (Members × Values)) ConfigFault
+read_window None = Ok None
+read_window (Some window) = section_of [] window_rows window >>= λ values. Ok (Some (window, values))
+
+abbrev pub window_of : Members → Result (Option (Members × Values)) ConfigFault
+window_of t = optional_from Key.Window (get_member (codes "window") t) >>= read_window
+
+-- the classes: at most four tables, each read behind those before it
+abbrev pub classes_in : Members → Result (List Members × List Row) ConfigFault
+classes_in t = tables_from Key.Class 4 (get_member (codes "class") t) >>= λ tables.
+    classes_of tables >>= λ classes. Ok (tables, classes)
+
+-- the resolvers among these classes, at most 32
+abbrev pub resolvers_of : List Row → Members → Result (List (Members × Values)) ConfigFault
+resolvers_of classes t =
+    tables_from Key.Resolver 32 (get_member (codes "resolver") t) >>= read_each (resolver_of classes) []
+
+-- the bypass rules, at most 32
+abbrev pub bypasses_of : Members → Result (List (Members × Values)) ConfigFault
+bypasses_of t = tables_from Key.Bypass 32 (get_member (codes "bypass") t) >>= read_each bypass_of []
+
+-- every key, in the order of the rows
+abbrev pub document_of : Members → Result DocumentValues ConfigFault
+document_of t =
+    section_of [] top_rows t >>= λ top.
+    limit_of t >>= λ limit.
+    window_of t >>= λ window.
+    classes_in t >>= λ classes.
+    resolvers_of classes.1 t >>= λ resolvers.
+    bypasses_of t >>= λ bypasses.
+    Ok (record { top = top; limit = limit; window = window; classes = classes; resolvers = resolvers; bypasses = bypasses })

@@ -1,0 +1,17 @@
+pub mod Address
+pub mod Key
+pub mod Rows
+pub mod Values
+pub mod Tables
+pub mod Limit
+pub mod Classes
+pub mod Resolvers
+pub mod Bypasses
+pub mod Sections
+pub mod Unknown
+pub mod Document
+pub mod Strangers
+pub mod Rules
+pub mod Made
+pub mod Settings
+pub mod FaultText

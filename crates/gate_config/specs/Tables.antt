@@ -1,0 +1,37 @@
+-- Tables inside a configuration.
+use Rattle.std.specs.Prelude.{ℕ, List, [], ◌∷◌, ◌++◌, length, Option, Some, None, Result, Ok, Err, is_some, nat_le, if◌then◌else◌}
+use Rattle.std.specs.List.{filter_map, list_all}
+use Rattle.toml.specs.Data.{Data, Items, no_items, item, array, table, Members, as_table}
+use Rattle.gate_config.specs.declared.fault.ConfigFault.{ConfigFault}
+use Rattle.gate_config.specs.declared.fault.ConfigFault.TheVariants as Fault
+use Rattle.gate_config.specs.declared.key.Key.{Key}
+use Rattle.gate_config.specs.Values.{◌>>=◌}
+
+-- the items of an array as a list
+abbrev pub items_in : Items → List Data
+items_in no_items = []
+items_in (item d ds) = d ∷ items_in ds
+
+-- a table that may be absent
+abbrev pub optional_from : Key → Option Data → Result (Option Members) ConfigFault
+optional_from key None = Ok None
+optional_from key (Some (table t)) = Ok (Some t)
+optional_from key (Some _) = Err (Fault.Kind key)
+
+-- the items, which all are tables, and not too many
+abbrev pub tables_in : Key → ℕ → List Data → Result (List Members) ConfigFault
+tables_in key most items =
+    if list_all (λ d. is_some (as_table d)) items
+    then (if nat_le (length items) most then Ok (filter_map as_table items) else Err (Fault.Value key))
+    else Err (Fault.Kind key)
+
+-- the tables of an array; none where it is absent
+abbrev pub tables_from : Key → ℕ → Option Data → Result (List Members) ConfigFault
+tables_from key most None = Ok []
+tables_from key most (Some (array items)) = tables_in key most (items_in items)
+tables_from key most (Some _) = Err (Fault.Kind key)
+
+-- what is read one after the other, each given what was read before it
+abbrev pub read_each : {T A : Type 0} → (List A → T → Result A ConfigFault) → List A → List T → Result (List A) ConfigFault
+read_each read done [] = Ok done
+read_each read done (t ∷ more) = read done t >>= λ a. read_each read (done ++ a ∷ []) more

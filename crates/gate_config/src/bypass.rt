@@ -1,0 +1,107 @@
+ghost use Rattle.std.specs.Prelude.{◌≡◌, [], Ok, Some, None, codes, map, option_map, if◌then◌else◌};
+ghost use Rattle.toml.specs.Data.{get_member};
+ghost use Rattle.toml.specs.View.{table_view};
+ghost use Rattle.gate_config.specs.Key.{name_of};
+ghost use Rattle.gate_config.specs.Rows.{bypass_kinds, bypass_rows};
+ghost use Rattle.gate_config.specs.Values.{Answers, is_among, names_of, result_map, section_of, text_from};
+ghost use Rattle.gate_config.specs.Tables.{read_each};
+ghost use Rattle.gate_config.specs.Bypasses.{bypass_member, bypass_of, bypass_values, word_of};
+
+use crate::fault::ConfigFault;
+use crate::key::Key;
+use crate::text::{prefix, text, token};
+use std::alloc::{AllocError, Global};
+use toml::Table;
+
+/// What a bypass rule looks at.
+#[derive(Clone, Copy, Debug)]
+pub enum BypassKind {
+    Method,
+    Prefix,
+    Header,
+}
+
+impl BypassKind {
+    /// The kind of this word.
+    fn named(word: &str) -> Option<BypassKind>
+        ensures { option_map word_of result ≡ if is_among bypass_kinds word.now then Some word.now else None }
+    {
+        match word {
+            "method" => Some(BypassKind::Method),
+            "prefix" => Some(BypassKind::Prefix),
+            "header" => Some(BypassKind::Header),
+            _ => None,
+        }
+    }
+}
+
+/// The keys of a bypass rule, by its kind, as they stand in the text.
+#[derive(Clone, Copy)]
+pub enum BypassKeys<'a> {
+    /// The method.
+    Method(&'a str),
+    /// What the path begins with.
+    Prefix(&'a str),
+    /// The header's name and its value.
+    Header(&'a str, &'a str),
+}
+
+impl BypassKeys<'_> {
+    /// The keys that a rule of this kind has.
+    pub fn keys(&self) -> &'static [Key]
+        ensures { map name_of result.now ≡ names_of bypass_rows (bypass_values self.now) }
+    {
+        match self {
+            BypassKeys::Method(_) => &[Key::BypassKind, Key::BypassMethod],
+            BypassKeys::Prefix(_) => &[Key::BypassKind, Key::BypassPrefix],
+            BypassKeys::Header(..) => &[Key::BypassKind, Key::BypassHeader, Key::BypassEquals],
+        }
+    }
+}
+
+/// The bypass rules, each with its table.
+pub fn read_bypasses<'a>(
+    alloc: Global,
+    tables: &[&'a Table],
+) -> Result<Vec<(&'a Table, BypassKeys<'a>)>, ConfigFault>
+    ensures { Answers (λ rules. map bypass_member rules.items) (read_each bypass_of [] (map (λ t. table_view t.now) tables.now)) result }
+{
+    let mut rules = Vec::new(alloc);
+    for table in tables {
+        let keys = read_bypass(table)?;
+        rules.push((*table, keys)).map_err(AllocError::from)?;
+    }
+    Ok(rules)
+}
+
+/// The keys of a bypass rule.
+pub fn read_bypass<'a>(table: &'a Table) -> Result<BypassKeys<'a>, ConfigFault>
+    ensures { result_map bypass_values result ≡ section_of [] bypass_rows (table_view table.now) }
+{
+    match bypass_kind(table)? {
+        BypassKind::Method => Ok(BypassKeys::Method(token(table, Key::BypassMethod)?)),
+        BypassKind::Prefix => Ok(BypassKeys::Prefix(prefix(table, Key::BypassPrefix)?)),
+        BypassKind::Header => read_header(table),
+    }
+}
+
+/// The word at `bypass.kind`.
+fn bypass_kind(table: &Table) -> Result<BypassKind, ConfigFault>
+    ensures { result_map word_of result
+        ≡ text_from Key.BypassKind (is_among bypass_kinds) (get_member (name_of Key.BypassKind) (table_view table.now)) }
+{
+    match BypassKind::named(text(table, Key::BypassKind)?) {
+        Some(kind) => Ok(kind),
+        None => Err(ConfigFault::Value(Key::BypassKind)),
+    }
+}
+
+/// The keys of a rule by header.
+fn read_header<'a>(table: &'a Table) -> Result<BypassKeys<'a>, ConfigFault>
+    requires { text_from Key.BypassKind (is_among bypass_kinds) (get_member (name_of Key.BypassKind) (table_view table.now)) ≡ Ok (codes "header") }
+    ensures { result_map bypass_values result ≡ section_of [] bypass_rows (table_view table.now) }
+{
+    let header = token(table, Key::BypassHeader)?;
+    let equals = text(table, Key::BypassEquals)?;
+    Ok(BypassKeys::Header(header, equals))
+}

@@ -1,0 +1,116 @@
+ghost use Rattle.std.specs.Prelude.{◌≡◌, IfOk, map, option_map};
+ghost use Rattle.std.specs.Option.{ForSome};
+ghost use Rattle.toml.specs.View.{table_view};
+ghost use Rattle.gate_config.specs.Classes.{row_of};
+ghost use Rattle.gate_config.specs.Resolvers.{resolver_member};
+ghost use Rattle.gate_config.specs.Bypasses.{bypass_member};
+ghost use Rattle.gate_config.specs.Limit.{AreInRange};
+ghost use Rattle.gate_config.specs.Sections.{IsWindow};
+ghost use Rattle.gate_config.specs.Values.{Answers, result_map};
+ghost use Rattle.gate_config.specs.Document.{bypasses_of, classes_in, document_of, document_values, limit_member, limit_of, resolvers_of, tables_and_rows, window_member, window_of};
+
+use crate::bypass::{BypassKeys, read_bypasses};
+use crate::class::{ClassKeys, read_classes};
+use crate::fault::ConfigFault;
+use crate::key::Key;
+use crate::limit::{LimitKeys, read_limit};
+use crate::resolver::{ResolverKeys, read_resolvers};
+use crate::tables::{optional_table_at, table_at, tables_at};
+use crate::top::{TopKeys, read_top};
+use crate::window::{WindowKeys, read_window};
+use std::alloc::Global;
+use toml::Table;
+
+/// The most classes.
+const MOST_CLASSES: usize = 4;
+
+/// The most resolvers, and the most bypass rules.
+const MOST_RULES: usize = 32;
+
+/// Every key of a configuration, with the tables that hold them.
+#[derive(Drop)]
+pub struct Document<'a> {
+    pub top: TopKeys,
+    pub limit: (&'a Table, LimitKeys),
+    pub window: Option<(&'a Table, WindowKeys)>,
+    pub classes: (Vec<&'a Table>, Vec<ClassKeys>),
+    pub resolvers: Vec<(&'a Table, ResolverKeys<'a>)>,
+    pub bypasses: Vec<(&'a Table, BypassKeys<'a>)>,
+}
+
+/// The keys of a configuration, read in their order.
+pub fn read_document<'a>(alloc: Global, table: &'a Table) -> Result<Document<'a>, ConfigFault>
+    ensures limit { IfOk result (λ d. AreInRange d.limit.1) }
+    ensures window { IfOk result (λ d. ForSome d.window (λ window. IsWindow window.1)) }
+    ensures said { Answers document_values (document_of (table_view table.now)) result }
+{
+    let top = read_top(alloc, table)?;
+    let limit = limit_in(table)?;
+    let window = window_in(table)?;
+    let classes = classes_in(alloc, table)?;
+    let resolvers = resolvers_in(alloc, &classes.1, table)?;
+    let bypasses = bypasses_in(alloc, table)?;
+    Ok(Document {
+        top,
+        limit,
+        window,
+        classes,
+        resolvers,
+        bypasses,
+    })
+}
+
+/// The table `limit` and its keys.
+fn limit_in<'a>(table: &'a Table) -> Result<(&'a Table, LimitKeys), ConfigFault>
+    ensures within { IfOk result (λ limit. AreInRange limit.1) }
+    ensures said { result_map limit_member result ≡ limit_of (table_view table.now) }
+{
+    let limit = table_at(table, Key::Limit)?;
+    Ok((limit, read_limit(limit)?))
+}
+
+/// The table `window` and its keys, where there is one.
+fn window_in<'a>(table: &'a Table) -> Result<Option<(&'a Table, WindowKeys)>, ConfigFault>
+    ensures within { IfOk result (λ window. ForSome window (λ w. IsWindow w.1)) }
+    ensures said { result_map (option_map window_member) result ≡ window_of (table_view table.now) }
+{
+    match optional_table_at(table, Key::Window)? {
+        Some(window) => Ok(Some((window, read_window(window)?))),
+        None => Ok(None),
+    }
+}
+
+/// The tables of the array `class`, and their keys.
+fn classes_in<'a>(
+    alloc: Global,
+    table: &'a Table,
+) -> Result<(Vec<&'a Table>, Vec<ClassKeys>), ConfigFault>
+    ensures { Answers tables_and_rows (classes_in (table_view table.now)) result }
+{
+    let tables = tables_at(alloc, table, Key::Class, MOST_CLASSES)?;
+    let classes = read_classes(alloc, &tables)?;
+    Ok((tables, classes))
+}
+
+/// The tables of the array `resolver`, and their keys.
+fn resolvers_in<'a>(
+    alloc: Global,
+    classes: &[ClassKeys],
+    table: &'a Table,
+) -> Result<Vec<(&'a Table, ResolverKeys<'a>)>, ConfigFault>
+    ensures { Answers (λ resolvers. map resolver_member resolvers.items) (resolvers_of (map row_of classes.now) (table_view table.now)) result }
+{
+    let tables = tables_at(alloc, table, Key::Resolver, MOST_RULES)?;
+    read_resolvers(alloc, classes, &tables)
+}
+
+/// The tables of the array `bypass`, and their keys.
+fn bypasses_in<'a>(
+    alloc: Global,
+    table: &'a Table,
+) -> Result<Vec<(&'a Table, BypassKeys<'a>)>, ConfigFault>
+    ensures { Answers (λ rules. map bypass_member rules.items) (bypasses_of (table_view table.now)) result }
+{
+    let tables = tables_at(alloc, table, Key::Bypass, MOST_RULES)?;
+    read_bypasses(alloc, &tables)
+}

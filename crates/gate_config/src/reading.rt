@@ -1,0 +1,151 @@
+ghost use Rattle.std.specs.Prelude.{◌≡◌, ◌≢◌, ◌⊎◌, IfOk, IfErr, IsOk, Err, codes, map};
+ghost use Rattle.std.specs.Option.{ForSome};
+ghost use Rattle.toml.specs.Data.{Members, get_member};
+ghost use Rattle.toml.specs.View.{table_view};
+ghost use Rattle.gate_config.specs.Bypasses.{bypass_member};
+ghost use Rattle.gate_config.specs.Document.{document_values};
+ghost use Rattle.gate_config.specs.Limit.{AreInRange};
+ghost use Rattle.gate_config.specs.Sections.{IsWindow};
+ghost use Rattle.gate_config.specs.Resolvers.{resolver_member};
+ghost use Rattle.gate_config.specs.Settings.{Reads, bypasses_made, is_version_one, made_of, resolvers_made, settings_of};
+ghost use Rattle.gate_config.specs.Values.{Answers};
+
+use crate::build::{bypass_of, partitions_of, resolver_of};
+use crate::bypass::BypassKeys;
+use crate::document::{Document, read_document};
+use crate::entry::entry;
+use crate::fault::ConfigFault;
+use crate::key::Key;
+use crate::make::any_limit;
+use crate::resolver::ResolverKeys;
+use crate::settings::Settings;
+use crate::strangers::strangers;
+use crate::unknown::least;
+use classifier::{Bypass, Resolver, Rules};
+use partitions::PartitionTable;
+use std::alloc::{AllocError, Global};
+use toml::Table;
+
+/// The nanoseconds of a millisecond.
+const MILLI: u64 = 1_000_000;
+
+/// The settings that a text of version 1 holds.
+///
+/// The faults, of which the first is told: [`ConfigFault::Toml`] for a text that isn't TOML in UTF-8;
+/// [`ConfigFault::Version`] unless `version` is 1; then key by key in the order of the keys, an array's members
+/// one after the other, [`ConfigFault::Missing`], [`ConfigFault::Kind`] and [`ConfigFault::Value`];
+/// [`ConfigFault::Unknown`] for the least path that isn't allowed; [`ConfigFault::Route`] for patterns that
+/// can't stand together. [`ConfigFault::Memory`] may come at any growth.
+pub fn read(alloc: Global, bytes: &[u8]) -> Result<Settings, ConfigFault>
+    ensures settings { (t : Members) → Reads bytes.now t → Answers (λ settings. settings) (settings_of t) result }
+    ensures read { IsOk result → (t : Members) × Reads bytes.now t }
+    ensures refused { IfErr result (λ fault. fault ≢ ConfigFault.Memory → fault ≢ ConfigFault.Toml → (t : Members) × Reads bytes.now t) }
+{
+    let table = table_of(alloc, bytes)?;
+    settings_in(alloc, &table)
+}
+
+/// The table that a text holds.
+fn table_of(alloc: Global, bytes: &[u8]) -> Result<Table, ConfigFault>
+    ensures ok { IfOk result (λ t. Reads bytes.now (table_view t)) }
+    ensures toml { result ≡ Err ConfigFault.Toml → (t : Members) → Reads bytes.now t → ⊥ }
+    ensures others { IfErr result (λ fault. (fault ≡ ConfigFault.Memory) ⊎ (fault ≡ ConfigFault.Toml)) }
+{
+    match toml::table_from_slice(alloc, bytes) {
+        Ok(table) => Ok(table),
+        Err(error) => {
+            if error.is_memory() {
+                Err(ConfigFault::Memory)
+            } else {
+                Err(ConfigFault::Toml)
+            }
+        }
+    }
+}
+
+/// The settings that a table holds.
+fn settings_in(alloc: Global, table: &Table) -> Result<Settings, ConfigFault>
+    ensures { Answers (λ settings. settings) (settings_of (table_view table.now)) result }
+{
+    if !is_version_one(table) {
+        return Err(ConfigFault::Version);
+    }
+    let document = read_document(alloc, table)?;
+    match least(strangers(alloc, table, &document)?) {
+        Some(path) => Err(ConfigFault::Unknown(path)),
+        None => made_of(alloc, document),
+    }
+}
+
+/// Whether the version is the whole number 1.
+fn is_version_one(table: &Table) -> bool
+    ensures { result ≡ is_version_one (get_member (codes "version") (table_view table.now)) }
+{
+    match entry(table, Key::Version) {
+        Some(value) => value.as_integer() == Some(1),
+        None => false,
+    }
+}
+
+/// The settings that keys make.
+fn made_of(alloc: Global, document: Document) -> Result<Settings, ConfigFault>
+    requires limit { AreInRange document.limit.1 }
+    requires window { ForSome document.window (λ window. IsWindow window.1) }
+    ensures { Answers (λ settings. settings) (made_of (document_values document.entry)) result }
+{
+    let table = partitions_of(alloc, &document.classes.1)?;
+    let resolvers = resolvers_made(alloc, &table, &document.resolvers)?;
+    let bypass = bypasses_made(alloc, &document.bypasses)?;
+    let rules = Rules::new(resolvers, bypass);
+    let Document {
+        top,
+        limit,
+        window,
+        classes: _,
+        resolvers: _,
+        bypasses: _,
+    } = document;
+    let limit = any_limit(limit.1, window.map(|window| window.1));
+    Ok(Settings {
+        listen: top.listen,
+        backend: top.backend,
+        backlog: top.backlog,
+        wait: top.wait,
+        timeout: u64::from(top.timeout_ms) * MILLI,
+        keep: top.keep,
+        limit,
+        table,
+        rules,
+    })
+}
+
+/// The resolvers of all their keys.
+fn resolvers_made(
+    alloc: Global,
+    table: &PartitionTable,
+    members: &[(&Table, ResolverKeys)],
+) -> Result<Vec<Resolver>, ConfigFault>
+    ensures { Answers (λ resolvers. resolvers.items) (resolvers_made table.now (map resolver_member members.now)) result }
+{
+    let mut resolvers = Vec::new(alloc);
+    for (_, keys) in members {
+        let resolver = resolver_of(alloc, table, keys)?;
+        resolvers.push(resolver).map_err(AllocError::from)?;
+    }
+    Ok(resolvers)
+}
+
+/// The bypass rules of all their keys.
+fn bypasses_made(
+    alloc: Global,
+    members: &[(&Table, BypassKeys)],
+) -> Result<Vec<Bypass>, ConfigFault>
+    ensures { Answers (λ rules. rules.items) (bypasses_made (map bypass_member members.now)) result }
+{
+    let mut rules = Vec::new(alloc);
+    for (_, keys) in members {
+        let rule = bypass_of(alloc, keys)?;
+        rules.push(rule).map_err(AllocError::from)?;
+    }
+    Ok(rules)
+}

@@ -1,0 +1,24 @@
+use crate::address::Address;
+use classifier::Rules;
+use limit_kinds::AnyLimit;
+use partitions::PartitionTable;
+
+/// Everything that a gateway is told by its configuration.
+#[derive(Drop)]
+pub struct Settings {
+    /// Where the gateway listens.
+    pub listen: Address,
+    /// Where it forwards to.
+    pub backend: Address,
+    /// How many callers may wait, up to 10,000.
+    pub backlog: u32,
+    /// Whether refused callers wait.
+    pub wait: bool,
+    /// The longest wait, in nanoseconds.
+    pub timeout: u64,
+    /// How many entries of the history are kept, from 1 to 1,000,000.
+    pub keep: u32,
+    pub limit: AnyLimit,
+    pub table: PartitionTable,
+    pub rules: Rules,
+}

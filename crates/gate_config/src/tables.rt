@@ -1,0 +1,113 @@
+ghost use Rattle.std.specs.Prelude.{◌≡◌, IfOk, is_some, map, option_map};
+ghost use Rattle.std.specs.List.{filter_map, list_all};
+ghost use Rattle.toml.specs.Data.{as_array, as_table, get_member};
+ghost use Rattle.toml.specs.View.{table_view, view};
+ghost use Rattle.gate_config.specs.Key.{name_of};
+ghost use Rattle.gate_config.specs.Values.{Answers, result_map, table_from};
+ghost use Rattle.gate_config.specs.Tables.{items_in, optional_from, tables_from, tables_in};
+
+use crate::entry::entry;
+use crate::fault::ConfigFault;
+use crate::key::Key;
+use std::alloc::{AllocError, Global};
+use toml::{Table, Value};
+
+/// The table at a key.
+pub fn table_at<'a>(table: &'a Table, key: Key) -> Result<&'a Table, ConfigFault>
+    ensures { result_map (λ t. table_view t.now) result ≡ table_from key (get_member (name_of key) (table_view table.now)) }
+{
+    match entry(table, key) {
+        Some(value) => match value.as_table() {
+            Some(section) => Ok(section),
+            None => Err(ConfigFault::Kind(key)),
+        },
+        None => Err(ConfigFault::Missing(key)),
+    }
+}
+
+/// The table at a key that may be absent.
+pub fn optional_table_at<'a>(table: &'a Table, key: Key) -> Result<Option<&'a Table>, ConfigFault>
+    ensures { result_map (option_map (λ t. table_view t.now)) result ≡ optional_from key (get_member (name_of key) (table_view table.now)) }
+{
+    match entry(table, key) {
+        Some(value) => match value.as_table() {
+            Some(section) => Ok(Some(section)),
+            None => Err(ConfigFault::Kind(key)),
+        },
+        None => Ok(None),
+    }
+}
+
+/// The tables of the array at a key, of which there are at most `most`; none where it is absent.
+pub fn tables_at<'a>(
+    alloc: Global,
+    table: &'a Table,
+    key: Key,
+    most: usize,
+) -> Result<Vec<&'a Table>, ConfigFault>
+    ensures { Answers (λ tables. map (λ t. table_view t.now) tables.items) (tables_from key most (get_member (name_of key) (table_view table.now))) result }
+{
+    let Some(value) = entry(table, key) else {
+        return Ok(Vec::new(alloc));
+    };
+    let Some(items) = items_of(value) else {
+        return Err(ConfigFault::Kind(key));
+    };
+    tables_in(alloc, items, key, most)
+}
+
+/// The items, which all are to be tables, and at most `most`.
+fn tables_in<'a>(
+    alloc: Global,
+    items: &'a [Value],
+    key: Key,
+    most: usize,
+) -> Result<Vec<&'a Table>, ConfigFault>
+    ensures { Answers (λ tables. map (λ t. table_view t.now) tables.items) (tables_in key most (map view items.now)) result }
+{
+    if !are_tables(items) {
+        return Err(ConfigFault::Kind(key));
+    }
+    if items.len() <= most {
+        Ok(tables_of(alloc, items)?)
+    } else {
+        Err(ConfigFault::Value(key))
+    }
+}
+
+/// The items of an array.
+fn items_of<'a>(value: &'a Value) -> Option<&'a [Value]>
+    ensures { option_map (λ items. map view items.now) result ≡ option_map items_in (as_array (view value.now)) }
+{
+    match value.as_array() {
+        Some(array) => Some(array.as_slice()),
+        None => None,
+    }
+}
+
+/// Whether each item is a table.
+fn are_tables(items: &[Value]) -> bool
+    ensures { result ≡ list_all (λ item. is_some (as_table item)) (map view items.now) }
+{
+    have_tables(items)
+}
+
+/// Whether each value is a table.
+fn have_tables(items: &[Value]) -> bool
+    ensures { result ≡ list_all (λ item. is_some (as_table (view item))) items.now }
+{
+    items.iter().all(|item| item.is_table())
+}
+
+/// The items that are tables.
+fn tables_of<'a>(alloc: Global, items: &'a [Value]) -> Result<Vec<&'a Table>, AllocError>
+    ensures { IfOk result (λ tables. map (λ t. table_view t.now) tables.items ≡ filter_map as_table (map view items.now)) }
+{
+    let mut tables = Vec::new(alloc);
+    for item in items {
+        if let Some(table) = item.as_table() {
+            tables.push(table)?;
+        }
+    }
+    Ok(tables)
+}

@@ -1,0 +1,61 @@
+ghost use Rattle.std.specs.Prelude.{◌≡◌, []};
+ghost use Rattle.toml.specs.Data.{get_member};
+ghost use Rattle.toml.specs.View.{table_view};
+ghost use Rattle.gate_config.specs.Address.{is_address};
+ghost use Rattle.gate_config.specs.Key.{name_of};
+ghost use Rattle.gate_config.specs.Rows.{top_rows};
+ghost use Rattle.gate_config.specs.Values.{Answers, section_of, text_from};
+ghost use Rattle.gate_config.specs.Sections.{top_values};
+
+use crate::address::Address;
+use crate::fault::ConfigFault;
+use crate::key::Key;
+use crate::number::{Range, flag, number};
+use crate::text::text;
+use std::alloc::Global;
+use toml::Table;
+
+/// The keys outside all tables.
+#[derive(Drop)]
+pub struct TopKeys {
+    pub listen: Address,
+    pub backend: Address,
+    /// How many callers may wait.
+    pub backlog: u32,
+    /// Whether refused callers wait.
+    pub wait: bool,
+    /// The longest wait, in milliseconds.
+    pub timeout_ms: u32,
+    /// How many entries of the history are kept.
+    pub keep: u32,
+}
+
+/// The keys outside all tables.
+pub fn read_top(alloc: Global, table: &Table) -> Result<TopKeys, ConfigFault>
+    ensures { Answers top_values (section_of [] top_rows (table_view table.now)) result }
+{
+    let listen = read_address(alloc, table, Key::Listen)?;
+    let backend = read_address(alloc, table, Key::Backend)?;
+    let backlog = number(table, Key::Backlog, Range::new(0, 10_000, 100))?;
+    let wait = flag(table, Key::Wait, true)?;
+    let timeout_ms = number(table, Key::TimeoutMs, Range::new(1, 3_600_000, 1_000))?;
+    let keep = number(table, Key::Keep, Range::new(1, 1_000_000, 4_096))?;
+    Ok(TopKeys {
+        listen,
+        backend,
+        backlog,
+        wait,
+        timeout_ms,
+        keep,
+    })
+}
+
+/// The address at a key.
+fn read_address(alloc: Global, table: &Table, key: Key) -> Result<Address, ConfigFault>
+    ensures { Answers (λ a. a) (text_from key is_address (get_member (name_of key) (table_view table.now))) result }
+{
+    match Address::parse(alloc, text(table, key)?)? {
+        Some(address) => Ok(address),
+        None => Err(ConfigFault::Value(key)),
+    }
+}

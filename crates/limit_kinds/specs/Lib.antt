@@ -1,0 +1,6 @@
+pub mod Wrapped
+pub mod Kinds
+pub mod KindsLaws
+pub mod AnyKinds
+pub mod AnyKindsLaws
+pub mod KindNames

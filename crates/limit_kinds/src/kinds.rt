@@ -1,0 +1,175 @@
+// The kinds of limit, as one.
+ghost use Rattle.std.specs.Prelude.{◌≡◌};
+ghost use Rattle.limit_kinds.specs.KindNames.{base_name, kind_name};
+
+use aimd::Aimd;
+use limit_laws::{Fixed, Limit, Sample, SetFault, Settable};
+use vegas::Vegas;
+use windowed::Windowed;
+
+/// A limit of one of the kinds.
+#[derive(Clone, Copy, Debug, PartialEq, Eq)]
+pub enum BaseLimit {
+    Fixed(Fixed),
+    Settable(Settable),
+    Aimd(Aimd),
+    Vegas(Vegas),
+}
+
+impl BaseLimit {
+    /// What the kind is called: `fixed`, `settable`, `aimd` or `vegas`.
+    pub fn kind(&self) -> &'static str
+        ensures { result.now ≡ base_name self.now }
+    {
+        match self {
+            BaseLimit::Fixed(_) => "fixed",
+            BaseLimit::Settable(_) => "settable",
+            BaseLimit::Aimd(_) => "aimd",
+            BaseLimit::Vegas(_) => "vegas",
+        }
+    }
+}
+
+impl Limit for BaseLimit {
+    ghost use Rattle.limit_kinds.specs.Kinds.{base_rules};
+    ghost use Rattle.limit_kinds.specs.KindsLaws.{IsLawful-base};
+
+    ghost rules = { base_rules };
+
+    fn lo(&self) -> u32 {
+        match self {
+            BaseLimit::Fixed(limit) => limit.lo(),
+            BaseLimit::Settable(limit) => limit.lo(),
+            BaseLimit::Aimd(limit) => limit.lo(),
+            BaseLimit::Vegas(limit) => limit.lo(),
+        }
+    }
+
+    fn hi(&self) -> u32 {
+        match self {
+            BaseLimit::Fixed(limit) => limit.hi(),
+            BaseLimit::Settable(limit) => limit.hi(),
+            BaseLimit::Aimd(limit) => limit.hi(),
+            BaseLimit::Vegas(limit) => limit.hi(),
+        }
+    }
+
+    fn limit(&self) -> u32 {
+        match self {
+            BaseLimit::Fixed(limit) => limit.limit(),
+            BaseLimit::Settable(limit) => limit.limit(),
+            BaseLimit::Aimd(limit) => limit.limit(),
+            BaseLimit::Vegas(limit) => limit.limit(),
+        }
+    }
+
+    fn on_sample(&mut self, sample: &Sample) {
+        match self {
+            BaseLimit::Fixed(limit) => limit.on_sample(sample),
+            BaseLimit::Settable(limit) => limit.on_sample(sample),
+            BaseLimit::Aimd(limit) => limit.on_sample(sample),
+            BaseLimit::Vegas(limit) => limit.on_sample(sample),
+        }
+    }
+
+    fn set(&mut self, n: u32) -> Result<(), SetFault> {
+        match self {
+            BaseLimit::Fixed(limit) => limit.set(n),
+            BaseLimit::Settable(limit) => limit.set(n),
+            BaseLimit::Aimd(limit) => limit.set(n),
+            BaseLimit::Vegas(limit) => limit.set(n),
+        }
+    }
+
+    fn reset(&mut self) {
+        match self {
+            BaseLimit::Fixed(limit) => limit.reset(),
+            BaseLimit::Settable(limit) => limit.reset(),
+            BaseLimit::Aimd(limit) => limit.reset(),
+            BaseLimit::Vegas(limit) => limit.reset(),
+        }
+    }
+
+    fn copy(&self) -> Self {
+        *self
+    }
+
+    ghost lawful = { IsLawful-base };
+}
+
+/// A limit that learns from each sample, or from windows of samples.
+#[derive(Drop)]
+pub enum AnyLimit {
+    Plain(BaseLimit),
+    Windowed(Windowed<BaseLimit>),
+}
+
+impl AnyLimit {
+    /// What the kind is called; over windows, that of the limit inside.
+    pub fn kind(&self) -> &'static str
+        ensures { result.now ≡ kind_name self.now }
+    {
+        match self {
+            AnyLimit::Plain(limit) => limit.kind(),
+            AnyLimit::Windowed(limit) => limit.inner().kind(),
+        }
+    }
+}
+
+impl Limit for AnyLimit {
+    ghost use Rattle.limit_kinds.specs.AnyKinds.{any_rules};
+    ghost use Rattle.limit_kinds.specs.AnyKindsLaws.{IsLawful-any};
+
+    ghost rules = { any_rules };
+
+    fn lo(&self) -> u32 {
+        match self {
+            AnyLimit::Plain(limit) => limit.lo(),
+            AnyLimit::Windowed(limit) => limit.lo(),
+        }
+    }
+
+    fn hi(&self) -> u32 {
+        match self {
+            AnyLimit::Plain(limit) => limit.hi(),
+            AnyLimit::Windowed(limit) => limit.hi(),
+        }
+    }
+
+    fn limit(&self) -> u32 {
+        match self {
+            AnyLimit::Plain(limit) => limit.limit(),
+            AnyLimit::Windowed(limit) => limit.limit(),
+        }
+    }
+
+    fn on_sample(&mut self, sample: &Sample) {
+        match self {
+            AnyLimit::Plain(limit) => limit.on_sample(sample),
+            AnyLimit::Windowed(limit) => limit.on_sample(sample),
+        }
+    }
+
+    fn set(&mut self, n: u32) -> Result<(), SetFault> {
+        match self {
+            AnyLimit::Plain(limit) => limit.set(n),
+            AnyLimit::Windowed(limit) => limit.set(n),
+        }
+    }
+
+    fn reset(&mut self) {
+        match self {
+            AnyLimit::Plain(limit) => limit.reset(),
+            AnyLimit::Windowed(limit) => limit.reset(),
+        }
+    }
+
+    fn copy(&self) -> Self {
+        match self {
+            AnyLimit::Plain(limit) => AnyLimit::Plain(limit.copy()),
+            AnyLimit::Windowed(limit) => AnyLimit::Windowed(limit.copy()),
+        }
+    }
+
+    ghost lawful = { IsLawful-any };
+}

@@ -1,0 +1,64 @@
+ghost use Rattle.std.specs.Prelude.{◌≡◌, ◌↔◌, [], length, IsTrue};
+
+use crate::bytes::Bytes;
+use std::marker::Model;
+
+/// A header line: its name as it was written, and its value without the blanks around it.
+#[derive(Debug, Drop)]
+pub struct Header {
+    pub name: Bytes,
+    pub value: Bytes,
+}
+
+/// The header lines of a message, in their order. A contract sees their list.
+#[derive(Debug, Drop)]
+pub struct Headers {
+    lines: Vec<Header>,
+}
+
+impl Model for Headers {
+    ghost use Rattle.std.specs.Prelude.{List};
+    ghost use Rattle.wire.specs.declared.headers.Header.{Header};
+
+    ghost Value = { List Header };
+
+    ghost view = { λ h. h.lines.items };
+}
+
+impl Headers {
+    /// These lines. Takes no memory.
+    pub fn new(lines: Vec<Header>) -> Headers
+        ensures { result ≡ lines.items }
+    {
+        Headers { lines }
+    }
+
+    /// The lines in place.
+    pub fn as_slice(&self) -> &[Header]
+        ensures { result.now ≡ self.now }
+    {
+        self.lines.as_slice()
+    }
+
+    /// How many lines there are.
+    pub fn len(&self) -> usize
+        ensures { result ≡ length self.now }
+    {
+        self.lines.len()
+    }
+
+    /// Whether there is no line.
+    pub fn is_empty(&self) -> bool
+        ensures { IsTrue result ↔ (self.now ≡ []) }
+    {
+        self.lines.is_empty()
+    }
+
+    /// Gives the lines back. Takes no memory.
+    pub fn into_vec(self) -> Vec<Header>
+        ensures { result.items ≡ self }
+    {
+        let Headers { lines } = self;
+        lines
+    }
+}

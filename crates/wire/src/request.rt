@@ -1,0 +1,25 @@
+use crate::bytes::Bytes;
+use crate::headers::Headers;
+use crate::text::Text;
+use http::Method;
+
+/// The version of HTTP that a request is in.
+#[derive(Clone, Copy, Debug, PartialEq, Eq)]
+pub enum Version {
+    Http10,
+    Http11,
+}
+
+/// A request that was read whole.
+#[derive(Drop)]
+pub struct Request {
+    pub method: Method,
+    /// The target as it was sent: a path with or without a query, an absolute URI, or `*`.
+    pub target: Text,
+    /// The target up to its query, and of an absolute URI the part behind its authority.
+    pub path: Text,
+    pub version: Version,
+    pub headers: Headers,
+    /// The body, where the request has a length.
+    pub body: Option<Bytes>,
+}
