@@ -1,8 +1,8 @@
 // A configuration, checked.
-ghost use Rattle.std.specs.Prelude.{◌≡◌, ◌≤◌, ◌⊎◌, ◌++◌, codes, ℕ, length, string_bytes, Some, Ok, IfOk, IfErr, OnOk, IfSome, IsErrOf};
+ghost use Rattle.std.specs.Prelude.{◌≡◌, ◌≤◌, ◌⊎◌, ◌++◌, codes, ℕ, length, string_bytes, Some, Ok, IfOk, IfErr, OnOk, IfSome};
 ghost use Rattle.std.specs.Io.KnownBytes.{Appends};
 ghost use Rattle.counted_io.specs.Counted.{inner_of};
-ghost use Rattle.counted_io.specs.Causes.{IsReadCause, IsWriteCause};
+ghost use Rattle.counted_io.specs.Causes.{IsWriteCause};
 ghost use Rattle.gate_config.specs.declared.settings.Settings.{Settings as SettingsValue};
 ghost use Rattle.admission.specs.Check.{IsWhy, Says, accepted_line, fault_line, summary_text};
 

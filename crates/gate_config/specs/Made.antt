@@ -2,7 +2,7 @@
 use Rattle.std.specs.Prelude.{◌*◌, [], Option, Some, None, bytes_eq, codes, if◌then◌else◌}
 use Rattle.sample_window.specs.Totals.{totals}
 use Rattle.limit_kinds.specs.declared.kinds.AnyLimit.{AnyLimit}
-use Rattle.limit_kinds.specs.declared.kinds.AnyLimit.TheVariants as Any
+use Rattle.limit_kinds.specs.declared.kinds.AnyLimit.TheVariants as Kind
 use Rattle.limit_kinds.specs.declared.kinds.BaseLimit.{BaseLimit}
 use Rattle.limit_kinds.specs.declared.kinds.BaseLimit.TheVariants as Base
 use Rattle.gate_config.specs.declared.limit.LimitKeys.{LimitKeys}
@@ -38,7 +38,7 @@ base_of (Keys.Vegas m alpha beta probe_every) = Base.Vegas (record {
 
 -- a limit within a window that has no sample yet
 abbrev pub windowed_of : BaseLimit → WindowKeys → AnyLimit
-windowed_of base w = Any.Windowed (record {
+windowed_of base w = Kind.Windowed (record {
   inner = base;
   totals = totals [];
   next_update = 0;
@@ -51,7 +51,7 @@ windowed_of base w = Any.Windowed (record {
 })
 
 abbrev pub any_of : LimitKeys → Option WindowKeys → AnyLimit
-any_of keys None = Any.Plain (base_of keys)
+any_of keys None = Kind.Plain (base_of keys)
 any_of keys (Some window) = windowed_of (base_of keys) window
 
 -- the keys that the values of the sections are
