@@ -1,5 +1,5 @@
 -- What `check` answers a configuration.
-use Rattle.std.specs.Prelude.{◌≡◌, ◌≢◌, ℕ, List, [], ◌∷◌, ◌++◌, length, Result, Ok, Err, codes, decimal}
+use Rattle.std.specs.Prelude.{◌≡◌, ◌≢◌, ◌≤◌, ◌⊎◌, ℕ, List, [], ◌∷◌, ◌++◌, length, Result, Ok, Err, codes, decimal}
 use Rattle.std.specs.List.{concat}
 use Rattle.toml.specs.Data.{Members}
 use Rattle.counted_io.specs.declared.counted.Counted.{Counted}
@@ -39,6 +39,10 @@ check_text Check.Write = codes "write"
 abbrev pub fault_line : CheckFault → List ℕ
 fault_line fault = concat (codes "admission: " ∷ check_text fault ∷ codes "\n" ∷ [])
 
+-- the line of the fault is written, or where memory was wanting for it, a line that says so; or no line could be written
+abbrev pub IsTold : (List ℕ → Type 0) → Type 0 → CheckFault → Type 0
+IsTold Writes IsUnwritten fault = Writes (fault_line fault) ⊎ Writes (fault_line (Check.Config Config.Memory)) ⊎ IsUnwritten
+
 -- the bytes have this answer: it is that of every table that toml reads of them, and without such a table it is the fault of the text
 abbrev pub Says : List ℕ → Result Settings ConfigFault → Type 0
 Says bytes answer = ((t : Members) → Reads bytes t → settings_of t ≡ answer)
@@ -49,3 +53,8 @@ abbrev pub IsWhy : {W : Type 0} → List ℕ → Counted W → Counted W → Che
 IsWhy bytes old new Check.Read = ⊥
 IsWhy bytes old new (Check.Config fault) = (new ≡ old) × (fault ≢ Config.Memory → Says bytes (Err fault))
 IsWhy bytes old new Check.Write = IsWriteCause old new × (s : Settings) × Says bytes (Ok s)
+
+-- the fault is that of a file: no bytes of it were had, and then nothing is written; or it is that of its bytes, at most so many
+abbrev pub IsWhyOfFile : {W : Type 0} → ℕ → Counted W → Counted W → CheckFault → Type 0
+IsWhyOfFile most old new fault = (((fault ≡ Check.Read) ⊎ (fault ≡ Check.Config Config.Memory)) × (new ≡ old))
+    ⊎ (bytes : List ℕ) × (length bytes ≤ most) × IsWhy bytes old new fault

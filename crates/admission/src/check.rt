@@ -1,10 +1,10 @@
 // A configuration, checked.
-ghost use Rattle.std.specs.Prelude.{◌≡◌, ◌≤◌, ◌⊎◌, ◌++◌, codes, ℕ, length, string_bytes, Some, Ok, IfOk, IfErr, OnOk, IfSome};
+ghost use Rattle.std.specs.Prelude.{◌≡◌, ◌<◌, ◌≤◌, ◌⊎◌, ◌++◌, codes, ℕ, List, length, string_bytes, Some, Ok, IfOk, IfErr, OnOk, IfSome, IsErrOf};
 ghost use Rattle.std.specs.Io.KnownBytes.{Appends};
 ghost use Rattle.counted_io.specs.Counted.{inner_of};
-ghost use Rattle.counted_io.specs.Causes.{IsWriteCause};
+ghost use Rattle.counted_io.specs.Causes.{IsReadCause, IsWriteCause};
 ghost use Rattle.gate_config.specs.declared.settings.Settings.{Settings as SettingsValue};
-ghost use Rattle.admission.specs.Check.{IsWhy, Says, accepted_line, fault_line, summary_text};
+ghost use Rattle.admission.specs.Check.{IsTold, IsWhy, IsWhyOfFile, Says, accepted_line, fault_line, summary_text};
 
 use super::error_line::tell;
 use super::run::{DONE, FAULT};
@@ -55,6 +55,15 @@ pub fn check_file<F: Files, W: Write, E: Write>(
     errors: &mut Counted<E>,
 ) -> u8
     ensures status { (result ≡ DONE) ⊎ (result ≡ FAULT) }
+
+    // The line of the settings that the file holds is written, and nothing else.
+    ensures accepted { result ≡ DONE → (bytes : List ℕ) × (length bytes ≤ MOST_CONFIG) × (s : SettingsValue) × Says bytes (Ok s)
+        × Appends (W.contents (inner_of writer.old)) (W.contents (inner_of writer.new)) (accepted_line s) }
+    ensures quiet { result ≡ DONE → errors.new ≡ errors.old }
+
+    // The first fault is told.
+    ensures refused { result ≡ FAULT → (fault : CheckFault) × IsWhyOfFile MOST_CONFIG writer.old writer.new fault
+        × IsTold (λ line. Appends (E.contents (inner_of errors.old)) (E.contents (inner_of errors.new)) line) (IsWriteCause errors.old errors.new) fault }
 {
     let Ok(file) = File::open(files, path) else {
         return report(alloc, errors, CheckFault::Read);
@@ -72,6 +81,9 @@ pub fn check_file<F: Files, W: Write, E: Write>(
 pub fn read_config<R: Read>(alloc: Global, reader: &mut Counted<R>) -> Result<Vec<u8>, CheckFault>
     ensures short { IfOk result (λ bytes. length bytes.items ≤ MOST_CONFIG) }
     ensures whole { IfOk result (λ bytes. IfSome (R.remaining (inner_of reader.old)) (λ all. bytes.items ≡ all)) }
+    ensures faults { IfErr result (λ fault. (fault ≡ CheckFault.Read) ⊎ (fault ≡ CheckFault.Config ConfigFault.Memory)) }
+    ensures read { IsErrOf result CheckFault.Read → IsReadCause MOST_READS reader.old reader.new
+        ⊎ IfSome (R.remaining (inner_of reader.old)) (λ all. MOST_CONFIG < length all) }
 {
     match read_all(alloc, reader, MOST_CONFIG, MOST_READS) {
         Ok(bytes) => Ok(bytes),
@@ -101,9 +113,7 @@ pub fn check_text<W: Write, E: Write>(
 
     // The first fault is told.
     ensures refused { result ≡ FAULT → (fault : CheckFault) × IsWhy bytes.now writer.old writer.new fault
-        × ((Appends (E.contents (inner_of errors.old)) (E.contents (inner_of errors.new)) (fault_line fault))
-        ⊎ (Appends (E.contents (inner_of errors.old)) (E.contents (inner_of errors.new)) (fault_line (CheckFault.Config ConfigFault.Memory)))
-        ⊎ IsWriteCause errors.old errors.new) }
+        × IsTold (λ line. Appends (E.contents (inner_of errors.old)) (E.contents (inner_of errors.new)) line) (IsWriteCause errors.old errors.new) fault }
 {
     match check(alloc, bytes, writer) {
         Ok(()) => DONE,
@@ -187,9 +197,7 @@ fn summary_line(alloc: Global, summary: Summary) -> Result<String, AllocError>
 /// Writes the line of a fault, and answers the status after it.
 fn report<E: Write>(alloc: Global, errors: &mut Counted<E>, fault: CheckFault) -> u8
     ensures status { result ≡ FAULT }
-    ensures told { (Appends (E.contents (inner_of errors.old)) (E.contents (inner_of errors.new)) (fault_line fault))
-        ⊎ (Appends (E.contents (inner_of errors.old)) (E.contents (inner_of errors.new)) (fault_line (CheckFault.Config ConfigFault.Memory)))
-        ⊎ IsWriteCause errors.old errors.new }
+    ensures told { IsTold (λ line. Appends (E.contents (inner_of errors.old)) (E.contents (inner_of errors.new)) line) (IsWriteCause errors.old errors.new) fault }
 {
     tell_fault(alloc, errors, &fault);
     FAULT
@@ -197,9 +205,7 @@ fn report<E: Write>(alloc: Global, errors: &mut Counted<E>, fault: CheckFault) -
 
 /// Writes the line of a fault, or where memory is wanting for it, a line that says so.
 fn tell_fault<E: Write>(alloc: Global, errors: &mut Counted<E>, fault: &CheckFault)
-    ensures told { (Appends (E.contents (inner_of errors.old)) (E.contents (inner_of errors.new)) (fault_line fault.now))
-        ⊎ (Appends (E.contents (inner_of errors.old)) (E.contents (inner_of errors.new)) (fault_line (CheckFault.Config ConfigFault.Memory)))
-        ⊎ IsWriteCause errors.old errors.new }
+    ensures told { IsTold (λ line. Appends (E.contents (inner_of errors.old)) (E.contents (inner_of errors.new)) line) (IsWriteCause errors.old errors.new) fault.now }
 {
     match fault_line(alloc, fault) {
         Ok(line) => tell(errors, line.as_bytes()),

@@ -1,6 +1,10 @@
 // The words of a command line.
-ghost use Rattle.std.specs.Prelude.{◌≤◌, IfOk};
+ghost use Rattle.std.specs.Prelude.{◌≡◌, ◌≤◌, ◌⊎◌, ℕ, map, string_bytes, false, [], IfErr, IfOk, IfSome, IsNone, OnOk};
+ghost use Rattle.clap.specs.Words.{HasKind, app_of, fault_of, found_of, rows_of, rule_of, subcommand_of, subcommand_rows_of};
+ghost use Rattle.admission.specs.Words.{HasNumber, IsLeaf, IsRunOf, admission_app, check_app, config_rule, limit_rule, replay_app};
+ghost use Rattle.admission.specs.declared.words.Run.{Run as RunValue};
 
+use clap::error::ErrorKind;
 use clap::{Arg, ArgMatches, Command, Error, value_parser};
 use std::alloc::{AllocError, Global};
 
@@ -93,7 +97,10 @@ one line on standard error, which names the first key at fault:
   admission: config: route        two patterns that can't stand together";
 
 /// `--limit N`.
-fn limit_option<'a>(alloc: Global) -> Arg<'a> {
+fn limit_option<'a>(alloc: Global) -> Arg<'a>
+    ensures rule { rule_of result ≡ limit_rule }
+    ensures local { result.global ≡ false }
+{
     Arg::new(alloc, "limit")
         .long("limit")
         .value_name("N")
@@ -103,7 +110,9 @@ fn limit_option<'a>(alloc: Global) -> Arg<'a> {
 }
 
 /// `replay [--limit N]`.
-fn replay_command<'a>(alloc: Global) -> Result<Command<'a>, AllocError> {
+fn replay_command<'a>(alloc: Global) -> Result<Command<'a>, AllocError>
+    ensures { IfOk result (IsLeaf replay_app) }
+{
     Command::new(alloc, "replay")
         .about(REPLAY_ABOUT)
         .after_help(REPLAY_HELP)
@@ -111,7 +120,10 @@ fn replay_command<'a>(alloc: Global) -> Result<Command<'a>, AllocError> {
 }
 
 /// `CONFIG`.
-fn config_argument<'a>(alloc: Global) -> Arg<'a> {
+fn config_argument<'a>(alloc: Global) -> Arg<'a>
+    ensures rule { rule_of result ≡ config_rule }
+    ensures local { result.global ≡ false }
+{
     Arg::new(alloc, "config")
         .value_name("CONFIG")
         .help("The file of the configuration")
@@ -119,7 +131,9 @@ fn config_argument<'a>(alloc: Global) -> Arg<'a> {
 }
 
 /// `check CONFIG`.
-fn check_command<'a>(alloc: Global) -> Result<Command<'a>, AllocError> {
+fn check_command<'a>(alloc: Global) -> Result<Command<'a>, AllocError>
+    ensures { IfOk result (IsLeaf check_app) }
+{
     Command::new(alloc, "check")
         .about(CHECK_ABOUT)
         .after_help(CHECK_HELP)
@@ -127,7 +141,9 @@ fn check_command<'a>(alloc: Global) -> Result<Command<'a>, AllocError> {
 }
 
 /// The whole command.
-fn command<'a>(alloc: Global) -> Result<Command<'a>, AllocError> {
+fn command<'a>(alloc: Global) -> Result<Command<'a>, AllocError>
+    ensures { IfOk result (λ whole. app_of whole ≡ admission_app) }
+{
     Command::new(alloc, "admission")
         .about(ABOUT)
         .subcommand_required(true)
@@ -135,12 +151,51 @@ fn command<'a>(alloc: Global) -> Result<Command<'a>, AllocError> {
         .subcommand(check_command(alloc)?)
 }
 
-/// The task of a subcommand.
-fn task_of<'a>(name: &str, matches: &ArgMatches<'a>) -> Task<'a> {
-    match matches.get_str("config") {
-        Some(path) if name == "check" => Task::Check(path),
-        _ => Task::Replay,
+/// The number of an option, where it lies in its range.
+fn number(matches: &ArgMatches<'_>, id: &str, low: u32, high: u32) -> Option<u32>
+    ensures value { IfSome result (HasNumber (rows_of (found_of matches.now)) id.now low high) }
+    ensures none { IsNone result → (n : ℕ) → HasNumber (rows_of (found_of matches.now)) id.now low high n → ⊥ }
+{
+    match matches.get_one::<u32>(id) {
+        Some(n) if n < low => None,
+        Some(n) if high < n => None,
+        found => found,
     }
+}
+
+/// The run of a subcommand.
+fn run_of<'a>(name: &str, matches: &ArgMatches<'a>) -> Option<Run<'a>>
+    ensures run { IfSome result (IsRunOf (Some (name.now, rows_of (found_of matches.now)))) }
+    ensures none { IsNone result → (run : RunValue) → IsRunOf (Some (name.now, rows_of (found_of matches.now))) run → ⊥ }
+    ensures least { IfSome result (λ run. 1 ≤ run.limit) }
+    ensures most { IfSome result (λ run. run.limit ≤ 10000) }
+{
+    if name == "replay" {
+        let limit = number(matches, "limit", 1, 10_000)?;
+        Some(Run {
+            task: Task::Replay,
+            limit,
+        })
+    } else if name == "check" {
+        let path = matches.get_str("config")?;
+        Some(Run {
+            task: Task::Check(path),
+            limit: USUAL_LIMIT,
+        })
+    } else {
+        None
+    }
+}
+
+/// The run of the subcommand that was met.
+fn named_run<'a>(matches: &ArgMatches<'a>) -> Option<Run<'a>>
+    ensures run { IfSome result (IsRunOf (subcommand_rows_of matches.now)) }
+    ensures none { IsNone result → (run : RunValue) → IsRunOf (subcommand_rows_of matches.now) run → ⊥ }
+    ensures least { IfSome result (λ run. 1 ≤ run.limit) }
+    ensures most { IfSome result (λ run. run.limit ≤ 10000) }
+{
+    let (name, found) = matches.subcommand()?;
+    run_of(name, found)
 }
 
 /// Reads the words, the program's name first.
@@ -148,19 +203,18 @@ fn task_of<'a>(name: &str, matches: &ArgMatches<'a>) -> Task<'a> {
 /// An error is clap's: its text says which word is wrong, and its exit code is 2, or 0 where help was
 /// asked for. Want of memory is an error of the code 2 too.
 pub fn words<'a>(alloc: Global, list: &'a [String]) -> Result<Run<'a>, Error>
+    ensures run { IfOk result (IsRunOf (subcommand_of admission_app (map string_bytes list.now))) }
+    ensures faultless { OnOk result (fault_of admission_app (map string_bytes list.now) ≡ []) }
     ensures least { IfOk result (λ run. 1 ≤ run.limit) }
     ensures most { IfOk result (λ run. run.limit ≤ 10000) }
+
+    // An error is of a kind that the words are at fault by, or says that memory is wanting, unless they name no run.
+    ensures refused { IfErr result (λ error. HasKind (fault_of admission_app (map string_bytes list.now)) error
+        ⊎ ((run : RunValue) → IsRunOf (subcommand_of admission_app (map string_bytes list.now)) run → ⊥)) }
 {
     let matches = command(alloc)?.try_get_matches_from(list)?;
-    let (task, limit) = match matches.subcommand() {
-        Some((name, found)) => {
-            let limit = found.get_one::<u32>("limit").unwrap_or(USUAL_LIMIT);
-            (task_of(name, found), limit)
-        }
-        None => (Task::Replay, USUAL_LIMIT),
-    };
-    Ok(Run {
-        task,
-        limit: limit.clamp(1, 10_000),
-    })
+    match named_run(&matches) {
+        Some(run) => Ok(run),
+        None => Err(command(alloc)?.error(ErrorKind::MissingSubcommand, "no command is named")?),
+    }
 }
