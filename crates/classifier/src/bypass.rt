@@ -1,3 +1,4 @@
+// Which requests go past the limit.
 ghost use Rattle.std.specs.Prelude.{◌≡◌};
 ghost use Rattle.classifier.specs.Class.{is_bypassed_by};
 

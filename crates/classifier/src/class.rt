@@ -1,3 +1,4 @@
+// What is told of a request: its class.
 ghost use Rattle.std.specs.Prelude.{◌≡◌};
 ghost use Rattle.std.specs.List.{list_any};
 ghost use Rattle.classifier.specs.Class.{class_of, first_part, is_bypassed_by};

@@ -1,3 +1,4 @@
+// The header lines of a request, by name.
 ghost use Rattle.std.specs.Prelude.{◌≡◌, option_map};
 ghost use Rattle.std.specs.List.{list_any};
 ghost use Rattle.classifier.specs.Class.{header_value, has_line, same_name};

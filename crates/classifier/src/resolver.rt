@@ -1,3 +1,4 @@
+// How a request's partition is told.
 ghost use Rattle.std.specs.Prelude.{◌≡◌, option_map};
 ghost use Rattle.classifier.specs.Class.{held_part, resolved_part};
 

@@ -1,3 +1,4 @@
+// All resolvers and bypass rules of a gateway.
 ghost use Rattle.std.specs.Prelude.{◌≡◌};
 ghost use Rattle.classifier.specs.Rules.{RulesValue};
 

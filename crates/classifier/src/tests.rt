@@ -1,3 +1,4 @@
+// Requests and the classes that they get.
 use super::*;
 use http::Method;
 use matchit::Router;

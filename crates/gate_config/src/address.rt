@@ -1,3 +1,4 @@
+// Where a gateway listens, and where it forwards to.
 ghost use Rattle.std.specs.Prelude.{◌≡◌, ◌≤◌, ◌&&◌, bytes_eq, nat_le, IsTrue, Some, None, IfOk, if◌then◌else◌};
 ghost use Rattle.std.specs.Net.Socket.{v4_port};
 ghost use Rattle.std.specs.Net.Text.{socket_v4_text};

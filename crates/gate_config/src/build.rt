@@ -1,3 +1,4 @@
+// From keys to partitions, resolvers and bypass rules.
 ghost use Rattle.std.specs.Prelude.{◌≡◌, ◌≢◌, map, Ok, Err, IfOk, OnOk, IfErr};
 ghost use Rattle.toml.specs.View.{table_view};
 ghost use Rattle.partitions.specs.Faults.{given};
@@ -68,7 +69,7 @@ pub fn resolver_of(
 {
     match keys {
         ResolverKeys::Header(name) => Ok(Resolver::Header(bytes_of(alloc, name)?)),
-        ResolverKeys::Method(method, class) => {
+        ResolverKeys::Method { method, class } => {
             let method = method_of(alloc, Key::ResolverMethod, method)?;
             Ok(Resolver::Method(method, part_named(table, class)))
         }
@@ -87,7 +88,7 @@ pub fn bypass_of(alloc: Global, keys: &BypassKeys) -> Result<Bypass, ConfigFault
             method,
         )?)),
         BypassKeys::Prefix(prefix) => Ok(Bypass::Prefix(bytes_of(alloc, prefix)?)),
-        BypassKeys::Header(header, equals) => {
+        BypassKeys::Header { header, equals } => {
             let name = bytes_of(alloc, header)?;
             Ok(Bypass::HeaderEquals(name, bytes_of(alloc, equals)?))
         }

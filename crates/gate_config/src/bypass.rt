@@ -1,3 +1,4 @@
+// The keys of bypass rules.
 ghost use Rattle.std.specs.Prelude.{◌≡◌, [], Ok, Some, None, codes, map, option_map, if◌then◌else◌};
 ghost use Rattle.toml.specs.Data.{get_member};
 ghost use Rattle.toml.specs.View.{table_view};
@@ -42,8 +43,12 @@ pub enum BypassKeys<'a> {
     Method(&'a str),
     /// What the path begins with.
     Prefix(&'a str),
-    /// The header's name and its value.
-    Header(&'a str, &'a str),
+    Header {
+        /// The header's name.
+        header: &'a str,
+        /// The header's value.
+        equals: &'a str,
+    },
 }
 
 impl BypassKeys<'_> {
@@ -54,7 +59,7 @@ impl BypassKeys<'_> {
         match self {
             BypassKeys::Method(_) => &[Key::BypassKind, Key::BypassMethod],
             BypassKeys::Prefix(_) => &[Key::BypassKind, Key::BypassPrefix],
-            BypassKeys::Header(..) => &[Key::BypassKind, Key::BypassHeader, Key::BypassEquals],
+            BypassKeys::Header { .. } => &[Key::BypassKind, Key::BypassHeader, Key::BypassEquals],
         }
     }
 }
@@ -103,5 +108,5 @@ fn read_header<'a>(table: &'a Table) -> Result<BypassKeys<'a>, ConfigFault>
 {
     let header = token(table, Key::BypassHeader)?;
     let equals = text(table, Key::BypassEquals)?;
-    Ok(BypassKeys::Header(header, equals))
+    Ok(BypassKeys::Header { header, equals })
 }

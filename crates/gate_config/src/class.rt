@@ -1,3 +1,4 @@
+// The keys of classes.
 ghost use Rattle.std.specs.Prelude.{◌≡◌, [], bytes_eq, map};
 ghost use Rattle.std.specs.List.{list_all, list_any};
 ghost use Rattle.partitions.specs.Table.{is_name, is_name_byte};

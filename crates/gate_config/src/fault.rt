@@ -1,3 +1,4 @@
+// Why a configuration is refused.
 ghost use Rattle.std.specs.Prelude.{Some};
 
 use crate::key::Key;

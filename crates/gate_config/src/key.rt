@@ -1,3 +1,4 @@
+// The keys and their sections.
 ghost use Rattle.std.specs.Prelude.{◌≡◌, Some};
 ghost use Rattle.gate_config.specs.Key.{name_of, path_of, prefix_of, section_of};
 

@@ -1,3 +1,4 @@
+// The keys of the limit.
 ghost use Rattle.std.specs.Prelude.{◌≡◌, [], IfOk, Ok, Some, None, map, option_map, if◌then◌else◌};
 ghost use Rattle.toml.specs.Data.{get_member};
 ghost use Rattle.toml.specs.View.{table_view};
@@ -50,13 +51,26 @@ pub struct Moving {
 /// The keys of a limit, by its kind.
 #[derive(Clone, Copy, Debug)]
 pub enum LimitKeys {
-    /// The limit.
-    Fixed(u32),
+    Fixed {
+        initial: u32,
+    },
     Settable(Moving),
-    /// The kept part of the limit in thousandths, and the longest round trip in microseconds.
-    Aimd(Moving, u32, u32),
-    /// The ends of the wanted queue in permits, and the number of samples from probe to probe.
-    Vegas(Moving, u32, u32, u32),
+    Aimd {
+        moving: Moving,
+        /// The part of the limit that a decrease keeps, in thousandths.
+        ratio: u32,
+        /// The longest round trip that is no overload, in microseconds.
+        timeout_us: u32,
+    },
+    Vegas {
+        moving: Moving,
+        /// The least wanted queue, in permits.
+        alpha: u32,
+        /// The greatest wanted queue, in permits.
+        beta: u32,
+        /// The number of samples from probe to probe; 0 for no probes.
+        probe_every: u32,
+    },
 }
 
 impl LimitKeys {
@@ -65,7 +79,7 @@ impl LimitKeys {
         ensures { map name_of result.now ≡ names_of limit_rows (limit_values self.now) }
     {
         match self {
-            LimitKeys::Fixed(_) => &[Key::LimitKind, Key::LimitInitial],
+            LimitKeys::Fixed { .. } => &[Key::LimitKind, Key::LimitInitial],
             LimitKeys::Settable(_) => {
                 &[
                     Key::LimitKind,
@@ -74,7 +88,7 @@ impl LimitKeys {
                     Key::LimitInitial,
                 ]
             }
-            LimitKeys::Aimd(..) => &[
+            LimitKeys::Aimd { .. } => &[
                 Key::LimitKind,
                 Key::LimitMin,
                 Key::LimitMax,
@@ -82,7 +96,7 @@ impl LimitKeys {
                 Key::LimitRatio,
                 Key::LimitTimeoutUs,
             ],
-            LimitKeys::Vegas(..) => &[
+            LimitKeys::Vegas { .. } => &[
                 Key::LimitKind,
                 Key::LimitMin,
                 Key::LimitMax,
@@ -125,7 +139,7 @@ fn read_fixed(table: &Table) -> Result<LimitKeys, ConfigFault>
     ensures value { result ≡ fixed_of (table_view table.now) }
 {
     let initial = number(table, Key::LimitInitial, Range::new(1, MOST, 20))?;
-    Ok(LimitKeys::Fixed(initial))
+    Ok(LimitKeys::Fixed { initial })
 }
 
 /// The keys of a limit that is set by hand.
@@ -148,7 +162,11 @@ fn read_aimd(table: &Table) -> Result<LimitKeys, ConfigFault>
         Key::LimitTimeoutUs,
         Range::new(1, HOUR_US, 5_000_000),
     )?;
-    Ok(LimitKeys::Aimd(moving, ratio, timeout_us))
+    Ok(LimitKeys::Aimd {
+        moving,
+        ratio,
+        timeout_us,
+    })
 }
 
 /// The keys of a Vegas limit.
@@ -160,7 +178,12 @@ fn read_vegas(table: &Table) -> Result<LimitKeys, ConfigFault>
     let alpha = number(table, Key::LimitAlpha, Range::new(1, 100, 3))?;
     let beta = number(table, Key::LimitBeta, Range::new(alpha, 100, 6))?;
     let probe_every = number(table, Key::LimitProbeEvery, Range::new(0, 1_000_000, 0))?;
-    Ok(LimitKeys::Vegas(moving, alpha, beta, probe_every))
+    Ok(LimitKeys::Vegas {
+        moving,
+        alpha,
+        beta,
+        probe_every,
+    })
 }
 
 /// The keys that each limit but a fixed one has.

@@ -1,3 +1,4 @@
+// From keys to a limit.
 ghost use Rattle.std.specs.Prelude.{◌≡◌};
 ghost use Rattle.std.specs.Option.{ForSome};
 ghost use Rattle.gate_config.specs.Limit.{AreInRange};
@@ -48,7 +49,7 @@ fn base_limit(keys: LimitKeys) -> BaseLimit
     ensures { result ≡ base_of keys }
 {
     match keys {
-        LimitKeys::Fixed(initial) => match Fixed::new(initial) {
+        LimitKeys::Fixed { initial } => match Fixed::new(initial) {
             Ok(limit) => BaseLimit::Fixed(limit),
             Err(_) => unreachable!(),
         },
@@ -56,14 +57,23 @@ fn base_limit(keys: LimitKeys) -> BaseLimit
             Ok(limit) => BaseLimit::Settable(limit),
             Err(_) => unreachable!(),
         },
-        LimitKeys::Aimd(moving, ratio, timeout_us) => {
+        LimitKeys::Aimd {
+            moving,
+            ratio,
+            timeout_us,
+        } => {
             let timeout = u64::from(timeout_us) * MICRO;
             match Aimd::new(moving.min, moving.initial, moving.max, ratio, timeout) {
                 Ok(limit) => BaseLimit::Aimd(limit),
                 Err(_) => unreachable!(),
             }
         }
-        LimitKeys::Vegas(moving, alpha, beta, probe_every) => {
+        LimitKeys::Vegas {
+            moving,
+            alpha,
+            beta,
+            probe_every,
+        } => {
             match Vegas::new(
                 moving.min,
                 moving.initial,

@@ -1,3 +1,4 @@
+// The keys of resolvers.
 ghost use Rattle.std.specs.Prelude.{◌≡◌, [], codes, Ok, Some, None, is_some, length, map, option_map, if◌then◌else◌};
 ghost use Rattle.std.specs.List.{list_all};
 ghost use Rattle.std.specs.BTreeMap.{values};
@@ -48,8 +49,11 @@ impl ResolverKind {
 pub enum ResolverKeys<'a> {
     /// The header's name.
     Header(&'a str),
-    /// The method, and its class's name.
-    Method(&'a str, &'a str),
+    Method {
+        method: &'a str,
+        /// The class's name.
+        class: &'a str,
+    },
     /// The patterns, each with its class's name.
     Route(&'a Table),
 }
@@ -61,7 +65,7 @@ impl ResolverKeys<'_> {
     {
         match self {
             ResolverKeys::Header(_) => &[Key::ResolverKind, Key::ResolverHeader],
-            ResolverKeys::Method(..) => &[
+            ResolverKeys::Method { .. } => &[
                 Key::ResolverKind,
                 Key::ResolverMethod,
                 Key::ResolverClass,
@@ -119,7 +123,7 @@ fn read_method<'a>(classes: &[ClassKeys], table: &'a Table) -> Result<ResolverKe
 {
     let method = token(table, Key::ResolverMethod)?;
     let class = class_name(classes, table, Key::ResolverClass)?;
-    Ok(ResolverKeys::Method(method, class))
+    Ok(ResolverKeys::Method { method, class })
 }
 
 /// The table of patterns, each with the name of a class.

@@ -1,3 +1,4 @@
+// What a configuration says.
 use crate::address::Address;
 use classifier::Rules;
 use limit_kinds::AnyLimit;

@@ -1,3 +1,4 @@
+// The keys that aren't allowed where they stand.
 ghost use Rattle.std.specs.Prelude.{◌≡◌, ◌++◌, OnOk, IfOk, flat_map, map};
 ghost use Rattle.toml.specs.View.{table_view};
 ghost use Rattle.gate_config.specs.Bypasses.{bypass_member};

@@ -1,3 +1,4 @@
+// Tables and arrays of tables at keys.
 ghost use Rattle.std.specs.Prelude.{◌≡◌, IfOk, is_some, map, option_map};
 ghost use Rattle.std.specs.List.{filter_map, list_all};
 ghost use Rattle.toml.specs.Data.{as_array, as_table, get_member};

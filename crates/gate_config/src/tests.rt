@@ -1,3 +1,4 @@
+// Configurations, and their settings or faults.
 use super::*;
 use limit_laws::Limit;
 use std::alloc::Global;

@@ -1,3 +1,4 @@
+// Texts at keys.
 ghost use Rattle.std.specs.Prelude.{◌≡◌, true};
 ghost use Rattle.std.specs.List.{list_all};
 ghost use Rattle.http_header.specs.Token.{is_token_byte};

@@ -1,3 +1,4 @@
+// The keys of the window.
 ghost use Rattle.std.specs.Prelude.{◌≡◌, [], IfOk};
 ghost use Rattle.toml.specs.View.{table_view};
 ghost use Rattle.gate_config.specs.Rows.{window_rows};

@@ -1,3 +1,4 @@
+// The stack of waiters.
 ghost use Rattle.std.specs.Prelude.{◌≡◌, ℕ, ◌<◌, ◌≤◌, ◌==◌, ◌↔◌, not, [], ◌∷◌, ◌++◌, length, filter, find, All, IfOk, IfSome, OnOk, OnErr, IsErr, IsErrOf, IsTrue};
 ghost use Rattle.std.specs.List.{list_any};
 ghost use Rattle.lifo_backlog.specs.Waiters.{newest_of};

@@ -1,3 +1,4 @@
+// Why a table isn't made.
 use std::alloc::AllocError;
 use std::error::Error;
 use std::fmt;

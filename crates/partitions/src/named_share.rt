@@ -1,3 +1,4 @@
+// A known partition: its name and its share.
 ghost use Rattle.std.specs.Prelude.{◌≡◌, ◌≤◌, max, map, All, None, IfOk, IsTrue};
 ghost use Rattle.partitions.specs.Table.{is_name, percent_share, IsShare};
 ghost use Rattle.partitions.specs.Faults.{given};

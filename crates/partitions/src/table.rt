@@ -1,3 +1,4 @@
+// The table of partitions.
 ghost use Rattle.std.specs.Prelude.{◌≡◌, ℕ, ◌+◌, ◌*◌, ◌<◌, ◌≤◌, ◌↔◌, max, [], length, map, slice_get, option_map, position, bytes_eq, IfSome, IfOk, IsOkUnless, MatchOption, IsTrue, codes};
 ghost use Rattle.partitions.specs.Table.{IsTable, place_of, find_part, name_of, IsShare, share, bound};
 ghost use Rattle.partitions.specs.Faults.{given, fault_of};

@@ -1,3 +1,4 @@
+// Tables, shares and faults by worked numbers.
 use crate::{Part, PartitionTable, TableFault};
 use std::alloc::Global;
 use std::test::Fail;

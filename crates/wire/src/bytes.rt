@@ -1,3 +1,4 @@
+// Bytes that a message owns.
 ghost use Rattle.std.specs.Prelude.{◌≡◌, ◌↔◌, [], length, IsTrue, IfOk};
 
 use std::alloc::{AllocError, Global};

@@ -1,3 +1,4 @@
+// The header lines of a message, in their order.
 ghost use Rattle.std.specs.Prelude.{◌≡◌, ◌↔◌, [], length, IsTrue};
 
 use crate::bytes::Bytes;

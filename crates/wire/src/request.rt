@@ -1,3 +1,4 @@
+// A request.
 use crate::bytes::Bytes;
 use crate::headers::Headers;
 use crate::text::Text;

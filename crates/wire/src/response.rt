@@ -1,3 +1,4 @@
+// A response.
 ghost use Rattle.std.specs.Prelude.{◌≡◌, ◌≤◌, option_map};
 ghost use Rattle.wire.specs.Response.{ResponseValue};
 

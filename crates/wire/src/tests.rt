@@ -1,3 +1,4 @@
+// Messages keep what they are given.
 use super::*;
 use http::Method;
 use std::test::Fail;
