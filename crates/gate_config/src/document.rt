@@ -6,7 +6,7 @@ ghost use Rattle.gate_config.specs.Classes.{row_of};
 ghost use Rattle.gate_config.specs.Resolvers.{resolver_member};
 ghost use Rattle.gate_config.specs.Bypasses.{bypass_member};
 ghost use Rattle.gate_config.specs.Limit.{AreInRange};
-ghost use Rattle.gate_config.specs.Sections.{IsWindow};
+ghost use Rattle.gate_config.specs.Sections.{IsTop, IsWindow};
 ghost use Rattle.gate_config.specs.Values.{Answers, result_map};
 ghost use Rattle.gate_config.specs.Document.{bypasses_of, classes_in, document_of, document_values, limit_member, limit_of, resolvers_of, tables_and_rows, window_member, window_of};
 
@@ -41,6 +41,7 @@ pub struct Document<'a> {
 
 /// The keys of a configuration, read in their order.
 pub fn read_document<'a>(alloc: Global, table: &'a Table) -> Result<Document<'a>, ConfigFault>
+    ensures top { IfOk result (λ d. IsTop d.top) }
     ensures limit { IfOk result (λ d. AreInRange d.limit.1) }
     ensures window { IfOk result (λ d. ForSome d.window (λ window. IsWindow window.1)) }
     ensures said { Answers document_values (document_of (table_view table.now)) result }

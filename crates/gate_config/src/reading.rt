@@ -6,7 +6,7 @@ ghost use Rattle.toml.specs.View.{table_view};
 ghost use Rattle.gate_config.specs.Bypasses.{bypass_member};
 ghost use Rattle.gate_config.specs.Document.{document_values};
 ghost use Rattle.gate_config.specs.Limit.{AreInRange};
-ghost use Rattle.gate_config.specs.Sections.{IsWindow};
+ghost use Rattle.gate_config.specs.Sections.{AreSound, IsTop, IsWindow};
 ghost use Rattle.gate_config.specs.Resolvers.{resolver_member};
 ghost use Rattle.gate_config.specs.Settings.{Reads, bypasses_made, is_version_one, made_of, resolvers_made, settings_of};
 ghost use Rattle.gate_config.specs.Values.{Answers};
@@ -39,6 +39,7 @@ const MILLI: u64 = 1_000_000;
 /// can't stand together. [`ConfigFault::Memory`] may come at any growth.
 pub fn read(alloc: Global, bytes: &[u8]) -> Result<Settings, ConfigFault>
     ensures settings { (t : Members) → Reads bytes.now t → Answers (λ settings. settings) (settings_of t) result }
+    ensures sound { IfOk result AreSound }
     ensures read { IsOk result → (t : Members) × Reads bytes.now t }
     ensures refused { IfErr result (λ fault. fault ≢ ConfigFault.Memory → fault ≢ ConfigFault.Toml → (t : Members) × Reads bytes.now t) }
 {
@@ -66,7 +67,8 @@ fn table_of(alloc: Global, bytes: &[u8]) -> Result<Table, ConfigFault>
 
 /// The settings that a table holds.
 fn settings_in(alloc: Global, table: &Table) -> Result<Settings, ConfigFault>
-    ensures { Answers (λ settings. settings) (settings_of (table_view table.now)) result }
+    ensures sound { IfOk result AreSound }
+    ensures said { Answers (λ settings. settings) (settings_of (table_view table.now)) result }
 {
     if !is_version_one(table) {
         return Err(ConfigFault::Version);
@@ -90,9 +92,11 @@ fn is_version_one(table: &Table) -> bool
 
 /// The settings that keys make.
 fn made_of(alloc: Global, document: Document) -> Result<Settings, ConfigFault>
+    requires top { IsTop document.top }
     requires limit { AreInRange document.limit.1 }
     requires window { ForSome document.window (λ window. IsWindow window.1) }
-    ensures { Answers (λ settings. settings) (made_of (document_values document.entry)) result }
+    ensures sound { IfOk result AreSound }
+    ensures said { Answers (λ settings. settings) (made_of (document_values document.entry)) result }
 {
     let table = partitions_of(alloc, &document.classes.1)?;
     let resolvers = resolvers_made(alloc, &table, &document.resolvers)?;

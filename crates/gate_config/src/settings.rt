@@ -15,11 +15,14 @@ pub struct Settings {
     pub backlog: u32,
     /// Whether refused callers wait.
     pub wait: bool,
-    /// The longest wait, in nanoseconds.
+    /// The longest wait, in nanoseconds: a millisecond to an hour.
     pub timeout: u64,
     /// How many entries of the history are kept, from 1 to 1,000,000.
     pub keep: u32,
+    /// The limit in its first state, over windows where the configuration has some.
     pub limit: AnyLimit,
+    /// The classes of callers and their shares.
     pub table: PartitionTable,
+    /// How a request's class is told.
     pub rules: Rules,
 }

@@ -1,12 +1,12 @@
 // The keys outside all tables.
-ghost use Rattle.std.specs.Prelude.{◌≡◌, []};
+ghost use Rattle.std.specs.Prelude.{◌≡◌, [], IfOk};
 ghost use Rattle.toml.specs.Data.{get_member};
 ghost use Rattle.toml.specs.View.{table_view};
 ghost use Rattle.gate_config.specs.Address.{is_address};
 ghost use Rattle.gate_config.specs.Key.{name_of};
 ghost use Rattle.gate_config.specs.Rows.{top_rows};
 ghost use Rattle.gate_config.specs.Values.{Answers, section_of, text_from};
-ghost use Rattle.gate_config.specs.Sections.{top_values};
+ghost use Rattle.gate_config.specs.Sections.{IsTop, top_values};
 
 use crate::address::Address;
 use crate::fault::ConfigFault;
@@ -33,7 +33,8 @@ pub struct TopKeys {
 
 /// The keys outside all tables.
 pub fn read_top(alloc: Global, table: &Table) -> Result<TopKeys, ConfigFault>
-    ensures { Answers top_values (section_of [] top_rows (table_view table.now)) result }
+    ensures within { IfOk result IsTop }
+    ensures said { Answers top_values (section_of [] top_rows (table_view table.now)) result }
 {
     let listen = read_address(alloc, table, Key::Listen)?;
     let backend = read_address(alloc, table, Key::Backend)?;
