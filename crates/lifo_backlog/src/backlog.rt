@@ -91,6 +91,13 @@ impl Backlog {
             .copied()
     }
 
+    /// Who waits, in rising order of number.
+    pub fn waiting(&self) -> &[Waiter]
+        ensures { result.now ≡ self.now.waiting }
+    {
+        &self.waiters
+    }
+
     /// Whether the waiter with this number waits.
     pub fn waits(&self, number: u64) -> bool
         ensures { result ≡ list_any (λ one. one.number == number) self.now.waiting }

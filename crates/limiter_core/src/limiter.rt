@@ -16,7 +16,7 @@ use super::fault::CoreFault;
 use super::granted::GrantedPermits;
 use super::permits::Permits;
 use super::state::State;
-use lifo_backlog::Backlog;
+use lifo_backlog::{Backlog, Waiter};
 use limit_laws::Limit;
 use partitions::{Part, PartitionTable};
 use std::alloc::Global;
@@ -169,6 +169,34 @@ impl<L: Limit> Core<L> {
         ensures { result ≡ granted_of (stands self.now) number }
     {
         self.state.granted.find(number)
+    }
+
+    /// The algorithm in its present state.
+    pub fn algorithm(&self) -> &L
+        ensures { result.now ≡ self.now.state }
+    {
+        &self.state.limit
+    }
+
+    /// How many permits aren't ended, place by place: the known partitions' and the unknown one's.
+    pub fn counts(&self) -> [u32; 5]
+        ensures { result ≡ self.now.counts }
+    {
+        self.state.permits.counts()
+    }
+
+    /// Who waits, in rising order of number.
+    pub fn waiters(&self) -> &[Waiter]
+        ensures { result.now ≡ self.now.waiters }
+    {
+        self.state.backlog.waiting()
+    }
+
+    /// The promoted permits that nobody has got yet, the oldest first.
+    pub fn granted_permits(&self) -> &[PermitFacts]
+        ensures { result.now ≡ self.now.granted }
+    {
+        self.state.granted.permits()
     }
 
     /// How many replies, promotions and outcomes of each kind there were since this core was made.

@@ -1,0 +1,4 @@
+mod Books
+mod Endings
+mod Journals
+mod Ledgers
