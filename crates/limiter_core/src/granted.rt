@@ -36,6 +36,13 @@ impl GrantedPermits {
         Ok(GrantedPermits { permits, room })
     }
 
+    /// All of them, in rising order of number.
+    pub(crate) fn permits(&self) -> &[PermitFacts]
+        ensures { result.now ≡ self.now.permits }
+    {
+        &self.permits
+    }
+
     /// How many there are.
     pub(crate) fn len(&self) -> u32
         ensures { result ≡ length self.now.permits }
