@@ -8,7 +8,9 @@ ghost use Rattle.limiter_core.specs.Limiter.{stands, entry_of};
 ghost use Rattle.load_driver.specs.Journal.{gate, opening, image};
 
 use limit_laws::Limit;
-use limiter_core::{Core, CoreFault, Entry, Event, Promotion, Reply};
+use limiter_core::{
+    Core, CoreFault, Entry, Event, Promotion, Reply, answers_by_image, reserved_room_suffices,
+};
 use partitions::PartitionTable;
 use std::alloc::{AllocError, Global};
 use std::marker::Model;
@@ -64,6 +66,8 @@ impl<L: Limit> Journal<L> {
             Err(CoreFault::Memory) => return Err(AllocError),
             Err(CoreFault::Room) => unreachable!(),
         };
+        core.check();
+        answers_by_image::<L>();
         let entries = Vec::with_capacity(alloc, kept + 2 * most + 3 * room as usize)?;
         Ok(Journal {
             first,
@@ -121,6 +125,8 @@ impl<L: Limit> Journal<L> {
         if self.is_exhausted(event) {
             return None;
         }
+        answers_by_image::<L>();
+        reserved_room_suffices::<L>();
         let number = self.entries.len();
         let reply = self.core.apply(event);
         push_answer(&mut self.entries, event, reply, self.core.promotions());
