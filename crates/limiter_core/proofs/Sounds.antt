@@ -10,7 +10,7 @@ use Rattle.partitions.specs.declared.part.Part.{Part}
 use Rattle.limiter_core.specs.declared.event.PermitFacts.{PermitFacts}
 use Rattle.lifo_backlog.specs.declared.waiter.Waiter.{Waiter}
 use Rattle.partitions.specs.Table.{Row, place_of, share, row_share, percent_share, places}
-use Rattle.partitions.proofs.Shares.{percent_share-divides}
+use Rattle.partitions.specs.ShareLaws.{percent_share-divides}
 use Rattle.limiter_core.specs.History.{Gate, Image, limit, total}
 use Rattle.limiter_core.specs.Answer.{granted_at, has_room}
 use Rattle.limiter_core.specs.Bound.{IsSound, bound_at, named}

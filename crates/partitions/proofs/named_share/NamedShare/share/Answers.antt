@@ -1,6 +1,6 @@
 use Rattle.std.proofs.Common.{◌≡◌, ℕ, ◌+◌, ◌*◌, ◌/◌, ◌%◌, max, min, ◌∙◌, sym, subst, arith}
 use Rattle.partitions.specs.Table.{percent_share, IsShare}
-use Rattle.partitions.proofs.Shares.{percent_share-divides, percent_share_is}
+use Rattle.partitions.specs.ShareLaws.{percent_share-divides, percent_share_is}
 use Rattle.partitions.proofs.named_share.NamedShare.share.Goals as goal
 
 rounded_up : (n quotient : ℕ) → quotient ≡ n / 100 + min 1 (n % 100) → max quotient 1 ≡ max 1 ((n + 99) / 100)
