@@ -69,8 +69,8 @@ fn sample(start: u64, rtt: u64) -> Sample {
 ///   and the outer one at 406.
 /// - The next two end at 406 and 407: a mean of 10 ns that ends at 407, so the inner window stays
 ///   open. The outer one is due at 607.
-/// - The last two end at 607 and 608: a mean of 10 ns, which ends at 608, behind 506, and with it
-///   the inner window. So AIMD learns one sample, of 10 ns with 10 in flight of 20, and rises by one.
+/// - The last two end at 607 and 608: a mean of 10 ns, which ends at 608, behind 506, and ends the
+///   inner window too. So AIMD learns one sample, 10 ns with 10 in flight of 20, and rises by one.
 ///
 /// Without the outer windows the inner ones would hold (200, 200, 10) by 406, a mean above 50;
 /// without the inner ones AIMD would learn of 200 ns: either way the limit falls to 18.

@@ -31,7 +31,8 @@ unfolding least
 least-le test zero n passes = omega arith
 least-le test (suc bound) n passes =
     let tail : ℕ → Bool = λ m. test (suc m) in
-    let Below : Bool → Type 0 = λ t. (elim t [ true ↦ zero | false ↦ suc (least tail bound) ]) ≤ n in
+    let Below : Bool → Type 0 = λ t.
+    (elim t [ true ↦ zero | false ↦ suc (least tail bound) ]) ≤ n in
     elim (test zero) as (λ t. test zero ≡ t → Below t) [
       | true ↦ λ _. omega arith
       | false ↦ λ fails. after_zero test _ n (λ k. least-le tail bound k) fails passes
@@ -42,7 +43,8 @@ least-hundredths : (n : ℕ) → least (λ m. nat_le n (100 * m)) n ≡ (n + 99)
 least-hundredths n =
     let test : ℕ → Bool = λ m. nat_le n (100 * m) in
     let quotient : ℕ = (n + 99) / 100 in
-    let passes : test (least test n) ≡ true = least_passes test n (le-leb n (100 * n) (omega arith)) in
+    let passes : test (least test n) ≡ true =
+    least_passes test n (le-leb n (100 * n) (omega arith)) in
     let enough : n ≤ 100 * least test n = leb-true n (100 * least test n) passes in
     let below : least test n ≤ quotient =
     least-le test n quotient (le-leb n (100 * quotient) (omega arith)) in
@@ -74,7 +76,8 @@ percent_share-mono percent low high below =
     let high_divides = percent_share-divides percent high in
     omega (arith, products, low_divides, high_divides)
 
-row_share-mono : (row : Option Row) (low high : ℕ) → low ≤ high → row_share row low ≤ row_share row high
+row_share-mono : (row : Option Row) (low high : ℕ) → low ≤ high →
+    row_share row low ≤ row_share row high
 row_share-mono None low high below = omega arith
 row_share-mono (Some row) low high below = percent_share-mono row.percent low high below
 
