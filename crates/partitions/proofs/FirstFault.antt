@@ -10,6 +10,10 @@ use Rattle.partitions.specs.Faults.{given, row_fault, fault_at, fault_of}
 use Rattle.partitions.specs.declared.fault.TableFault.{TableFault}
 use Rattle.partitions.proofs.Given.{row_given}
 
+-- what a function gives over the numbers after one
+abbrev given_after : {X : Type 0} → (ℕ → Option X) → ℕ → ℕ → List X
+given_after f start count = filter_map f (range_with_len (start + 1) count)
+
 -- the first that a function gives over numbers in a row
 first_given : {X : Type 0} (f : ℕ → Option X) (start count place : ℕ) (x : X) →
     ((k : ℕ) → start ≤ k → k < place → f k ≡ None) → start ≤ place → place < start + count →
@@ -17,17 +21,15 @@ first_given : {X : Type 0} (f : ℕ → Option X) (start count place : ℕ) (x :
 first_given f start zero place x before above below at = absurd (omega arith)
 first_given f start (suc count) place x before above below at =
     elim (eqb start place) as (λ b.
-    eqb start place ≡ b →
-    slice_get (cons_option (f start) (filter_map f (range_with_len (start + 1) count))) 0
-    ≡ Some x) [
-      | true ↦ λ e. let here : f start ≡ Some x = ap f (eqb-true start place e) ∙ at in
-          ap (λ o. slice_get (cons_option o (filter_map f (range_with_len (start + 1) count))) 0) here
+    eqb start place ≡ b → slice_get (cons_option (f start) (given_after f start count)) 0 ≡ Some x) [
+      | true ↦ λ e.
+          let here : f start ≡ Some x = ap f (eqb-true start place e) ∙ at in
+          ap (λ o. slice_get (cons_option o (given_after f start count)) 0) here
       | false ↦ λ e.
           let other : start ≡ place → ⊥ = eqb-false start place e in
           let later : start + 1 ≤ place = omega (arith, other) in
           let none : f start ≡ None = before start (omega arith) (omega arith) in
-          ap (λ o. slice_get (cons_option o (filter_map f (range_with_len (start + 1) count))) 0)
-          none
+          ap (λ o. slice_get (cons_option o (given_after f start count)) 0) none
           ∙ first_given f (start + 1) count place x (λ k from to. before k (omega arith) to) later
           (omega arith) at
     ] refl
@@ -37,7 +39,7 @@ none_given : {X : Type 0} (f : ℕ → Option X) (start count : ℕ) →
     filter_map f (range_with_len start count) ≡ []
 none_given f start zero nowhere = refl
 none_given f start (suc count) nowhere =
-    ap (λ o. cons_option o (filter_map f (range_with_len (start + 1) count)))
+    ap (λ o. cons_option o (given_after f start count))
     (nowhere start (omega arith) (omega arith))
     ∙ none_given f (start + 1) count (λ k from to. nowhere k (omega arith) (omega arith))
 

@@ -62,10 +62,9 @@ different rows sound i j d before below =
     let among : i < length (take j rows) = rw (length-take) (omega arith) in
     let apart : (get_or (take j rows) i row).name ≢ row.name =
     name_new (take j rows) row i (fits rows j d below (sound j below)).new among in
-    λ same.
-    apart
-    (ap (λ (other : Row). other.name) (get_or-take j rows i row before ∙ get_or_default rows i row d (omega arith))
-    ∙ same)
+    let one : get_or (take j rows) i row ≡ get_or rows i d =
+    get_or-take j rows i row before ∙ get_or_default rows i row d (omega arith) in
+    λ same. apart (ap (λ (other : Row). other.name) one ∙ same)
 
 within : (rows : List Row) (k : ℕ) (d : Row) → k + 1 ≡ length rows → fault_at rows k ≡ None →
     sum_by (λ (row : Row). row.percent) rows ≤ 100
