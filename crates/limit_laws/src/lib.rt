@@ -14,6 +14,6 @@ mod settable;
 mod tests;
 
 pub use fixed::Fixed;
-pub use limit::{Limit, MOST_LIMIT, MakeFault, SetFault};
+pub use limit::{GREATEST_LIMIT, Limit, MakeFault, SetFault};
 pub use sample::{HOUR, LAST_MOMENT, Sample};
 pub use settable::Settable;
