@@ -9,7 +9,9 @@ ghost use Rattle.load_driver.specs.Limits.{most_kept};
 ghost use Rattle.load_driver.specs.Journal.{gate, opening, image};
 
 use limit_laws::Limit;
-use limiter_core::{Core, CoreFault, Entry, Event, Promotion, Reply};
+use limiter_core::{
+    Core, CoreFault, Entry, Event, Promotion, Reply, answers_by_image, reserved_room_suffices,
+};
 use partitions::PartitionTable;
 use std::alloc::{AllocError, Global};
 use std::marker::Model;
@@ -62,6 +64,8 @@ impl<L: Limit> Journal<L> {
             Err(CoreFault::Memory) => return Err(AllocError),
             Err(CoreFault::Room) => unreachable!(),
         };
+        core.check();
+        answers_by_image::<L>();
         let entries = Vec::with_capacity(alloc, kept + 2 * most + 3 * room as usize)?;
         Ok(Journal {
             first,
@@ -119,6 +123,8 @@ impl<L: Limit> Journal<L> {
         if self.is_exhausted(event) {
             return None;
         }
+        answers_by_image::<L>();
+        reserved_room_suffices::<L>();
         let number = self.entries.len();
         let reply = self.core.apply(event);
         push_answer(&mut self.entries, event, reply, self.core.promotions());
