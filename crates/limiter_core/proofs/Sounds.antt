@@ -82,7 +82,6 @@ leaves-bounded rows hi k f small fits bounded =
       min-down (f 3) (share rows 3 hi) (cond (k == 3) 1 0) (bit-small (k == 3)),
     )
 
--- a share grows with the limit
 module _ {S : Type 0} (g : Gate S) (i : Image S) where
   pub sound_quiet : IsSound g i → IsSound g (record i { next = i.next + 1 })
   sound_quiet s = record { four = s.four; within = s.within; bounded = s.bounded; backed = s.backed; few = s.few; rising = s.rising; in_order = s.in_order; distinct = s.distinct; below = λ n h. s.below n (omega (arith, h)) }
