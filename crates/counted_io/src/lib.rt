@@ -8,8 +8,6 @@
 
 mod counted;
 mod reading;
-#[cfg(test)]
-mod tests;
 mod writing;
 
 pub use counted::Counted;

@@ -131,6 +131,16 @@ impl<L: Limit> Journal<L> {
         &self.core
     }
 
+    /// The limiter alone, from which another journal may open.
+    pub fn into_core(self) -> Core<L>
+        ensures rows { result.rows ≡ self.rows }
+        ensures room { result.room ≡ self.room }
+        ensures stands { stands result ≡ image L.rules self }
+        ensures counters { result.counters ≡ counters_after self.opening.counters self.entries }
+    {
+        self.core
+    }
+
     /// What every journal keeps: its entries are legal, what stands is sound, and few are held.
     pub fn check(&self)
         ensures legal { IsLegal (gate L.rules self.now) (opening self.now) self.now.entries }

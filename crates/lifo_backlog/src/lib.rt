@@ -14,5 +14,3 @@ pub use backlog::Backlog;
 pub use fault::{BacklogFault, Full};
 pub use waiter::Waiter;
 
-#[cfg(test)]
-mod tests;

@@ -6,9 +6,5 @@
 #![tactic(auto)]
 
 mod kinds;
-#[cfg(test)]
-mod tests;
-#[cfg(test)]
-mod window_tests;
 
 pub use kinds::{AnyLimit, BaseLimit};

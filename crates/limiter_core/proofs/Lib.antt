@@ -18,5 +18,5 @@ pub mod Broughts
 pub mod Inserted
 pub mod Agreeing
 pub mod Opens
-pub mod Comings
+pub mod Numbers
 mod Rows

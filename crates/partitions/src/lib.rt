@@ -18,5 +18,3 @@ pub use name::is_name;
 pub use part::Part;
 pub use table::PartitionTable;
 
-#[cfg(test)]
-mod tests;

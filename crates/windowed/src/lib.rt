@@ -10,8 +10,6 @@
 #![tactic(auto)]
 
 mod laws;
-#[cfg(test)]
-mod tests;
 mod windowed;
 
 pub use laws::{cuts_into_windows, inner_runs_over_windows};

@@ -1,5 +1,5 @@
 // Fakes below a `Counted`, and its counts seen from outside.
-use super::{Counted, ReadFault, WriteFault, read_all, write_all, write_and_flush};
+use counted_io::{Counted, ReadFault, WriteFault, read_all, write_all, write_and_flush};
 use std::io::{Error, ErrorKind, Read, Result, Write};
 use std::test::Fail;
 

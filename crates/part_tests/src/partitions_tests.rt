@@ -1,5 +1,5 @@
 // Tables, shares and faults by worked numbers.
-use crate::{Part, PartitionTable, TableFault, is_name};
+use partitions::{Part, PartitionTable, TableFault, is_name};
 use std::alloc::Global;
 use std::test::Fail;
 

@@ -1,5 +1,5 @@
 // The worked numbers of Vegas.
-use super::Vegas;
+use vegas::Vegas;
 use limit_laws::{Limit, MakeFault, Sample, SetFault};
 use std::test::Fail;
 

@@ -1,5 +1,5 @@
 // The worked numbers of AIMD.
-use super::Aimd;
+use aimd::Aimd;
 use limit_laws::{Limit, MakeFault, Sample, SetFault};
 use std::test::Fail;
 

@@ -1,5 +1,5 @@
 // Totals of a few samples.
-use super::Window;
+use sample_window::Window;
 use limit_laws::Sample;
 use std::test::Fail;
 

@@ -1,5 +1,5 @@
 // Samples and limits by their worked numbers.
-use super::{Fixed, Limit, MakeFault, Sample, SetFault, Settable};
+use limit_laws::{Fixed, Limit, MakeFault, Sample, SetFault, Settable};
 use std::test::Fail;
 
 /// One hour in nanoseconds: 60 * 60 * 1,000,000,000.

@@ -1,5 +1,5 @@
 // Each kind, over each sample and over windows.
-use super::*;
+use limit_kinds::*;
 use aimd::Aimd;
 use limit_laws::{Fixed, Limit, MakeFault, Sample, SetFault, Settable};
 use std::process::Abort;

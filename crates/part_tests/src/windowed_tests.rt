@@ -1,5 +1,5 @@
 // Windows over the limits that don't learn.
-use super::Windowed;
+use windowed::Windowed;
 use limit_laws::{Fixed, Limit, MakeFault, SetFault, Settable};
 use std::test::Fail;
 
