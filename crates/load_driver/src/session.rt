@@ -6,9 +6,10 @@ ghost use Rattle.limiter_core.specs.Answer.{answer};
 ghost use Rattle.limiter_core.specs.Bound.{is_exhausted};
 ghost use Rattle.limiter_core.specs.Open.{open_permit};
 ghost use Rattle.limiter_core.specs.Handed.{NamesOpen, open_after};
+ghost use Rattle.load_driver.specs.Limits.{most_kept};
 ghost use Rattle.load_driver.specs.Journal.{gate, image, opening};
 
-use super::journal::{Journal, MOST_KEPT};
+use super::journal::Journal;
 use limit_laws::{LAST_MOMENT, Limit};
 use limiter_core::{
     Entry, Event, PermitFacts, Reply, answers_by_image, open_permits_are_in_flight,
@@ -48,7 +49,7 @@ impl<L: Limit> Session<L> {
         kept: usize,
     ) -> Result<Session<L>, AllocError>
         requires room { room ≤ 10000 }
-        requires kept { kept ≤ MOST_KEPT }
+        requires kept { kept ≤ most_kept }
         ensures { IfOk result (λ session. session ≡ record { rows = table; room = room; first = limit; entries = []; kept = kept }) }
     {
         answers_by_image::<L>();
