@@ -1,7 +1,10 @@
 // The worked numbers of AIMD.
 use super::Aimd;
-use limit_laws::{HOUR, Limit, MakeFault, Sample, SetFault};
+use limit_laws::{Limit, MakeFault, Sample, SetFault};
 use std::test::Fail;
+
+/// One hour in nanoseconds: 60 * 60 * 1,000,000,000.
+const ONE_HOUR: u64 = 3_600_000_000_000;
 
 #[test]
 fn a_drop_or_a_slow_answer_decreases_and_half_in_use_raises(rt: HostRuntime) -> Result<(), Fail> {
@@ -21,7 +24,7 @@ fn a_drop_or_a_slow_answer_decreases_and_half_in_use_raises(rt: HostRuntime) -> 
 
 #[test]
 fn the_limit_stays_between_its_bounds(rt: HostRuntime) -> Result<(), Fail> {
-    let mut least = Aimd::new(20, 20, 100, 500, HOUR)?;
+    let mut least = Aimd::new(20, 20, 100, 500, ONE_HOUR)?;
     least.on_sample(&Sample::of_rtt(0, 5, 1, true));
     assert_eq!(rt; least.limit(), 20);
     let mut most = Aimd::new(1, 10_000, 10_000, 999, 1)?;
@@ -33,18 +36,31 @@ fn the_limit_stays_between_its_bounds(rt: HostRuntime) -> Result<(), Fail> {
 #[test]
 fn the_first_fault_is_answered(rt: HostRuntime) -> Result<(), Fail> {
     let rows = [
-        ((1u32, 20u32, 10u32, 400u32, 1000u64), MakeFault::Range),
+        ((1u32, 20u32, 10u32, 400u32, 0u64), MakeFault::Range),
         ((0, 5, 10, 900, 1000), MakeFault::Range),
         ((6, 5, 10, 900, 1000), MakeFault::Range),
         ((1, 5, 10_001, 900, 1000), MakeFault::Range),
         ((1, 5, 10, 900, 0), MakeFault::Range),
-        ((1, 5, 10, 400, HOUR + 1), MakeFault::Range),
+        ((1, 5, 10, 400, ONE_HOUR + 1), MakeFault::Range),
         ((1, 5, 10, 400, 1), MakeFault::Ratio),
-        ((1, 5, 10, 499, HOUR), MakeFault::Ratio),
-        ((1, 5, 10, 1000, HOUR), MakeFault::Ratio),
+        ((1, 5, 10, 499, ONE_HOUR), MakeFault::Ratio),
+        ((1, 5, 10, 1000, ONE_HOUR), MakeFault::Ratio),
     ];
     for ((lo, first, hi, ratio, timeout), fault) in rows {
         assert!(rt; Aimd::new(lo, first, hi, ratio, timeout) == Err(fault));
+    }
+    Ok(())
+}
+
+#[test]
+fn numbers_at_the_ends_of_their_ranges_are_taken(rt: HostRuntime) -> Result<(), Fail> {
+    let rows = [
+        (1u32, 1u32, 1u32, 500u32, 1u64),
+        (10_000, 10_000, 10_000, 999, ONE_HOUR),
+    ];
+    for (lo, first, hi, ratio, timeout) in rows {
+        let aimd = Aimd::new(lo, first, hi, ratio, timeout)?;
+        assert!(rt; (aimd.lo(), aimd.limit(), aimd.hi()) == (lo, first, hi));
     }
     Ok(())
 }

@@ -39,4 +39,11 @@ any_first (Windowed s) = Windowed (window_rules.first s)
 
 -- the rule that a limit has
 abbrev pub any_rules : Algorithm AnyLimit
-any_rules = record { lo = any_lo; limit = any_limit; hi = any_hi; next = any_next; put = any_put; first = any_first }
+any_rules = record {
+  lo = any_lo;
+  limit = any_limit;
+  hi = any_hi;
+  next = any_next;
+  put = any_put;
+  first = any_first;
+}

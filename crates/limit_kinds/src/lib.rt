@@ -1,5 +1,5 @@
-//! The kinds of limit, as one: a [`BaseLimit`] is fixed, settable, AIMD or Vegas, and an [`AnyLimit`]
-//! learns from each sample or from windows of samples.
+//! The kinds of limit, as one: a [`BaseLimit`] is fixed, settable, AIMD or Vegas, and an
+//! [`AnyLimit`] learns from each sample or from windows of samples.
 //!
 //! Both pass each call on to what they hold. That each is a lawful limit again is proved in
 //! `specs/KindsLaws.antt` and `specs/AnyKindsLaws.antt`.

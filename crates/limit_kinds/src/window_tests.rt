@@ -1,4 +1,4 @@
-// AIMD over windows, by worked numbers.
+// AIMD over windows, and over windows of windows, by worked numbers.
 use aimd::Aimd;
 use limit_laws::{Limit, Sample};
 use std::test::Fail;
@@ -51,5 +51,56 @@ fn the_mean_of_a_window_is_what_counts_as_slow(rt: HostRuntime) -> Result<(), Fa
         }
         assert_eq!(rt; windowed.limit(), limit);
     }
+    Ok(())
+}
+
+/// A sample that began at this moment, in nanoseconds, with 10 permits in flight.
+fn sample(start: u64, rtt: u64) -> Sample {
+    Sample::of(start, start.saturating_add(rtt), 10, false)
+}
+
+/// The outer windows last 200 ns and the inner ones 300 ns, and each has to have two samples. AIMD
+/// starts at 20, and takes a round trip above 50 ns for a drop.
+///
+/// - The first sample ends at 5, behind 0, so it is an outer window alone, which is handed on by
+///   nobody; the next outer window is due at 205.
+/// - The slow ones end at 205 and 206: the second ends the window. Its mean, 200 ns, is an inner
+///   window alone, since 206 is behind 0, and isn't handed on; the next inner one is due at 506,
+///   and the outer one at 406.
+/// - The next two end at 406 and 407: a mean of 10 ns that ends at 407, so the inner window stays
+///   open. The outer one is due at 607.
+/// - The last two end at 607 and 608: a mean of 10 ns, which ends at 608, behind 506, and ends the
+///   inner window too. So AIMD learns one sample, 10 ns with 10 in flight of 20, and rises by one.
+///
+/// Without the outer windows the inner ones would hold (200, 200, 10) by 406, a mean above 50;
+/// without the inner ones AIMD would learn of 200 ns: either way the limit falls to 18.
+#[test]
+fn windows_over_windows_hand_on_means_of_means(rt: HostRuntime) -> Result<(), Fail> {
+    let aimd = Aimd::new(1, 20, 100, 900, 50)?;
+    let inner = Windowed::new(aimd, 2, 300, 300, 0).map_err(|refusal| refusal.0)?;
+    let mut outer = Windowed::new(inner, 2, 200, 200, 0).map_err(|refusal| refusal.0)?;
+    let before = [(0, 5), (5, 200), (6, 200), (396, 10), (397, 10), (597, 10)];
+    for (start, rtt) in before {
+        outer.on_sample(&sample(start, rtt));
+        assert_eq!(rt; outer.limit(), 20);
+    }
+    outer.on_sample(&sample(598, 10));
+    assert_eq!(rt; outer.limit(), 21);
+    Ok(())
+}
+
+/// Windows of an hour that have to have a million samples, all within the hour after the first: the
+/// first sample is a window alone, and the millionth after it ends the next.
+#[test]
+fn a_window_ends_at_its_millionth_sample(rt: HostRuntime) -> Result<(), Fail> {
+    let hour = 3_600_000_000_000;
+    let aimd = Aimd::new(1, 20, 100, 900, 50)?;
+    let mut windowed = Windowed::new(aimd, 1_000_000, hour, hour, 0).map_err(|refusal| refusal.0)?;
+    for _ in 0..1_000_000 {
+        windowed.on_sample(&sample(0, 5));
+    }
+    assert_eq!(rt; windowed.limit(), 20);
+    windowed.on_sample(&sample(0, 5));
+    assert_eq!(rt; windowed.limit(), 21);
     Ok(())
 }

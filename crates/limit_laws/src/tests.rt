@@ -1,6 +1,12 @@
 // Samples and limits by their worked numbers.
-use super::{Fixed, HOUR, LAST_MOMENT, Limit, MakeFault, Sample, SetFault, Settable};
+use super::{Fixed, Limit, MakeFault, Sample, SetFault, Settable};
 use std::test::Fail;
+
+/// One hour in nanoseconds: 60 * 60 * 1,000,000,000.
+const ONE_HOUR: u64 = 3_600_000_000_000;
+
+/// 2^62.
+const LAST: u64 = 1 << 62;
 
 #[test]
 fn round_trips_are_between_one_nanosecond_and_one_hour(rt: HostRuntime) -> Result<(), Fail> {
@@ -8,10 +14,14 @@ fn round_trips_are_between_one_nanosecond_and_one_hour(rt: HostRuntime) -> Resul
         (0u64, 5u64, 0u64, 5u64),
         (5, 5, 5, 1),
         (9, 5, 9, 1),
-        (1, HOUR + 1, 1, HOUR),
-        (1, HOUR + 2, 1, HOUR),
-        (u64::MAX, u64::MAX, LAST_MOMENT, 1),
-        (LAST_MOMENT - 7, u64::MAX, LAST_MOMENT - 7, 7),
+        (1, ONE_HOUR + 1, 1, ONE_HOUR),
+        (1, ONE_HOUR + 2, 1, ONE_HOUR),
+        (1, ONE_HOUR, 1, ONE_HOUR - 1),
+        (LAST, LAST, LAST, 1),
+        (LAST + 1, LAST + 9, LAST, 1),
+        (u64::MAX, u64::MAX, LAST, 1),
+        (LAST - 7, LAST, LAST - 7, 7),
+        (LAST - 7, u64::MAX, LAST - 7, 7),
     ];
     for (start, now, started, rtt) in rows {
         let sample = Sample::of(start, now, 3, true);
@@ -25,9 +35,9 @@ fn round_trips_are_between_one_nanosecond_and_one_hour(rt: HostRuntime) -> Resul
 
 #[test]
 fn a_round_trip_that_is_given_is_kept(rt: HostRuntime) -> Result<(), Fail> {
-    let sample = Sample::of_rtt(7, HOUR, 2, false);
+    let sample = Sample::of_rtt(7, ONE_HOUR, 2, false);
     assert_eq!(rt; sample.start(), 7);
-    assert_eq!(rt; sample.rtt(), HOUR);
+    assert_eq!(rt; sample.rtt(), ONE_HOUR);
     assert_eq!(rt; sample.inflight(), 2);
     assert!(rt; !sample.dropped());
     Ok(())
@@ -55,6 +65,8 @@ fn a_fixed_limit_stays(rt: HostRuntime) -> Result<(), Fail> {
     assert!(rt; Fixed::new(10_001) == Err(MakeFault::Range));
     let mut fixed = Fixed::new(10_000)?;
     assert!(rt; limits(&fixed) == (10_000, 10_000, 10_000));
+    let least = Fixed::new(1)?;
+    assert!(rt; limits(&least) == (1, 1, 1));
     let refused = Err(SetFault::NotSettable);
     assert!(rt; walk(&mut fixed, 5) == (10_000, refused, 10_000, 10_000, 10_000));
     Ok(())
@@ -65,6 +77,8 @@ fn a_settable_limit_is_set_within_its_range_alone(rt: HostRuntime) -> Result<(),
     for (lo, n, hi) in [(0u32, 1u32, 1u32), (2, 1, 3), (1, 4, 3), (1, 1, 10_001)] {
         assert!(rt; Settable::new(lo, n, hi) == Err(MakeFault::Range));
     }
+    let widest = Settable::new(1, 10_000, 10_000)?;
+    assert!(rt; limits(&widest) == (1, 10_000, 10_000));
     let mut settable = Settable::new(5, 10, 20)?;
     assert!(rt; limits(&settable) == (5, 10, 20));
     let refused = Err(SetFault::OutOfRange);

@@ -10,7 +10,7 @@ use Rattle.partitions.specs.declared.part.Part.{Part}
 use Rattle.limiter_core.specs.declared.event.PermitFacts.{PermitFacts}
 use Rattle.lifo_backlog.specs.declared.waiter.Waiter.{Waiter}
 use Rattle.partitions.specs.Table.{Row, place_of, share, row_share, percent_share, places}
-use Rattle.partitions.proofs.Shares.{percent_share-divides}
+use Rattle.partitions.specs.ShareLaws.{share-mono}
 use Rattle.limiter_core.proofs.Inserted.{count-inserted, none_counted, in_order-inserted}
 use Rattle.limiter_core.specs.History.{Gate, Image, limit, total, inserted}
 use Rattle.limiter_core.specs.Answer.{granted_at, has_room}
@@ -81,19 +81,6 @@ leaves-bounded rows hi k f small fits bounded =
       min-down (f 2) (share rows 2 hi) (cond (k == 2) 1 0) (bit-small (k == 2)),
       min-down (f 3) (share rows 3 hi) (cond (k == 3) 1 0) (bit-small (k == 3)),
     )
-
--- a share grows with the limit
-percent-mono : (percent a b : ℕ) → a ≤ b → percent_share percent a ≤ percent_share percent b
-percent-mono percent a b h =
-    let hundredths : (a * percent + 99) / 100 ≤ (b * percent + 99) / 100 = le-div ((a * percent + 99) / 100) (b * percent + 99) 100 (omega arith) (omega (arith, mul-le-mul_right percent h, div-mul-le_self (a * percent + 99) 100)) in
-    omega (arith, hundredths, percent_share-divides percent a, percent_share-divides percent b)
-
-row-mono : (row : Option Row) (a b : ℕ) → a ≤ b → row_share row a ≤ row_share row b
-row-mono None a b h = zero-le
-row-mono (Some row) a b h = percent-mono row.percent a b h
-
-share-mono : (rows : List Row) (k a b : ℕ) → a ≤ b → share rows k a ≤ share rows k b
-share-mono rows k a b h = elim (k == 4) as (λ t. cond t 0 (row_share (slice_get rows k) a) ≤ cond t 0 (row_share (slice_get rows k) b)) [ true ↦ zero-le | false ↦ row-mono (slice_get rows k) a b h ]
 
 module _ {S : Type 0} (g : Gate S) (i : Image S) where
   pub sound_quiet : IsSound g i → IsSound g (record i { next = i.next + 1 })

@@ -1,5 +1,5 @@
 // Tables, shares and faults by worked numbers.
-use crate::{Part, PartitionTable, TableFault};
+use crate::{Part, PartitionTable, TableFault, is_name};
 use std::alloc::Global;
 use std::test::Fail;
 
@@ -34,6 +34,43 @@ fn rows_at_fault_are_refused_with_their_first_fault(rt: HostRuntime) {
     ];
     for (answer, wanted) in cases {
         assert_eq!(rt; answer, Some(wanted));
+    }
+}
+
+#[test]
+fn rows_at_the_ends_of_their_ranges_make_a_table(rt: HostRuntime) -> Result<(), Fail> {
+    let longest = [b'a'; 32];
+    let four: [(&[u8], u32); 4] = [(&longest, 97), (b"0", 1), (b"-", 1), (b"_", 1)];
+    let table = PartitionTable::new(rt.alloc(), &four)?;
+    assert_eq!(rt; table.len(), 4);
+    assert_eq!(rt; table.find(&longest), Some(Part::Known(0)));
+    assert_eq!(rt; table.place(Part::Known(3)), 3);
+    let whole = PartitionTable::new(rt.alloc(), &[(b"z", 100)])?;
+    assert_eq!(rt; whole.share(Part::Known(0), 7), 7);
+    let longer = [b'a'; 33];
+    assert_eq!(rt; fault(rt.alloc(), &[(&longer, 1)]), Some(TableFault::Name));
+    let over = [(LIVE, 97u32), (BATCH, 4)];
+    assert_eq!(rt; fault(rt.alloc(), &over), Some(TableFault::Over100));
+    Ok(())
+}
+
+#[test]
+fn a_name_is_one_to_32_bytes_of_its_own(rt: HostRuntime) {
+    let names: [&[u8]; 4] = [LIVE, b"a-z_09", b"unknown-2", &[b'x'; 32]];
+    for name in names {
+        assert!(rt; is_name(name));
+    }
+    let others: [&[u8]; 7] = [
+        b"",
+        b"unknown",
+        b"Live",
+        b"a b",
+        b"a.b",
+        b"\xc3\xa9",
+        &[b'x'; 33],
+    ];
+    for name in others {
+        assert!(rt; !is_name(name));
     }
 }
 

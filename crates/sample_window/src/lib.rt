@@ -10,4 +10,4 @@
 mod tests;
 mod window;
 
-pub use window::{MOST_SAMPLES, Window};
+pub use window::Window;

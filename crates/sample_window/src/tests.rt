@@ -35,3 +35,19 @@ fn the_mean_is_rounded_down(rt: HostRuntime) -> Result<(), Fail> {
     assert_eq!(rt; window.mean(), 3);
     Ok(())
 }
+
+#[test]
+fn a_window_holds_a_million_samples_of_an_hour(rt: HostRuntime) -> Result<(), Fail> {
+    let hour = 3_600_000_000_000;
+    let sample = Sample::of_rtt(0, hour, 1, false);
+    let mut window = Window::empty();
+    for _ in 0..1_000_000 {
+        assert!(rt; window.count() < 1_000_000);
+        window.add(&sample);
+    }
+    assert_eq!(rt; window.count(), 1_000_000);
+    assert_eq!(rt; window.sum(), 1_000_000 * hour);
+    assert!(rt; window.count() > 0);
+    assert_eq!(rt; window.mean(), hour);
+    Ok(())
+}

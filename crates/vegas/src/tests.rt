@@ -68,6 +68,19 @@ fn the_first_fault_is_answered(rt: HostRuntime) -> Result<(), Fail> {
 }
 
 #[test]
+fn numbers_at_the_ends_of_their_ranges_are_taken(rt: HostRuntime) -> Result<(), Fail> {
+    let rows = [
+        (1u32, 1u32, 1u32, 1u32, 1u32, 0u32),
+        (10_000, 10_000, 10_000, 100, 100, 1_000_000),
+    ];
+    for (lo, first, hi, alpha, beta, probe_every) in rows {
+        let vegas = Vegas::new(lo, first, hi, alpha, beta, probe_every)?;
+        assert!(rt; (vegas.lo(), vegas.limit(), vegas.hi()) == (lo, first, hi));
+    }
+    Ok(())
+}
+
+#[test]
 fn a_reset_forgets_the_base_and_no_setting_is_taken(rt: HostRuntime) -> Result<(), Fail> {
     let mut vegas = Vegas::new(1, 10, 100, 3, 6, 5)?;
     assert!(rt; (vegas.lo(), vegas.limit(), vegas.hi()) == (1, 10, 100));

@@ -45,7 +45,8 @@ inputs_of s = s.before ++ Sampled s.last ∷ []
 abbrev pub window_samples : WindowSettings → Stretch → List SampleFacts
 window_samples w s = samples_of w s.before ++ s.last ∷ []
 
--- no sample ends the window: none of them ended after the due moment, and there are fewer than 1,000,000
+-- no sample ends the window: none of them ended after the due moment, and there are fewer than
+-- 1,000,000
 pub record StaysOpen (w : WindowSettings) (due : ℕ) (inputs : List Input) : Type 0 where
   pub none_late : All (λ x. end_of x ≤ due) (samples_of w inputs)
   pub few : length (samples_of w inputs) < most_samples
@@ -70,23 +71,31 @@ AreWindows w due [] = Unit {0}
 AreWindows w due (s ∷ windows) = IsWindow w due s × AreWindows w (due_after w s) windows
 
 -- the inputs are cut into windows, the first of which is due at 0, and a rest that is still open
-pub record IsCutting (w : WindowSettings) (inputs : List Input) (windows : List Stretch) (rest : List Input) : Type 0 where
+pub record IsCutting (w : WindowSettings) (inputs : List Input) (windows : List Stretch)
+    (rest : List Input) : Type 0 where
   pub whole : inputs ≡ flat_map inputs_of windows ++ rest
   pub each : AreWindows w 0 windows
   pub none_after : StaysOpen w (due_after_all w 0 windows) rest
 
 -- what a window hands on: its settings, and its mean sample where it has enough samples
 abbrev pub handed_on : WindowSettings → Stretch → List Input
-handed_on w s = filter is_setting s.before ++ (if nat_le w.size (length (window_samples w s)) then Sampled (mean_sample (totals (window_samples w s)) s.last) ∷ [] else [])
+handed_on w s =
+    filter is_setting s.before
+    ++ (if nat_le w.size (length (window_samples w s))
+    then Sampled (mean_sample (totals (window_samples w s)) s.last) ∷ [] else [])
 
 -- THE LAW of cuttings: every list of inputs has one
 abbrev pub CutsIntoWindows : Type 0
-CutsIntoWindows = (w : WindowSettings) (inputs : List Input) → (windows : List Stretch) × ((rest : List Input) × IsCutting w inputs windows rest)
+CutsIntoWindows =
+    (w : WindowSettings) (inputs : List Input) →
+    (windows : List Stretch) × ((rest : List Input) × IsCutting w inputs windows rest)
 
--- THE LAW of windows: from an empty window on, the inner algorithm is where its own run over what the windows hand on leads, and the totals are those of the rest
+-- THE LAW of windows: from an empty window on, the inner algorithm is where its own run over
+-- what the windows hand on leads, and the totals are those of the rest
 abbrev pub InnerRunsOverWindows : {S : Type 0} → Algorithm S → Type 0
 InnerRunsOverWindows {S} rules =
-    (w : WindowSettings) (inner : S) (inputs : List Input) (windows : List Stretch) (rest : List Input) →
+    (w : WindowSettings) (inner : S) (inputs : List Input) (windows : List Stretch)
+    (rest : List Input) →
     All IsSample (samples_of w inputs) → IsCutting w inputs windows rest →
     run (windowed_rules rules) (opened w inner) inputs ≡ record {
       inner = run rules inner (flat_map (handed_on w) windows ++ filter is_setting rest);

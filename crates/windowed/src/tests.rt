@@ -1,7 +1,10 @@
 // Windows over the limits that don't learn.
 use super::Windowed;
-use limit_laws::{Fixed, HOUR, Limit, MakeFault, Sample, SetFault, Settable};
+use limit_laws::{Fixed, Limit, MakeFault, SetFault, Settable};
 use std::test::Fail;
+
+/// One hour in nanoseconds: 60 * 60 * 1,000,000,000.
+const ONE_HOUR: u64 = 3_600_000_000_000;
 
 #[test]
 fn a_refusal_hands_the_inner_limit_back(rt: HostRuntime) -> Result<(), Fail> {
@@ -10,8 +13,8 @@ fn a_refusal_hands_the_inner_limit_back(rt: HostRuntime) -> Result<(), Fail> {
         (1_000_001, 1, 1, 0),
         (1, 0, 1, 0),
         (1, 2, 1, 0),
-        (1, 1, HOUR + 1, 0),
-        (1, 1, 1, HOUR + 1),
+        (1, 1, ONE_HOUR + 1, 0),
+        (1, 1, 1, ONE_HOUR + 1),
     ];
     for (size, min_window, max_window, min_rtt) in rows {
         let (fault, limit) = match Windowed::new(
@@ -33,7 +36,7 @@ fn a_refusal_hands_the_inner_limit_back(rt: HostRuntime) -> Result<(), Fail> {
 #[test]
 fn settings_and_resets_are_passed_on(rt: HostRuntime) -> Result<(), Fail> {
     let inner = Settable::new(5, 10, 20)?;
-    let mut windowed = Windowed::new(inner, 1_000_000, HOUR, HOUR, HOUR).map_err(
+    let mut windowed = Windowed::new(inner, 1_000_000, ONE_HOUR, ONE_HOUR, ONE_HOUR).map_err(
         |refusal| refusal.0,
     )?;
     assert!(rt; (windowed.lo(), windowed.limit(), windowed.hi()) == (5, 10, 20));
@@ -44,17 +47,5 @@ fn settings_and_resets_are_passed_on(rt: HostRuntime) -> Result<(), Fail> {
     assert_eq!(rt; windowed.inner().limit(), 20);
     windowed.reset();
     assert_eq!(rt; windowed.limit(), 10);
-    Ok(())
-}
-
-#[test]
-fn windows_go_over_windows(rt: HostRuntime) -> Result<(), Fail> {
-    let inner = Windowed::new(Fixed::new(9)?, 1, 1, 1, 0).map_err(|refusal| refusal.0)?;
-    let mut outer = Windowed::new(inner, 2, 1, 5, 0).map_err(|refusal| refusal.0)?;
-    for start in 0u64..4 {
-        outer.on_sample(&Sample::of(start, start + 3, 9, false));
-        assert_eq!(rt; outer.limit(), 9);
-    }
-    assert!(rt; outer.set(3) == Err(SetFault::NotSettable));
     Ok(())
 }

@@ -1,11 +1,14 @@
 // A limit that learns from windows of samples.
 ghost use Rattle.std.specs.Prelude.{◌≡◌, ◌↔◌, IfOk, IfErr, IsOk};
-ghost use Rattle.windowed.specs.WindowedRules.{AreSettings, opened, windowed_rules};
+ghost use Rattle.windowed.specs.WindowedRules.{AreSettings, settings_from, opened, windowed_rules};
 ghost use Rattle.windowed.specs.WindowedLaws.{IsLawful-windowed};
 
 use limit_laws::{HOUR, Limit, MakeFault, Sample, SetFault};
-use sample_window::{MOST_SAMPLES, Window};
+use sample_window::Window;
 use std::marker::Model;
+
+/// The samples at which a window ends, however short it is.
+const MOST_SAMPLES: u32 = 1_000_000;
 
 /// Any limit algorithm, learning from the mean samples of windows.
 ///
@@ -25,13 +28,20 @@ pub struct Windowed<L: Limit> {
 impl<L: Limit> Model for Windowed<L> {
     ghost use Rattle.std.specs.Prelude.{◌<◌};
     ghost use Rattle.sample_window.specs.Totals.{most_samples};
-    ghost use Rattle.windowed.specs.WindowedRules.{WindowedState, AreSettings};
+    ghost use Rattle.windowed.specs.WindowedRules.{WindowedState, settings_from, AreSettings};
 
     ghost Value = { WindowedState L };
 
-    ghost view = { λ w. record { inner = w.inner; totals = w.window; next_update = w.next_update; settings = record { size = w.size; min_window = w.min_window; max_window = w.max_window; min_rtt = w.min_rtt } } };
+    ghost view = { λ w. record {
+      inner = w.inner;
+      totals = w.window;
+      next_update = w.next_update;
+      settings = settings_from w.size w.min_window w.max_window w.min_rtt;
+    } };
 
-    ghost invariant = { λ w. AreSettings (record { size = w.size; min_window = w.min_window; max_window = w.max_window; min_rtt = w.min_rtt }) × (w.window.count < most_samples) };
+    ghost invariant = { λ w.
+        AreSettings (settings_from w.size w.min_window w.max_window w.min_rtt)
+        × (w.window.count < most_samples) };
 }
 
 impl<L: Limit> Windowed<L> {
@@ -48,8 +58,10 @@ impl<L: Limit> Windowed<L> {
         max_window: u64,
         min_rtt: u64,
     ) -> Result<Windowed<L>, (MakeFault, L)>
-        ensures made { IsOk result ↔ AreSettings (record { size = size; min_window = min_window; max_window = max_window; min_rtt = min_rtt }) }
-        ensures value { IfOk result (λ windowed. windowed ≡ opened (record { size = size; min_window = min_window; max_window = max_window; min_rtt = min_rtt }) inner) }
+        ensures made { IsOk result
+            ↔ AreSettings (settings_from size min_window max_window min_rtt) }
+        ensures value { IfOk result (λ windowed. windowed
+            ≡ opened (settings_from size min_window max_window min_rtt) inner) }
         ensures fault { IfErr result (λ refusal. refusal.0 ≡ MakeFault.Window) }
         ensures handed_back { IfErr result (λ refusal. refusal.1 ≡ inner) }
     {
