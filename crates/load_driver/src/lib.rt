@@ -7,6 +7,8 @@
 
 mod answers;
 mod driver;
+#[cfg(test)]
+mod edge_tests;
 mod faults;
 mod formats;
 mod journal;
