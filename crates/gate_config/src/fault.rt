@@ -2,6 +2,7 @@
 ghost use Rattle.std.specs.Prelude.{Some};
 
 use crate::key::Key;
+use matchit::InsertError;
 use std::alloc::AllocError;
 use std::error::Error;
 use std::fmt;
@@ -37,6 +38,20 @@ impl From<AllocError> for ConfigFault {
 
     fn from(_: AllocError) -> ConfigFault {
         ConfigFault::Memory
+    }
+}
+
+impl From<InsertError> for ConfigFault {
+    ghost use Rattle.std.specs.Prelude.{◌≡◌};
+    ghost use Rattle.gate_config.specs.Rules.{insert_fault};
+
+    ghost from_gives = { λ error fault. fault ≡ insert_fault error };
+
+    fn from(error: InsertError) -> ConfigFault {
+        match error {
+            InsertError::OutOfMemory => ConfigFault::Memory,
+            _ => ConfigFault::Route,
+        }
     }
 }
 
