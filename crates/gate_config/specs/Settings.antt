@@ -1,5 +1,5 @@
 -- The settings that a text holds.
-use Rattle.std.specs.Prelude.{◌≡◌, ℕ, ◌*◌, ℤ, pos, Bool, false, ◌==◌, List, [], map, Option, Some, None, option_map, ok_or, Result, Ok, Err, codes, IsUtf8, if◌then◌else◌}
+use Rattle.std.specs.Prelude.{◌≡◌, ℕ, ◌*◌, ℤ, pos, Bool, false, ◌==◌, List, [], map, Option, Some, None, option_map, ok_or, Result, Err, codes, IsUtf8, if◌then◌else◌}
 use Rattle.toml.specs.Data.{Data, integer, Members, get_member}
 use Rattle.toml.specs.Parse.{parse_document}
 use Rattle.classifier.specs.declared.resolver.Resolver.{Resolver}
@@ -10,7 +10,7 @@ use Rattle.gate_config.specs.Document.{DocumentValues, document_of}
 use Rattle.gate_config.specs.Made.{any_of, limit_from, window_from}
 use Rattle.gate_config.specs.Rules.{bypass_from, resolvers_after}
 use Rattle.gate_config.specs.Strangers.{strangers_of}
-use Rattle.gate_config.specs.Unknown.{least_path}
+use Rattle.gate_config.specs.Unknown.{Stranger, least, path_text}
 use Rattle.gate_config.specs.Values.{◌>>=◌, flag_at, number_at, text_at}
 
 -- the bytes are text that toml reads as this table
@@ -45,13 +45,13 @@ abbrev pub made_of : DocumentValues → Option Settings
 made_of d = option_map (settings_with d) (resolvers_after d.classes.1 [] d.resolvers)
 
 -- the settings that keys make, or the first fault: of the least unknown key, of a route
-abbrev pub known : DocumentValues → Option (List ℕ) → Result Settings ConfigFault
+abbrev pub known : DocumentValues → Option Stranger → Result Settings ConfigFault
 known d None = ok_or (made_of d) Fault.Route
-known d (Some path) = Err (Fault.Unknown path)
+known d (Some key) = Err (Fault.Unknown (path_text key))
 
 -- the settings that a table holds, or the first fault: of the version, of a key, of an unknown key, of a route
 abbrev pub settings_of : Members → Result Settings ConfigFault
 settings_of t =
     if is_version_one (get_member (codes "version") t)
-    then (document_of t >>= λ d. known d (least_path (strangers_of t d)))
+    then (document_of t >>= λ d. known d (least (strangers_of t d)))
     else Err Fault.Version

@@ -21,8 +21,7 @@ use crate::key::Key;
 use crate::make::any_limit;
 use crate::resolver::ResolverKeys;
 use crate::settings::Settings;
-use crate::strangers::strangers;
-use crate::unknown::least;
+use crate::strangers::least_stranger;
 use classifier::{Bypass, Resolver, Rules};
 use partitions::PartitionTable;
 use std::alloc::{AllocError, Global};
@@ -75,8 +74,8 @@ fn settings_in(alloc: Global, table: &Table) -> Result<Settings, ConfigFault>
         return Err(ConfigFault::Version);
     }
     let document = read_document(alloc, table)?;
-    match least(strangers(alloc, table, &document)?) {
-        Some(path) => Err(ConfigFault::Unknown(path)),
+    match least_stranger(table, &document) {
+        Some(key) => Err(ConfigFault::Unknown(key.path(alloc)?)),
         None => made_of(alloc, document),
     }
 }
