@@ -46,7 +46,7 @@ pub fn read_document<'a>(alloc: Global, table: &'a Table) -> Result<Document<'a>
     ensures window { IfOk result (λ d. ForSome d.window (λ window. IsWindow window.1)) }
     ensures said { Answers document_values (document_of (table_view table.now)) result }
 {
-    let top = read_top(alloc, table)?;
+    let top = read_top(table)?;
     let limit = limit_in(table)?;
     let window = window_in(table)?;
     let classes = classes_in(alloc, table)?;
