@@ -1,5 +1,6 @@
 pub mod Addresses
 pub mod Chains
-pub mod Given
+mod Documents
 pub mod Limits
 pub mod Lists
+mod Told

@@ -55,3 +55,14 @@ settings_of t =
     if is_version_one (get_member (codes "version") t)
     then (document_of t >>= λ d. known d (least (strangers_of t d)))
     else Err Fault.Version
+
+-- the faults that are told whatever the memory: those of the version and of a key
+abbrev pub IsOfKey : ConfigFault → Type 0
+IsOfKey Fault.Memory = ⊥
+IsOfKey Fault.Toml = ⊥
+IsOfKey Fault.Version = Unit {0}
+IsOfKey (Fault.Missing key) = Unit {0}
+IsOfKey (Fault.Kind key) = Unit {0}
+IsOfKey (Fault.Value key) = Unit {0}
+IsOfKey (Fault.Unknown path) = ⊥
+IsOfKey Fault.Route = ⊥

@@ -40,7 +40,7 @@ fn pairs_of<'a>(alloc: Global, classes: &'a [ClassKeys]) -> Result<Vec<(&'a [u8]
 {
     let mut pairs = Vec::new(alloc);
     for class in classes {
-        pairs.push((class.name.as_str().as_bytes(), class.percent))?;
+        pairs.push((class.name.as_bytes(), class.percent))?;
     }
     Ok(pairs)
 }

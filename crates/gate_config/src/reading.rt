@@ -1,5 +1,5 @@
 // From bytes to settings.
-ghost use Rattle.std.specs.Prelude.{◌≡◌, [], ◌≢◌, ◌⊎◌, IfOk, IfErr, IsOk, Err, codes, map};
+ghost use Rattle.std.specs.Prelude.{◌≡◌, [], ◌≢◌, ◌⊎◌, IfOk, IfErr, IsErrOf, IsOk, Err, codes, map};
 ghost use Rattle.std.specs.Option.{ForSome};
 ghost use Rattle.toml.specs.Data.{Members, get_member};
 ghost use Rattle.toml.specs.View.{table_view};
@@ -8,7 +8,8 @@ ghost use Rattle.gate_config.specs.Document.{document_values};
 ghost use Rattle.gate_config.specs.Limit.{AreInRange};
 ghost use Rattle.gate_config.specs.Sections.{AreSound, IsTop, IsWindow};
 ghost use Rattle.gate_config.specs.Resolvers.{resolver_member};
-ghost use Rattle.gate_config.specs.Settings.{Reads, is_version_one, made_of, settings_of};
+ghost use Rattle.gate_config.specs.Settings.{IsOfKey, Reads, is_version_one, made_of, settings_of};
+ghost use Rattle.gate_config.specs.declared.fault.ConfigFault.{ConfigFault as FaultValue};
 ghost use Rattle.gate_config.specs.Rules.{Makes, bypass_from, resolvers_after};
 ghost use Rattle.gate_config.specs.Values.{Answers};
 
@@ -65,10 +66,12 @@ fn table_of(alloc: Global, bytes: &[u8]) -> Result<Table, ConfigFault>
     }
 }
 
-/// The settings that a table holds.
-fn settings_in(alloc: Global, table: &Table) -> Result<Settings, ConfigFault>
+/// The settings that a table holds. Faults are as for [`read`]; the version's and those of keys are told whatever
+/// the memory, which is taken only for settings, an unknown key's path and routes.
+pub fn settings_in(alloc: Global, table: &Table) -> Result<Settings, ConfigFault>
     ensures sound { IfOk result AreSound }
     ensures said { Answers (λ settings. settings) (settings_of (table_view table.now)) result }
+    ensures fault { (fault : FaultValue) → IsOfKey fault → settings_of (table_view table.now) ≡ Err fault → IsErrOf result fault }
 {
     if !is_version_one(table) {
         return Err(ConfigFault::Version);

@@ -4,6 +4,7 @@ ghost use Rattle.toml.specs.View.{table_view};
 ghost use Rattle.gate_config.specs.Bypasses.{bypass_member};
 ghost use Rattle.gate_config.specs.Document.{document_values};
 ghost use Rattle.gate_config.specs.Resolvers.{resolver_member};
+ghost use Rattle.gate_config.specs.Tables.{tables_among};
 ghost use Rattle.gate_config.specs.Unknown.{least, lesser, stranger_of};
 ghost use Rattle.gate_config.specs.Strangers.{bypass_strangers, class_strangers, resolver_strangers, strangers_of};
 
@@ -12,7 +13,7 @@ use crate::document::Document;
 use crate::key::{Key, Section};
 use crate::resolver::ResolverKeys;
 use crate::unknown::{Stranger, least_in};
-use toml::Table;
+use toml::{Table, Value};
 
 /// The keys outside all tables.
 const TOP: [Key; 12] = [
@@ -51,19 +52,21 @@ pub fn least_stranger<'a>(table: &'a Table, document: &Document<'a>) -> Option<S
     if let Some((window, _)) = &document.window {
         least = least_in(least, Section::Window, &WINDOW, window);
     }
-    least = least_of_classes(least, &document.classes.0);
+    least = least_of_classes(least, document.classes.0);
     least = least_of_resolvers(least, &document.resolvers);
     least_of_bypasses(least, &document.bypasses)
 }
 
-fn least_of_classes<'a>(least: Option<Stranger<'a>>, tables: &[&'a Table]) -> Option<Stranger<'a>>
+fn least_of_classes<'a>(least: Option<Stranger<'a>>, items: &'a [Value]) -> Option<Stranger<'a>>
     ensures { option_map stranger_of result
         ≡ fold lesser (option_map stranger_of least.entry)
-        (flat_map class_strangers (map (λ t. table_view t.now) tables.now)) }
+        (flat_map class_strangers (tables_among items.now)) }
 {
     let mut least = least;
-    for table in tables {
-        least = least_in(least, Section::Class, &CLASS, table);
+    for item in items {
+        if let Some(table) = item.as_table() {
+            least = least_in(least, Section::Class, &CLASS, table);
+        }
     }
     least
 }
