@@ -1,4 +1,5 @@
 pub mod Addresses
+mod Blank
 pub mod Chains
 mod Documents
 pub mod Limits

@@ -1,7 +1,8 @@
 // From bytes to settings.
-ghost use Rattle.std.specs.Prelude.{◌≡◌, [], ◌≢◌, ◌⊎◌, IfOk, IfErr, IsErrOf, IsOk, Err, codes, map};
+ghost use Rattle.std.specs.Prelude.{◌≡◌, [], ◌≢◌, ◌⊎◌, IfOk, IfErr, IsErrOf, IsOk, Err, IsUtf8, codes, map};
 ghost use Rattle.std.specs.Option.{ForSome};
 ghost use Rattle.toml.specs.Data.{Members, get_member};
+ghost use Rattle.toml.specs.Errors.{IsBlank};
 ghost use Rattle.toml.specs.View.{table_view};
 ghost use Rattle.gate_config.specs.Bypasses.{bypass_member};
 ghost use Rattle.gate_config.specs.Document.{document_values};
@@ -37,11 +38,13 @@ const MILLI: u64 = 1_000_000;
 /// [`ConfigFault::Version`] unless `version` is 1; then key by key in the order of the keys, an array's members
 /// one after the other, [`ConfigFault::Missing`], [`ConfigFault::Kind`] and [`ConfigFault::Value`];
 /// [`ConfigFault::Unknown`] for the least path that isn't allowed; [`ConfigFault::Route`] for patterns that
-/// can't stand together. [`ConfigFault::Memory`] may come at any growth.
+/// can't stand together. [`ConfigFault::Memory`] comes where memory is wanting for the table of the text, and
+/// otherwise as [`settings_in`] says; a text of white space and comments alone never asks for any.
 pub fn read(alloc: Global, bytes: &[u8]) -> Result<Settings, ConfigFault>
     ensures settings { (t : Members) → Reads bytes.now t → Answers (λ settings. settings) (settings_of t) result }
     ensures sound { IfOk result AreSound }
     ensures read { IsOk result → (t : Members) × Reads bytes.now t }
+    ensures blank { IsBlank bytes.now → IsUtf8 bytes.now → IsErrOf result ConfigFault.Version }
     ensures refused { IfErr result (λ fault. fault ≢ ConfigFault.Memory → fault ≢ ConfigFault.Toml → (t : Members) × Reads bytes.now t) }
 {
     let table = table_of(alloc, bytes)?;
@@ -51,6 +54,7 @@ pub fn read(alloc: Global, bytes: &[u8]) -> Result<Settings, ConfigFault>
 /// The table that a text holds.
 fn table_of(alloc: Global, bytes: &[u8]) -> Result<Table, ConfigFault>
     ensures ok { IfOk result (λ t. Reads bytes.now (table_view t)) }
+    ensures blank { IsBlank bytes.now → IsUtf8 bytes.now → IsOk result }
     ensures toml { result ≡ Err ConfigFault.Toml → (t : Members) → Reads bytes.now t → ⊥ }
     ensures others { IfErr result (λ fault. (fault ≡ ConfigFault.Memory) ⊎ (fault ≡ ConfigFault.Toml)) }
 {
