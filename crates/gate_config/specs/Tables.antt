@@ -1,7 +1,9 @@
 -- Tables inside a configuration.
-use Rattle.std.specs.Prelude.{ℕ, List, [], ◌∷◌, ◌++◌, length, Option, Some, None, Result, Ok, Err, is_some, nat_le, if◌then◌else◌}
+use Rattle.std.specs.Prelude.{ℕ, List, [], ◌∷◌, ◌++◌, length, map, Option, Some, None, Result, Ok, Err, is_some, nat_le, if◌then◌else◌}
 use Rattle.std.specs.List.{filter_map, list_all}
 use Rattle.toml.specs.Data.{Data, Items, no_items, item, array, table, Members, as_table}
+use Rattle.toml.specs.View.{view}
+use Rattle.toml.specs.declared.value.Value.{Value}
 use Rattle.gate_config.specs.declared.fault.ConfigFault.{ConfigFault}
 use Rattle.gate_config.specs.declared.fault.ConfigFault.TheVariants as Fault
 use Rattle.gate_config.specs.declared.key.Key.{Key}
@@ -11,6 +13,10 @@ use Rattle.gate_config.specs.Values.{◌>>=◌}
 abbrev pub items_in : Items → List Data
 items_in no_items = []
 items_in (item d ds) = d ∷ items_in ds
+
+-- the items that are tables
+abbrev pub tables_among : List Value → List Members
+tables_among items = filter_map as_table (map view items)
 
 -- a table that may be absent
 abbrev pub optional_from : Key → Option Data → Result (Option Members) ConfigFault

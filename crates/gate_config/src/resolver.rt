@@ -6,9 +6,9 @@ ghost use Rattle.toml.specs.Data.{as_str, get_member};
 ghost use Rattle.toml.specs.View.{table_view, view};
 ghost use Rattle.gate_config.specs.Key.{name_of};
 ghost use Rattle.gate_config.specs.Rows.{resolver_kinds, resolver_rows};
-ghost use Rattle.gate_config.specs.Values.{Answers, is_among, names_of, is_class, pairs_of, result_map, routes_from, section_of, string_of, text_from};
+ghost use Rattle.gate_config.specs.Values.{Answers, Settles, is_among, names_of, is_class, pairs_of, result_map, routes_from, section_of, string_of, text_from};
 ghost use Rattle.gate_config.specs.Classes.{row_of};
-ghost use Rattle.gate_config.specs.Tables.{read_each};
+ghost use Rattle.gate_config.specs.Tables.{read_each, tables_among};
 ghost use Rattle.gate_config.specs.Resolvers.{resolver_member, resolver_of, resolver_values, routes_of, word_of};
 
 use crate::class::{ClassKeys, class_name, is_class};
@@ -75,18 +75,33 @@ impl ResolverKeys<'_> {
     }
 }
 
+/// Answers the first fault of the keys of resolvers. Takes no memory.
+pub fn check_resolvers(classes: &[ClassKeys], items: &[Value]) -> Result<(), ConfigFault>
+    ensures { Settles (read_each (resolver_of (map row_of classes.now)) [] (tables_among items.now)) result }
+{
+    for item in items {
+        if let Some(table) = item.as_table() {
+            read_resolver(classes, table)?;
+        }
+    }
+    Ok(())
+}
+
 /// The resolvers, each with its table.
 pub fn read_resolvers<'a>(
     alloc: Global,
     classes: &[ClassKeys],
-    tables: &[&'a Table],
+    items: &'a [Value],
 ) -> Result<Vec<(&'a Table, ResolverKeys<'a>)>, ConfigFault>
-    ensures { Answers (λ resolvers. map resolver_member resolvers.items) (read_each (resolver_of (map row_of classes.now)) [] (map (λ t. table_view t.now) tables.now)) result }
+    ensures { Answers (λ resolvers. map resolver_member resolvers.items)
+        (read_each (resolver_of (map row_of classes.now)) [] (tables_among items.now)) result }
 {
     let mut resolvers = Vec::new(alloc);
-    for table in tables {
-        let keys = read_resolver(classes, table)?;
-        resolvers.push((*table, keys)).map_err(AllocError::from)?;
+    for item in items {
+        if let Some(table) = item.as_table() {
+            let keys = read_resolver(classes, table)?;
+            resolvers.push((table, keys)).map_err(AllocError::from)?;
+        }
     }
     Ok(resolvers)
 }

@@ -5,16 +5,17 @@ use std::alloc::Global;
 use std::process::Abort;
 use std::test::Fail;
 
-const ADDRESSES: &str = "version = 1\nlisten = \"127.0.0.1:8080\"\nbackend = \"127.0.0.1:9000\"\n";
+pub const ADDRESSES: &str =
+    "version = 1\nlisten = \"127.0.0.1:8080\"\nbackend = \"127.0.0.1:9000\"\n";
 
-const FIXED: &str = "[limit]\nkind = \"fixed\"\ninitial = 4\n";
+pub const FIXED: &str = "[limit]\nkind = \"fixed\"\ninitial = 4\n";
 
-const LIVE: &str = "[[class]]\nname = \"live\"\npercent = 60\n";
+pub const LIVE: &str = "[[class]]\nname = \"live\"\npercent = 60\n";
 
 const BY_HEADER: &str = "[[resolver]]\nkind = \"header\"\nheader = \"X-Class\"\n";
 
 /// The fault of a text, as the program prints it, and `ok` where there is none.
-fn answer(rt: &impl Abort, alloc: Global, text: &str) -> String {
+pub fn answer(rt: &impl Abort, alloc: Global, text: &str) -> String {
     match read(alloc, text.as_bytes()) {
         Ok(_) => String::from_str(alloc, "ok").expect(rt, "memory"),
         Err(fault) => fault.to_string(alloc).expect(rt, "memory"),
