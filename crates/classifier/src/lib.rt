@@ -15,5 +15,3 @@ pub use class::{Class, classify};
 pub use resolver::Resolver;
 pub use rules::Rules;
 
-#[cfg(test)]
-mod tests;

@@ -34,7 +34,3 @@ pub use limit_kinds::{AnyLimit, BaseLimit};
 pub use reading::{read, settings_in};
 pub use settings::Settings;
 
-#[cfg(test)]
-mod edge_tests;
-#[cfg(test)]
-mod tests;

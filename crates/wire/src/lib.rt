@@ -16,5 +16,3 @@ pub use request::{Request, Version};
 pub use response::Response;
 pub use text::Text;
 
-#[cfg(test)]
-mod tests;

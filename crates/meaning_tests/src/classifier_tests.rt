@@ -1,5 +1,5 @@
 // Requests and the classes that they get.
-use super::*;
+use classifier::*;
 use http::Method;
 use matchit::Router;
 use partitions::{Part, PartitionTable};

@@ -1,5 +1,5 @@
 // Messages keep what they are given.
-use super::*;
+use wire::*;
 use http::Method;
 use std::test::Fail;
 

@@ -1,6 +1,6 @@
 // Both ends of each range of the keys, names that need quotes, and a request's class.
-use super::tests::{ADDRESSES, FIXED, LIVE, answer};
-use super::*;
+use super::gate_config_tests::{ADDRESSES, FIXED, LIVE, answer};
+use gate_config::*;
 use classifier::classify;
 use http::Method;
 use partitions::Part;

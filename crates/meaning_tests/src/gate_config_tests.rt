@@ -1,5 +1,5 @@
 // Configurations, and their settings or faults.
-use super::*;
+use gate_config::*;
 use limit_laws::Limit;
 use std::alloc::Global;
 use std::process::Abort;
