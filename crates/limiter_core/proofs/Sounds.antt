@@ -1,15 +1,14 @@
 -- A sound image stays sound with each entry that is an answer.
-use Rattle.std.proofs.Common.{◌≡◌, ℕ, zero, suc, ◌+◌, ◌-◌, ◌*◌, ◌<◌, ◌≤◌, ◌==◌, List, [], ◌∷◌, ◌++◌, Bool, true, false, not, cond, length, min, Option, None, Some, sum_by, count_by, filter, refl, sym, ap, ◌∙◌, subst, arith, zero-le, le_trans, slice_get, ltb, ◌/◌, mul-le-mul_right, div-mul-le_self, ⊎_elim, ltb-true, eqb-true, length-append, get_or, nat_lt, ltb-false, eq-eqb}
+use Rattle.std.proofs.Common.{◌≡◌, ℕ, zero, suc, ◌+◌, ◌-◌, ◌<◌, ◌≤◌, ◌==◌, List, [], ◌∷◌, ◌++◌, Bool, true, false, not, cond, length, min, sum_by, count_by, filter, refl, sym, ap, ◌∙◌, subst, arith, zero-le, le_trans, slice_get, ltb, ⊎_elim, ltb-true, eqb-true, length-append, get_or, nat_lt, ltb-false, eq-eqb}
 use Rattle.std.proofs.lemmas.List.Sums.{sum_by-append, sum_by-cons, length-filter, count_by-le-length}
 use Rattle.std.proofs.lemmas.List.Quantifiers.{all_pairs_push}
 use Rattle.std.proofs.lemmas.List.Kept.{AllPairs-filter}
 use Rattle.std.proofs.lemmas.Bool.{or_cases}
-use Rattle.std.proofs.lemmas.Nat.{le-div}
 use Rattle.limit_laws.specs.Algorithm.{IsWithin}
 use Rattle.partitions.specs.declared.part.Part.{Part}
 use Rattle.limiter_core.specs.declared.event.PermitFacts.{PermitFacts}
 use Rattle.lifo_backlog.specs.declared.waiter.Waiter.{Waiter}
-use Rattle.partitions.specs.Table.{Row, place_of, share, row_share, percent_share, places}
+use Rattle.partitions.specs.Table.{Row, place_of, share, row_share, places}
 use Rattle.partitions.specs.ShareLaws.{share-mono}
 use Rattle.limiter_core.proofs.Inserted.{count-inserted, none_counted, in_order-inserted}
 use Rattle.limiter_core.specs.History.{Gate, Image, limit, total, inserted}

@@ -68,6 +68,6 @@ IsNumbered g i e = i.next < 2 ^ 62 + (if is_always_served i e then most_owed g i
 pub data IsServed {S : Type 0} (g : Gate S) (k : ℕ) (o : Image S) : List Entry → Type 0 where
   none_yet : IsServed g k o []
   served : (h : List Entry) (e : Event)
-    → IsServed g k o h → MayCome g (image_after g o h) e
-    → is_exhausted k false (image_after g o h) (length h) e ≡ false
-    → IsServed g k o (h ++ answer g o h e)
+      → IsServed g k o h → MayCome g (image_after g o h) e
+      → is_exhausted k false (image_after g o h) (length h) e ≡ false
+      → IsServed g k o (h ++ answer g o h e)
