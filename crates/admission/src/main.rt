@@ -1,21 +1,12 @@
 //! The program `admission`: it reads its words, carries the command out over the standard streams
-//! or a configuration's file, and ends with status 0, with 1 and one line on standard error after a fault, or with 2 and the
-//! text of a fault of the words.
+//! or a configuration's file, and ends with status 0, with 1 and one line on standard error after a
+//! fault, or with 2 and the text of a fault of the words.
 #![tactic(auto)]
 
-mod check;
-#[cfg(test)]
-mod check_tests;
-mod error_line;
-mod run;
-#[cfg(test)]
-mod tests;
-mod words;
-
+use commands::{Task, check_file, run_text, words};
 use counted_io::Counted;
 use std::env;
 use std::process::ExitCode;
-use words::Task;
 
 /// The status after a fault of the words, and where memory is wanting to read them.
 const WORDS_FAULT: u8 = 2;
@@ -29,7 +20,7 @@ fn main(rt: HostRuntime) -> ExitCode {
         Ok(list) => list,
         Err(_) => return ExitCode::from(WORDS_FAULT),
     };
-    let run = match words::words(alloc, list.as_slice()) {
+    let run = match words(alloc, list.as_slice()) {
         Ok(run) => run,
         Err(error) => {
             let _ = error.print(&rt);
@@ -40,7 +31,7 @@ fn main(rt: HostRuntime) -> ExitCode {
     let mut writer = Counted::new(rt.stdout());
     let mut errors = Counted::new(rt.stderr());
     ExitCode::from(match run.task {
-        Task::Replay => run::run_text(alloc, run, &mut reader, &mut writer, &mut errors),
-        Task::Check(path) => check::check_file(&rt, alloc, path, &mut writer, &mut errors),
+        Task::Replay => run_text(alloc, run, &mut reader, &mut writer, &mut errors),
+        Task::Check(path) => check_file(&rt, alloc, path, &mut writer, &mut errors),
     })
 }
