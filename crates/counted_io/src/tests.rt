@@ -1,5 +1,5 @@
 // Fakes below a `Counted`, and its counts seen from outside.
-use super::{Counted, ReadFault, WriteFault, read_all, write_all};
+use super::{Counted, ReadFault, WriteFault, read_all, write_all, write_and_flush};
 use std::io::{Error, ErrorKind, Read, Result, Write};
 use std::test::Fail;
 
@@ -162,4 +162,80 @@ fn all_is_written_or_the_writer_failed(rt: HostRuntime) {
         assert_eq!(rt; writer.calls(), calls, "{most} at a time");
         assert_eq!(rt; sink.taken, taken, "{most} at a time");
     }
+}
+
+// Takes all that is written; a flush is answered by `outcome`, where there is one, and counted.
+#[derive(Drop)]
+struct Valve {
+    taken: usize,
+    flushed: u64,
+    outcome: Option<ErrorKind>,
+}
+
+impl Write for Valve {
+    fn write(&mut self, buf: &[u8]) -> Result<usize> {
+        self.taken = self.taken.saturating_add(buf.len());
+        Ok(buf.len())
+    }
+
+    fn flush(&mut self) -> Result<()> {
+        self.flushed = self.flushed.saturating_add(1);
+        match self.outcome {
+            None => Ok(()),
+            Some(kind) => Err(Error::from(kind)),
+        }
+    }
+}
+
+#[test]
+fn a_flush_reaches_the_writer_inside_and_its_failure_comes_back(rt: HostRuntime) {
+    for outcome in [None, Some(ErrorKind::BrokenPipe)] {
+        let mut valve = Valve {
+            taken: 0,
+            flushed: 0,
+            outcome,
+        };
+        let mut writer = Counted::new(&mut valve);
+        assert_eq!(rt; writer.is_flushed(), false);
+        let flushed = writer.flush().map_err(|error| error.kind());
+        assert_eq!(rt; flushed.err(), outcome);
+        assert_eq!(rt; (writer.calls(), writer.flushes()), (0, 1));
+        assert_eq!(rt; writer.is_flushed(), outcome.is_none());
+        assert_eq!(rt; valve.flushed, 1);
+    }
+}
+
+#[test]
+fn a_text_is_written_and_flushed_or_the_writer_failed(rt: HostRuntime) {
+    for (outcome, answer) in [
+        (None, Ok(())),
+        (Some(ErrorKind::BrokenPipe), Err(WriteFault)),
+    ] {
+        let mut valve = Valve {
+            taken: 0,
+            flushed: 0,
+            outcome,
+        };
+        let mut writer = Counted::new(&mut valve);
+        assert_eq!(rt; write_and_flush(&mut writer, b"0123"), answer);
+        assert_eq!(rt; (writer.calls(), writer.flushes()), (1, 1));
+        assert_eq!(rt; writer.is_flushed(), outcome.is_none());
+        assert_eq!(rt; (valve.taken, valve.flushed), (4, 1));
+    }
+}
+
+#[test]
+fn a_write_undoes_a_flush_and_a_failed_flush_does_not(rt: HostRuntime) {
+    let mut valve = Valve {
+        taken: 0,
+        flushed: 0,
+        outcome: None,
+    };
+    let mut writer = Counted::new(&mut valve);
+    assert_eq!(rt; write_and_flush(&mut writer, b"0"), Ok(()));
+    assert_eq!(rt; writer.is_flushed(), true);
+    assert_eq!(rt; write_all(&mut writer, b"1"), Ok(()));
+    assert_eq!(rt; writer.is_flushed(), false);
+    assert_eq!(rt; write_and_flush(&mut writer, b""), Ok(()));
+    assert_eq!(rt; (writer.is_flushed(), writer.flushes()), (true, 2));
 }
