@@ -13,6 +13,7 @@ mod document;
 mod entry;
 mod fault;
 mod key;
+mod key_text;
 mod limit;
 mod make;
 mod number;

@@ -1,5 +1,5 @@
 // From bytes to settings.
-ghost use Rattle.std.specs.Prelude.{◌≡◌, ◌≢◌, ◌⊎◌, IfOk, IfErr, IsOk, Err, codes, map};
+ghost use Rattle.std.specs.Prelude.{◌≡◌, [], ◌≢◌, ◌⊎◌, IfOk, IfErr, IsOk, Err, codes, map};
 ghost use Rattle.std.specs.Option.{ForSome};
 ghost use Rattle.toml.specs.Data.{Members, get_member};
 ghost use Rattle.toml.specs.View.{table_view};
@@ -8,7 +8,8 @@ ghost use Rattle.gate_config.specs.Document.{document_values};
 ghost use Rattle.gate_config.specs.Limit.{AreInRange};
 ghost use Rattle.gate_config.specs.Sections.{AreSound, IsTop, IsWindow};
 ghost use Rattle.gate_config.specs.Resolvers.{resolver_member};
-ghost use Rattle.gate_config.specs.Settings.{Reads, bypasses_made, is_version_one, made_of, resolvers_made, settings_of};
+ghost use Rattle.gate_config.specs.Settings.{Reads, is_version_one, made_of, settings_of};
+ghost use Rattle.gate_config.specs.Rules.{Makes, bypass_from, resolvers_after};
 ghost use Rattle.gate_config.specs.Values.{Answers};
 
 use crate::build::{bypass_of, partitions_of, resolver_of};
@@ -20,8 +21,7 @@ use crate::key::Key;
 use crate::make::any_limit;
 use crate::resolver::ResolverKeys;
 use crate::settings::Settings;
-use crate::strangers::strangers;
-use crate::unknown::least;
+use crate::strangers::least_stranger;
 use classifier::{Bypass, Resolver, Rules};
 use partitions::PartitionTable;
 use std::alloc::{AllocError, Global};
@@ -74,8 +74,8 @@ fn settings_in(alloc: Global, table: &Table) -> Result<Settings, ConfigFault>
         return Err(ConfigFault::Version);
     }
     let document = read_document(alloc, table)?;
-    match least(strangers(alloc, table, &document)?) {
-        Some(path) => Err(ConfigFault::Unknown(path)),
+    match least_stranger(table, &document) {
+        Some(key) => Err(ConfigFault::Unknown(key.path(alloc)?)),
         None => made_of(alloc, document),
     }
 }
@@ -96,7 +96,7 @@ fn made_of(alloc: Global, document: Document) -> Result<Settings, ConfigFault>
     requires limit { AreInRange document.limit.1 }
     requires window { ForSome document.window (λ window. IsWindow window.1) }
     ensures sound { IfOk result AreSound }
-    ensures said { Answers (λ settings. settings) (made_of (document_values document.entry)) result }
+    ensures said { Makes (λ settings. settings) (made_of (document_values document.entry)) result }
 {
     let table = partitions_of(alloc, &document.classes.1)?;
     let resolvers = resolvers_made(alloc, &table, &document.resolvers)?;
@@ -130,7 +130,8 @@ fn resolvers_made(
     table: &PartitionTable,
     members: &[(&Table, ResolverKeys)],
 ) -> Result<Vec<Resolver>, ConfigFault>
-    ensures { Answers (λ resolvers. resolvers.items) (resolvers_made table.now (map resolver_member members.now)) result }
+    ensures { Makes (λ resolvers. resolvers.items)
+        (resolvers_after table.now [] (map resolver_member members.now)) result }
 {
     let mut resolvers = Vec::new(alloc);
     for (_, keys) in members {
@@ -140,17 +141,14 @@ fn resolvers_made(
     Ok(resolvers)
 }
 
-/// The bypass rules of all their keys.
-fn bypasses_made(
-    alloc: Global,
-    members: &[(&Table, BypassKeys)],
-) -> Result<Vec<Bypass>, ConfigFault>
-    ensures { Answers (λ rules. rules.items) (bypasses_made (map bypass_member members.now)) result }
+/// The bypass rules of all their keys. Fails where memory is wanting.
+fn bypasses_made(alloc: Global, members: &[(&Table, BypassKeys)]) -> Result<Vec<Bypass>, AllocError>
+    ensures { IfOk result (λ rules. rules.items
+        ≡ map (λ rule. bypass_from rule.1) (map bypass_member members.now)) }
 {
     let mut rules = Vec::new(alloc);
     for (_, keys) in members {
-        let rule = bypass_of(alloc, keys)?;
-        rules.push(rule).map_err(AllocError::from)?;
+        rules.push(bypass_of(alloc, keys)?)?;
     }
     Ok(rules)
 }
