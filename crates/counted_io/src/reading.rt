@@ -1,7 +1,7 @@
 // All bytes of a reader.
 ghost use Rattle.std.specs.Prelude.{◌≡◌, ◌≤◌, ◌<◌, ◌+◌, ◌↔◌, vec_len, length, IfOk, OnOk, ◌++◌, IsErrOf};
 ghost use Rattle.counted_io.specs.Counted.{failures_of};
-ghost use Rattle.counted_io.specs.Effects.{IfLeft};
+ghost use Rattle.counted_io.specs.Effects.{IfLeft, Gave};
 ghost use Rattle.counted_io.specs.Causes.{IsReadCause, IsMemoryCause};
 
 use super::Counted;
@@ -24,8 +24,8 @@ pub enum ReadFault {
 
 /// All bytes up to the reader's end, at most `most_bytes` of them, in at most `most_reads` reads.
 ///
-/// However the reader cuts its bytes into reads, each is copied once. After a fault nothing is said
-/// of how much was read.
+/// However the reader cuts its bytes into reads, each is copied once. After `Read` and `TooLarge`
+/// nothing is said of how much was read.
 pub fn read_all<R: Read>(
     alloc: Global,
     reader: &mut Counted<R>,
@@ -33,6 +33,7 @@ pub fn read_all<R: Read>(
     most_reads: u64,
 ) -> Result<Vec<u8>, ReadFault>
     ensures whole { IfOk result (λ bytes. IfLeft R.remaining reader.old (λ all. bytes.items ≡ all)) }
+    ensures gave { IfOk result (λ bytes. Gave R.remaining reader.old reader.new bytes.items) }
     ensures fits { IfOk result (λ bytes. vec_len bytes ≤ most_bytes) }
     ensures unfailing { OnOk result (failures_of reader.new ≡ failures_of reader.old) }
     ensures memory { IsErrOf result ReadFault.Memory →

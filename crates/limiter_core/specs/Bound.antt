@@ -6,7 +6,7 @@ use Rattle.lifo_backlog.specs.Waiters.{IsRising}
 use Rattle.limiter_core.specs.declared.event.Event.{Event}
 use Rattle.limiter_core.specs.declared.event.Event.TheVariants.{End, GiveUp}
 use Rattle.limiter_core.specs.declared.event.Entry.{Entry}
-use Rattle.limiter_core.specs.History.{Gate, Image, image_after, total}
+use Rattle.limiter_core.specs.History.{Gate, Image, AreInOrder, image_after, total}
 use Rattle.limiter_core.specs.Answer.{answer, granted_at, granted_of, waits}
 use Rattle.limiter_core.specs.Legal.{MayCome}
 
@@ -18,7 +18,7 @@ bound_at rows hi inflight = hi + sum_by (λ p. min (inflight p) (share rows p hi
 abbrev pub named : {S : Type 0} → Image S → ℕ → ℕ
 named i n = count_by (λ w. w.number == n) i.waiters + count_by (λ permit. permit.number == n) i.granted
 
--- a sound image: its state is within its limits; no more is in flight than the greatest limit and the shares at it allow; each granted permit is in flight; no more wait than may, in rising order of number; and the numbers of waiters and granted permits are all different and were given out before
+-- a sound image: its state is within its limits; no more is in flight than the greatest limit and the shares at it allow; each granted permit is in flight; no more wait than may, and they and the granted permits are in rising order of number; and the numbers of waiters and granted permits are all different and were given out before
 pub record IsSound {S : Type 0} (g : Gate S) (i : Image S) : Type 0 where
   pub four : length g.rows ≤ 4
   pub within : IsWithin g.rules i.state
@@ -26,6 +26,7 @@ pub record IsSound {S : Type 0} (g : Gate S) (i : Image S) : Type 0 where
   pub backed : (p : ℕ) → granted_at g i p ≤ i.inflight p
   pub few : length i.waiters ≤ g.room
   pub rising : IsRising i.waiters
+  pub in_order : AreInOrder i.granted
   pub distinct : (n : ℕ) → named i n ≤ 1
   pub below : (n : ℕ) → i.next ≤ n → named i n ≡ 0
 

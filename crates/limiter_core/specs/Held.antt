@@ -11,7 +11,7 @@ pub record Counted : Type 0 where
 abbrev pub counts_of : List ℕ → List ℕ
 counts_of xs = count_by (λ q. q == 0) xs ∷ count_by (λ q. q == 1) xs ∷ count_by (λ q. q == 2) xs ∷ count_by (λ q. q == 3) xs ∷ count_by (λ q. q == 4) xs ∷ []
 
--- permits, the oldest first, and for how many there is room
+-- permits in rising order of number, and for how many there is room
 pub record Kept : Type 0 where
   pub permits : List PermitFacts
   pub room : ℕ

@@ -1,5 +1,7 @@
 -- Histories: what stands after a list of entries, each quantity by a filter or a fold over the whole list.
-use Rattle.std.specs.Prelude.{ℕ, ◌+◌, ◌-◌, ◌==◌, Bool, true, false, not, List, [], ◌∷◌, ◌++◌, length, Option, None, Some, option_to_list, Result, Ok, Err, fold, count_by, sum_by, filter}
+use Rattle.std.specs.Prelude.{ℕ, ◌+◌, ◌-◌, ◌<◌, ◌==◌, nat_lt, Bool, true, false, not, if◌then◌else◌}
+use Rattle.std.specs.Prelude.{List, [], ◌∷◌, ◌++◌, length, fold, count_by, sum_by, filter, AllPairs}
+use Rattle.std.specs.Prelude.{Option, None, Some, option_to_list, Result, Ok, Err}
 use Rattle.std.specs.List.{list_any}
 use Rattle.limit_laws.specs.declared.limit.SetFault.{SetFault}
 use Rattle.limit_laws.specs.Facts.{SampleFacts, sample_of}
@@ -96,18 +98,32 @@ stops_waiting w _ = false
 abbrev pub waiters_after : {S : Type 0} → Image S → List Entry → List Waiter
 waiters_after o h = untaken stops_waiting h o.waiters ++ brought starts_waiting stops_waiting o.next h
 
--- GRANTED: the granted permits of the opening and those of promotions, which no later Granted names
-abbrev pub grants : ℕ → Entry → Option PermitFacts
-grants number (Promotion waiter part start inflight) = Some (record { number = waiter; part = part; start = start; inflight = inflight })
-grants number _ = None
+-- GRANTED, in rising order of number: each promotion puts its permit before those of greater numbers,
+-- and each Granted takes the permit that it names away
+abbrev pub inserted : PermitFacts → List PermitFacts → List PermitFacts
+inserted permit [] = permit ∷ []
+inserted permit (one ∷ rest) =
+    if nat_lt permit.number one.number then permit ∷ one ∷ rest else one ∷ inserted permit rest
 
-abbrev pub hands : PermitFacts → Entry → Bool
-hands permit (Call (Claim number) (Granted part start inflight)) = permit.number == number
-hands permit (Call (GiveUp number) (Granted part start inflight)) = permit.number == number
-hands permit _ = false
+abbrev pub granted_but : ℕ → List PermitFacts → List PermitFacts
+granted_but number granted = filter (λ permit. not (permit.number == number)) granted
+
+abbrev pub granted_after_call : List PermitFacts → Event → Reply → List PermitFacts
+granted_after_call granted (Claim number) (Granted part start inflight) = granted_but number granted
+granted_after_call granted (GiveUp number) (Granted part start inflight) = granted_but number granted
+granted_after_call granted _ _ = granted
+
+abbrev pub granted_after_entry : List PermitFacts → Entry → List PermitFacts
+granted_after_entry granted (Call event reply) = granted_after_call granted event reply
+granted_after_entry granted (Promotion waiter part start inflight) =
+    inserted (record { number = waiter; part = part; start = start; inflight = inflight }) granted
 
 abbrev pub granted_after : {S : Type 0} → Image S → List Entry → List PermitFacts
-granted_after o h = untaken hands h o.granted ++ brought grants hands o.next h
+granted_after o h = fold granted_after_entry o.granted h
+
+-- each permit's number is below those of all after it
+abbrev pub AreInOrder : List PermitFacts → Type 0
+AreInOrder permits = AllPairs (λ (one later : PermitFacts). one.number < later.number) permits
 
 -- the image after the entries, from an opening
 abbrev pub image_after : {S : Type 0} → Gate S → Image S → List Entry → Image S

@@ -48,6 +48,20 @@ impl Permits {
         count_at(&self.places, place)
     }
 
+    /// How many permits there are of each place.
+    pub(crate) fn counts(&self) -> [u32; 5]
+        ensures { result ≡ self.now.counts }
+    {
+        let places = &self.places;
+        [
+            count_at(places, 0),
+            count_at(places, 1),
+            count_at(places, 2),
+            count_at(places, 3),
+            count_at(places, 4),
+        ]
+    }
+
     /// One more permit of a place.
     pub(crate) fn enter(&mut self, place: usize)
         requires place { place < 5 }

@@ -5,16 +5,16 @@ ghost use Rattle.limiter_core.specs.Answer.{answer};
 ghost use Rattle.limiter_core.specs.Legal.{MayCome};
 ghost use Rattle.limiter_core.specs.Bound.{IsSound, is_exhausted, is_always_served};
 ghost use Rattle.limiter_core.specs.Limiter.{stands, entry_of};
+ghost use Rattle.load_driver.specs.Limits.{most_kept};
 ghost use Rattle.load_driver.specs.Journal.{gate, opening, image};
 
 use limit_laws::Limit;
-use limiter_core::{Core, CoreFault, Entry, Event, Promotion, Reply};
+use limiter_core::{
+    Core, CoreFault, Entry, Event, Promotion, Reply, answers_by_image, reserved_room_suffices,
+};
 use partitions::PartitionTable;
 use std::alloc::{AllocError, Global};
 use std::marker::Model;
-
-/// The most entries that a journal may be asked to keep.
-pub(crate) const MOST_KEPT: usize = 1_000_000;
 
 /// From this number on only what is owed is answered.
 const LAST_NUMBER: u64 = 4_611_686_018_427_387_904;
@@ -53,7 +53,7 @@ impl<L: Limit> Journal<L> {
         kept: usize,
     ) -> Result<Journal<L>, AllocError>
         requires room { room ≤ 10000 }
-        requires kept { kept ≤ MOST_KEPT }
+        requires kept { kept ≤ most_kept }
         ensures made { IfOk result (λ journal. journal ≡ record { rows = table; room = room; first = limit; entries = []; kept = kept }) }
         ensures sound { IfOk result (λ journal. IsSound (gate L.rules journal) (opening journal)) }
     {
@@ -64,6 +64,8 @@ impl<L: Limit> Journal<L> {
             Err(CoreFault::Memory) => return Err(AllocError),
             Err(CoreFault::Room) => unreachable!(),
         };
+        core.check();
+        answers_by_image::<L>();
         let entries = Vec::with_capacity(alloc, kept + 2 * most + 3 * room as usize)?;
         Ok(Journal {
             first,
@@ -121,6 +123,8 @@ impl<L: Limit> Journal<L> {
         if self.is_exhausted(event) {
             return None;
         }
+        answers_by_image::<L>();
+        reserved_room_suffices::<L>();
         let number = self.entries.len();
         let reply = self.core.apply(event);
         push_answer(&mut self.entries, event, reply, self.core.promotions());

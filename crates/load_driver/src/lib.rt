@@ -29,6 +29,5 @@ mod text;
 mod words;
 
 pub use answers::LineFault;
-pub use driver::{DriverFault, KEPT, MOST_READS, replay};
-pub use opening::MOST_BYTES;
+pub use driver::{DriverFault, KEPT, MOST_BYTES, MOST_READS, replay};
 pub use script::Why;

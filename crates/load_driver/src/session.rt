@@ -6,11 +6,15 @@ ghost use Rattle.limiter_core.specs.Answer.{answer};
 ghost use Rattle.limiter_core.specs.Bound.{is_exhausted};
 ghost use Rattle.limiter_core.specs.Open.{open_permit};
 ghost use Rattle.limiter_core.specs.Handed.{NamesOpen, open_after};
+ghost use Rattle.load_driver.specs.Limits.{most_kept};
 ghost use Rattle.load_driver.specs.Journal.{gate, image, opening};
 
-use super::journal::{Journal, MOST_KEPT};
+use super::journal::Journal;
 use limit_laws::{LAST_MOMENT, Limit};
-use limiter_core::{Entry, Event, PermitFacts, Reply};
+use limiter_core::{
+    Entry, Event, PermitFacts, Reply, answers_by_image, open_permits_are_in_flight,
+    open_permits_may_end, soundness_is_kept,
+};
 use partitions::PartitionTable;
 use std::alloc::{AllocError, Global};
 use std::collections::HashMap;
@@ -45,9 +49,11 @@ impl<L: Limit> Session<L> {
         kept: usize,
     ) -> Result<Session<L>, AllocError>
         requires room { room ≤ 10000 }
-        requires kept { kept ≤ MOST_KEPT }
+        requires kept { kept ≤ most_kept }
         ensures { IfOk result (λ session. session ≡ record { rows = table; room = room; first = limit; entries = []; kept = kept }) }
     {
+        answers_by_image::<L>();
+        open_permits_are_in_flight::<L>();
         let journal = Journal::new(alloc, limit, table, room, kept)?;
         Ok(Session {
             journal,
@@ -85,6 +91,9 @@ impl<L: Limit> Session<L> {
         ensures first { IfOk result (λ answered. IfSome answered (λ first. first ≡ length self.old.entries)) }
         ensures entries { IfOk result (λ answered. OnSome answered (self.new ≡ record self.old { entries = self.old.entries ++ answer (gate L.rules self.old) (opening self.old) self.old.entries event })) }
     {
+        open_permits_may_end::<L>();
+        open_permits_are_in_flight::<L>();
+        soundness_is_kept::<L>();
         self.permits.reserve(1)?;
         let first = self.journal.entries().len();
         match self.journal.apply(event) {
