@@ -6,8 +6,9 @@ use Rattle.clap.specs.declared.builder.command.Command.{Command}
 use Rattle.clap.specs.declared.builder.command.Command.TheViews.{out-Command}
 use Rattle.clap.specs.declared.builder.value_parser.ValueParser.TheVariants as Parser
 use Rattle.commands.specs.declared.command_line.Run.{Run}
-use Rattle.commands.specs.declared.command_line.Task.{Task}
-use Rattle.commands.specs.declared.command_line.Task.TheVariants.{Replay, Check}
+use Rattle.commands.specs.declared.command_line.Run.TheVariants.{Text as OfText, Check}
+use Rattle.commands.specs.declared.command_line.TextTask.{TextTask}
+use Rattle.commands.specs.declared.command_line.TextTask.TheVariants.{Replay}
 
 -- an option of this name that takes a whole number from low to high
 abbrev pub number_rule : Text → Text → ℕ → ℕ → Rule
@@ -32,9 +33,11 @@ replay_app = with_rule (new_app (codes "replay")) limit_rule
 abbrev pub check_app : App
 check_app = with_rule (new_app (codes "check")) config_rule
 
--- a command without subcommands, which can't be left out
+-- a command that has a version, and subcommands of which one is required
 abbrev pub asking : Text → App
-asking name = record (new_app name) { top = record (new_app name).top { subcommand_required = true } }
+asking name = record (new_app name) {
+  top = record (new_app name).top { has_version = true; subcommand_required = true };
+}
 
 -- the whole command line
 abbrev pub admission_app : App
@@ -46,15 +49,35 @@ IsLeaf app command = (shape_of command ≡ app.top) × ((out-Command command).ha
 
 -- the number that the rows have for an option lies in the range
 abbrev pub HasNumber : List Row → Text → ℕ → ℕ → ℕ → Type 0
-HasNumber rows id low high n = (text : Text) × (one_of id rows ≡ Some text) × IsNumeral 10 (without_leading_plus text)
+HasNumber rows id low high n = (text : Text) × (one_of id rows ≡ Some text)
+    × IsNumeral 10 (without_leading_plus text)
     × (digits_value 10 (without_leading_plus text) ≡ n) × (low ≤ n) × (n ≤ high)
 
--- the task is that of this subcommand, with the rows of its options, and so is the limit; `check` has none, and the usual one stands
-abbrev pub IsTaskOf : Text → List Row → Task → ℕ → Type 0
-IsTaskOf name rows Replay limit = (name ≡ codes "replay") × HasNumber rows (codes "limit") 1 10000 limit
-IsTaskOf name rows (Check path) limit = (name ≡ codes "check") × (first_of (codes "config") rows ≡ Some path.now) × (limit ≡ 20)
+-- the task is that of this subcommand, with the numbers that its rows have
+abbrev pub IsTaskOf : Text → List Row → TextTask → Type 0
+IsTaskOf name rows (Replay limit) =
+    (name ≡ codes "replay") × HasNumber rows (codes "limit") 1 10000 limit
+
+-- the run is that of this subcommand, with the numbers and the path that its rows have
+abbrev pub IsCommandOf : Text → List Row → Run → Type 0
+IsCommandOf name rows (OfText task) = IsTaskOf name rows task
+IsCommandOf name rows (Check path) =
+    (name ≡ codes "check") × (first_of (codes "config") rows ≡ Some path.now)
 
 -- the run is that of the subcommand which the words name
 abbrev pub IsRunOf : Option (Text × List Row) → Run → Type 0
 IsRunOf None run = ⊥
-IsRunOf (Some named) run = IsTaskOf named.0 named.1 run.task run.limit
+IsRunOf (Some named) run = IsCommandOf named.0 named.1 run
+
+-- the subcommand which the words name, if they name one, is none of a run
+abbrev pub NamesNoRun : Option (Text × List Row) → Type 0
+NamesNoRun named = (run : Run) → IsRunOf named run → ⊥
+
+-- the limit of a text without a limit line
+abbrev pub limit_of : TextTask → ℕ
+limit_of (Replay limit) = limit
+
+-- the limit of a run over a text is 1 to 10,000
+abbrev pub HasLimit : Run → Type 0
+HasLimit (OfText task) = (1 ≤ limit_of task) × (limit_of task ≤ 10000)
+HasLimit (Check path) = Unit {0}

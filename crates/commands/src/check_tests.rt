@@ -1,9 +1,8 @@
 // Configurations, checked over streams in memory.
-use super::check::{CheckFault, MOST_CONFIG, check_text, read_config};
 use super::script_tests::Broken;
+use super::{TextTask, check_reader, check_text, run_text};
 use counted_io::Counted;
-use std::alloc::Global;
-use std::io::{Read, Result as IoResult};
+use std::io::{Error, ErrorKind, Read, Result as IoResult, Write};
 use std::test::Fail;
 
 /// The sample configuration of docs/FORMATS.md, in the pieces that rows change.
@@ -143,42 +142,99 @@ fn a_line_that_cannot_be_written_is_told_and_a_fault_line_is_dropped(
     Ok(())
 }
 
-/// Gives this many spaces.
+/// A configuration, and then spaces up to this many bytes.
 #[derive(Drop)]
-struct Spaces {
+struct Padded {
+    text: &'static [u8],
     left: usize,
 }
 
-impl Read for Spaces {
+impl Read for Padded {
     fn read(&mut self, buf: &mut [u8]) -> IoResult<usize> {
         let count = self.left.min(buf.len());
         buf[..count].fill(b' ');
+        let begun = count.min(self.text.len());
+        buf[..begun].copy_from_slice(&self.text[..begun]);
+        self.text = &self.text[begun..];
         self.left -= count;
         Ok(count)
     }
 }
 
-/// How many bytes were read, or none where the file counts as one that can't be read.
-fn length_read<R: Read + Drop>(alloc: Global, reader: R) -> Option<usize> {
-    match read_config(alloc, &mut Counted::new(reader)) {
-        Ok(bytes) => Some(bytes.len()),
-        Err(CheckFault::Read) => None,
-        Err(_) => Some(0),
+const LINE: &[u8] = b"ok fixed 20 classes 0 resolvers 0 bypass 0 backlog 100\n";
+
+const UNREAD: &[u8] = b"admission: config: read\n";
+
+/// What is answered a configuration that is padded to this many bytes: the status, and whether the
+/// line on standard output, or the one on standard error, is as wanted.
+fn is_answered(rt: &HostRuntime, left: usize, status: u8, output: &[u8], fault: &[u8]) -> bool {
+    let text = b"version=1\nlisten='127.0.0.1:1'\nbackend='127.0.0.1:2'\nlimit={kind='fixed'}\n";
+    let mut written = Vec::new(rt.alloc());
+    let mut told = Vec::new(rt.alloc());
+    let found = check_reader(
+        rt.alloc(),
+        &mut Counted::new(Padded { text, left }),
+        &mut Counted::new(&mut written),
+        &mut Counted::new(&mut told),
+    );
+    found == status && written.as_slice() == output && told.as_slice() == fault
+}
+
+#[test]
+fn a_reader_of_a_mebibyte_is_checked_and_a_longer_one_is_not(rt: HostRuntime) {
+    assert!(rt; is_answered(&rt, 100, 0, LINE, b""));
+    assert!(rt; is_answered(&rt, 1_048_576, 0, LINE, b""));
+    assert!(rt; is_answered(&rt, 1_048_577, 1, b"", UNREAD));
+}
+
+#[test]
+fn a_reader_that_fails_is_told(rt: HostRuntime) {
+    let mut output = Vec::new(rt.alloc());
+    let mut fault = Vec::new(rt.alloc());
+    let status = check_reader(
+        rt.alloc(),
+        &mut Counted::new(Broken),
+        &mut Counted::new(&mut output),
+        &mut Counted::new(&mut fault),
+    );
+    assert_eq!(rt; status, 1);
+    assert!(rt; output.is_empty());
+    assert!(rt; fault.as_slice() == UNREAD);
+}
+
+/// Takes what is written, and fails at each flush.
+#[derive(Drop)]
+struct Unflushed;
+
+impl Write for Unflushed {
+    fn write(&mut self, buf: &[u8]) -> IoResult<usize> {
+        Ok(buf.len())
+    }
+
+    fn flush(&mut self) -> IoResult<()> {
+        Err(Error::from(ErrorKind::Other))
     }
 }
 
 #[test]
-fn a_file_of_a_mebibyte_is_read_and_a_longer_one_is_not(rt: HostRuntime) -> Result<(), Fail> {
-    let alloc = rt.alloc();
-    assert!(rt; length_read(alloc, Spaces { left: MOST_CONFIG }) == Some(MOST_CONFIG));
-    assert!(rt;
-        length_read(
-            alloc,
-            Spaces {
-                left: MOST_CONFIG + 1
-            }
-        ) == None
+fn a_flush_that_fails_is_told(rt: HostRuntime) -> Result<(), Fail> {
+    let text = format!(in rt.alloc(); "{VERSION}{LISTEN}{BACKEND}{LIMIT}{REST}")?;
+    let mut fault = Vec::new(rt.alloc());
+    let status = check_text(
+        rt.alloc(),
+        text.as_bytes(),
+        &mut Counted::new(Unflushed),
+        &mut Counted::new(&mut fault),
     );
-    assert!(rt; length_read(alloc, Broken) == None);
+    assert_eq!(rt; status, 1);
+    let status = run_text(
+        rt.alloc(),
+        TextTask::Replay { limit: 1 },
+        &mut Counted::new(b"look unknown".as_slice()),
+        &mut Counted::new(Unflushed),
+        &mut Counted::new(&mut fault),
+    );
+    assert_eq!(rt; status, 1);
+    assert!(rt; fault.as_slice() == b"admission: write\nadmission: write\n".as_slice());
     Ok(())
 }

@@ -1,6 +1,5 @@
-// The program's commands over streams in memory, and its words.
-use super::command_line::{Run, Task, words};
-use super::scripts::run_text;
+// Commands over texts, with streams in memory.
+use super::{TextTask, run_text};
 use counted_io::Counted;
 use std::io::{Error, ErrorKind, Read, Result as IoResult, Write};
 use std::test::Fail;
@@ -78,13 +77,9 @@ fn scripts_are_answered_with_their_text_status_and_fault_line(rt: HostRuntime) -
     for row in &ROWS {
         let mut output = Vec::new(rt.alloc());
         let mut fault = Vec::new(rt.alloc());
-        let run = Run {
-            task: Task::Replay,
-            limit: row.limit,
-        };
         let status = run_text(
             rt.alloc(),
-            run,
+            TextTask::Replay { limit: row.limit },
             &mut Counted::new(row.script),
             &mut Counted::new(&mut output),
             &mut Counted::new(&mut fault),
@@ -118,15 +113,12 @@ impl Write for Broken {
 
 #[test]
 fn a_failing_reader_and_a_failing_writer_are_named(rt: HostRuntime) -> Result<(), Fail> {
-    let run = Run {
-        task: Task::Replay,
-        limit: 1,
-    };
+    let task = TextTask::Replay { limit: 1 };
     let mut fault = Vec::new(rt.alloc());
     let mut output = Vec::new(rt.alloc());
     let status = run_text(
         rt.alloc(),
-        run,
+        task,
         &mut Counted::new(Broken),
         &mut Counted::new(&mut output),
         &mut Counted::new(&mut fault),
@@ -135,57 +127,12 @@ fn a_failing_reader_and_a_failing_writer_are_named(rt: HostRuntime) -> Result<()
     assert!(rt; output.is_empty());
     let status = run_text(
         rt.alloc(),
-        run,
+        task,
         &mut Counted::new(b"look unknown".as_slice()),
         &mut Counted::new(Broken),
         &mut Counted::new(&mut fault),
     );
     assert_eq!(rt; status, 1);
     assert!(rt; fault.as_slice() == b"admission: read\nadmission: write\n".as_slice());
-    Ok(())
-}
-
-/// What the words after the program's name give: the limit and the path, or the exit code of their fault.
-fn run_of(rt: &HostRuntime, list: &[&str], wanted: Result<(u32, &str), i32>) -> Result<bool, Fail> {
-    let mut all = Vec::new(rt.alloc());
-    all.push(String::from_str(rt.alloc(), "admission")?)?;
-    for word in list {
-        all.push(String::from_str(rt.alloc(), word)?)?;
-    }
-    let found = match words(rt.alloc(), &all) {
-        Ok(run) => {
-            let path = match run.task {
-                Task::Replay => "",
-                Task::Check(path) => path,
-            };
-            wanted == Ok((run.limit, path))
-        }
-        Err(error) => wanted == Err(error.exit_code()),
-    };
-    Ok(found)
-}
-
-#[test]
-fn words_give_the_run_or_a_status(rt: HostRuntime) -> Result<(), Fail> {
-    let rows: [(&[&str], Result<(u32, &str), i32>); 15] = [
-        (&["replay"], Ok((20, ""))),
-        (&["replay", "--limit", "1"], Ok((1, ""))),
-        (&["replay", "--limit=10000"], Ok((10_000, ""))),
-        (&["replay", "--limit", "0"], Err(2)),
-        (&["replay", "--limit", "10001"], Err(2)),
-        (&["replay", "--limit"], Err(2)),
-        (&["replay", "more"], Err(2)),
-        (&["check", "a.toml"], Ok((20, "a.toml"))),
-        (&["check"], Err(2)),
-        (&["check", "a.toml", "b.toml"], Err(2)),
-        (&["check", "a.toml", "--limit", "1"], Err(2)),
-        (&["check", "--help"], Err(0)),
-        (&["forward"], Err(2)),
-        (&[], Err(2)),
-        (&["replay", "--help"], Err(0)),
-    ];
-    for (list, wanted) in rows {
-        assert!(rt; run_of(&rt, list, wanted)?);
-    }
     Ok(())
 }

@@ -1,82 +1,81 @@
-// A command over its streams.
-ghost use Rattle.std.specs.Prelude.{◌≡◌, ◌≤◌, ◌⊎◌, string_bytes, IfOk, IfSome};
-ghost use Rattle.std.specs.Io.KnownBytes.{Appends};
-ghost use Rattle.counted_io.specs.Counted.{inner_of};
-ghost use Rattle.counted_io.specs.Causes.{IsReadCause, IsWriteCause};
-ghost use Rattle.load_driver.specs.Opening.{replay_text};
-ghost use Rattle.commands.specs.Scripts.{IsStop, driver_line};
+// A command over a text.
+ghost use Rattle.std.specs.Prelude.{◌≡◌, ◌≤◌, ◌⊎◌, true, None};
+ghost use Rattle.counted_io.specs.Counted.{failures_of, is_flushed};
+ghost use Rattle.counted_io.specs.Effects.{IfLeft, Wrote};
+ghost use Rattle.load_driver.specs.Driver.{fault_text};
+ghost use Rattle.commands.specs.CommandLine.{limit_of};
+ghost use Rattle.commands.specs.FaultLine.{IsTold, fault_line};
+ghost use Rattle.commands.specs.Scripts.{IsStop, text_of};
 
-use super::command_line::{Run, Task};
-use super::error_line::tell;
+use super::command_line::TextTask;
+use super::fault_line::tell;
+use super::status::{DONE, FAULT};
 use counted_io::Counted;
-use load_driver::{DriverFault, KEPT, MOST_BYTES, MOST_READS, replay};
-use std::alloc::{AllocError, Global};
+use itoa::Buffer;
+use load_driver::{DriverFault, LineFault, replay};
+use std::alloc::Global;
 use std::io::{Read, Write};
 
-/// The status of a command that was carried out.
-pub const DONE: u8 = 0;
-
-/// The status after a fault.
-pub const FAULT: u8 = 1;
-
-/// Carries out a command that answers a script, writes the line of its fault to `errors`, and answers the exit status.
+/// Carries out a command over a text, tells its fault on `errors`, and answers the exit status.
 ///
-/// The line comes after all output; where it can't be written itself, it is dropped; where memory is wanting
-/// for it, the line says so.
+/// The line of the fault comes after all output, is flushed and takes no memory; where it can't be
+/// written itself, it is dropped.
 pub fn run_text<R: Read, W: Write, E: Write>(
     alloc: Global,
-    run: Run,
+    task: TextTask,
     reader: &mut Counted<R>,
     writer: &mut Counted<W>,
     errors: &mut Counted<E>,
 ) -> u8
-    requires script { run.task ≡ Task.Replay }
-    requires least { 1 ≤ run.limit }
-    requires most { run.limit ≤ 10000 }
-    ensures status { (result ≡ DONE) ⊎ (result ≡ FAULT) }
-    ensures done { result ≡ DONE → IfSome (R.remaining (inner_of reader.old)) (λ script.
-        ((replay_text run.entry.limit KEPT script).fault ≡ None)
-        × Appends (W.contents (inner_of writer.old)) (W.contents (inner_of writer.new)) (replay_text run.entry.limit KEPT script).out) }
-    ensures quiet { result ≡ DONE → errors.new ≡ errors.old }
+    requires least { 1 ≤ limit_of task }
+    requires most { limit_of task ≤ 10000 }
+    ensures status { (result ≡ 0) ⊎ (result ≡ 1) }
+
+    // The whole text is written and flushed.
+    ensures done { result ≡ 0 → IfLeft R.remaining reader.old (λ script.
+        ((text_of task script).fault ≡ None)
+        × Wrote W.contents writer.old writer.new (text_of task script).out) }
+    ensures flushed { result ≡ 0 → is_flushed writer.new ≡ true }
+    ensures read { result ≡ 0 → failures_of reader.new ≡ failures_of reader.old }
+    ensures unfailing { result ≡ 0 → failures_of writer.new ≡ failures_of writer.old }
+    ensures quiet { result ≡ 0 → errors.new ≡ errors.old }
 
     // The fault is told.
-    ensures stopped { result ≡ FAULT → (fault : DriverFault)
-        × IsStop (replay_text run.entry.limit KEPT) MOST_BYTES (R.remaining (inner_of reader.old)) (λ out. Appends (W.contents (inner_of writer.old)) (W.contents (inner_of writer.new)) out)
-        (IsReadCause MOST_READS reader.old reader.new) (IsWriteCause writer.old writer.new) (writer.new ≡ writer.old) fault
-        × ((Appends (E.contents (inner_of errors.old)) (E.contents (inner_of errors.new)) (driver_line fault))
-        ⊎ (Appends (E.contents (inner_of errors.old)) (E.contents (inner_of errors.new)) (driver_line DriverFault.Memory))
-        ⊎ IsWriteCause errors.old errors.new) }
+    ensures stopped { result ≡ 1 → (fault : DriverFault)
+        × IsStop R.remaining W.contents (text_of task) reader.old reader.new writer.old writer.new fault
+        × IsTold E.contents errors.old errors.new (fault_line (fault_text fault)) }
 {
-    let outcome = match run.task {
-        Task::Replay => replay(alloc, reader, writer, run.limit),
-        Task::Check(_) => unreachable!(),
+    let outcome = match task {
+        TextTask::Replay { limit } => replay(alloc, reader, writer, limit),
     };
     match outcome {
         Ok(()) => DONE,
         Err(fault) => {
-            tell_fault(alloc, errors, &fault);
+            tell_driver_fault(errors, fault);
             FAULT
         }
     }
 }
 
-/// Writes the line of a fault, or where memory is wanting for it, a line that says so.
-fn tell_fault<E: Write>(alloc: Global, errors: &mut Counted<E>, fault: &DriverFault)
-    ensures told { (Appends (E.contents (inner_of errors.old)) (E.contents (inner_of errors.new)) (driver_line fault.now))
-        ⊎ (Appends (E.contents (inner_of errors.old)) (E.contents (inner_of errors.new)) (driver_line DriverFault.Memory))
-        ⊎ IsWriteCause errors.old errors.new }
+/// Tells why a driver stopped.
+fn tell_driver_fault<E: Write>(errors: &mut Counted<E>, fault: DriverFault)
+    ensures { IsTold E.contents errors.old errors.new (fault_line (fault_text fault)) }
 {
-    match driver_line(alloc, fault) {
-        Ok(line) => tell(errors, line.as_bytes()),
-        Err(_) => tell(errors, b"admission: memory\n"),
+    match fault {
+        DriverFault::Memory => tell(errors, &["memory"]),
+        DriverFault::Read => tell(errors, &["read"]),
+        DriverFault::TooLarge => tell(errors, &["too large"]),
+        DriverFault::Line(fault) => tell_line_fault(errors, fault),
+        DriverFault::Write => tell(errors, &["write"]),
     }
 }
 
-/// The line of a fault.
-fn driver_line(alloc: Global, fault: &DriverFault) -> Result<String, AllocError>
-    ensures { IfOk result (λ line. string_bytes line ≡ driver_line fault.now) }
+/// Tells which line is at fault, and why.
+fn tell_line_fault<E: Write>(errors: &mut Counted<E>, fault: LineFault)
+    ensures { IsTold E.contents errors.old errors.new
+        (fault_line (fault_text (DriverFault.Line fault))) }
 {
-    let mut line = String::new(alloc);
-    writeln!(line, "admission: {fault}")?;
-    Ok(line)
+    let mut number = Buffer::new();
+    let pieces = ["line ", number.format(fault.line), ": ", fault.why.text()];
+    tell(errors, &pieces);
 }
