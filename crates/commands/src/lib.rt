@@ -9,20 +9,12 @@
 mod accepted;
 mod check;
 mod check_fault;
-#[cfg(test)]
-mod check_tests;
 mod command_line;
 mod fault_line;
 mod help;
-#[cfg(test)]
-mod help_tests;
-#[cfg(test)]
-mod script_tests;
 mod scripts;
 mod status;
 mod unread_words;
-#[cfg(test)]
-mod words_tests;
 
 pub use check::{check_file, check_reader, check_text};
 pub use check_fault::CheckFault;

@@ -1,6 +1,6 @@
 // Configurations, checked over streams in memory.
-use super::script_tests::Broken;
-use super::{TextTask, check_reader, check_text, run_text};
+use super::run_tests::Broken;
+use commands::{TextTask, check_reader, check_text, run_text};
 use counted_io::Counted;
 use std::io::{Error, ErrorKind, Read, Result as IoResult, Write};
 use std::test::Fail;

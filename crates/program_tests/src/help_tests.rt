@@ -1,5 +1,5 @@
 // The help texts: their examples are carried out, and their lines are no wider than a screen.
-use super::{
+use commands::{
     EXAMPLE_ANSWERS, EXAMPLE_SCRIPT, FULLEST_CONFIG, SMALLEST_CONFIG, TextTask, check_text,
     run_text, words,
 };

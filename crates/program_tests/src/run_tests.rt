@@ -1,5 +1,5 @@
 // Commands over texts, with streams in memory.
-use super::{TextTask, run_text};
+use commands::{TextTask, run_text};
 use counted_io::Counted;
 use std::io::{Error, ErrorKind, Read, Result as IoResult, Write};
 use std::test::Fail;

@@ -1,5 +1,5 @@
 // The words of the command line.
-use super::{Run, TextTask, tell_unread_words, words};
+use commands::{Run, TextTask, tell_unread_words, words};
 use counted_io::Counted;
 use std::io::ErrorKind;
 use std::test::Fail;
