@@ -63,7 +63,8 @@ limit_of t = table_from Key.Limit (get_member (codes "limit") t) >>= λ limit.
 -- the keys of a window, where there is one
 abbrev pub read_window : Option Members → Result (Option (Members × Values)) ConfigFault
 read_window None = Ok None
-read_window (Some window) = section_of [] window_rows window >>= λ values. Ok (Some (window, values))
+read_window (Some window) =
+    section_of [] window_rows window >>= λ values. Ok (Some (window, values))
 
 abbrev pub window_of : Members → Result (Option (Members × Values)) ConfigFault
 window_of t = optional_from Key.Window (get_member (codes "window") t) >>= read_window
@@ -76,7 +77,8 @@ classes_in t = tables_from Key.Class 4 (get_member (codes "class") t) >>= λ tab
 -- the resolvers among these classes, at most 32
 abbrev pub resolvers_of : List Row → Members → Result (List (Members × Values)) ConfigFault
 resolvers_of classes t =
-    tables_from Key.Resolver 32 (get_member (codes "resolver") t) >>= read_each (resolver_of classes) []
+    tables_from Key.Resolver 32 (get_member (codes "resolver") t)
+    >>= read_each (resolver_of classes) []
 
 -- the bypass rules, at most 32
 abbrev pub bypasses_of : Members → Result (List (Members × Values)) ConfigFault
@@ -91,4 +93,11 @@ document_of t =
     classes_in t >>= λ classes.
     resolvers_of classes.1 t >>= λ resolvers.
     bypasses_of t >>= λ bypasses.
-    Ok (record { top = top; limit = limit; window = window; classes = classes; resolvers = resolvers; bypasses = bypasses })
+    Ok (record {
+      top = top;
+      limit = limit;
+      window = window;
+      classes = classes;
+      resolvers = resolvers;
+      bypasses = bypasses;
+    })

@@ -7,7 +7,8 @@ use Rattle.std.specs.Str.{chars}
 -- the bytes of bare keys: letters, digits, the dash and the underscore
 abbrev pub is_bare_byte : ℕ → Bool
 is_bare_byte b =
-    (nat_le 97 b && nat_le b 122) || (nat_le 65 b && nat_le b 90) || (nat_le 48 b && nat_le b 57) || b == 45 || b == 95
+    (nat_le 97 b && nat_le b 122) || (nat_le 65 b && nat_le b 90)
+    || (nat_le 48 b && nat_le b 57) || b == 45 || b == 95
 
 -- a bare key has one or more of them
 abbrev pub is_bare : List ℕ → Bool

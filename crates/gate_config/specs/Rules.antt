@@ -22,22 +22,25 @@ use Rattle.gate_config.specs.Values.{routes_at, text_at, Values}
 abbrev pub part_named : List Row → List ℕ → Part
 part_named rows name = unwrap_or (find_part rows name) Unknown
 
--- what the making of rules answers: what is said, or want of memory, or where nothing is said, patterns that can't
--- stand together
+-- what the making of rules answers: what is said, or want of memory, or where nothing is said, patterns
+-- that can't stand together
 abbrev pub Makes : {A V : Type 0} → (A → V) → Option V → Result A ConfigFault → Type 0
 Makes shown said (Ok a) = said ≡ Some (shown a)
 Makes shown said (Err fault) = fault ≢ Fault.Memory → (fault ≡ Fault.Route) × (said ≡ None)
 
--- the fault of a pattern that a router refuses: want of memory, or else a pattern that can't stand with the others
+-- the fault of a pattern that a router refuses: want of memory, or else a pattern that can't stand with
+-- the others
 abbrev pub insert_fault : InsertError → ConfigFault
 insert_fault Insert.OutOfMemory = Fault.Memory
 insert_fault _ = Fault.Route
 
 -- the routes with one more, unless its pattern can't be read or can't stand with one of theirs
-abbrev pub route_read : Result Scan InsertError → Part → RowsOf (RouteOf Part) → Option (RowsOf (RouteOf Part))
+abbrev pub route_read :
+    Result Scan InsertError → Part → RowsOf (RouteOf Part) → Option (RowsOf (RouteOf Part))
 route_read (Err e) part rows = None
 route_read (Ok scan) part rows =
-    if is_none (nearest scan.pattern rows) then Some (placed (scan.pattern, route_from scan part) rows) else None
+    if is_none (nearest scan.pattern rows)
+    then Some (placed (scan.pattern, route_from scan part) rows) else None
 
 abbrev pub route_with : List ℕ → Part → RowsOf (RouteOf Part) → Option (RowsOf (RouteOf Part))
 route_with pattern part rows = route_read (parse_route pattern) part rows
@@ -59,7 +62,8 @@ resolver_from rows values =
     if bytes_eq (text_at (codes "kind") values) (codes "header")
     then Some (Read.Header (text_at (codes "header") values)) else (
     if bytes_eq (text_at (codes "kind") values) (codes "method")
-    then Some (Read.Method (text_at (codes "method") values) (part_named rows (text_at (codes "class") values)))
+    then Some (Read.Method (text_at (codes "method") values)
+    (part_named rows (text_at (codes "class") values)))
     else option_map Read.Route (router_from rows (routes_at (codes "routes") values)))
 
 -- the bypass rule of a section's values
@@ -71,8 +75,11 @@ bypass_from values =
     then Rule.Prefix (text_at (codes "prefix") values)
     else Rule.HeaderEquals (text_at (codes "header") values) (text_at (codes "equals") values))
 
--- the resolvers of these values, each among the partitions of the rows, if their patterns can stand together
-abbrev pub resolvers_after : List Row → List Resolver → List (Members × Values) → Option (List Resolver)
+-- the resolvers of these values, each among the partitions of the rows, if their patterns can stand
+-- together
+abbrev pub resolvers_after :
+    List Row → List Resolver → List (Members × Values) → Option (List Resolver)
 resolvers_after rows made [] = Some made
 resolvers_after rows made (member ∷ more) =
-    option_and_then (λ resolver. resolvers_after rows (made ++ resolver ∷ []) more) (resolver_from rows member.1)
+    option_and_then (λ resolver. resolvers_after rows (made ++ resolver ∷ []) more)
+    (resolver_from rows member.1)

@@ -49,7 +49,8 @@ abbrev pub known : DocumentValues → Option Stranger → Result Settings Config
 known d None = ok_or (made_of d) Fault.Route
 known d (Some key) = Err (Fault.Unknown (path_text key))
 
--- the settings that a table holds, or the first fault: of the version, of a key, of an unknown key, of a route
+-- the settings that a table holds, or the first fault: of the version, of a key, of an unknown key, of
+-- a route
 abbrev pub settings_of : Members → Result Settings ConfigFault
 settings_of t =
     if is_version_one (get_member (codes "version") t)

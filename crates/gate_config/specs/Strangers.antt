@@ -17,7 +17,8 @@ top_names =
 
 abbrev pub window_strangers : Option (Members × Values) → List Stranger
 window_strangers None = []
-window_strangers (Some window) = strangers_in In.Window (map (λ row. name_of row.key) window_rows) window.0
+window_strangers (Some window) =
+    strangers_in In.Window (map (λ row. name_of row.key) window_rows) window.0
 
 abbrev pub class_strangers : Members → List Stranger
 class_strangers t = strangers_in In.Class (map (λ row. name_of row.key) class_rows) t
@@ -31,6 +32,7 @@ bypass_strangers b = strangers_in In.Bypass (names_of bypass_rows b.1) b.0
 -- all of them
 abbrev pub strangers_of : Members → DocumentValues → List Stranger
 strangers_of t d =
-    strangers_in In.Top top_names t ++ strangers_in In.Limit (names_of limit_rows d.limit.1) d.limit.0
+    strangers_in In.Top top_names t
+    ++ strangers_in In.Limit (names_of limit_rows d.limit.1) d.limit.0
     ++ window_strangers d.window ++ flat_map class_strangers d.classes.0
     ++ flat_map resolver_strangers d.resolvers ++ flat_map bypass_strangers d.bypasses

@@ -28,7 +28,8 @@ optional_from key (Some _) = Err (Fault.Kind key)
 abbrev pub tables_in : Key → ℕ → List Data → Result (List Members) ConfigFault
 tables_in key most items =
     if list_all (λ d. is_some (as_table d)) items
-    then (if nat_le (length items) most then Ok (filter_map as_table items) else Err (Fault.Value key))
+    then (if nat_le (length items) most
+    then Ok (filter_map as_table items) else Err (Fault.Value key))
     else Err (Fault.Kind key)
 
 -- the tables of an array; none where it is absent
@@ -38,6 +39,7 @@ tables_from key most (Some (array items)) = tables_in key most (items_in items)
 tables_from key most (Some _) = Err (Fault.Kind key)
 
 -- what is read one after the other, each given what was read before it
-abbrev pub read_each : {T A : Type 0} → (List A → T → Result A ConfigFault) → List A → List T → Result (List A) ConfigFault
+abbrev pub read_each :
+    {T A : Type 0} → (List A → T → Result A ConfigFault) → List A → List T → Result (List A) ConfigFault
 read_each read done [] = Ok done
 read_each read done (t ∷ more) = read done t >>= λ a. read_each read (done ++ a ∷ []) more

@@ -27,7 +27,8 @@ path_text key = prefix_of key.section ++ key_text key.name
 -- those of the names that aren't allowed in a section
 abbrev pub strangers_among : Section → List (List ℕ) → List (List ℕ) → List Stranger
 strangers_among section allowed names =
-    map (λ name. record { section = section; name = name }) (filter (λ name. not (is_among allowed name)) names)
+    map (λ name. record { section = section; name = name })
+    (filter (λ name. not (is_among allowed name)) names)
 
 -- a table's keys that aren't allowed in its section
 abbrev pub strangers_in : Section → List (List ℕ) → Members → List Stranger
@@ -36,7 +37,8 @@ strangers_in section allowed t = strangers_among section allowed (map (λ pair. 
 -- the one with the lesser path in byte order, where the first may be none
 abbrev pub lesser : Option Stranger → Stranger → Option Stranger
 lesser None key = Some key
-lesser (Some best) key = if is_lt (slice_cmp nat_cmp (path_of key) (path_of best)) then Some key else Some best
+lesser (Some best) key =
+    if is_lt (slice_cmp nat_cmp (path_of key) (path_of best)) then Some key else Some best
 
 -- the one with the least path, of those with one path the first
 abbrev pub least : List Stranger → Option Stranger

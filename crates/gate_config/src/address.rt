@@ -28,8 +28,8 @@ impl Model for Address {
 }
 
 impl Address {
-    /// The address that this is the text of: four numbers up to 255 with dots between them, a colon and a port
-    /// from 1 to 65535, all in decimal without leading zeros.
+    /// The address that this is the text of: four numbers up to 255 with dots between them, a colon and
+    /// a port from 1 to 65535, all in decimal without leading zeros.
     pub fn parse(text: &str) -> Option<Address>
         ensures { result ≡ if is_address text.now then Some text.now else None }
     {

@@ -51,7 +51,8 @@ pub fn resolver_of(
     table: &PartitionTable,
     keys: &ResolverKeys,
 ) -> Result<Resolver, ConfigFault>
-    ensures { Makes (λ resolver. resolver) (resolver_from table.now (resolver_values keys.now)) result }
+    ensures { Makes (λ resolver. resolver)
+        (resolver_from table.now (resolver_values keys.now)) result }
 {
     match keys {
         ResolverKeys::Header(name) => Ok(Resolver::Header(bytes_of(alloc, name)?)),
@@ -111,7 +112,8 @@ fn router_of(
     table: &PartitionTable,
     routes: &Table,
 ) -> Result<Router<Part>, ConfigFault>
-    ensures { Makes (λ router. router) (router_from table.now (routes_of (table_view routes.now))) result }
+    ensures { Makes (λ router. router)
+        (router_from table.now (routes_of (table_view routes.now))) result }
 {
     let mut router = Router::new(alloc);
     for (pattern, class) in routes {

@@ -25,7 +25,8 @@ pub enum BypassKind {
 impl BypassKind {
     /// The kind of this word.
     fn named(word: &str) -> Option<BypassKind>
-        ensures { option_map word_of result ≡ if is_among bypass_kinds word.now then Some word.now else None }
+        ensures { option_map word_of result
+            ≡ if is_among bypass_kinds word.now then Some word.now else None }
     {
         match word {
             "method" => Some(BypassKind::Method),
@@ -108,7 +109,8 @@ pub fn read_bypass<'a>(table: &'a Table) -> Result<BypassKeys<'a>, ConfigFault>
 /// The word at `bypass.kind`.
 fn bypass_kind(table: &Table) -> Result<BypassKind, ConfigFault>
     ensures { result_map word_of result
-        ≡ text_from Key.BypassKind (is_among bypass_kinds) (get_member (name_of Key.BypassKind) (table_view table.now)) }
+        ≡ text_from Key.BypassKind (is_among bypass_kinds)
+        (get_member (name_of Key.BypassKind) (table_view table.now)) }
 {
     match BypassKind::named(text(table, Key::BypassKind)?) {
         Some(kind) => Ok(kind),
@@ -118,7 +120,8 @@ fn bypass_kind(table: &Table) -> Result<BypassKind, ConfigFault>
 
 /// The keys of a rule by header.
 fn read_header<'a>(table: &'a Table) -> Result<BypassKeys<'a>, ConfigFault>
-    requires { text_from Key.BypassKind (is_among bypass_kinds) (get_member (name_of Key.BypassKind) (table_view table.now)) ≡ Ok (codes "header") }
+    requires { text_from Key.BypassKind (is_among bypass_kinds)
+        (get_member (name_of Key.BypassKind) (table_view table.now)) ≡ Ok (codes "header") }
     ensures { result_map bypass_values result ≡ section_of [] bypass_rows (table_view table.now) }
 {
     let header = token(table, Key::BypassHeader)?;

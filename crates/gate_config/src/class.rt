@@ -27,7 +27,8 @@ pub struct ClassKeys<'a> {
 /// The keys of the classes, each read after those before it.
 pub fn read_classes<'a>(items: &'a [Value]) -> Result<ArrayVec<ClassKeys<'a>, 4>, ConfigFault>
     requires { length items.now ≤ 4 }
-    ensures { result_map (λ classes. map row_of classes.items) result ≡ classes_of (tables_among items.now) }
+    ensures { result_map (λ classes. map row_of classes.items) result
+        ≡ classes_of (tables_among items.now) }
 {
     let mut classes = ArrayVec::new();
     for item in items {
@@ -41,7 +42,8 @@ pub fn read_classes<'a>(items: &'a [Value]) -> Result<ArrayVec<ClassKeys<'a>, 4>
 
 /// The keys of a class behind the classes before it.
 fn read_class<'a>(before: &[ClassKeys], table: &'a Table) -> Result<ClassKeys<'a>, ConfigFault>
-    ensures { result_map class_values result ≡ section_of (map row_of before.now) class_rows (table_view table.now) }
+    ensures { result_map class_values result
+        ≡ section_of (map row_of before.now) class_rows (table_view table.now) }
 {
     let name = new_name(before, table, Key::ClassName)?;
     let range = Range::required(1, left_by(before));
@@ -52,7 +54,8 @@ fn read_class<'a>(before: &[ClassKeys], table: &'a Table) -> Result<ClassKeys<'a
 /// The name of a partition that none of the classes has.
 fn new_name<'a>(classes: &[ClassKeys], table: &'a Table, key: Key) -> Result<&'a str, ConfigFault>
     ensures { result_map (λ s. s.now) result
-        ≡ text_from key (is_new_name (map row_of classes.now)) (get_member (name_of key) (table_view table.now)) }
+        ≡ text_from key (is_new_name (map row_of classes.now))
+        (get_member (name_of key) (table_view table.now)) }
 {
     let text = text(table, key)?;
     if is_name(text.as_bytes()) && !is_class(classes, text) {
@@ -69,7 +72,8 @@ pub fn class_name<'a>(
     key: Key,
 ) -> Result<&'a str, ConfigFault>
     ensures { result_map (λ s. s.now) result
-        ≡ text_from key (is_class (map row_of classes.now)) (get_member (name_of key) (table_view table.now)) }
+        ≡ text_from key (is_class (map row_of classes.now))
+        (get_member (name_of key) (table_view table.now)) }
 {
     let text = text(table, key)?;
     if is_class(classes, text) {

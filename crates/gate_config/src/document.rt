@@ -39,13 +39,15 @@ pub struct Document<'a> {
     pub bypasses: Vec<(&'a Table, BypassKeys<'a>)>,
 }
 
-/// The keys of a configuration, read in their order. The first fault of a key is told whatever the memory.
+/// The keys of a configuration, read in their order. The first fault of a key is told whatever the
+/// memory.
 pub fn read_document<'a>(alloc: Global, table: &'a Table) -> Result<Document<'a>, ConfigFault>
     ensures top { IfOk result (λ d. IsTop d.top) }
     ensures limit { IfOk result (λ d. AreInRange d.limit.1) }
     ensures window { IfOk result (λ d. ForSome d.window (λ window. IsWindow window.1)) }
     ensures said { Answers document_values (document_of (table_view table.now)) result }
-    ensures fault { (fault : FaultValue) → document_of (table_view table.now) ≡ Err fault → IsErrOf result fault }
+    ensures fault { (fault : FaultValue) →
+        document_of (table_view table.now) ≡ Err fault → IsErrOf result fault }
 {
     let top = read_top(table)?;
     let limit = limit_in(table)?;
@@ -99,10 +101,13 @@ fn classes_in<'a>(
 
 /// The tables of the array `resolver`, whose keys are not at fault.
 fn resolvers_in<'a>(classes: &[ClassKeys], table: &'a Table) -> Result<&'a [Value], ConfigFault>
-    ensures settled { IfOk result (λ _. IsOk (resolvers_of (map row_of classes.now) (table_view table.now))) }
-    ensures tables { IfOk result (λ tables. resolvers_of (map row_of classes.now) (table_view table.now)
+    ensures settled { IfOk result (λ _.
+        IsOk (resolvers_of (map row_of classes.now) (table_view table.now))) }
+    ensures tables { IfOk result (λ tables.
+        resolvers_of (map row_of classes.now) (table_view table.now)
         ≡ read_each (resolver_of (map row_of classes.now)) [] (tables_among tables.now)) }
-    ensures fault { IfErr result (λ fault. resolvers_of (map row_of classes.now) (table_view table.now) ≡ Err fault) }
+    ensures fault { IfErr result (λ fault.
+        resolvers_of (map row_of classes.now) (table_view table.now) ≡ Err fault) }
 {
     let tables = tables_at(table, Key::Resolver, MOST_RULES)?;
     check_resolvers(classes, tables)?;

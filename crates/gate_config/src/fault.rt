@@ -9,8 +9,8 @@ use std::error::Error;
 use std::fmt;
 use wire::Text;
 
-/// Why a configuration was refused. Of several faults the first in this order is told, and of several keys the
-/// first in the order of the keys; of unknown keys the one with the least path in byte order.
+/// Why a configuration was refused. Of several faults the first in this order is told, and of several
+/// keys the first in the order of the keys; of unknown keys the one with the least path in byte order.
 ///
 /// Its text is one line of the fault's word and the key's dotted path.
 #[derive(Debug, Drop)]
@@ -27,8 +27,9 @@ pub enum ConfigFault {
     Kind(Key),
     /// A key's value is out of its range.
     Value(Key),
-    /// The dotted path of a key that isn't allowed where it stands. A name that isn't bare in TOML (one or more
-    /// letters, digits, dashes and underscores) is quoted and escaped as a basic string, as in `limit."x\ny"`.
+    /// The dotted path of a key that isn't allowed where it stands. A name that isn't bare in TOML (one
+    /// or more letters, digits, dashes and underscores) is quoted and escaped as a basic string, as in
+    /// `limit."x\ny"`.
     Unknown(Text),
     /// Two patterns can't stand together, or one can't be read.
     Route,
@@ -60,7 +61,8 @@ impl From<InsertError> for ConfigFault {
 }
 
 impl ConfigFault {
-    /// The fault's text in pieces that follow one another, of which the last two may be empty. Takes no memory.
+    /// The fault's text in pieces that follow one another, of which the last two may be empty. Takes no
+    /// memory.
     pub fn pieces(&self) -> (&str, &str, &str)
         ensures { result.0.now ++ (result.1.now ++ result.2.now) ≡ fault_text self.now }
     {

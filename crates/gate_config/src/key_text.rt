@@ -1,5 +1,5 @@
-// Keys as a fault tells them: bare, or quoted so that a key of any characters is one line and can't pass for
-// another text. The form is TOML's own (https://toml.io/en/v1.0.0#keys and #string).
+// Keys as a fault tells them: bare, or quoted so that a key of any characters is one line and can't
+// pass for another text. The form is TOML's own (https://toml.io/en/v1.0.0#keys and #string).
 ghost use Rattle.std.specs.Prelude.{◌≡◌, ◌++◌, ◌<◌, ◌≤◌, true, IsTrue, IfOk, OnOk, string_bytes};
 ghost use Rattle.std.specs.Fmt.{digit_glyph};
 ghost use Rattle.std.specs.List.{list_all};

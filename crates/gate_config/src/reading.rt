@@ -34,18 +34,20 @@ const MILLI: u64 = 1_000_000;
 
 /// The settings that a text of version 1 holds.
 ///
-/// The faults, of which the first is told: [`ConfigFault::Toml`] for a text that isn't TOML in UTF-8;
-/// [`ConfigFault::Version`] unless `version` is 1; then key by key in the order of the keys, an array's members
-/// one after the other, [`ConfigFault::Missing`], [`ConfigFault::Kind`] and [`ConfigFault::Value`];
-/// [`ConfigFault::Unknown`] for the least path that isn't allowed; [`ConfigFault::Route`] for patterns that
-/// can't stand together. [`ConfigFault::Memory`] comes where memory is wanting for the table of the text, and
-/// otherwise as [`settings_in`] says; a text of white space and comments alone never asks for any.
+/// The faults, of which the first is told: [`ConfigFault::Toml`] for a text that isn't TOML in
+/// UTF-8; [`ConfigFault::Version`] unless `version` is 1; then key by key in the order of the keys, an
+/// array's members one after the other, [`ConfigFault::Missing`], [`ConfigFault::Kind`] and [`ConfigFault::Value`];
+/// [`ConfigFault::Unknown`] for the least path that isn't allowed; [`ConfigFault::Route`] for patterns
+/// that can't stand together. [`ConfigFault::Memory`] comes where memory is wanting for the table of the
+/// text, and otherwise as [`settings_in`] says; a text of white space and comments alone never asks for any.
 pub fn read(alloc: Global, bytes: &[u8]) -> Result<Settings, ConfigFault>
-    ensures settings { (t : Members) → Reads bytes.now t → Answers (λ settings. settings) (settings_of t) result }
+    ensures settings { (t : Members) → Reads bytes.now t →
+        Answers (λ settings. settings) (settings_of t) result }
     ensures sound { IfOk result AreSound }
     ensures read { IsOk result → (t : Members) × Reads bytes.now t }
     ensures blank { IsBlank bytes.now → IsUtf8 bytes.now → IsErrOf result ConfigFault.Version }
-    ensures refused { IfErr result (λ fault. fault ≢ ConfigFault.Memory → fault ≢ ConfigFault.Toml → (t : Members) × Reads bytes.now t) }
+    ensures refused { IfErr result (λ fault. fault ≢ ConfigFault.Memory → fault ≢ ConfigFault.Toml →
+        (t : Members) × Reads bytes.now t) }
 {
     let table = table_of(alloc, bytes)?;
     settings_in(alloc, &table)
@@ -56,7 +58,8 @@ fn table_of(alloc: Global, bytes: &[u8]) -> Result<Table, ConfigFault>
     ensures ok { IfOk result (λ t. Reads bytes.now (table_view t)) }
     ensures blank { IsBlank bytes.now → IsUtf8 bytes.now → IsOk result }
     ensures toml { result ≡ Err ConfigFault.Toml → (t : Members) → Reads bytes.now t → ⊥ }
-    ensures others { IfErr result (λ fault. (fault ≡ ConfigFault.Memory) ⊎ (fault ≡ ConfigFault.Toml)) }
+    ensures others { IfErr result (λ fault.
+        (fault ≡ ConfigFault.Memory) ⊎ (fault ≡ ConfigFault.Toml)) }
 {
     match toml::table_from_slice(alloc, bytes) {
         Ok(table) => Ok(table),
@@ -70,12 +73,13 @@ fn table_of(alloc: Global, bytes: &[u8]) -> Result<Table, ConfigFault>
     }
 }
 
-/// The settings that a table holds. Faults are as for [`read`]; the version's and those of keys are told whatever
-/// the memory, which is taken only for settings, an unknown key's path and routes.
+/// The settings that a table holds. Faults are as for [`read`]; the version's and those of keys are
+/// told whatever the memory, which is taken only for settings, an unknown key's path and routes.
 pub fn settings_in(alloc: Global, table: &Table) -> Result<Settings, ConfigFault>
     ensures sound { IfOk result AreSound }
     ensures said { Answers (λ settings. settings) (settings_of (table_view table.now)) result }
-    ensures fault { (fault : FaultValue) → IsOfKey fault → settings_of (table_view table.now) ≡ Err fault → IsErrOf result fault }
+    ensures fault { (fault : FaultValue) → IsOfKey fault →
+        settings_of (table_view table.now) ≡ Err fault → IsErrOf result fault }
 {
     if !is_version_one(table) {
         return Err(ConfigFault::Version);

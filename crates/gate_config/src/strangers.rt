@@ -44,7 +44,8 @@ const CLASS: [Key; 2] = [Key::ClassName, Key::ClassPercent];
 
 /// The key that isn't allowed where it stands, of several the one with the least path.
 pub fn least_stranger<'a>(table: &'a Table, document: &Document<'a>) -> Option<Stranger<'a>>
-    ensures { option_map stranger_of result ≡ least (strangers_of (table_view table.now) (document_values document.now)) }
+    ensures { option_map stranger_of result
+        ≡ least (strangers_of (table_view table.now) (document_values document.now)) }
 {
     let mut least = least_in(None, Section::Top, &TOP, table);
     let (limit, keys) = &document.limit;

@@ -14,7 +14,8 @@ use toml::{Table, Value};
 
 /// The table at a key.
 pub fn table_at<'a>(table: &'a Table, key: Key) -> Result<&'a Table, ConfigFault>
-    ensures { result_map (λ t. table_view t.now) result ≡ table_from key (get_member (name_of key) (table_view table.now)) }
+    ensures { result_map (λ t. table_view t.now) result
+        ≡ table_from key (get_member (name_of key) (table_view table.now)) }
 {
     match entry(table, key) {
         Some(value) => match value.as_table() {
@@ -27,7 +28,8 @@ pub fn table_at<'a>(table: &'a Table, key: Key) -> Result<&'a Table, ConfigFault
 
 /// The table at a key that may be absent.
 pub fn optional_table_at<'a>(table: &'a Table, key: Key) -> Result<Option<&'a Table>, ConfigFault>
-    ensures { result_map (option_map (λ t. table_view t.now)) result ≡ optional_from key (get_member (name_of key) (table_view table.now)) }
+    ensures { result_map (option_map (λ t. table_view t.now)) result
+        ≡ optional_from key (get_member (name_of key) (table_view table.now)) }
 {
     match entry(table, key) {
         Some(value) => match value.as_table() {
@@ -38,7 +40,8 @@ pub fn optional_table_at<'a>(table: &'a Table, key: Key) -> Result<Option<&'a Ta
     }
 }
 
-/// The items of the array at a key, which all are to be tables, and at most `most`; none where it is absent.
+/// The items of the array at a key, which all are to be tables, and at most `most`; none where it is
+/// absent.
 pub fn tables_at<'a>(table: &'a Table, key: Key, most: usize) -> Result<&'a [Value], ConfigFault>
     ensures few { IfOk result (λ items. length items.now ≤ most) }
     ensures value { result_map (λ items. tables_among items.now) result
@@ -56,7 +59,8 @@ pub fn tables_at<'a>(table: &'a Table, key: Key, most: usize) -> Result<&'a [Val
 /// The items, which all are to be tables, and at most `most`.
 fn tables_in<'a>(items: &'a [Value], key: Key, most: usize) -> Result<&'a [Value], ConfigFault>
     ensures few { IfOk result (λ items. length items.now ≤ most) }
-    ensures value { result_map (λ items. tables_among items.now) result ≡ tables_in key most (map view items.now) }
+    ensures value { result_map (λ items. tables_among items.now) result
+        ≡ tables_in key most (map view items.now) }
 {
     if !are_tables(items) {
         return Err(ConfigFault::Kind(key));
@@ -70,7 +74,8 @@ fn tables_in<'a>(items: &'a [Value], key: Key, most: usize) -> Result<&'a [Value
 
 /// The items of an array.
 fn items_of<'a>(value: &'a Value) -> Option<&'a [Value]>
-    ensures { option_map (λ items. map view items.now) result ≡ option_map items_in (as_array (view value.now)) }
+    ensures { option_map (λ items. map view items.now) result
+        ≡ option_map items_in (as_array (view value.now)) }
 {
     match value.as_array() {
         Some(array) => Some(array.as_slice()),

@@ -70,7 +70,8 @@ pub fn least_in<'a>(
 
 /// The one with the lesser path, where the first may be none.
 fn lesser<'a>(least: Option<Stranger<'a>>, key: Stranger<'a>) -> Option<Stranger<'a>>
-    ensures { option_map stranger_of result ≡ lesser (option_map stranger_of least.entry) (stranger_of key.entry) }
+    ensures { option_map stranger_of result
+        ≡ lesser (option_map stranger_of least.entry) (stranger_of key.entry) }
 {
     match least {
         None => Some(key),
