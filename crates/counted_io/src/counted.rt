@@ -7,7 +7,7 @@ ghost use Rattle.counted_io.specs.Counted.{inner_of, calls_of, failures_of, flus
 
 use std::io::{Error, ErrorKind, Read, Result, Write};
 
-/// A reader or a writer, with the number of its reads or writes, of its flushes and of its failures.
+/// A reader or a writer, with how many reads or writes, flushes and failures it had.
 ///
 /// A read or a write is a call; a flush has a count of its own. Where one of the three fails, that
 /// is a failure. A write of some bytes that takes none is answered as an error of the kind
@@ -60,7 +60,7 @@ impl<T> Counted<T> {
         self.failures
     }
 
-    /// Whether a flush succeeded after the last write, or after the first moment where none was made.
+    /// Whether a flush succeeded after the last write, or at any time where none was made.
     pub fn is_flushed(&self) -> bool
         ensures { result ≡ is_flushed self.now }
     {

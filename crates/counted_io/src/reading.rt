@@ -32,7 +32,8 @@ pub fn read_all<R: Read>(
     most_bytes: usize,
     most_reads: u64,
 ) -> Result<Vec<u8>, ReadFault>
-    ensures whole { IfOk result (λ bytes. IfLeft R.remaining reader.old (λ all. bytes.items ≡ all)) }
+    ensures whole { IfOk result (λ bytes.
+        IfLeft R.remaining reader.old (λ all. bytes.items ≡ all)) }
     ensures gave { IfOk result (λ bytes. Gave R.remaining reader.old reader.new bytes.items) }
     ensures fits { IfOk result (λ bytes. vec_len bytes ≤ most_bytes) }
     ensures unfailing { OnOk result (failures_of reader.new ≡ failures_of reader.old) }

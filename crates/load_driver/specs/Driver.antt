@@ -25,7 +25,8 @@ abbrev pub OnAnswer : Result (Unit {0}) DriverFault → Type 0 → Type 0
 OnAnswer (Ok v) P = P
 OnAnswer (Err fault) P = IfLine fault (λ _. P)
 
--- the answer to a script of at most 16 MiB: the line at fault, if one ended it, and what was written
+-- the answer to a script of at most 16 MiB: the line at fault that ended it, if one did, and what
+-- was written
 abbrev pub IsAnswer : ℕ → List ℕ → Option LineFault → (List ℕ → Type 0) → Type 0
 IsAnswer n script fault Written =
     (length script ≤ most_script)

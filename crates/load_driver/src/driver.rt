@@ -86,7 +86,8 @@ pub fn replay<R: Read, W: Write>(
     // The script's whole text is written, or the text of the lines before the one at fault.
     ensures ok { OnOk result (IfLeft R.remaining reader.old (λ script.
         IsAnswer n script None (Wrote W.contents writer.old writer.new))) }
-    ensures line { IfErr result (λ fault. IfLine fault (λ at. IfLeft R.remaining reader.old (λ script.
+    ensures line { IfErr result (λ fault. IfLine fault (λ at.
+        IfLeft R.remaining reader.old (λ script.
         IsAnswer n script (Some at) (Wrote W.contents writer.old writer.new)))) }
     ensures flushed { OnAnswer result (is_flushed writer.new ≡ true) }
 
