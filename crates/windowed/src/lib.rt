@@ -10,9 +10,11 @@
 #![tactic(auto)]
 
 mod laws;
+mod settings;
 #[cfg(test)]
 mod tests;
 mod windowed;
 
 pub use laws::{cuts_into_windows, inner_runs_over_windows};
+pub use settings::WindowSettings;
 pub use windowed::Windowed;
