@@ -3,7 +3,7 @@ use Rattle.std.specs.Prelude.{◌≡◌, ℕ, ◌^◌, Bool, false, nat_lt, nat_
 use Rattle.limit_laws.specs.Facts.{hour}
 use Rattle.partitions.specs.Table.{Row}
 use Rattle.partitions.specs.Faults.{fault_of}
-use Rattle.windowed.specs.WindowedRules.{WindowSettings}
+use Rattle.windowed.specs.WindowedRules.{WindowNumbers as WindowSettings}
 use Rattle.limit_kinds.specs.declared.kinds.BaseLimit.{BaseLimit}
 use Rattle.limit_kinds.specs.declared.kinds.BaseLimit.TheVariants.{Fixed, Settable, Aimd, Vegas}
 use Rattle.limit_kinds.specs.declared.kinds.AnyLimit.{AnyLimit}

@@ -1,5 +1,5 @@
 -- How settings are kept.
-use Rattle.windowed.specs.WindowedRules.{WindowSettings}
+use Rattle.windowed.specs.WindowedRules.{WindowNumbers as WindowSettings}
 use Rattle.load_driver.specs.declared.makers.Windows.{Windows}
 
 abbrev pub window_of : Windows → WindowSettings

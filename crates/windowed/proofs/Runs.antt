@@ -7,13 +7,13 @@ use Rattle.std.proofs.lemmas.List.Sums.{fold-append}
 use Rattle.limit_laws.specs.Facts.{SampleFacts, IsSample}
 use Rattle.limit_laws.specs.Algorithm.{Algorithm}
 use Rattle.sample_window.specs.Totals.{most_samples}
-use Rattle.windowed.specs.WindowedRules.{opened, WindowSettings, windowed_rules, windowed_next, is_kept, end_of}
+use Rattle.windowed.specs.WindowedRules.{opened, WindowNumbers, windowed_rules, windowed_next, is_kept, end_of}
 use Rattle.windowed.specs.Windows.{Input, Sampled, SetTo, after, run, is_setting, kept_sample, Stretch, samples_of, inputs_of, window_samples, handed_on, StaysOpen, IsWindow, AreWindows, due_after, due_after_all, InnerRunsOverWindows}
 use Rattle.windowed.proofs.Totals.{all_left, all_right}
 use Rattle.windowed.proofs.Cuttings.{samples_of_kept, no_sample}
 use Rattle.windowed.proofs.Steps.{state_of, after-set, next-left_out, next-added, next-ended}
 
-module _ {S : Type 0} (rules : Algorithm S) (w : WindowSettings) where
+module _ {S : Type 0} (rules : Algorithm S) (w : WindowNumbers) where
   -- inputs that end no window: the settings are passed on, and the samples gathered
   run_open : (due : ℕ) (inner : S) (xs : List SampleFacts) (inputs : List Input) →
       All (λ x. end_of x ≤ due) (samples_of w inputs) →

@@ -7,12 +7,12 @@ use Rattle.limit_laws.specs.Facts.{SampleFacts, IsSample}
 use Rattle.limit_laws.specs.Algorithm.{Algorithm}
 use Rattle.sample_window.specs.Totals.{totals, with_sample}
 use Rattle.sample_window.specs.Totals.{most_samples}
-use Rattle.windowed.specs.WindowedRules.{WindowSettings, WindowedState, windowed_rules, windowed_next, is_kept, end_of, update_after, mean_sample, in_range, with_inner, end_window}
+use Rattle.windowed.specs.WindowedRules.{WindowNumbers, WindowedState, windowed_rules, windowed_next, is_kept, end_of, update_after, mean_sample, in_range, with_inner, end_window}
 use Rattle.windowed.specs.Windows.{Input, Sampled, SetTo, after, run}
 use Rattle.windowed.proofs.Totals.{totals_push, in_range-mean}
 
 -- the state of these settings that is due at a moment, with the totals of a list
-abbrev pub state_of : {S : Type 0} → WindowSettings → ℕ → S → List SampleFacts → WindowedState S
+abbrev pub state_of : {S : Type 0} → WindowNumbers → ℕ → S → List SampleFacts → WindowedState S
 state_of w due inner xs = record {
   inner = inner;
   totals = totals xs;
@@ -21,10 +21,10 @@ state_of w due inner xs = record {
 }
 
 -- what a window of these samples hands on as it ends
-abbrev pub mean_of : WindowSettings → List SampleFacts → SampleFacts → List Input
+abbrev pub mean_of : WindowNumbers → List SampleFacts → SampleFacts → List Input
 mean_of w xs x = if nat_le w.size (length xs) then Sampled (mean_sample (totals xs) x) ∷ [] else []
 
-module _ {S : Type 0} (rules : Algorithm S) (w : WindowSettings) (due : ℕ) (inner : S)
+module _ {S : Type 0} (rules : Algorithm S) (w : WindowNumbers) (due : ℕ) (inner : S)
     (xs : List SampleFacts) where
   unwrap_inner : (s : WindowedState S) (r : Result S SetFault) →
       result_unwrap_or (with_inner s r) s ≡ record s { inner = result_unwrap_or r s.inner }

@@ -7,15 +7,15 @@ use Rattle.sample_window.specs.Totals.{WindowTotals, totals, with_sample, most_s
 
 -- how many samples a window must have to be handed on, the least and the most time that a window
 -- lasts, and the least round trip that counts; times in nanoseconds
-pub record WindowSettings : Type 0 where
+pub record WindowNumbers : Type 0 where
   pub size : ℕ
   pub min_window : ℕ
   pub max_window : ℕ
   pub min_rtt : ℕ
 
--- settings of these numbers
-abbrev pub settings_from : ℕ → ℕ → ℕ → ℕ → WindowSettings
-settings_from size min_window max_window min_rtt = record {
+-- these numbers
+abbrev pub numbers_from : ℕ → ℕ → ℕ → ℕ → WindowNumbers
+numbers_from size min_window max_window min_rtt = record {
   size = size;
   min_window = min_window;
   max_window = max_window;
@@ -23,7 +23,7 @@ settings_from size min_window max_window min_rtt = record {
 }
 
 -- the ranges of the settings
-pub record AreSettings (w : WindowSettings) : Type 0 where
+pub record AreSettings (w : WindowNumbers) : Type 0 where
   pub size_least : 1 ≤ w.size
   pub size_most : w.size ≤ most_samples
   pub min_least : 1 ≤ w.min_window
@@ -36,10 +36,10 @@ pub record WindowedState (S : Type 0) : Type 0 where
   pub inner : S
   pub totals : WindowTotals
   pub next_update : ℕ
-  pub settings : WindowSettings
+  pub settings : WindowNumbers
 
 -- a state with an empty window, before its first sample
-abbrev pub opened : {S : Type 0} → WindowSettings → S → WindowedState S
+abbrev pub opened : {S : Type 0} → WindowNumbers → S → WindowedState S
 opened w inner = record { inner = inner; totals = totals []; next_update = 0; settings = w }
 
 -- when a sample's round trip ended
@@ -47,12 +47,12 @@ abbrev pub end_of : SampleFacts → ℕ
 end_of x = x.start + x.rtt
 
 -- whether a sample counts
-abbrev pub is_kept : WindowSettings → SampleFacts → Bool
+abbrev pub is_kept : WindowNumbers → SampleFacts → Bool
 is_kept w x = nat_le w.min_rtt x.rtt
 
 -- after which moment the next window ends, where a window of these totals ended with this
 -- sample: twice its least round trip later, within the bounds
-abbrev pub update_after : WindowSettings → WindowTotals → SampleFacts → ℕ
+abbrev pub update_after : WindowNumbers → WindowTotals → SampleFacts → ℕ
 update_after w t x = end_of x + min (max (2 * t.least) w.min_window) w.max_window
 
 -- the mean sample of a window of these totals that ended with this sample
