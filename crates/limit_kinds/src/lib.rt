@@ -9,8 +9,6 @@
 
 mod kinds;
 mod make;
-#[cfg(test)]
-mod make_tests;
 
 pub use kinds::{AnyLimit, BaseLimit};
 pub use make::window_settings;

@@ -16,6 +16,8 @@ mod limit_laws_tests;
 #[cfg(test)]
 mod limiter_core_tests;
 #[cfg(test)]
+mod make_tests;
+#[cfg(test)]
 mod partitions_tests;
 #[cfg(test)]
 mod sample_window_tests;

@@ -1,5 +1,5 @@
 // Limits made of plain numbers.
-use super::*;
+use limit_kinds::*;
 use limit_laws::{Limit, MakeFault, Sample};
 use std::test::Fail;
 
