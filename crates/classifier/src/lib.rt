@@ -14,4 +14,3 @@ pub use bypass::Bypass;
 pub use class::{Class, classify};
 pub use resolver::Resolver;
 pub use rules::Rules;
-

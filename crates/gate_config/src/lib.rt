@@ -33,4 +33,3 @@ pub use key::{Key, Section};
 pub use limit_kinds::{AnyLimit, BaseLimit};
 pub use reading::{read, settings_in};
 pub use settings::Settings;
-

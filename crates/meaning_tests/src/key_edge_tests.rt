@@ -1,7 +1,7 @@
 // Both ends of each range of the keys, names that need quotes, and a request's class.
 use super::gate_config_tests::{ADDRESSES, FIXED, LIVE, answer};
-use gate_config::*;
 use classifier::classify;
+use gate_config::*;
 use http::Method;
 use partitions::Part;
 use std::alloc::{AllocError, Global};

@@ -4,8 +4,8 @@
 #[cfg(test)]
 mod classifier_tests;
 #[cfg(test)]
-mod key_edge_tests;
-#[cfg(test)]
 mod gate_config_tests;
+#[cfg(test)]
+mod key_edge_tests;
 #[cfg(test)]
 mod wire_tests;

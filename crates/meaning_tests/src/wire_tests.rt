@@ -1,7 +1,7 @@
 // Messages keep what they are given.
-use wire::*;
 use http::Method;
 use std::test::Fail;
+use wire::*;
 
 #[test]
 fn a_request_keeps_its_parts(rt: HostRuntime) -> Result<(), Fail> {

@@ -16,7 +16,7 @@ module _ {S : Type 0} (g : Gate S) (i : Image S) where
   -- what is no ending may always come
   pub other_may_come : (e : Event)
       → ((permit : PermitFacts) (outcome : Outcome) (now : ℕ)
-        → e ≡ End permit outcome now → ⊥)
+      → e ≡ End permit outcome now → ⊥)
       → MayCome g i e
   other_may_come (End permit outcome now) other = absurd (other permit outcome now refl)
   other_may_come (Acquire part bypass wait now) other = tt
@@ -32,7 +32,7 @@ module _ {S : Type 0} (g : Gate S) (i : Image S) where
       → granted_at g i (place_of g.rows permit.part) < i.inflight (place_of g.rows permit.part)
   ending_may_come permit few =
       let is_there : PermitFacts → Bool =
-          λ one. place_of g.rows one.part == place_of g.rows permit.part in
+      λ one. place_of g.rows one.part == place_of g.rows permit.part in
       omega (arith, few, count_by-le-length is_there i.granted)
 
   -- below 2^62 each event has its number

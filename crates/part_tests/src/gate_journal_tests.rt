@@ -60,7 +60,10 @@ fn answer<L: Limit, R: Abort>(
 fn past_what_it_keeps_only_what_is_owed_is_answered(rt: HostRuntime) -> Result<(), Fail> {
     let mut journal = Journal::new(rt.alloc(), single(rt.alloc())?, 2)?;
     let rows = [
-        (acquire(false, 0), Some((0, Reply::Admitted { inflight: 1 }))),
+        (
+            acquire(false, 0),
+            Some((0, Reply::Admitted { inflight: 1 })),
+        ),
         (acquire(true, 1), Some((1, Reply::Waiting))),
         (acquire(false, 2), None),
         (Event::Claim { number: 1 }, None),
@@ -73,14 +76,22 @@ fn past_what_it_keeps_only_what_is_owed_is_answered(rt: HostRuntime) -> Result<(
         assert!(rt; found == wanted);
     }
     assert_eq!(rt; journal.entries().len(), 4);
-    assert_eq!(rt; (journal.base(), journal.number(), journal.kept()), (0, 4, 2));
+    assert_eq!(rt;
+        (journal.base(), journal.number(), journal.kept()),
+        (0, 4, 2)
+    );
     Ok(())
 }
 
 #[test]
 fn it_opens_with_what_stands_and_numbers_go_on(rt: HostRuntime) -> Result<(), Fail> {
     let mut before = Journal::new(rt.alloc(), single(rt.alloc())?, 9)?;
-    for event in [acquire(false, 0), acquire(true, 1), acquire(true, 2), end(0, 0, 5)] {
+    for event in [
+        acquire(false, 0),
+        acquire(true, 1),
+        acquire(true, 2),
+        end(0, 0, 5),
+    ] {
         let found = answer(&rt, &mut before, event);
         assert!(rt; found.is_some());
     }
@@ -93,7 +104,10 @@ fn it_opens_with_what_stands_and_numbers_go_on(rt: HostRuntime) -> Result<(), Fa
     assert!(rt; opening.counts() == [0, 0, 0, 0, 1]);
     assert_eq!(rt; opening.algorithm().limit(), 1);
     let counters = opening.counters();
-    assert_eq!(rt; (counters.admitted, counters.waiting, counters.promoted), (1, 2, 1));
+    assert_eq!(rt;
+        (counters.admitted, counters.waiting, counters.promoted),
+        (1, 2, 1)
+    );
     let found = answer(&rt, &mut journal, Event::Claim { number: 2 });
     let granted = Reply::Granted {
         part: UNKNOWN,

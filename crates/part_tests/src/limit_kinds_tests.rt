@@ -1,6 +1,6 @@
 // Each kind, over each sample and over windows.
-use limit_kinds::*;
 use aimd::Aimd;
+use limit_kinds::*;
 use limit_laws::{Fixed, Limit, MakeFault, Sample, SetFault, Settable};
 use std::process::Abort;
 use std::test::Fail;

@@ -1,6 +1,6 @@
 // Totals of a few samples.
-use sample_window::Window;
 use limit_laws::Sample;
+use sample_window::Window;
 use std::test::Fail;
 
 #[test]

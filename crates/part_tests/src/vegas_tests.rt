@@ -1,7 +1,7 @@
 // The worked numbers of Vegas.
-use vegas::Vegas;
 use limit_laws::{Limit, MakeFault, Sample, SetFault};
 use std::test::Fail;
+use vegas::Vegas;
 
 /// The limit after each of these round trips, with so many permits in flight.
 fn limit_after(vegas: &mut Vegas, rtts: &[u64], inflight: u32) -> u32 {

@@ -1,7 +1,7 @@
 // Windows over the limits that don't learn.
-use windowed::Windowed;
 use limit_laws::{Fixed, Limit, MakeFault, SetFault, Settable};
 use std::test::Fail;
+use windowed::Windowed;
 
 /// One hour in nanoseconds: 60 * 60 * 1,000,000,000.
 const ONE_HOUR: u64 = 3_600_000_000_000;

@@ -17,4 +17,3 @@ pub use fault::TableFault;
 pub use name::is_name;
 pub use part::Part;
 pub use table::PartitionTable;
-

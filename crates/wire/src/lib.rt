@@ -15,4 +15,3 @@ pub use headers::{Header, Headers};
 pub use request::{Request, Version};
 pub use response::Response;
 pub use text::Text;
-
