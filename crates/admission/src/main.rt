@@ -1,46 +1,34 @@
 //! The program `admission`: it reads its words, carries the command out over the standard streams
-//! or a configuration's file, and ends with status 0, with 1 and one line on standard error after a fault, or with 2 and the
-//! text of a fault of the words.
+//! or a configuration's file, and ends with status 0, with 1 and one line on standard error after a
+//! fault, or with 2 and the text of a fault of the words.
 #![tactic(auto)]
 
-mod check;
-#[cfg(test)]
-mod check_tests;
-mod error_line;
-mod run;
-#[cfg(test)]
-mod tests;
-mod words;
-
+use commands::{Run, check_file, run_text, tell_unread_words, words};
 use counted_io::Counted;
 use std::env;
+use std::io::Error;
 use std::process::ExitCode;
-use words::Task;
-
-/// The status after a fault of the words, and where memory is wanting to read them.
-const WORDS_FAULT: u8 = 2;
 
 fn main(rt: HostRuntime) -> ExitCode {
     let alloc = rt.alloc();
-    let Ok(args) = env::args(&rt) else {
-        return ExitCode::from(WORDS_FAULT);
-    };
-    let list: Vec<String> = match args.collect(alloc) {
+    let mut errors = Counted::new(rt.stderr());
+    let list: Vec<String> = match env::args(&rt).and_then(|args| Ok(args.collect(alloc)?)) {
         Ok(list) => list,
-        Err(_) => return ExitCode::from(WORDS_FAULT),
+        Err(error) => return ExitCode::from(tell_unread_words(error.kind(), &mut errors)),
     };
-    let run = match words::words(alloc, list.as_slice()) {
+    let run = match words(alloc, list.as_slice()) {
         Ok(run) => run,
         Err(error) => {
             let _ = error.print(&rt);
             return ExitCode::from(error.exit_code() as u8);
         }
     };
-    let mut reader = Counted::new(rt.stdin());
     let mut writer = Counted::new(rt.stdout());
-    let mut errors = Counted::new(rt.stderr());
-    ExitCode::from(match run.task {
-        Task::Replay => run::run_text(alloc, run, &mut reader, &mut writer, &mut errors),
-        Task::Check(path) => check::check_file(&rt, alloc, path, &mut writer, &mut errors),
+    ExitCode::from(match run {
+        Run::Text(task) => {
+            let mut reader = Counted::new(rt.stdin());
+            run_text(alloc, task, &mut reader, &mut writer, &mut errors)
+        }
+        Run::Check { path } => check_file(&rt, alloc, path, &mut writer, &mut errors),
     })
 }

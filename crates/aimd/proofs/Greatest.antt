@@ -5,7 +5,8 @@ use Rattle.std.proofs.lemmas.Bool.{cases_lt}
 use Rattle.aimd.specs.AimdRules.{greatest}
 
 -- it is m, where m passes or is 0 and no greater number up to n passes
-pub greatest-is : (test : ℕ → Bool) (n m : ℕ) → m ≤ n → (0 < m → test m ≡ true) → ((k : ℕ) → m < k → k ≤ n → test k ≡ false) → greatest test n ≡ m
+pub greatest-is : (test : ℕ → Bool) (n m : ℕ) → m ≤ n → (0 < m → test m ≡ true) →
+    ((k : ℕ) → m < k → k ≤ n → test k ≡ false) → greatest test n ≡ m
 unfolding greatest
 greatest-is test zero m below passes above = omega arith
 greatest-is test (suc n) m below passes above = elim (cases_lt m (suc n)) [
@@ -20,4 +21,6 @@ greatest-is test (suc n) m below passes above = elim (cases_lt m (suc n)) [
 
 -- the greatest m with 1000 * m ≤ n is the quotient
 pub greatest-quotient : (n : ℕ) → greatest (λ m. nat_le (1000 * m) n) n ≡ n / 1000
-greatest-quotient n = greatest-is _ n (n / 1000) (omega arith) (λ _. le-leb _ _ (omega arith)) (λ k a b. lt-leb _ _ (omega arith))
+greatest-quotient n =
+    greatest-is _ n (n / 1000) (omega arith) (λ _. le-leb _ _ (omega arith))
+    (λ k a b. lt-leb _ _ (omega arith))

@@ -1,10 +1,12 @@
 -- Additive increase, multiplicative decrease.
-use Rattle.std.specs.Prelude.{ℕ, zero, suc, ◌+◌, ◌*◌, ◌≤◌, Bool, Err, min, max, nat_lt, nat_le, ◌||◌, if◌then◌else◌}
+use Rattle.std.specs.Prelude.{ℕ, zero, suc, ◌+◌, ◌*◌, ◌<◌, ◌≤◌, Bool, Err, min, max, nat_lt, nat_le, ◌||◌, if◌then◌else◌}
 use Rattle.limit_laws.specs.declared.limit.SetFault.TheVariants.{NotSettable}
 use Rattle.limit_laws.specs.Facts.{SampleFacts, hour}
-use Rattle.limit_laws.specs.Algorithm.{Algorithm}
+use Rattle.limit_laws.specs.Algorithm.{Algorithm, greatest_limit}
 
--- the bounds, the limit now and the first one in permits, the ratio of a decrease in thousandths, and the longest round trip that is no drop in nanoseconds
+-- the bounds, the limit now and the first one in permits, the ratio of a decrease in
+-- thousandths, and
+-- the longest round trip that is no drop in nanoseconds
 pub record AimdState : Type 0 where
   pub lo : ℕ
   pub limit : ℕ
@@ -18,11 +20,11 @@ pub record IsInRange (lo first hi timeout : ℕ) : Type 0 where
   pub positive : 1 ≤ lo
   pub first_least : lo ≤ first
   pub first_most : first ≤ hi
-  pub small : hi ≤ 10000
+  pub small : hi ≤ greatest_limit
   pub timeout_least : 1 ≤ timeout
   pub timeout_most : timeout ≤ hour
 
--- a ratio in thousandths
+-- a ratio in thousandths: 500 to 999
 pub record IsRatio (ratio : ℕ) : Type 0 where
   pub least : 500 ≤ ratio
   pub most : ratio ≤ 999
@@ -34,6 +36,17 @@ pub record IsAimd (s : AimdState) : Type 0 where
   pub least : s.lo ≤ s.limit
   pub most : s.limit ≤ s.hi
 
+-- the first state of these numbers
+abbrev pub aimd_from : ℕ → ℕ → ℕ → ℕ → ℕ → AimdState
+aimd_from lo first hi ratio timeout = record {
+  lo = lo;
+  limit = first;
+  hi = hi;
+  first = first;
+  ratio = ratio;
+  timeout = timeout;
+}
+
 -- the greatest number up to n that passes a test, 0 where none does
 unfoldable pub greatest : (ℕ → Bool) → ℕ → ℕ
 greatest test zero = 0
@@ -43,7 +56,14 @@ greatest test (suc n) = if test (suc n) then suc n else greatest test n
 unfoldable pub decreased : ℕ → ℕ → ℕ
 decreased limit ratio = greatest (λ m. nat_le (1000 * m) (limit * ratio)) (limit * ratio)
 
--- a drop, and a round trip above the timeout, decrease the limit; else it rises by one where at least half of it was in use, and stays where less was
+-- in other words: m fits, and one more doesn't
+pub record IsDecrease (limit ratio m : ℕ) : Type 0 where
+  pub fits : 1000 * m ≤ limit * ratio
+  pub greatest : limit * ratio < 1000 * (m + 1)
+
+-- a drop, and a round trip above the timeout, decrease the limit; else it rises by one where at
+-- least
+-- half of it was in use, and stays where less was
 abbrev pub aimd_step : AimdState → SampleFacts → ℕ
 aimd_step s x =
     if x.dropped || nat_lt s.timeout x.rtt then decreased s.limit s.ratio

@@ -1,10 +1,14 @@
--- How fast a limit falls.
+-- What a drop leaves of a limit, and how fast a limit falls.
 use Rattle.std.specs.Prelude.{ℕ, zero, suc, ◌*◌, ◌≤◌, List, length, fold}
 use Rattle.limit_laws.specs.Facts.{SampleFacts}
 use Rattle.limit_laws.specs.Algorithm.{IsWithin}
-use Rattle.aimd.specs.AimdRules.{AimdState, aimd_rules, aimd_next, decreased}
+use Rattle.aimd.specs.AimdRules.{AimdState, aimd_rules, aimd_next, decreased, IsDecrease}
 
--- THE LAW of one sample: the next limit is at least the greatest m with 1000 * m ≤ limit * ratio
+-- THE LAW of one drop: it leaves the greatest m with 1000 * m ≤ limit * ratio
+abbrev pub DecreasesToTheGreatest : Type 0
+DecreasesToTheGreatest = (limit ratio : ℕ) → IsDecrease limit ratio (decreased limit ratio)
+
+-- THE LAW of one sample: the next limit is at least each m with 1000 * m ≤ limit * ratio
 abbrev pub FallsByTheRatioAtMost : Type 0
 FallsByTheRatioAtMost =
     (s : AimdState) (x : SampleFacts) → IsWithin aimd_rules s → s.ratio ≤ 1000 →

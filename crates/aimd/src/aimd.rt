@@ -1,9 +1,10 @@
 // A limit that rises by one and falls by a ratio.
 ghost use Rattle.std.specs.Prelude.{◌≡◌, ◌≤◌, ◌↔◌, IfOk, IsOk};
-ghost use Rattle.aimd.specs.AimdRules.{aimd_rules, decreased, IsInRange, IsRatio};
+ghost use Rattle.limit_laws.specs.Algorithm.{greatest_limit};
+ghost use Rattle.aimd.specs.AimdRules.{aimd_rules, aimd_from, decreased, IsDecrease, IsInRange, IsRatio};
 ghost use Rattle.aimd.specs.AimdLaws.{IsLawful-aimd};
 
-use limit_laws::{HOUR, Limit, MOST_LIMIT, MakeFault, Sample, SetFault};
+use limit_laws::{GREATEST_LIMIT, HOUR, Limit, MakeFault, Sample, SetFault};
 use std::marker::Model;
 
 /// Rises by one permit after a sample that found at least half of the limit in use, and falls to
@@ -23,11 +24,32 @@ impl Model for Aimd {
 
     ghost Value = { AimdState };
 
-    ghost view = { λ a. record { lo = a.lo; limit = a.limit; hi = a.hi; first = a.first; ratio = a.ratio; timeout = a.timeout } };
+    ghost view = { λ a. record {
+      lo = a.lo;
+      limit = a.limit;
+      hi = a.hi;
+      first = a.first;
+      ratio = a.ratio;
+      timeout = a.timeout;
+    } };
 
-    ghost invariant = { λ a. IsAimd (record { lo = a.lo; limit = a.limit; hi = a.hi; first = a.first; ratio = a.ratio; timeout = a.timeout }) };
+    ghost invariant = { λ a. IsAimd (record {
+      lo = a.lo;
+      limit = a.limit;
+      hi = a.hi;
+      first = a.first;
+      ratio = a.ratio;
+      timeout = a.timeout;
+    }) };
 
-    ghost inverse = { λ v. record { lo = v.lo; limit = v.limit; hi = v.hi; first = v.first; ratio = v.ratio; timeout = v.timeout } };
+    ghost inverse = { λ v. record {
+      lo = v.lo;
+      limit = v.limit;
+      hi = v.hi;
+      first = v.first;
+      ratio = v.ratio;
+      timeout = v.timeout;
+    } };
 }
 
 impl Aimd {
@@ -39,11 +61,12 @@ impl Aimd {
     /// unless `ratio` is 500 to 999.
     pub fn new(lo: u32, first: u32, hi: u32, ratio: u32, timeout: u64) -> Result<Aimd, MakeFault>
         ensures made { IsOk result ↔ (IsInRange lo first hi timeout × IsRatio ratio) }
-        ensures value { IfOk result (λ aimd. aimd ≡ record { lo = lo; limit = first; hi = hi; first = first; ratio = ratio; timeout = timeout }) }
+        ensures value { IfOk result (λ aimd. aimd ≡ aimd_from lo first hi ratio timeout) }
         ensures range { ¬ IsInRange lo first hi timeout → result ≡ Err MakeFault.Range }
-        ensures ratio { IsInRange lo first hi timeout → ¬ IsRatio ratio → result ≡ Err MakeFault.Ratio }
+        ensures ratio { IsInRange lo first hi timeout → ¬ IsRatio ratio →
+            result ≡ Err MakeFault.Ratio }
     {
-        if lo < 1 || first < lo || hi < first || MOST_LIMIT < hi {
+        if lo < 1 || first < lo || hi < first || GREATEST_LIMIT < hi {
             return Err(MakeFault::Range);
         }
         if timeout < 1 || HOUR < timeout {
@@ -104,12 +127,14 @@ impl Limit for Aimd {
     ghost lawful = { IsLawful-aimd };
 }
 
-/// What a drop leaves of a limit.
+/// What a drop leaves of a limit: the greatest number of permits whose thousandfold is at most the
+/// limit times the ratio.
 #[tactic(auto, using(crate::proofs::Decrease::decreases))]
 fn decrease(limit: u32, ratio: u32) -> u32
-    requires limit { limit ≤ MOST_LIMIT }
+    requires limit { limit ≤ greatest_limit }
     requires ratio { ratio ≤ 999 }
-    ensures { result ≡ decreased limit ratio }
+    ensures value { result ≡ decreased limit ratio }
+    ensures greatest { IsDecrease limit ratio result }
 {
     limit * ratio / 1000
 }

@@ -8,8 +8,6 @@
 
 mod aimd;
 mod laws;
-#[cfg(test)]
-mod tests;
 
 pub use aimd::Aimd;
-pub use laws::{falls_by_the_ratio_at_most, falls_no_faster_than_drops};
+pub use laws::{decreases_to_the_greatest, falls_by_the_ratio_at_most, falls_no_faster_than_drops};

@@ -16,8 +16,9 @@ pub struct Class {
     pub part: Part,
 }
 
-/// The class of a request: the first resolver that gives a partition of the table decides the part, which is
-/// unknown where none does; any bypass rule that holds sets `bypass`. Takes no memory.
+/// The class of a request: the first resolver that gives a partition of the table decides the
+/// part, which is unknown where none does; any bypass rule that holds sets `bypass`. Takes no
+/// memory.
 pub fn classify(rules: &Rules, table: &PartitionTable, request: &Request) -> Class
     ensures { result ≡ class_of rules.now table.now request.now }
 {

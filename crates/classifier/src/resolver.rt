@@ -11,8 +11,8 @@ use wire::{Bytes, Request};
 /// Where a request's partition is read from.
 #[derive(Drop)]
 pub enum Resolver {
-    /// The value of the first header line of this name, which names a partition byte for byte. The name of a
-    /// line is compared without ASCII case.
+    /// The value of the first header line of this name, which names a partition byte for byte.
+    /// The name of a line is compared without ASCII case.
     Header(Bytes),
     /// This partition, for requests of this method.
     Method(Method, Part),

@@ -6,8 +6,8 @@ use crate::bypass::Bypass;
 use crate::resolver::Resolver;
 use std::marker::Model;
 
-/// How requests are told apart: resolvers, asked in their order, and the rules of which any one bypasses the
-/// limit. A contract sees the two lists.
+/// How requests are told apart: resolvers, asked in their order, and the rules of which any one
+/// bypasses the limit. A contract sees the two lists.
 #[derive(Drop)]
 pub struct Rules {
     resolvers: Vec<Resolver>,

@@ -1,7 +1,7 @@
 -- Known bytes, read or written a piece at a time.
-use Rattle.std.proofs.Common.{◌≡◌, ℕ, ◌+◌, ◌-◌, ◌<◌, ◌≤◌, List, take, drop, take-append-drop, length-take-le, ◌++◌, length, ap, ◌∙◌, sym, length-append, Option, None, Some, IfSome, arith}
-use Rattle.std.specs.Io.KnownBytes.{Consumes, Appends}
-use Rattle.std.proofs.Math.Seq.{take-append-add}
+use Rattle.std.proofs.Common.{◌≡◌, ℕ, ◌+◌, ◌-◌, ◌<◌, ◌≤◌, List, take, drop, take-append-drop, length-take-le, ◌++◌, length, ap, ◌∙◌, sym, length-append, Option, None, Some, IfSome, arith, Result, Ok, Err, OnErr}
+use Rattle.std.specs.Io.KnownBytes.{Consumes, Appends, Keeps}
+use Rattle.std.proofs.Math.Seq.{take-append-add, take-length}
 use Rattle.std.proofs.lemmas.List.{take_rest}
 use Rattle.std.proofs.KnownBytes.{Appends-trans}
 
@@ -24,3 +24,13 @@ pub appends_more : (a b c : Option (List ℕ)) (at count : ℕ) (bytes : List �
     → Appends b c (take count (take (length bytes - at) (drop at bytes))) → Appends a c (take (at + count) bytes)
 appends_more a b c at count bytes h p q =
     rw (← take_two at count bytes h) (Appends-trans a b c (take at bytes) (take count (drop at bytes)) p (rw take_rest at q))
+
+-- all was written, and stays: that is a front too
+pub front_of_whole : {T E : Type 0} (r : Result T E) (a b c : Option (List ℕ)) (bytes : List ℕ)
+    → Appends a b bytes → Keeps b c → OnErr r ((count : ℕ) × Appends a c (take count bytes))
+front_of_whole (Ok v) a b c bytes p q = tt
+front_of_whole (Err e) None b c bytes p q = (0, tt)
+front_of_whole (Err e) (Some x) None c bytes p q = absurd p
+front_of_whole (Err e) (Some x) (Some y) None bytes p q = absurd q
+front_of_whole (Err e) (Some x) (Some y) (Some z) bytes p q =
+    (length bytes, q ∙ p ∙ ap (λ l. x ++ l) (sym (take-length bytes)))

@@ -1,22 +1,24 @@
 // A reader or a writer with its two counts.
-ghost use Rattle.std.specs.Prelude.{◌≡◌, ◌<◌, length, Ok, is_ok, if◌then◌else◌, IfOk};
+ghost use Rattle.std.specs.Prelude.{◌≡◌, ◌<◌, ◌||◌, length, Ok, is_ok, false, IfOk};
 ghost use Rattle.std.specs.Io.{ReadsAtMost, WritesAtMost};
 ghost use Rattle.std.specs.Io.KnownBytes.{Keeps, ReadConsumes, WriteAppends};
-ghost use Rattle.counted_io.specs.Count.{raised};
-ghost use Rattle.counted_io.specs.Counted.{inner_of, calls_of, failures_of};
+ghost use Rattle.counted_io.specs.Count.{raised, raised_by_err};
+ghost use Rattle.counted_io.specs.Counted.{inner_of, calls_of, failures_of, flushes_of, is_flushed};
 
 use std::io::{Error, ErrorKind, Read, Result, Write};
 
-/// A reader or a writer, with the number of its reads or writes and of its failures.
+/// A reader or a writer, with how many reads or writes, flushes and failures it had.
 ///
-/// A read or a write is a call; a flush is none, but counts as a failure where it fails.
-/// A write of some bytes that takes none is answered as an error of the kind `WriteZero`.
-/// Each count stays at `u64::MAX` once it is there.
+/// A read or a write is a call; a flush has a count of its own. Where one of the three fails, that
+/// is a failure. A write of some bytes that takes none is answered as an error of the kind
+/// `WriteZero`. Each count stays at `u64::MAX` once it is there.
 #[derive(Drop)]
 pub struct Counted<T> {
     inner: T,
     calls: u64,
+    flushes: u64,
     failures: u64,
+    is_flushed: bool,
 }
 
 impl<T> Counted<T> {
@@ -24,12 +26,16 @@ impl<T> Counted<T> {
     pub fn new(inner: T) -> Self
         ensures inner { inner_of result ≡ inner }
         ensures calls { calls_of result ≡ 0 }
+        ensures flushes { flushes_of result ≡ 0 }
         ensures failures { failures_of result ≡ 0 }
+        ensures unflushed { is_flushed result ≡ false }
     {
         Counted {
             inner,
             calls: 0,
+            flushes: 0,
             failures: 0,
+            is_flushed: false,
         }
     }
 
@@ -40,6 +46,13 @@ impl<T> Counted<T> {
         self.calls
     }
 
+    /// How many flushes were made.
+    pub fn flushes(&self) -> u64
+        ensures { result ≡ flushes_of self.now }
+    {
+        self.flushes
+    }
+
     /// How many reads, writes and flushes failed.
     pub fn failures(&self) -> u64
         ensures { result ≡ failures_of self.now }
@@ -47,22 +60,35 @@ impl<T> Counted<T> {
         self.failures
     }
 
+    /// Whether a flush succeeded after the last write, or at any time where none was made.
+    pub fn is_flushed(&self) -> bool
+        ensures { result ≡ is_flushed self.now }
+    {
+        self.is_flushed
+    }
+
     // One more call.
     fn count_call(&mut self)
         ensures inner { inner_of self.new ≡ inner_of self.old }
         ensures calls { calls_of self.new ≡ raised (calls_of self.old) }
+        ensures flushes { flushes_of self.new ≡ flushes_of self.old }
         ensures failures { failures_of self.new ≡ failures_of self.old }
+        ensures flushed { is_flushed self.new ≡ is_flushed self.old }
     {
         self.calls = self.calls.saturating_add(1);
     }
 
-    // One more failure.
-    fn count_failure(&mut self)
+    // One more failure, where the outcome is one.
+    fn count_failure<O>(&mut self, outcome: &Result<O>)
         ensures inner { inner_of self.new ≡ inner_of self.old }
         ensures calls { calls_of self.new ≡ calls_of self.old }
-        ensures failures { failures_of self.new ≡ raised (failures_of self.old) }
+        ensures flushes { flushes_of self.new ≡ flushes_of self.old }
+        ensures failures { failures_of self.new ≡ raised_by_err outcome.now (failures_of self.old) }
+        ensures flushed { is_flushed self.new ≡ is_flushed self.old }
     {
-        self.failures = self.failures.saturating_add(1);
+        if outcome.is_err() {
+            self.failures = self.failures.saturating_add(1);
+        }
     }
 }
 
@@ -71,15 +97,16 @@ impl<R: Read> Read for Counted<R> {
 
     fn read(&mut self, buf: &mut [u8]) -> Result<usize>
         ensures bound { ReadsAtMost result buf.new }
-        ensures bytes { ReadConsumes (R.remaining (inner_of self.old)) (R.remaining (inner_of self.new)) result buf.new }
+        ensures bytes { ReadConsumes (R.remaining (inner_of self.old))
+            (R.remaining (inner_of self.new)) result buf.new }
         ensures calls { calls_of self.new ≡ raised (calls_of self.old) }
-        ensures failures { failures_of self.new ≡ (if is_ok result then failures_of self.old else raised (failures_of self.old)) }
+        ensures flushes { flushes_of self.new ≡ flushes_of self.old }
+        ensures failures { failures_of self.new ≡ raised_by_err result (failures_of self.old) }
+        ensures flushed { is_flushed self.new ≡ is_flushed self.old }
     {
         self.count_call();
         let outcome = self.inner.read(buf);
-        if outcome.is_err() {
-            self.count_failure();
-        }
+        self.count_failure(&outcome);
         outcome
     }
 }
@@ -89,31 +116,35 @@ impl<W: Write> Write for Counted<W> {
 
     fn write(&mut self, buf: &[u8]) -> Result<usize>
         ensures bound { WritesAtMost result buf.now }
-        ensures bytes { WriteAppends (W.contents (inner_of self.old)) (W.contents (inner_of self.new)) result buf.now }
+        ensures bytes { WriteAppends (W.contents (inner_of self.old))
+            (W.contents (inner_of self.new)) result buf.now }
         ensures takes_some { IfOk result (λ count. 0 < length buf.now → 0 < count) }
         ensures calls { calls_of self.new ≡ raised (calls_of self.old) }
-        ensures failures { failures_of self.new ≡ (if is_ok result then failures_of self.old else raised (failures_of self.old)) }
+        ensures flushes { flushes_of self.new ≡ flushes_of self.old }
+        ensures failures { failures_of self.new ≡ raised_by_err result (failures_of self.old) }
+        ensures unflushed { is_flushed self.new ≡ false }
     {
         self.count_call();
+        self.is_flushed = false;
         let outcome = match self.inner.write(buf) {
             Ok(0) if !buf.is_empty() => Err(Error::new(ErrorKind::WriteZero, "nothing was taken")),
             outcome => outcome,
         };
-        if outcome.is_err() {
-            self.count_failure();
-        }
+        self.count_failure(&outcome);
         outcome
     }
 
     fn flush(&mut self) -> Result<()>
         ensures bytes { Keeps (W.contents (inner_of self.old)) (W.contents (inner_of self.new)) }
         ensures calls { calls_of self.new ≡ calls_of self.old }
-        ensures failures { failures_of self.new ≡ (if is_ok result then failures_of self.old else raised (failures_of self.old)) }
+        ensures flushes { flushes_of self.new ≡ raised (flushes_of self.old) }
+        ensures failures { failures_of self.new ≡ raised_by_err result (failures_of self.old) }
+        ensures flushed { is_flushed self.new ≡ (is_ok result || is_flushed self.old) }
     {
+        self.flushes = self.flushes.saturating_add(1);
         let outcome = self.inner.flush();
-        if outcome.is_err() {
-            self.count_failure();
-        }
+        self.count_failure(&outcome);
+        self.is_flushed |= outcome.is_ok();
         outcome
     }
 }

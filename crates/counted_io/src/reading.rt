@@ -1,7 +1,8 @@
 // All bytes of a reader.
-ghost use Rattle.std.specs.Prelude.{◌≡◌, ◌≤◌, ◌<◌, vec_len, length, IfOk, OnOk, IfSome, IsErrOf};
-ghost use Rattle.counted_io.specs.Counted.{inner_of, failures_of};
-ghost use Rattle.counted_io.specs.Causes.{IsReadCause};
+ghost use Rattle.std.specs.Prelude.{◌≡◌, ◌≤◌, ◌<◌, ◌+◌, ◌↔◌, vec_len, length, IfOk, OnOk, ◌++◌, IsErrOf};
+ghost use Rattle.counted_io.specs.Counted.{failures_of};
+ghost use Rattle.counted_io.specs.Effects.{IfLeft, Gave};
+ghost use Rattle.counted_io.specs.Causes.{IsReadCause, IsMemoryCause};
 
 use super::Counted;
 use std::alloc::Global;
@@ -23,20 +24,26 @@ pub enum ReadFault {
 
 /// All bytes up to the reader's end, at most `most_bytes` of them, in at most `most_reads` reads.
 ///
-/// However the reader cuts its bytes into reads, each is copied once. After a fault nothing is said
-/// of how much was read.
+/// However the reader cuts its bytes into reads, each is copied once. After `Read` and `TooLarge`
+/// nothing is said of how much was read.
 pub fn read_all<R: Read>(
     alloc: Global,
     reader: &mut Counted<R>,
     most_bytes: usize,
     most_reads: u64,
 ) -> Result<Vec<u8>, ReadFault>
-    ensures whole { IfOk result (λ bytes. IfSome (R.remaining (inner_of reader.old)) (λ all. bytes.items ≡ all)) }
+    ensures whole { IfOk result (λ bytes.
+        IfLeft R.remaining reader.old (λ all. bytes.items ≡ all)) }
+    ensures gave { IfOk result (λ bytes. Gave R.remaining reader.old reader.new bytes.items) }
     ensures fits { IfOk result (λ bytes. vec_len bytes ≤ most_bytes) }
     ensures unfailing { OnOk result (failures_of reader.new ≡ failures_of reader.old) }
-    ensures too_large { IsErrOf result ReadFault.TooLarge →
-        IfSome (R.remaining (inner_of reader.old)) (λ all. most_bytes < length all) }
+    ensures memory { IsErrOf result ReadFault.Memory →
+        IsMemoryCause R.remaining most_bytes reader.old reader.new }
     ensures read { IsErrOf result ReadFault.Read → IsReadCause most_reads reader.old reader.new }
+    ensures too_large { IsErrOf result ReadFault.TooLarge →
+        IfLeft R.remaining reader.old (λ all. most_bytes < length all) }
+    ensures too_large_unfailing { IsErrOf result ReadFault.TooLarge →
+        failures_of reader.new ≡ failures_of reader.old }
 {
     let mut bytes = Vec::new(alloc);
     let mut piece = [0u8; PIECE];
@@ -48,12 +55,26 @@ pub fn read_all<R: Read>(
         if count == 0 {
             return Ok(bytes);
         }
-        if count > most_bytes - bytes.len() {
-            return Err(ReadFault::TooLarge);
-        }
-        if bytes.extend_from_slice(&piece[..count]).is_err() {
-            return Err(ReadFault::Memory);
-        }
+        push_piece(&mut bytes, &piece[..count], most_bytes)?;
     }
     Err(ReadFault::Read)
+}
+
+// Puts a piece behind bytes that have room for so many.
+fn push_piece(bytes: &mut Vec<u8>, piece: &[u8], most_bytes: usize) -> Result<(), ReadFault>
+    requires { vec_len bytes.old ≤ most_bytes }
+    ensures whole { OnOk result (bytes.new.items ≡ bytes.old.items ++ piece.now) }
+    ensures fits { OnOk result (vec_len bytes.new ≤ most_bytes) }
+    ensures too_large { IsErrOf result ReadFault.TooLarge
+        ↔ (most_bytes < vec_len bytes.old + length piece.now) }
+    ensures memory { IsErrOf result ReadFault.Memory →
+        vec_len bytes.old + length piece.now ≤ most_bytes }
+    ensures reads_nothing { ¬ IsErrOf result ReadFault.Read }
+{
+    if piece.len() > most_bytes - bytes.len() {
+        return Err(ReadFault::TooLarge);
+    }
+    bytes
+        .extend_from_slice(piece)
+        .map_err(|_| ReadFault::Memory)
 }

@@ -1,5 +1,7 @@
 pub mod Addresses
+mod Blank
 pub mod Chains
-pub mod Given
+mod Documents
 pub mod Limits
 pub mod Lists
+mod Told

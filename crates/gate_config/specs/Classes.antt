@@ -10,13 +10,17 @@ use Rattle.gate_config.specs.Values.{◌>>=◌, number_is, text_is, number_at, t
 
 -- a class as a row of the table of partitions, from its keys and from its values
 abbrev pub row_of : ClassKeys → Row
-row_of class = record { name = class.name; percent = class.percent }
+row_of class = record { name = class.name.now; percent = class.percent }
 
 abbrev pub row_from : Values → Row
-row_from values = record { name = text_at (codes "name") values; percent = number_at (codes "percent") values }
+row_from values = record {
+  name = text_at (codes "name") values;
+  percent = number_at (codes "percent") values;
+}
 
 abbrev pub class_values : ClassKeys → Values
-class_values class = (codes "name", text_is class.name) ∷ (codes "percent", number_is class.percent) ∷ []
+class_values class =
+    (codes "name", text_is class.name.now) ∷ (codes "percent", number_is class.percent) ∷ []
 
 -- a class behind the classes before it
 abbrev pub class_of : List Row → Members → Result Row ConfigFault

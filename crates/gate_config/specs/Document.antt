@@ -1,8 +1,9 @@
 -- A whole configuration: its tables, each with the values of its keys.
-use Rattle.std.specs.Prelude.{List, [], map, Option, Some, None, option_map, Result, Ok, String, Vec, codes}
+use Rattle.std.specs.Prelude.{List, [], map, Option, Some, None, option_map, Result, Ok, String, codes}
 use Rattle.std.specs.Borrow.{Bor}
 use Rattle.std.specs.BTreeMap.{BTreeMap}
 use Rattle.std.specs.declared.alloc.Global.{Global}
+use Rattle.arrayvec.specs.ArrayVec.{ArrayVec}
 use Rattle.partitions.specs.Table.{Row}
 use Rattle.toml.specs.Data.{Members, get_member}
 use Rattle.toml.specs.View.{table_view}
@@ -19,7 +20,7 @@ use Rattle.gate_config.specs.Limit.{limit_values}
 use Rattle.gate_config.specs.Resolvers.{resolver_member, resolver_of}
 use Rattle.gate_config.specs.Rows.{top_rows, limit_rows, window_rows}
 use Rattle.gate_config.specs.Sections.{top_values, window_values}
-use Rattle.gate_config.specs.Tables.{optional_from, read_each, tables_from}
+use Rattle.gate_config.specs.Tables.{optional_from, read_each, tables_among, tables_from}
 use Rattle.gate_config.specs.Values.{◌>>=◌, section_of, table_from, Values}
 
 -- what a configuration holds
@@ -41,8 +42,8 @@ limit_member member = (table_view member.0.now, limit_values member.1)
 abbrev pub window_member : TableRef × WindowKeys → Members × Values
 window_member member = (table_view member.0.now, window_values member.1)
 
-abbrev pub tables_and_rows : Vec TableRef Global × Vec ClassKeys Global → List Members × List Row
-tables_and_rows classes = (map (λ t. table_view t.now) classes.0.items, map row_of classes.1.items)
+abbrev pub tables_and_rows : Bor (List Value) × ArrayVec ClassKeys → List Members × List Row
+tables_and_rows classes = (tables_among classes.0.now, map row_of classes.1.items)
 
 abbrev pub document_values : Document → DocumentValues
 document_values d = record {
@@ -62,7 +63,8 @@ limit_of t = table_from Key.Limit (get_member (codes "limit") t) >>= λ limit.
 -- the keys of a window, where there is one
 abbrev pub read_window : Option Members → Result (Option (Members × Values)) ConfigFault
 read_window None = Ok None
-read_window (Some window) = section_of [] window_rows window >>= λ values. Ok (Some (window, values))
+read_window (Some window) =
+    section_of [] window_rows window >>= λ values. Ok (Some (window, values))
 
 abbrev pub window_of : Members → Result (Option (Members × Values)) ConfigFault
 window_of t = optional_from Key.Window (get_member (codes "window") t) >>= read_window
@@ -75,7 +77,8 @@ classes_in t = tables_from Key.Class 4 (get_member (codes "class") t) >>= λ tab
 -- the resolvers among these classes, at most 32
 abbrev pub resolvers_of : List Row → Members → Result (List (Members × Values)) ConfigFault
 resolvers_of classes t =
-    tables_from Key.Resolver 32 (get_member (codes "resolver") t) >>= read_each (resolver_of classes) []
+    tables_from Key.Resolver 32 (get_member (codes "resolver") t)
+    >>= read_each (resolver_of classes) []
 
 -- the bypass rules, at most 32
 abbrev pub bypasses_of : Members → Result (List (Members × Values)) ConfigFault
@@ -90,4 +93,11 @@ document_of t =
     classes_in t >>= λ classes.
     resolvers_of classes.1 t >>= λ resolvers.
     bypasses_of t >>= λ bypasses.
-    Ok (record { top = top; limit = limit; window = window; classes = classes; resolvers = resolvers; bypasses = bypasses })
+    Ok (record {
+      top = top;
+      limit = limit;
+      window = window;
+      classes = classes;
+      resolvers = resolvers;
+      bypasses = bypasses;
+    })

@@ -1,5 +1,6 @@
 pub mod Address
 pub mod Key
+pub mod KeyText
 pub mod Rows
 pub mod Values
 pub mod Tables

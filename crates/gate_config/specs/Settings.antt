@@ -1,20 +1,17 @@
 -- The settings that a text holds.
-use Rattle.std.specs.Prelude.{◌≡◌, ℕ, ◌*◌, ℤ, pos, Bool, false, ◌==◌, List, [], Option, Some, None, option_map, Result, Ok, Err, codes, IsUtf8, if◌then◌else◌}
-use Rattle.partitions.specs.Table.{Row}
+use Rattle.std.specs.Prelude.{◌≡◌, ℕ, ◌*◌, ℤ, pos, Bool, false, ◌==◌, List, [], map, Option, Some, None, option_map, ok_or, Result, Err, codes, IsUtf8, if◌then◌else◌}
 use Rattle.toml.specs.Data.{Data, integer, Members, get_member}
 use Rattle.toml.specs.Parse.{parse_document}
-use Rattle.classifier.specs.declared.bypass.Bypass.{Bypass}
 use Rattle.classifier.specs.declared.resolver.Resolver.{Resolver}
 use Rattle.gate_config.specs.declared.fault.ConfigFault.{ConfigFault}
 use Rattle.gate_config.specs.declared.fault.ConfigFault.TheVariants as Fault
 use Rattle.gate_config.specs.declared.settings.Settings.{Settings}
 use Rattle.gate_config.specs.Document.{DocumentValues, document_of}
 use Rattle.gate_config.specs.Made.{any_of, limit_from, window_from}
-use Rattle.gate_config.specs.Rules.{bypass_from, partitions_of, resolver_from}
+use Rattle.gate_config.specs.Rules.{bypass_from, resolvers_after}
 use Rattle.gate_config.specs.Strangers.{strangers_of}
-use Rattle.gate_config.specs.Tables.{read_each}
-use Rattle.gate_config.specs.Unknown.{least_path}
-use Rattle.gate_config.specs.Values.{◌>>=◌, flag_at, number_at, text_at, Values}
+use Rattle.gate_config.specs.Unknown.{Stranger, least, path_text}
+use Rattle.gate_config.specs.Values.{◌>>=◌, flag_at, number_at, text_at}
 
 -- the bytes are text that toml reads as this table
 abbrev pub Reads : List ℕ → Members → Type 0
@@ -29,39 +26,44 @@ abbrev pub is_version_one : Option Data → Bool
 is_version_one (Some (integer z)) = is_one z
 is_version_one _ = false
 
--- the rules of the members' values, one after the other
-abbrev pub resolvers_made : List Row → List (Members × Values) → Result (List Resolver) ConfigFault
-resolvers_made rows members = read_each (λ (before : List Resolver) (m : Members × Values). resolver_from rows m.1) [] members
+-- the settings that keys make with these resolvers: times are in nanoseconds
+abbrev pub settings_with : DocumentValues → List Resolver → Settings
+settings_with d resolvers = record {
+  listen = text_at (codes "listen") d.top;
+  backend = text_at (codes "backend") d.top;
+  backlog = number_at (codes "backlog") d.top;
+  wait = flag_at (codes "wait") d.top;
+  timeout = number_at (codes "timeout_ms") d.top * 1000000;
+  keep = number_at (codes "keep") d.top;
+  limit = any_of (limit_from d.limit.1) (option_map (λ window. window_from window.1) d.window);
+  table = d.classes.1;
+  rules = record { resolvers = resolvers; bypass = map (λ rule. bypass_from rule.1) d.bypasses };
+}
 
-abbrev pub bypasses_made : List (Members × Values) → Result (List Bypass) ConfigFault
-bypasses_made members = read_each (λ (before : List Bypass) (m : Members × Values). bypass_from m.1) [] members
+-- the settings that keys make, if the patterns of each resolver can stand together
+abbrev pub made_of : DocumentValues → Option Settings
+made_of d = option_map (settings_with d) (resolvers_after d.classes.1 [] d.resolvers)
 
--- the settings that keys make: times are in nanoseconds
-abbrev pub made_of : DocumentValues → Result Settings ConfigFault
-made_of d =
-    partitions_of d.classes.1 >>= λ rows.
-    resolvers_made rows d.resolvers >>= λ resolvers.
-    bypasses_made d.bypasses >>= λ bypass.
-    Ok (record {
-      listen = text_at (codes "listen") d.top;
-      backend = text_at (codes "backend") d.top;
-      backlog = number_at (codes "backlog") d.top;
-      wait = flag_at (codes "wait") d.top;
-      timeout = number_at (codes "timeout_ms") d.top * 1000000;
-      keep = number_at (codes "keep") d.top;
-      limit = any_of (limit_from d.limit.1) (option_map (λ window. window_from window.1) d.window);
-      table = rows;
-      rules = record { resolvers = resolvers; bypass = bypass };
-    })
+-- the settings that keys make, or the first fault: of the least unknown key, of a route
+abbrev pub known : DocumentValues → Option Stranger → Result Settings ConfigFault
+known d None = ok_or (made_of d) Fault.Route
+known d (Some key) = Err (Fault.Unknown (path_text key))
 
--- the settings, where no path is unknown
-abbrev pub known : DocumentValues → Option (List ℕ) → Result Settings ConfigFault
-known d None = made_of d
-known d (Some path) = Err (Fault.Unknown path)
-
--- the settings that a table holds, or the first fault: of the version, of a key, of an unknown key, of a route
+-- the settings that a table holds, or the first fault: of the version, of a key, of an unknown key, of
+-- a route
 abbrev pub settings_of : Members → Result Settings ConfigFault
 settings_of t =
     if is_version_one (get_member (codes "version") t)
-    then (document_of t >>= λ d. known d (least_path (strangers_of t d)))
+    then (document_of t >>= λ d. known d (least (strangers_of t d)))
     else Err Fault.Version
+
+-- the faults that are told whatever the memory: those of the version and of a key
+abbrev pub IsOfKey : ConfigFault → Type 0
+IsOfKey Fault.Memory = ⊥
+IsOfKey Fault.Toml = ⊥
+IsOfKey Fault.Version = Unit {0}
+IsOfKey (Fault.Missing key) = Unit {0}
+IsOfKey (Fault.Kind key) = Unit {0}
+IsOfKey (Fault.Value key) = Unit {0}
+IsOfKey (Fault.Unknown path) = ⊥
+IsOfKey Fault.Route = ⊥

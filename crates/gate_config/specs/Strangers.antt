@@ -6,29 +6,33 @@ use Rattle.gate_config.specs.declared.key.Section.TheVariants as In
 use Rattle.gate_config.specs.Document.{DocumentValues}
 use Rattle.gate_config.specs.Key.{name_of}
 use Rattle.gate_config.specs.Rows.{top_rows, limit_rows, window_rows, class_rows, resolver_rows, bypass_rows}
-use Rattle.gate_config.specs.Unknown.{strangers_in}
+use Rattle.gate_config.specs.Unknown.{Stranger, strangers_in}
 use Rattle.gate_config.specs.Values.{names_of, Values}
 
 -- the keys that no section holds: the version, those of the rows, and those of the tables
 abbrev pub top_names : List (List ℕ)
-top_names = map name_of (Key.Version ∷ map (λ row. row.key) top_rows ++ Key.Limit ∷ Key.Window ∷ Key.Class ∷ Key.Resolver ∷ Key.Bypass ∷ [])
+top_names =
+    map name_of (Key.Version ∷ map (λ row. row.key) top_rows
+    ++ Key.Limit ∷ Key.Window ∷ Key.Class ∷ Key.Resolver ∷ Key.Bypass ∷ [])
 
-abbrev pub window_strangers : Option (Members × Values) → List (List ℕ)
+abbrev pub window_strangers : Option (Members × Values) → List Stranger
 window_strangers None = []
-window_strangers (Some window) = strangers_in In.Window (map (λ row. name_of row.key) window_rows) window.0
+window_strangers (Some window) =
+    strangers_in In.Window (map (λ row. name_of row.key) window_rows) window.0
 
-abbrev pub class_strangers : Members → List (List ℕ)
+abbrev pub class_strangers : Members → List Stranger
 class_strangers t = strangers_in In.Class (map (λ row. name_of row.key) class_rows) t
 
-abbrev pub resolver_strangers : Members × Values → List (List ℕ)
+abbrev pub resolver_strangers : Members × Values → List Stranger
 resolver_strangers r = strangers_in In.Resolver (names_of resolver_rows r.1) r.0
 
-abbrev pub bypass_strangers : Members × Values → List (List ℕ)
+abbrev pub bypass_strangers : Members × Values → List Stranger
 bypass_strangers b = strangers_in In.Bypass (names_of bypass_rows b.1) b.0
 
--- the paths of all of them
-abbrev pub strangers_of : Members → DocumentValues → List (List ℕ)
+-- all of them
+abbrev pub strangers_of : Members → DocumentValues → List Stranger
 strangers_of t d =
-    strangers_in In.Top top_names t ++ strangers_in In.Limit (names_of limit_rows d.limit.1) d.limit.0
+    strangers_in In.Top top_names t
+    ++ strangers_in In.Limit (names_of limit_rows d.limit.1) d.limit.0
     ++ window_strangers d.window ++ flat_map class_strangers d.classes.0
     ++ flat_map resolver_strangers d.resolvers ++ flat_map bypass_strangers d.bypasses

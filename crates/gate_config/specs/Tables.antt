@@ -1,7 +1,9 @@
 -- Tables inside a configuration.
-use Rattle.std.specs.Prelude.{ℕ, List, [], ◌∷◌, ◌++◌, length, Option, Some, None, Result, Ok, Err, is_some, nat_le, if◌then◌else◌}
+use Rattle.std.specs.Prelude.{ℕ, List, [], ◌∷◌, ◌++◌, length, map, Option, Some, None, Result, Ok, Err, is_some, nat_le, if◌then◌else◌}
 use Rattle.std.specs.List.{filter_map, list_all}
 use Rattle.toml.specs.Data.{Data, Items, no_items, item, array, table, Members, as_table}
+use Rattle.toml.specs.View.{view}
+use Rattle.toml.specs.declared.value.Value.{Value}
 use Rattle.gate_config.specs.declared.fault.ConfigFault.{ConfigFault}
 use Rattle.gate_config.specs.declared.fault.ConfigFault.TheVariants as Fault
 use Rattle.gate_config.specs.declared.key.Key.{Key}
@@ -11,6 +13,10 @@ use Rattle.gate_config.specs.Values.{◌>>=◌}
 abbrev pub items_in : Items → List Data
 items_in no_items = []
 items_in (item d ds) = d ∷ items_in ds
+
+-- the items that are tables
+abbrev pub tables_among : List Value → List Members
+tables_among items = filter_map as_table (map view items)
 
 -- a table that may be absent
 abbrev pub optional_from : Key → Option Data → Result (Option Members) ConfigFault
@@ -22,7 +28,8 @@ optional_from key (Some _) = Err (Fault.Kind key)
 abbrev pub tables_in : Key → ℕ → List Data → Result (List Members) ConfigFault
 tables_in key most items =
     if list_all (λ d. is_some (as_table d)) items
-    then (if nat_le (length items) most then Ok (filter_map as_table items) else Err (Fault.Value key))
+    then (if nat_le (length items) most
+    then Ok (filter_map as_table items) else Err (Fault.Value key))
     else Err (Fault.Kind key)
 
 -- the tables of an array; none where it is absent
@@ -32,6 +39,7 @@ tables_from key most (Some (array items)) = tables_in key most (items_in items)
 tables_from key most (Some _) = Err (Fault.Kind key)
 
 -- what is read one after the other, each given what was read before it
-abbrev pub read_each : {T A : Type 0} → (List A → T → Result A ConfigFault) → List A → List T → Result (List A) ConfigFault
+abbrev pub read_each :
+    {T A : Type 0} → (List A → T → Result A ConfigFault) → List A → List T → Result (List A) ConfigFault
 read_each read done [] = Ok done
 read_each read done (t ∷ more) = read done t >>= λ a. read_each read (done ++ a ∷ []) more

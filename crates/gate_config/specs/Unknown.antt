@@ -4,23 +4,42 @@ use Rattle.std.specs.Cmp.Lexicographic.{slice_cmp}
 use Rattle.std.specs.Ordering.{is_lt, nat_cmp}
 use Rattle.toml.specs.Data.{Members}
 use Rattle.gate_config.specs.declared.key.Section.{Section}
+use Rattle.gate_config.specs.declared.unknown.Stranger.{Stranger as StrangerKey}
 use Rattle.gate_config.specs.Key.{prefix_of}
+use Rattle.gate_config.specs.KeyText.{key_text}
 use Rattle.gate_config.specs.Values.{is_among, pairs_of}
 
--- the paths of those names that aren't allowed in a section
-abbrev pub strangers_among : Section → List (List ℕ) → List (List ℕ) → List (List ℕ)
-strangers_among section allowed names =
-    map (λ name. prefix_of section ++ name) (filter (λ name. not (is_among allowed name)) names)
+-- a key that isn't allowed where it stands: its section and its name
+pub record Stranger : Type 0 where
+  pub section : Section
+  pub name : List ℕ
 
--- the paths of a table's keys that aren't allowed in its section
-abbrev pub strangers_in : Section → List (List ℕ) → Members → List (List ℕ)
+abbrev pub stranger_of : StrangerKey → Stranger
+stranger_of key = record { section = key.section; name = key.name.now }
+
+-- its dotted path, and the path as it is told
+abbrev pub path_of : Stranger → List ℕ
+path_of key = prefix_of key.section ++ key.name
+
+abbrev pub path_text : Stranger → List ℕ
+path_text key = prefix_of key.section ++ key_text key.name
+
+-- those of the names that aren't allowed in a section
+abbrev pub strangers_among : Section → List (List ℕ) → List (List ℕ) → List Stranger
+strangers_among section allowed names =
+    map (λ name. record { section = section; name = name })
+    (filter (λ name. not (is_among allowed name)) names)
+
+-- a table's keys that aren't allowed in its section
+abbrev pub strangers_in : Section → List (List ℕ) → Members → List Stranger
 strangers_in section allowed t = strangers_among section allowed (map (λ pair. pair.0) (pairs_of t))
 
--- the lesser of two paths in byte order, where the first may be none
-abbrev pub lesser : Option (List ℕ) → List ℕ → Option (List ℕ)
-lesser None path = Some path
-lesser (Some best) path = if is_lt (slice_cmp nat_cmp path best) then Some path else Some best
+-- the one with the lesser path in byte order, where the first may be none
+abbrev pub lesser : Option Stranger → Stranger → Option Stranger
+lesser None key = Some key
+lesser (Some best) key =
+    if is_lt (slice_cmp nat_cmp (path_of key) (path_of best)) then Some key else Some best
 
--- the least path
-abbrev pub least_path : List (List ℕ) → Option (List ℕ)
-least_path paths = fold lesser None paths
+-- the one with the least path, of those with one path the first
+abbrev pub least : List Stranger → Option Stranger
+least keys = fold lesser None keys

@@ -1,5 +1,5 @@
 -- What one key holds, and the keys of a section, read one after the other.
-use Rattle.std.specs.Prelude.{ℕ, ◌-◌, min, max, ℤ, pos, negsuc, Bool, true, ◌&&◌, ◌||◌, not, List, [], ◌∷◌, ◌++◌, length, map, filter, find, fold, sum_by, Option, Some, None, option_map, unwrap_or, is_some, Result, Ok, Err, bytes_eq, nat_eq, nat_le, ◌==◌, codes, if◌then◌else◌, ◌≡◌, ◌≢◌}
+use Rattle.std.specs.Prelude.{ℕ, ◌-◌, min, max, ℤ, pos, negsuc, Bool, true, ◌&&◌, ◌||◌, not, List, [], ◌∷◌, ◌++◌, length, map, filter, find, fold, sum_by, Option, Some, None, option_map, unwrap_or, is_some, Result, Ok, Err, IsOk, bytes_eq, nat_eq, nat_le, ◌==◌, codes, if◌then◌else◌, ◌≡◌, ◌≢◌}
 use Rattle.std.specs.List.{list_all, list_any, starts_with}
 use Rattle.http_header.specs.Token.{is_token_byte}
 use Rattle.partitions.specs.Table.{Row as ClassRow, is_name}
@@ -25,6 +25,11 @@ result_map f (Err fault) = Err fault
 abbrev pub Answers : {A V : Type 0} → (A → V) → Result V ConfigFault → Result A ConfigFault → Type 0
 Answers shown said (Ok a) = said ≡ Ok (shown a)
 Answers shown said (Err fault) = fault ≢ Fault.Memory → said ≡ Err fault
+
+-- what was read is what is said, or else its fault was answered
+abbrev pub Settles : {V : Type 0} → Result V ConfigFault → Result (Unit {0}) ConfigFault → Type 0
+Settles said (Ok done) = IsOk said
+Settles said (Err fault) = said ≡ Err fault
 
 -- the number of a range that is nearest to a number
 abbrev pub nearest : ℕ → ℕ → ℕ → ℕ

@@ -1,10 +1,11 @@
 // Where a gateway listens, and where it forwards to.
-ghost use Rattle.std.specs.Prelude.{◌≡◌, ◌≤◌, ◌&&◌, bytes_eq, nat_le, IsTrue, Some, None, IfOk, if◌then◌else◌};
+ghost use Rattle.std.specs.Prelude.{◌≡◌, ◌≤◌, ◌&&◌, bytes_eq, nat_le, IsTrue, Some, None, if◌then◌else◌};
 ghost use Rattle.std.specs.Net.Socket.{v4_port};
 ghost use Rattle.std.specs.Net.Text.{socket_v4_text};
 ghost use Rattle.gate_config.specs.Address.{is_address};
 
-use std::alloc::{AllocError, Global};
+use arrayvec::ArrayString;
+use itoa::Buffer;
 use std::marker::Model;
 use std::net::SocketAddrV4;
 
@@ -27,19 +28,18 @@ impl Model for Address {
 }
 
 impl Address {
-    /// The address that this is the text of: four numbers up to 255 with dots between them, a colon and a port
-    /// from 1 to 65535, all in decimal without leading zeros.
-    pub fn parse(alloc: Global, text: &str) -> Result<Option<Address>, AllocError>
-        ensures { IfOk result (λ found. found ≡ if is_address text.now then Some text.now else None) }
+    /// The address that this is the text of: four numbers up to 255 with dots between them, a colon and
+    /// a port from 1 to 65535, all in decimal without leading zeros.
+    pub fn parse(text: &str) -> Option<Address>
+        ensures { result ≡ if is_address text.now then Some text.now else None }
     {
         let Ok(socket) = text.parse::<SocketAddrV4>() else {
-            return Ok(None);
+            return None;
         };
-        let printed = socket.to_string(alloc)?;
-        if is_written(socket, printed.as_str(), text) {
-            Ok(Some(Address { socket }))
+        if is_written(socket, printed(socket).as_str(), text) {
+            Some(Address { socket })
         } else {
-            Ok(None)
+            None
         }
     }
 
@@ -50,6 +50,25 @@ impl Address {
     {
         self.socket
     }
+}
+
+/// The address as it is printed.
+fn printed(socket: SocketAddrV4) -> ArrayString<21>
+    ensures { result.bytes ≡ socket_v4_text socket }
+{
+    let [first, second, third, fourth] = socket.ip().octets();
+    let mut number = Buffer::new();
+    let mut text = ArrayString::new();
+    text.push_str(number.format(first));
+    text.push_str(".");
+    text.push_str(number.format(second));
+    text.push_str(".");
+    text.push_str(number.format(third));
+    text.push_str(".");
+    text.push_str(number.format(fourth));
+    text.push_str(":");
+    text.push_str(number.format(socket.port()));
+    text
 }
 
 /// Whether the text is the address as it is printed, with a port from 1 up.

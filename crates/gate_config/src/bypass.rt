@@ -4,15 +4,15 @@ ghost use Rattle.toml.specs.Data.{get_member};
 ghost use Rattle.toml.specs.View.{table_view};
 ghost use Rattle.gate_config.specs.Key.{name_of};
 ghost use Rattle.gate_config.specs.Rows.{bypass_kinds, bypass_rows};
-ghost use Rattle.gate_config.specs.Values.{Answers, is_among, names_of, result_map, section_of, text_from};
-ghost use Rattle.gate_config.specs.Tables.{read_each};
+ghost use Rattle.gate_config.specs.Values.{Answers, Settles, is_among, names_of, result_map, section_of, text_from};
+ghost use Rattle.gate_config.specs.Tables.{read_each, tables_among};
 ghost use Rattle.gate_config.specs.Bypasses.{bypass_member, bypass_of, bypass_values, word_of};
 
 use crate::fault::ConfigFault;
 use crate::key::Key;
 use crate::text::{prefix, text, token};
 use std::alloc::{AllocError, Global};
-use toml::Table;
+use toml::{Table, Value};
 
 /// What a bypass rule looks at.
 #[derive(Clone, Copy, Debug)]
@@ -25,7 +25,8 @@ pub enum BypassKind {
 impl BypassKind {
     /// The kind of this word.
     fn named(word: &str) -> Option<BypassKind>
-        ensures { option_map word_of result ≡ if is_among bypass_kinds word.now then Some word.now else None }
+        ensures { option_map word_of result
+            ≡ if is_among bypass_kinds word.now then Some word.now else None }
     {
         match word {
             "method" => Some(BypassKind::Method),
@@ -64,17 +65,32 @@ impl BypassKeys<'_> {
     }
 }
 
+/// Answers the first fault of the keys of bypass rules. Takes no memory.
+pub fn check_bypasses(items: &[Value]) -> Result<(), ConfigFault>
+    ensures { Settles (read_each bypass_of [] (tables_among items.now)) result }
+{
+    for item in items {
+        if let Some(table) = item.as_table() {
+            read_bypass(table)?;
+        }
+    }
+    Ok(())
+}
+
 /// The bypass rules, each with its table.
 pub fn read_bypasses<'a>(
     alloc: Global,
-    tables: &[&'a Table],
+    items: &'a [Value],
 ) -> Result<Vec<(&'a Table, BypassKeys<'a>)>, ConfigFault>
-    ensures { Answers (λ rules. map bypass_member rules.items) (read_each bypass_of [] (map (λ t. table_view t.now) tables.now)) result }
+    ensures { Answers (λ rules. map bypass_member rules.items)
+        (read_each bypass_of [] (tables_among items.now)) result }
 {
     let mut rules = Vec::new(alloc);
-    for table in tables {
-        let keys = read_bypass(table)?;
-        rules.push((*table, keys)).map_err(AllocError::from)?;
+    for item in items {
+        if let Some(table) = item.as_table() {
+            let keys = read_bypass(table)?;
+            rules.push((table, keys)).map_err(AllocError::from)?;
+        }
     }
     Ok(rules)
 }
@@ -93,7 +109,8 @@ pub fn read_bypass<'a>(table: &'a Table) -> Result<BypassKeys<'a>, ConfigFault>
 /// The word at `bypass.kind`.
 fn bypass_kind(table: &Table) -> Result<BypassKind, ConfigFault>
     ensures { result_map word_of result
-        ≡ text_from Key.BypassKind (is_among bypass_kinds) (get_member (name_of Key.BypassKind) (table_view table.now)) }
+        ≡ text_from Key.BypassKind (is_among bypass_kinds)
+        (get_member (name_of Key.BypassKind) (table_view table.now)) }
 {
     match BypassKind::named(text(table, Key::BypassKind)?) {
         Some(kind) => Ok(kind),
@@ -103,7 +120,8 @@ fn bypass_kind(table: &Table) -> Result<BypassKind, ConfigFault>
 
 /// The keys of a rule by header.
 fn read_header<'a>(table: &'a Table) -> Result<BypassKeys<'a>, ConfigFault>
-    requires { text_from Key.BypassKind (is_among bypass_kinds) (get_member (name_of Key.BypassKind) (table_view table.now)) ≡ Ok (codes "header") }
+    requires { text_from Key.BypassKind (is_among bypass_kinds)
+        (get_member (name_of Key.BypassKind) (table_view table.now)) ≡ Ok (codes "header") }
     ensures { result_map bypass_values result ≡ section_of [] bypass_rows (table_view table.now) }
 {
     let header = token(table, Key::BypassHeader)?;

@@ -1,61 +1,61 @@
 // The keys of classes.
-ghost use Rattle.std.specs.Prelude.{◌≡◌, [], bytes_eq, map};
+ghost use Rattle.std.specs.Prelude.{◌≡◌, ◌≤◌, bytes_eq, length, map};
 ghost use Rattle.std.specs.List.{list_all, list_any};
 ghost use Rattle.partitions.specs.Table.{is_name, is_name_byte};
 ghost use Rattle.toml.specs.Data.{get_member};
 ghost use Rattle.toml.specs.View.{table_view};
 ghost use Rattle.gate_config.specs.Key.{name_of};
 ghost use Rattle.gate_config.specs.Rows.{class_rows};
-ghost use Rattle.gate_config.specs.Values.{Answers, is_class, is_new_name, left_by, result_map, section_of, text_from};
+ghost use Rattle.gate_config.specs.Values.{is_class, is_new_name, left_by, result_map, section_of, text_from};
+ghost use Rattle.gate_config.specs.Tables.{tables_among};
 ghost use Rattle.gate_config.specs.Classes.{class_values, classes_of, row_of};
 
 use crate::fault::ConfigFault;
 use crate::key::Key;
 use crate::number::{Range, number};
 use crate::text::text;
-use std::alloc::{AllocError, Global};
-use toml::Table;
-use wire::Text;
+use arrayvec::ArrayVec;
+use toml::{Table, Value};
 
-/// The keys of a class.
-#[derive(Drop)]
-pub struct ClassKeys {
-    pub name: Text,
+/// The keys of a class, as they stand in the text.
+#[derive(Clone, Copy, Debug, Default)]
+pub struct ClassKeys<'a> {
+    pub name: &'a str,
     pub percent: u32,
 }
 
 /// The keys of the classes, each read after those before it.
-pub fn read_classes(alloc: Global, tables: &[&Table]) -> Result<Vec<ClassKeys>, ConfigFault>
-    ensures { Answers (λ classes. map row_of classes.items) (classes_of (map (λ t. table_view t.now) tables.now)) result }
+pub fn read_classes<'a>(items: &'a [Value]) -> Result<ArrayVec<ClassKeys<'a>, 4>, ConfigFault>
+    requires { length items.now ≤ 4 }
+    ensures { result_map (λ classes. map row_of classes.items) result
+        ≡ classes_of (tables_among items.now) }
 {
-    let mut classes = Vec::new(alloc);
-    for table in tables {
-        let class = read_class(alloc, &classes, table)?;
-        classes.push(class).map_err(AllocError::from)?;
+    let mut classes = ArrayVec::new();
+    for item in items {
+        if let Some(table) = item.as_table() {
+            let class = read_class(&classes, table)?;
+            classes.push(class);
+        }
     }
     Ok(classes)
 }
 
 /// The keys of a class behind the classes before it.
-fn read_class(alloc: Global, before: &[ClassKeys], table: &Table) -> Result<ClassKeys, ConfigFault>
-    ensures { Answers class_values (section_of (map row_of before.now) class_rows (table_view table.now)) result }
+fn read_class<'a>(before: &[ClassKeys], table: &'a Table) -> Result<ClassKeys<'a>, ConfigFault>
+    ensures { result_map class_values result
+        ≡ section_of (map row_of before.now) class_rows (table_view table.now) }
 {
     let name = new_name(before, table, Key::ClassName)?;
-    let percent = number(
-        table,
-        Key::ClassPercent,
-        Range::required(1, left_by(before)),
-    )?;
-    Ok(ClassKeys {
-        name: Text::copy_of(alloc, name)?,
-        percent,
-    })
+    let range = Range::required(1, left_by(before));
+    let percent = number(table, Key::ClassPercent, range)?;
+    Ok(ClassKeys { name, percent })
 }
 
 /// The name of a partition that none of the classes has.
 fn new_name<'a>(classes: &[ClassKeys], table: &'a Table, key: Key) -> Result<&'a str, ConfigFault>
     ensures { result_map (λ s. s.now) result
-        ≡ text_from key (is_new_name (map row_of classes.now)) (get_member (name_of key) (table_view table.now)) }
+        ≡ text_from key (is_new_name (map row_of classes.now))
+        (get_member (name_of key) (table_view table.now)) }
 {
     let text = text(table, key)?;
     if is_name(text.as_bytes()) && !is_class(classes, text) {
@@ -72,7 +72,8 @@ pub fn class_name<'a>(
     key: Key,
 ) -> Result<&'a str, ConfigFault>
     ensures { result_map (λ s. s.now) result
-        ≡ text_from key (is_class (map row_of classes.now)) (get_member (name_of key) (table_view table.now)) }
+        ≡ text_from key (is_class (map row_of classes.now))
+        (get_member (name_of key) (table_view table.now)) }
 {
     let text = text(table, key)?;
     if is_class(classes, text) {
@@ -91,9 +92,9 @@ pub fn is_class(classes: &[ClassKeys], name: &str) -> bool
 
 /// Whether one of the keys has this name.
 fn has_name(classes: &[ClassKeys], name: &str) -> bool
-    ensures { result ≡ list_any (λ class. bytes_eq class.name name.now) classes.now }
+    ensures { result ≡ list_any (λ class. bytes_eq class.name.now name.now) classes.now }
 {
-    classes.iter().any(|class| class.name.as_str() == name)
+    classes.iter().any(|class| class.name == name)
 }
 
 /// What the classes leave of a hundred percent.

@@ -1,14 +1,18 @@
 // Why a configuration is refused.
-ghost use Rattle.std.specs.Prelude.{Some};
+ghost use Rattle.std.specs.Prelude.{◌≡◌, ◌++◌, Some};
+ghost use Rattle.gate_config.specs.FaultText.{fault_text};
 
 use crate::key::Key;
+use matchit::InsertError;
 use std::alloc::AllocError;
 use std::error::Error;
 use std::fmt;
 use wire::Text;
 
-/// Why a configuration was refused. Of several faults the first in this order is told, and of several keys the
-/// first in the order of the keys; of unknown keys the least path in byte order.
+/// Why a configuration was refused. Of several faults the first in this order is told, and of several
+/// keys the first in the order of the keys; of unknown keys the one with the least path in byte order.
+///
+/// Its text is one line of the fault's word and the key's dotted path.
 #[derive(Debug, Drop)]
 pub enum ConfigFault {
     /// Memory was wanting.
@@ -23,7 +27,9 @@ pub enum ConfigFault {
     Kind(Key),
     /// A key's value is out of its range.
     Value(Key),
-    /// The dotted path of a key that isn't allowed where it stands.
+    /// The dotted path of a key that isn't allowed where it stands. A name that isn't bare in TOML (one
+    /// or more letters, digits, dashes and underscores) is quoted and escaped as a basic string, as in
+    /// `limit."x\ny"`.
     Unknown(Text),
     /// Two patterns can't stand together, or one can't be read.
     Route,
@@ -40,25 +46,45 @@ impl From<AllocError> for ConfigFault {
     }
 }
 
-impl fmt::Display for ConfigFault {
-    ghost use Rattle.gate_config.specs.FaultText.{fault_text};
+impl From<InsertError> for ConfigFault {
+    ghost use Rattle.std.specs.Prelude.{◌≡◌};
+    ghost use Rattle.gate_config.specs.Rules.{insert_fault};
 
+    ghost from_gives = { λ error fault. fault ≡ insert_fault error };
+
+    fn from(error: InsertError) -> ConfigFault {
+        match error {
+            InsertError::OutOfMemory => ConfigFault::Memory,
+            _ => ConfigFault::Route,
+        }
+    }
+}
+
+impl ConfigFault {
+    /// The fault's text in pieces that follow one another, of which the last two may be empty. Takes no
+    /// memory.
+    pub fn pieces(&self) -> (&str, &str, &str)
+        ensures { result.0.now ++ (result.1.now ++ result.2.now) ≡ fault_text self.now }
+    {
+        match self {
+            ConfigFault::Memory => ("memory", "", ""),
+            ConfigFault::Toml => ("toml", "", ""),
+            ConfigFault::Version => ("version", "", ""),
+            ConfigFault::Missing(key) => ("missing ", key.section().prefix(), key.name()),
+            ConfigFault::Kind(key) => ("kind ", key.section().prefix(), key.name()),
+            ConfigFault::Value(key) => ("value ", key.section().prefix(), key.name()),
+            ConfigFault::Unknown(path) => ("unknown ", path.as_str(), ""),
+            ConfigFault::Route => ("route", "", ""),
+        }
+    }
+}
+
+impl fmt::Display for ConfigFault {
     ghost output = { λ fault. Some (fault_text fault) };
 
     fn fmt<W: fmt::Write>(&self, f: &mut fmt::Formatter<W>) -> fmt::Result {
-        match self {
-            ConfigFault::Memory => write!(f, "memory"),
-            ConfigFault::Toml => write!(f, "toml"),
-            ConfigFault::Version => write!(f, "version"),
-            ConfigFault::Missing(key) => write!(f, "missing {key}"),
-            ConfigFault::Kind(key) => write!(f, "kind {key}"),
-            ConfigFault::Value(key) => write!(f, "value {key}"),
-            ConfigFault::Unknown(path) => {
-                let path = path.as_str();
-                write!(f, "unknown {path}")
-            }
-            ConfigFault::Route => write!(f, "route"),
-        }
+        let (word, prefix, name) = self.pieces();
+        write!(f, "{word}{prefix}{name}")
     }
 }
 

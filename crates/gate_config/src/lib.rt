@@ -13,6 +13,7 @@ mod document;
 mod entry;
 mod fault;
 mod key;
+mod key_text;
 mod limit;
 mod make;
 mod number;
@@ -30,8 +31,5 @@ pub use address::Address;
 pub use fault::ConfigFault;
 pub use key::{Key, Section};
 pub use limit_kinds::{AnyLimit, BaseLimit};
-pub use reading::read;
+pub use reading::{read, settings_in};
 pub use settings::Settings;
-
-#[cfg(test)]
-mod tests;

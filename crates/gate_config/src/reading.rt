@@ -1,14 +1,17 @@
 // From bytes to settings.
-ghost use Rattle.std.specs.Prelude.{◌≡◌, ◌≢◌, ◌⊎◌, IfOk, IfErr, IsOk, Err, codes, map};
+ghost use Rattle.std.specs.Prelude.{◌≡◌, [], ◌≢◌, ◌⊎◌, IfOk, IfErr, IsErrOf, IsOk, Err, IsUtf8, codes, map};
 ghost use Rattle.std.specs.Option.{ForSome};
 ghost use Rattle.toml.specs.Data.{Members, get_member};
+ghost use Rattle.toml.specs.Errors.{IsBlank};
 ghost use Rattle.toml.specs.View.{table_view};
 ghost use Rattle.gate_config.specs.Bypasses.{bypass_member};
 ghost use Rattle.gate_config.specs.Document.{document_values};
 ghost use Rattle.gate_config.specs.Limit.{AreInRange};
 ghost use Rattle.gate_config.specs.Sections.{AreSound, IsTop, IsWindow};
 ghost use Rattle.gate_config.specs.Resolvers.{resolver_member};
-ghost use Rattle.gate_config.specs.Settings.{Reads, bypasses_made, is_version_one, made_of, resolvers_made, settings_of};
+ghost use Rattle.gate_config.specs.Settings.{IsOfKey, Reads, is_version_one, made_of, settings_of};
+ghost use Rattle.gate_config.specs.declared.fault.ConfigFault.{ConfigFault as FaultValue};
+ghost use Rattle.gate_config.specs.Rules.{Makes, bypass_from, resolvers_after};
 ghost use Rattle.gate_config.specs.Values.{Answers};
 
 use crate::build::{bypass_of, partitions_of, resolver_of};
@@ -20,8 +23,7 @@ use crate::key::Key;
 use crate::make::any_limit;
 use crate::resolver::ResolverKeys;
 use crate::settings::Settings;
-use crate::strangers::strangers;
-use crate::unknown::least;
+use crate::strangers::least_stranger;
 use classifier::{Bypass, Resolver, Rules};
 use partitions::PartitionTable;
 use std::alloc::{AllocError, Global};
@@ -32,16 +34,20 @@ const MILLI: u64 = 1_000_000;
 
 /// The settings that a text of version 1 holds.
 ///
-/// The faults, of which the first is told: [`ConfigFault::Toml`] for a text that isn't TOML in UTF-8;
-/// [`ConfigFault::Version`] unless `version` is 1; then key by key in the order of the keys, an array's members
-/// one after the other, [`ConfigFault::Missing`], [`ConfigFault::Kind`] and [`ConfigFault::Value`];
-/// [`ConfigFault::Unknown`] for the least path that isn't allowed; [`ConfigFault::Route`] for patterns that
-/// can't stand together. [`ConfigFault::Memory`] may come at any growth.
+/// The faults, of which the first is told: [`ConfigFault::Toml`] for a text that isn't TOML in
+/// UTF-8; [`ConfigFault::Version`] unless `version` is 1; then key by key in the order of the keys, an
+/// array's members one after the other, [`ConfigFault::Missing`], [`ConfigFault::Kind`] and [`ConfigFault::Value`];
+/// [`ConfigFault::Unknown`] for the least path that isn't allowed; [`ConfigFault::Route`] for patterns
+/// that can't stand together. [`ConfigFault::Memory`] comes where memory is wanting for the table of the
+/// text, and otherwise as [`settings_in`] says; a text of white space and comments alone never asks for any.
 pub fn read(alloc: Global, bytes: &[u8]) -> Result<Settings, ConfigFault>
-    ensures settings { (t : Members) → Reads bytes.now t → Answers (λ settings. settings) (settings_of t) result }
+    ensures settings { (t : Members) → Reads bytes.now t →
+        Answers (λ settings. settings) (settings_of t) result }
     ensures sound { IfOk result AreSound }
     ensures read { IsOk result → (t : Members) × Reads bytes.now t }
-    ensures refused { IfErr result (λ fault. fault ≢ ConfigFault.Memory → fault ≢ ConfigFault.Toml → (t : Members) × Reads bytes.now t) }
+    ensures blank { IsBlank bytes.now → IsUtf8 bytes.now → IsErrOf result ConfigFault.Version }
+    ensures refused { IfErr result (λ fault. fault ≢ ConfigFault.Memory → fault ≢ ConfigFault.Toml →
+        (t : Members) × Reads bytes.now t) }
 {
     let table = table_of(alloc, bytes)?;
     settings_in(alloc, &table)
@@ -50,8 +56,10 @@ pub fn read(alloc: Global, bytes: &[u8]) -> Result<Settings, ConfigFault>
 /// The table that a text holds.
 fn table_of(alloc: Global, bytes: &[u8]) -> Result<Table, ConfigFault>
     ensures ok { IfOk result (λ t. Reads bytes.now (table_view t)) }
+    ensures blank { IsBlank bytes.now → IsUtf8 bytes.now → IsOk result }
     ensures toml { result ≡ Err ConfigFault.Toml → (t : Members) → Reads bytes.now t → ⊥ }
-    ensures others { IfErr result (λ fault. (fault ≡ ConfigFault.Memory) ⊎ (fault ≡ ConfigFault.Toml)) }
+    ensures others { IfErr result (λ fault.
+        (fault ≡ ConfigFault.Memory) ⊎ (fault ≡ ConfigFault.Toml)) }
 {
     match toml::table_from_slice(alloc, bytes) {
         Ok(table) => Ok(table),
@@ -65,17 +73,20 @@ fn table_of(alloc: Global, bytes: &[u8]) -> Result<Table, ConfigFault>
     }
 }
 
-/// The settings that a table holds.
-fn settings_in(alloc: Global, table: &Table) -> Result<Settings, ConfigFault>
+/// The settings that a table holds. Faults are as for [`read`]; the version's and those of keys are
+/// told whatever the memory, which is taken only for settings, an unknown key's path and routes.
+pub fn settings_in(alloc: Global, table: &Table) -> Result<Settings, ConfigFault>
     ensures sound { IfOk result AreSound }
     ensures said { Answers (λ settings. settings) (settings_of (table_view table.now)) result }
+    ensures fault { (fault : FaultValue) → IsOfKey fault →
+        settings_of (table_view table.now) ≡ Err fault → IsErrOf result fault }
 {
     if !is_version_one(table) {
         return Err(ConfigFault::Version);
     }
     let document = read_document(alloc, table)?;
-    match least(strangers(alloc, table, &document)?) {
-        Some(path) => Err(ConfigFault::Unknown(path)),
+    match least_stranger(table, &document) {
+        Some(key) => Err(ConfigFault::Unknown(key.path(alloc)?)),
         None => made_of(alloc, document),
     }
 }
@@ -96,7 +107,7 @@ fn made_of(alloc: Global, document: Document) -> Result<Settings, ConfigFault>
     requires limit { AreInRange document.limit.1 }
     requires window { ForSome document.window (λ window. IsWindow window.1) }
     ensures sound { IfOk result AreSound }
-    ensures said { Answers (λ settings. settings) (made_of (document_values document.entry)) result }
+    ensures said { Makes (λ settings. settings) (made_of (document_values document.entry)) result }
 {
     let table = partitions_of(alloc, &document.classes.1)?;
     let resolvers = resolvers_made(alloc, &table, &document.resolvers)?;
@@ -130,7 +141,8 @@ fn resolvers_made(
     table: &PartitionTable,
     members: &[(&Table, ResolverKeys)],
 ) -> Result<Vec<Resolver>, ConfigFault>
-    ensures { Answers (λ resolvers. resolvers.items) (resolvers_made table.now (map resolver_member members.now)) result }
+    ensures { Makes (λ resolvers. resolvers.items)
+        (resolvers_after table.now [] (map resolver_member members.now)) result }
 {
     let mut resolvers = Vec::new(alloc);
     for (_, keys) in members {
@@ -140,17 +152,14 @@ fn resolvers_made(
     Ok(resolvers)
 }
 
-/// The bypass rules of all their keys.
-fn bypasses_made(
-    alloc: Global,
-    members: &[(&Table, BypassKeys)],
-) -> Result<Vec<Bypass>, ConfigFault>
-    ensures { Answers (λ rules. rules.items) (bypasses_made (map bypass_member members.now)) result }
+/// The bypass rules of all their keys. Fails where memory is wanting.
+fn bypasses_made(alloc: Global, members: &[(&Table, BypassKeys)]) -> Result<Vec<Bypass>, AllocError>
+    ensures { IfOk result (λ rules. rules.items
+        ≡ map (λ rule. bypass_from rule.1) (map bypass_member members.now)) }
 {
     let mut rules = Vec::new(alloc);
     for (_, keys) in members {
-        let rule = bypass_of(alloc, keys)?;
-        rules.push(rule).map_err(AllocError::from)?;
+        rules.push(bypass_of(alloc, keys)?)?;
     }
     Ok(rules)
 }

@@ -6,9 +6,9 @@ ghost use Rattle.toml.specs.Data.{as_str, get_member};
 ghost use Rattle.toml.specs.View.{table_view, view};
 ghost use Rattle.gate_config.specs.Key.{name_of};
 ghost use Rattle.gate_config.specs.Rows.{resolver_kinds, resolver_rows};
-ghost use Rattle.gate_config.specs.Values.{Answers, is_among, names_of, is_class, pairs_of, result_map, routes_from, section_of, string_of, text_from};
+ghost use Rattle.gate_config.specs.Values.{Answers, Settles, is_among, names_of, is_class, pairs_of, result_map, routes_from, section_of, string_of, text_from};
 ghost use Rattle.gate_config.specs.Classes.{row_of};
-ghost use Rattle.gate_config.specs.Tables.{read_each};
+ghost use Rattle.gate_config.specs.Tables.{read_each, tables_among};
 ghost use Rattle.gate_config.specs.Resolvers.{resolver_member, resolver_of, resolver_values, routes_of, word_of};
 
 use crate::class::{ClassKeys, class_name, is_class};
@@ -33,7 +33,8 @@ pub enum ResolverKind {
 impl ResolverKind {
     /// The kind of this word.
     fn named(word: &str) -> Option<ResolverKind>
-        ensures { option_map word_of result ≡ if is_among resolver_kinds word.now then Some word.now else None }
+        ensures { option_map word_of result
+            ≡ if is_among resolver_kinds word.now then Some word.now else None }
     {
         match word {
             "header" => Some(ResolverKind::Header),
@@ -75,18 +76,34 @@ impl ResolverKeys<'_> {
     }
 }
 
+/// Answers the first fault of the keys of resolvers. Takes no memory.
+pub fn check_resolvers(classes: &[ClassKeys], items: &[Value]) -> Result<(), ConfigFault>
+    ensures { Settles
+        (read_each (resolver_of (map row_of classes.now)) [] (tables_among items.now)) result }
+{
+    for item in items {
+        if let Some(table) = item.as_table() {
+            read_resolver(classes, table)?;
+        }
+    }
+    Ok(())
+}
+
 /// The resolvers, each with its table.
 pub fn read_resolvers<'a>(
     alloc: Global,
     classes: &[ClassKeys],
-    tables: &[&'a Table],
+    items: &'a [Value],
 ) -> Result<Vec<(&'a Table, ResolverKeys<'a>)>, ConfigFault>
-    ensures { Answers (λ resolvers. map resolver_member resolvers.items) (read_each (resolver_of (map row_of classes.now)) [] (map (λ t. table_view t.now) tables.now)) result }
+    ensures { Answers (λ resolvers. map resolver_member resolvers.items)
+        (read_each (resolver_of (map row_of classes.now)) [] (tables_among items.now)) result }
 {
     let mut resolvers = Vec::new(alloc);
-    for table in tables {
-        let keys = read_resolver(classes, table)?;
-        resolvers.push((*table, keys)).map_err(AllocError::from)?;
+    for item in items {
+        if let Some(table) = item.as_table() {
+            let keys = read_resolver(classes, table)?;
+            resolvers.push((table, keys)).map_err(AllocError::from)?;
+        }
     }
     Ok(resolvers)
 }
@@ -96,7 +113,8 @@ pub fn read_resolver<'a>(
     classes: &[ClassKeys],
     table: &'a Table,
 ) -> Result<ResolverKeys<'a>, ConfigFault>
-    ensures { result_map resolver_values result ≡ section_of (map row_of classes.now) resolver_rows (table_view table.now) }
+    ensures { result_map resolver_values result
+        ≡ section_of (map row_of classes.now) resolver_rows (table_view table.now) }
 {
     match resolver_kind(table)? {
         ResolverKind::Header => Ok(ResolverKeys::Header(token(table, Key::ResolverHeader)?)),
@@ -108,7 +126,8 @@ pub fn read_resolver<'a>(
 /// The word at `resolver.kind`.
 fn resolver_kind(table: &Table) -> Result<ResolverKind, ConfigFault>
     ensures { result_map word_of result
-        ≡ text_from Key.ResolverKind (is_among resolver_kinds) (get_member (name_of Key.ResolverKind) (table_view table.now)) }
+        ≡ text_from Key.ResolverKind (is_among resolver_kinds)
+        (get_member (name_of Key.ResolverKind) (table_view table.now)) }
 {
     match ResolverKind::named(text(table, Key::ResolverKind)?) {
         Some(kind) => Ok(kind),
@@ -118,8 +137,10 @@ fn resolver_kind(table: &Table) -> Result<ResolverKind, ConfigFault>
 
 /// The keys of a resolver by method.
 fn read_method<'a>(classes: &[ClassKeys], table: &'a Table) -> Result<ResolverKeys<'a>, ConfigFault>
-    requires { text_from Key.ResolverKind (is_among resolver_kinds) (get_member (name_of Key.ResolverKind) (table_view table.now)) ≡ Ok (codes "method") }
-    ensures { result_map resolver_values result ≡ section_of (map row_of classes.now) resolver_rows (table_view table.now) }
+    requires { text_from Key.ResolverKind (is_among resolver_kinds)
+        (get_member (name_of Key.ResolverKind) (table_view table.now)) ≡ Ok (codes "method") }
+    ensures { result_map resolver_values result
+        ≡ section_of (map row_of classes.now) resolver_rows (table_view table.now) }
 {
     let method = token(table, Key::ResolverMethod)?;
     let class = class_name(classes, table, Key::ResolverClass)?;
@@ -129,7 +150,8 @@ fn read_method<'a>(classes: &[ClassKeys], table: &'a Table) -> Result<ResolverKe
 /// The table of patterns, each with the name of a class.
 fn routes_at<'a>(classes: &[ClassKeys], table: &'a Table) -> Result<&'a Table, ConfigFault>
     ensures { result_map (λ t. routes_of (table_view t.now)) result
-        ≡ routes_from Key.ResolverRoutes (map row_of classes.now) (get_member (name_of Key.ResolverRoutes) (table_view table.now)) }
+        ≡ routes_from Key.ResolverRoutes (map row_of classes.now)
+        (get_member (name_of Key.ResolverRoutes) (table_view table.now)) }
 {
     let routes = table_at(table, Key::ResolverRoutes)?;
     if !are_strings(routes) {
@@ -151,7 +173,8 @@ fn count_of(routes: &Table) -> usize
 
 /// Whether each pattern has a text.
 fn are_strings(routes: &Table) -> bool
-    ensures { result ≡ list_all (λ pair. is_some (as_str pair.1)) (pairs_of (table_view routes.now)) }
+    ensures { result
+        ≡ list_all (λ pair. is_some (as_str pair.1)) (pairs_of (table_view routes.now)) }
 {
     have_strings(routes)
 }
@@ -165,14 +188,17 @@ fn have_strings(routes: &Table) -> bool
 
 /// Whether each pattern has the name of a class.
 fn are_classes(classes: &[ClassKeys], routes: &Table) -> bool
-    ensures { result ≡ list_all (λ pair. is_class (map row_of classes.now) (string_of pair.1)) (pairs_of (table_view routes.now)) }
+    ensures { result ≡ list_all (λ pair. is_class (map row_of classes.now) (string_of pair.1))
+        (pairs_of (table_view routes.now)) }
 {
     have_classes(classes, routes)
 }
 
 /// Whether each value is the name of a class.
 fn have_classes(classes: &[ClassKeys], routes: &Table) -> bool
-    ensures { result ≡ list_all (λ value. is_class (map row_of classes.now) (string_of (view value))) (values routes.now) }
+    ensures { result
+        ≡ list_all (λ value. is_class (map row_of classes.now) (string_of (view value)))
+        (values routes.now) }
 {
     routes
         .values()

@@ -1,19 +1,19 @@
 // The keys that aren't allowed where they stand.
-ghost use Rattle.std.specs.Prelude.{◌≡◌, ◌++◌, OnOk, IfOk, flat_map, map};
+ghost use Rattle.std.specs.Prelude.{◌≡◌, flat_map, fold, map, option_map};
 ghost use Rattle.toml.specs.View.{table_view};
 ghost use Rattle.gate_config.specs.Bypasses.{bypass_member};
 ghost use Rattle.gate_config.specs.Document.{document_values};
 ghost use Rattle.gate_config.specs.Resolvers.{resolver_member};
+ghost use Rattle.gate_config.specs.Tables.{tables_among};
+ghost use Rattle.gate_config.specs.Unknown.{least, lesser, stranger_of};
 ghost use Rattle.gate_config.specs.Strangers.{bypass_strangers, class_strangers, resolver_strangers, strangers_of};
 
 use crate::bypass::BypassKeys;
 use crate::document::Document;
 use crate::key::{Key, Section};
 use crate::resolver::ResolverKeys;
-use crate::unknown::add_strangers;
-use std::alloc::{AllocError, Global};
-use toml::Table;
-use wire::Text;
+use crate::unknown::{Stranger, least_in};
+use toml::{Table, Value};
 
 /// The keys outside all tables.
 const TOP: [Key; 12] = [
@@ -42,54 +42,62 @@ const WINDOW: [Key; 4] = [
 /// The keys of a class.
 const CLASS: [Key; 2] = [Key::ClassName, Key::ClassPercent];
 
-/// The paths of all keys that aren't allowed where they stand.
-pub fn strangers(alloc: Global, table: &Table, document: &Document) -> Result<Vec<Text>, AllocError>
-    ensures { IfOk result (λ paths. paths.items ≡ strangers_of (table_view table.now) (document_values document.now)) }
+/// The key that isn't allowed where it stands, of several the one with the least path.
+pub fn least_stranger<'a>(table: &'a Table, document: &Document<'a>) -> Option<Stranger<'a>>
+    ensures { option_map stranger_of result
+        ≡ least (strangers_of (table_view table.now) (document_values document.now)) }
 {
-    let mut paths = Vec::new(alloc);
-    add_strangers(alloc, &mut paths, Section::Top, &TOP, table)?;
+    let mut least = least_in(None, Section::Top, &TOP, table);
     let (limit, keys) = &document.limit;
-    add_strangers(alloc, &mut paths, Section::Limit, keys.keys(), limit)?;
+    least = least_in(least, Section::Limit, keys.keys(), limit);
     if let Some((window, _)) = &document.window {
-        add_strangers(alloc, &mut paths, Section::Window, &WINDOW, window)?;
+        least = least_in(least, Section::Window, &WINDOW, window);
     }
-    add_of_classes(alloc, &mut paths, &document.classes.0)?;
-    add_of_resolvers(alloc, &mut paths, &document.resolvers)?;
-    add_of_bypasses(alloc, &mut paths, &document.bypasses)?;
-    Ok(paths)
+    least = least_of_classes(least, document.classes.0);
+    least = least_of_resolvers(least, &document.resolvers);
+    least_of_bypasses(least, &document.bypasses)
 }
 
-fn add_of_classes(alloc: Global, paths: &mut Vec<Text>, tables: &[&Table]) -> Result<(), AllocError>
-    ensures { OnOk result (paths.new.items ≡ paths.old.items ++ flat_map class_strangers (map (λ t. table_view t.now) tables.now)) }
+fn least_of_classes<'a>(least: Option<Stranger<'a>>, items: &'a [Value]) -> Option<Stranger<'a>>
+    ensures { option_map stranger_of result
+        ≡ fold lesser (option_map stranger_of least.entry)
+        (flat_map class_strangers (tables_among items.now)) }
 {
-    for table in tables {
-        add_strangers(alloc, paths, Section::Class, &CLASS, table)?;
+    let mut least = least;
+    for item in items {
+        if let Some(table) = item.as_table() {
+            least = least_in(least, Section::Class, &CLASS, table);
+        }
     }
-    Ok(())
+    least
 }
 
-fn add_of_resolvers(
-    alloc: Global,
-    paths: &mut Vec<Text>,
-    resolvers: &[(&Table, ResolverKeys)],
-) -> Result<(), AllocError>
-    ensures { OnOk result (paths.new.items ≡ paths.old.items ++ flat_map resolver_strangers (map resolver_member resolvers.now)) }
+fn least_of_resolvers<'a>(
+    least: Option<Stranger<'a>>,
+    resolvers: &[(&'a Table, ResolverKeys)],
+) -> Option<Stranger<'a>>
+    ensures { option_map stranger_of result
+        ≡ fold lesser (option_map stranger_of least.entry)
+        (flat_map resolver_strangers (map resolver_member resolvers.now)) }
 {
+    let mut least = least;
     for (table, keys) in resolvers {
-        add_strangers(alloc, paths, Section::Resolver, keys.keys(), table)?;
+        least = least_in(least, Section::Resolver, keys.keys(), table);
     }
-    Ok(())
+    least
 }
 
-fn add_of_bypasses(
-    alloc: Global,
-    paths: &mut Vec<Text>,
-    rules: &[(&Table, BypassKeys)],
-) -> Result<(), AllocError>
-    ensures { OnOk result (paths.new.items ≡ paths.old.items ++ flat_map bypass_strangers (map bypass_member rules.now)) }
+fn least_of_bypasses<'a>(
+    least: Option<Stranger<'a>>,
+    rules: &[(&'a Table, BypassKeys)],
+) -> Option<Stranger<'a>>
+    ensures { option_map stranger_of result
+        ≡ fold lesser (option_map stranger_of least.entry)
+        (flat_map bypass_strangers (map bypass_member rules.now)) }
 {
+    let mut least = least;
     for (table, keys) in rules {
-        add_strangers(alloc, paths, Section::Bypass, keys.keys(), table)?;
+        least = least_in(least, Section::Bypass, keys.keys(), table);
     }
-    Ok(())
+    least
 }

@@ -1,21 +1,21 @@
 // Tables and arrays of tables at keys.
-ghost use Rattle.std.specs.Prelude.{◌≡◌, IfOk, is_some, map, option_map};
-ghost use Rattle.std.specs.List.{filter_map, list_all};
+ghost use Rattle.std.specs.Prelude.{◌≡◌, ◌≤◌, IfOk, is_some, length, map, option_map};
+ghost use Rattle.std.specs.List.{list_all};
 ghost use Rattle.toml.specs.Data.{as_array, as_table, get_member};
 ghost use Rattle.toml.specs.View.{table_view, view};
 ghost use Rattle.gate_config.specs.Key.{name_of};
-ghost use Rattle.gate_config.specs.Values.{Answers, result_map, table_from};
-ghost use Rattle.gate_config.specs.Tables.{items_in, optional_from, tables_from, tables_in};
+ghost use Rattle.gate_config.specs.Values.{result_map, table_from};
+ghost use Rattle.gate_config.specs.Tables.{items_in, optional_from, tables_among, tables_from, tables_in};
 
 use crate::entry::entry;
 use crate::fault::ConfigFault;
 use crate::key::Key;
-use std::alloc::{AllocError, Global};
 use toml::{Table, Value};
 
 /// The table at a key.
 pub fn table_at<'a>(table: &'a Table, key: Key) -> Result<&'a Table, ConfigFault>
-    ensures { result_map (λ t. table_view t.now) result ≡ table_from key (get_member (name_of key) (table_view table.now)) }
+    ensures { result_map (λ t. table_view t.now) result
+        ≡ table_from key (get_member (name_of key) (table_view table.now)) }
 {
     match entry(table, key) {
         Some(value) => match value.as_table() {
@@ -28,7 +28,8 @@ pub fn table_at<'a>(table: &'a Table, key: Key) -> Result<&'a Table, ConfigFault
 
 /// The table at a key that may be absent.
 pub fn optional_table_at<'a>(table: &'a Table, key: Key) -> Result<Option<&'a Table>, ConfigFault>
-    ensures { result_map (option_map (λ t. table_view t.now)) result ≡ optional_from key (get_member (name_of key) (table_view table.now)) }
+    ensures { result_map (option_map (λ t. table_view t.now)) result
+        ≡ optional_from key (get_member (name_of key) (table_view table.now)) }
 {
     match entry(table, key) {
         Some(value) => match value.as_table() {
@@ -39,38 +40,33 @@ pub fn optional_table_at<'a>(table: &'a Table, key: Key) -> Result<Option<&'a Ta
     }
 }
 
-/// The tables of the array at a key, of which there are at most `most`; none where it is absent.
-pub fn tables_at<'a>(
-    alloc: Global,
-    table: &'a Table,
-    key: Key,
-    most: usize,
-) -> Result<Vec<&'a Table>, ConfigFault>
-    ensures { Answers (λ tables. map (λ t. table_view t.now) tables.items) (tables_from key most (get_member (name_of key) (table_view table.now))) result }
+/// The items of the array at a key, which all are to be tables, and at most `most`; none where it is
+/// absent.
+pub fn tables_at<'a>(table: &'a Table, key: Key, most: usize) -> Result<&'a [Value], ConfigFault>
+    ensures few { IfOk result (λ items. length items.now ≤ most) }
+    ensures value { result_map (λ items. tables_among items.now) result
+        ≡ tables_from key most (get_member (name_of key) (table_view table.now)) }
 {
     let Some(value) = entry(table, key) else {
-        return Ok(Vec::new(alloc));
+        return Ok(&[]);
     };
     let Some(items) = items_of(value) else {
         return Err(ConfigFault::Kind(key));
     };
-    tables_in(alloc, items, key, most)
+    tables_in(items, key, most)
 }
 
 /// The items, which all are to be tables, and at most `most`.
-fn tables_in<'a>(
-    alloc: Global,
-    items: &'a [Value],
-    key: Key,
-    most: usize,
-) -> Result<Vec<&'a Table>, ConfigFault>
-    ensures { Answers (λ tables. map (λ t. table_view t.now) tables.items) (tables_in key most (map view items.now)) result }
+fn tables_in<'a>(items: &'a [Value], key: Key, most: usize) -> Result<&'a [Value], ConfigFault>
+    ensures few { IfOk result (λ items. length items.now ≤ most) }
+    ensures value { result_map (λ items. tables_among items.now) result
+        ≡ tables_in key most (map view items.now) }
 {
     if !are_tables(items) {
         return Err(ConfigFault::Kind(key));
     }
     if items.len() <= most {
-        Ok(tables_of(alloc, items)?)
+        Ok(items)
     } else {
         Err(ConfigFault::Value(key))
     }
@@ -78,7 +74,8 @@ fn tables_in<'a>(
 
 /// The items of an array.
 fn items_of<'a>(value: &'a Value) -> Option<&'a [Value]>
-    ensures { option_map (λ items. map view items.now) result ≡ option_map items_in (as_array (view value.now)) }
+    ensures { option_map (λ items. map view items.now) result
+        ≡ option_map items_in (as_array (view value.now)) }
 {
     match value.as_array() {
         Some(array) => Some(array.as_slice()),
@@ -98,17 +95,4 @@ fn have_tables(items: &[Value]) -> bool
     ensures { result ≡ list_all (λ item. is_some (as_table (view item))) items.now }
 {
     items.iter().all(|item| item.is_table())
-}
-
-/// The items that are tables.
-fn tables_of<'a>(alloc: Global, items: &'a [Value]) -> Result<Vec<&'a Table>, AllocError>
-    ensures { IfOk result (λ tables. map (λ t. table_view t.now) tables.items ≡ filter_map as_table (map view items.now)) }
-{
-    let mut tables = Vec::new(alloc);
-    for item in items {
-        if let Some(table) = item.as_table() {
-            tables.push(table)?;
-        }
-    }
-    Ok(tables)
 }

@@ -5,7 +5,7 @@ ghost use Rattle.toml.specs.View.{table_view};
 ghost use Rattle.gate_config.specs.Address.{is_address};
 ghost use Rattle.gate_config.specs.Key.{name_of};
 ghost use Rattle.gate_config.specs.Rows.{top_rows};
-ghost use Rattle.gate_config.specs.Values.{Answers, section_of, text_from};
+ghost use Rattle.gate_config.specs.Values.{result_map, section_of, text_from};
 ghost use Rattle.gate_config.specs.Sections.{IsTop, top_values};
 
 use crate::address::Address;
@@ -13,7 +13,6 @@ use crate::fault::ConfigFault;
 use crate::key::Key;
 use crate::number::{Range, flag, number};
 use crate::text::text;
-use std::alloc::Global;
 use toml::Table;
 
 /// The keys outside all tables.
@@ -32,12 +31,12 @@ pub struct TopKeys {
 }
 
 /// The keys outside all tables.
-pub fn read_top(alloc: Global, table: &Table) -> Result<TopKeys, ConfigFault>
+pub fn read_top(table: &Table) -> Result<TopKeys, ConfigFault>
     ensures within { IfOk result IsTop }
-    ensures said { Answers top_values (section_of [] top_rows (table_view table.now)) result }
+    ensures value { result_map top_values result ≡ section_of [] top_rows (table_view table.now) }
 {
-    let listen = read_address(alloc, table, Key::Listen)?;
-    let backend = read_address(alloc, table, Key::Backend)?;
+    let listen = read_address(table, Key::Listen)?;
+    let backend = read_address(table, Key::Backend)?;
     let backlog = number(table, Key::Backlog, Range::new(0, 10_000, 100))?;
     let wait = flag(table, Key::Wait, true)?;
     let timeout_ms = number(table, Key::TimeoutMs, Range::new(1, 3_600_000, 1_000))?;
@@ -53,10 +52,10 @@ pub fn read_top(alloc: Global, table: &Table) -> Result<TopKeys, ConfigFault>
 }
 
 /// The address at a key.
-fn read_address(alloc: Global, table: &Table, key: Key) -> Result<Address, ConfigFault>
-    ensures { Answers (λ a. a) (text_from key is_address (get_member (name_of key) (table_view table.now))) result }
+fn read_address(table: &Table, key: Key) -> Result<Address, ConfigFault>
+    ensures { result ≡ text_from key is_address (get_member (name_of key) (table_view table.now)) }
 {
-    match Address::parse(alloc, text(table, key)?)? {
+    match Address::parse(text(table, key)?) {
         Some(address) => Ok(address),
         None => Err(ConfigFault::Value(key)),
     }

@@ -1,32 +1,88 @@
 // A table's unknown keys, and the least of them.
-ghost use Rattle.std.specs.Prelude.{◌≡◌, ◌++◌, OnOk, IfOk, bytes_eq, map};
+ghost use Rattle.std.specs.Prelude.{◌≡◌, IfOk, bytes_eq, fold, map, option_map};
+ghost use Rattle.std.specs.Cmp.Lexicographic.{slice_cmp};
 ghost use Rattle.std.specs.List.{list_any};
+ghost use Rattle.std.specs.Ordering.{is_lt, nat_cmp};
 ghost use Rattle.toml.specs.View.{table_view};
-ghost use Rattle.gate_config.specs.Key.{name_of, prefix_of};
-ghost use Rattle.gate_config.specs.Unknown.{least_path, lesser, strangers_in};
+ghost use Rattle.gate_config.specs.Key.{name_of};
+ghost use Rattle.gate_config.specs.Unknown.{lesser, path_of, path_text, stranger_of, strangers_in};
 ghost use Rattle.gate_config.specs.Values.{is_among};
 
 use crate::key::{Key, Section};
+use crate::key_text::key_text;
 use std::alloc::{AllocError, Global};
 use toml::Table;
 use wire::Text;
 
-/// Adds the paths of a table's keys that its section doesn't have.
-pub fn add_strangers(
-    alloc: Global,
-    paths: &mut Vec<Text>,
+/// A key that isn't allowed where it stands.
+#[derive(Clone, Copy, Debug)]
+pub struct Stranger<'a> {
+    pub section: Section,
+    pub name: &'a str,
+}
+
+impl Stranger<'_> {
+    /// The key's dotted path as a fault tells it. Fails where memory is wanting.
+    pub fn path(&self, alloc: Global) -> Result<Text, AllocError>
+        ensures { IfOk result (λ path. path ≡ path_text (stranger_of self.now)) }
+    {
+        let prefix = self.section.prefix();
+        let name = key_text(alloc, self.name)?;
+        Ok(Text::new(format!(in alloc; "{prefix}{name}")?))
+    }
+
+    /// Whether this key's path is less than the other's in byte order.
+    fn is_before(&self, other: &Stranger) -> bool
+        ensures { result ≡ is_lt (slice_cmp nat_cmp
+            (path_of (stranger_of self.now)) (path_of (stranger_of other.now))) }
+    {
+        let path = self.section.prefix().bytes().chain(self.name.bytes());
+        let others = other.section.prefix().bytes().chain(other.name.bytes());
+        path.cmp(others).is_lt()
+    }
+}
+
+/// Of a key and a table's keys that its section doesn't have, the one with the least path.
+pub fn least_in<'a>(
+    least: Option<Stranger<'a>>,
     section: Section,
     keys: &[Key],
-    table: &Table,
-) -> Result<(), AllocError>
-    ensures { OnOk result (paths.new.items ≡ paths.old.items ++ strangers_in section (map name_of keys.now) (table_view table.now)) }
+    table: &'a Table,
+) -> Option<Stranger<'a>>
+    ensures { option_map stranger_of result
+        ≡ fold lesser (option_map stranger_of least.entry)
+        (strangers_in section (map name_of keys.now) (table_view table.now)) }
 {
+    let mut least = least;
     for name in table.keys() {
         if !is_name_of(keys, name.as_str()) {
-            paths.push(path(alloc, section, name.as_str())?)?;
+            least = lesser(
+                least,
+                Stranger {
+                    section,
+                    name: name.as_str(),
+                },
+            );
         }
     }
-    Ok(())
+    least
+}
+
+/// The one with the lesser path, where the first may be none.
+fn lesser<'a>(least: Option<Stranger<'a>>, key: Stranger<'a>) -> Option<Stranger<'a>>
+    ensures { option_map stranger_of result
+        ≡ lesser (option_map stranger_of least.entry) (stranger_of key.entry) }
+{
+    match least {
+        None => Some(key),
+        Some(best) => {
+            if key.is_before(&best) {
+                Some(key)
+            } else {
+                Some(best)
+            }
+        }
+    }
 }
 
 /// Whether one of the keys has this name.
@@ -48,39 +104,4 @@ fn is_called(key: Key, name: &str) -> bool
     ensures { result ≡ bytes_eq name.now (name_of key) }
 {
     name == key.name()
-}
-
-/// The dotted path of a name in a section.
-fn path(alloc: Global, section: Section, name: &str) -> Result<Text, AllocError>
-    ensures { IfOk result (λ path. path ≡ prefix_of section ++ name.now) }
-{
-    let prefix = section.prefix();
-    Ok(Text::new(format!(in alloc; "{prefix}{name}")?))
-}
-
-/// The least of the paths in byte order.
-pub fn least(paths: Vec<Text>) -> Option<Text>
-    ensures { result ≡ least_path paths.items }
-{
-    let mut least: Option<Text> = None;
-    for path in paths {
-        least = lesser(least, path);
-    }
-    least
-}
-
-/// The lesser of two paths, where the first may be none.
-fn lesser(least: Option<Text>, path: Text) -> Option<Text>
-    ensures { result ≡ lesser least path }
-{
-    match least {
-        None => Some(path),
-        Some(best) => {
-            if path.as_str() < best.as_str() {
-                Some(path)
-            } else {
-                Some(best)
-            }
-        }
-    }
 }

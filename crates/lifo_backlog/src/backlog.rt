@@ -1,5 +1,6 @@
 // The stack of waiters.
-ghost use Rattle.std.specs.Prelude.{◌≡◌, ℕ, ◌<◌, ◌≤◌, ◌==◌, ◌↔◌, not, [], ◌∷◌, ◌++◌, length, filter, find, All, IfOk, IfSome, OnOk, OnErr, IsErr, IsErrOf, IsTrue};
+ghost use Rattle.std.specs.Prelude.{◌≡◌, ℕ, ◌+◌, ◌<◌, ◌≤◌, ◌==◌, ◌↔◌, not, [], ◌∷◌, ◌++◌, length, filter};
+ghost use Rattle.std.specs.Prelude.{find, All, vec_capacity, IfOk, IfSome, OnOk, OnErr, IsErr, IsErrOf, IsTrue};
 ghost use Rattle.std.specs.List.{list_any};
 ghost use Rattle.lifo_backlog.specs.Waiters.{newest_of};
 
@@ -91,6 +92,16 @@ impl Backlog {
             .copied()
     }
 
+    /// Copies those who wait, in rising order of number, behind what this list holds, into room that it
+    /// has: no memory is taken.
+    pub fn copy_into(&self, into: &mut Vec<Waiter>)
+        requires { length into.old.items + length self.now.waiting ≤ vec_capacity into.old }
+        ensures items { into.new.items ≡ into.old.items ++ self.now.waiting }
+        ensures room { vec_capacity into.new ≡ vec_capacity into.old }
+    {
+        copy_all(&self.waiters, into);
+    }
+
     /// Whether the waiter with this number waits.
     pub fn waits(&self, number: u64) -> bool
         ensures { result ≡ list_any (λ one. one.number == number) self.now.waiting }
@@ -119,5 +130,16 @@ impl Backlog {
         ensures at_most { result ≤ 10000 }
     {
         self.room as u32
+    }
+}
+
+/// Copies these waiters behind what the list holds.
+fn copy_all(waiters: &[Waiter], into: &mut Vec<Waiter>)
+    requires { length into.old.items + length waiters.now ≤ vec_capacity into.old }
+    ensures items { into.new.items ≡ into.old.items ++ waiters.now }
+    ensures room { vec_capacity into.new ≡ vec_capacity into.old }
+{
+    for waiter in waiters {
+        into.push_reserved(*waiter);
     }
 }

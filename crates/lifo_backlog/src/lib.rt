@@ -13,6 +13,3 @@ mod waiter;
 pub use backlog::Backlog;
 pub use fault::{BacklogFault, Full};
 pub use waiter::Waiter;
-
-#[cfg(test)]
-mod tests;

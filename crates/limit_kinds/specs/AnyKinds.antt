@@ -1,9 +1,9 @@
 -- A limit over each sample or over windows, as one: each keeps its own rule.
-use Rattle.std.specs.Prelude.{ℕ, Result}
+use Rattle.std.specs.Prelude.{ℕ, Option, None, Some, Result}
 use Rattle.limit_laws.specs.declared.limit.SetFault.{SetFault}
 use Rattle.limit_laws.specs.Facts.{SampleFacts}
 use Rattle.limit_laws.specs.Algorithm.{Algorithm}
-use Rattle.windowed.specs.WindowedRules.{WindowedState, windowed_rules}
+use Rattle.windowed.specs.WindowedRules.{WindowNumbers, WindowedState, opened, windowed_rules}
 use Rattle.limit_kinds.specs.declared.kinds.BaseLimit.{BaseLimit}
 use Rattle.limit_kinds.specs.declared.kinds.AnyLimit.{AnyLimit}
 use Rattle.limit_kinds.specs.declared.kinds.AnyLimit.TheVariants.{Plain, Windowed}
@@ -39,4 +39,16 @@ any_first (Windowed s) = Windowed (window_rules.first s)
 
 -- the rule that a limit has
 abbrev pub any_rules : Algorithm AnyLimit
-any_rules = record { lo = any_lo; limit = any_limit; hi = any_hi; next = any_next; put = any_put; first = any_first }
+any_rules = record {
+  lo = any_lo;
+  limit = any_limit;
+  hi = any_hi;
+  next = any_next;
+  put = any_put;
+  first = any_first;
+}
+
+-- a limit over each sample, or over windows of these numbers before their first sample
+abbrev pub any_from : BaseLimit → Option WindowNumbers → AnyLimit
+any_from base None = Plain base
+any_from base (Some w) = Windowed (opened w base)

@@ -53,4 +53,11 @@ base_first (Vegas s) = Vegas (vegas_rules.first s)
 
 -- the rule of the kind that a limit is of
 abbrev pub base_rules : Algorithm BaseLimit
-base_rules = record { lo = base_lo; limit = base_limit; hi = base_hi; next = base_next; put = base_put; first = base_first }
+base_rules = record {
+  lo = base_lo;
+  limit = base_limit;
+  hi = base_hi;
+  next = base_next;
+  put = base_put;
+  first = base_first;
+}

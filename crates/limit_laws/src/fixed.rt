@@ -1,9 +1,10 @@
 // A limit that never changes.
 ghost use Rattle.std.specs.Prelude.{◌≡◌, ◌≤◌, ◌↔◌, IfOk, OnErr, IsOk};
+ghost use Rattle.limit_laws.specs.Algorithm.{greatest_limit};
 ghost use Rattle.limit_laws.specs.FixedRules.{fixed_rules};
 ghost use Rattle.limit_laws.specs.FixedLaws.{IsLawful-fixed};
 
-use super::limit::{Limit, MOST_LIMIT, MakeFault, SetFault};
+use super::limit::{GREATEST_LIMIT, Limit, MakeFault, SetFault};
 use super::sample::Sample;
 use std::marker::Model;
 
@@ -15,12 +16,13 @@ pub struct Fixed {
 
 impl Model for Fixed {
     ghost use Rattle.std.specs.Prelude.{ℕ, ◌≤◌};
+    ghost use Rattle.limit_laws.specs.Algorithm.{greatest_limit};
 
     ghost Value = { ℕ };
 
     ghost view = { λ f. f.limit };
 
-    ghost invariant = { λ f. (1 ≤ f.limit) × (f.limit ≤ 10000) };
+    ghost invariant = { λ f. (1 ≤ f.limit) × (f.limit ≤ greatest_limit) };
 
     ghost inverse = { λ n. record { limit = n } };
 }
@@ -28,11 +30,11 @@ impl Model for Fixed {
 impl Fixed {
     /// The limit of `n` permits; [`MakeFault::Range`] unless it is 1 to 10,000.
     pub fn new(n: u32) -> Result<Fixed, MakeFault>
-        ensures made { IsOk result ↔ ((1 ≤ n) × (n ≤ MOST_LIMIT)) }
+        ensures made { IsOk result ↔ ((1 ≤ n) × (n ≤ greatest_limit)) }
         ensures value { IfOk result (λ fixed. fixed ≡ n) }
         ensures refused { OnErr result (result ≡ Err MakeFault.Range) }
     {
-        if n < 1 || n > MOST_LIMIT {
+        if n < 1 || n > GREATEST_LIMIT {
             return Err(MakeFault::Range);
         }
         Ok(Fixed { limit: n })

@@ -6,7 +6,7 @@ ghost use Rattle.limit_laws.specs.Algorithm.{Algorithm, IsWithin, IsLawful};
 use super::sample::Sample;
 
 /// The greatest limit that an algorithm may have, in permits.
-pub const MOST_LIMIT: u32 = 10_000;
+pub const GREATEST_LIMIT: u32 = 10_000;
 
 /// Why an algorithm is not made. Where several apply, the first in this order is answered.
 #[derive(Clone, Copy, Debug, PartialEq, Eq)]

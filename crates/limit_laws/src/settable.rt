@@ -1,9 +1,10 @@
 // A limit that changes by hand only.
 ghost use Rattle.std.specs.Prelude.{◌≡◌, ◌≤◌, ◌↔◌, IfOk, OnErr, IsOk};
-ghost use Rattle.limit_laws.specs.SettableRules.{settable_rules};
+ghost use Rattle.limit_laws.specs.Algorithm.{greatest_limit};
+ghost use Rattle.limit_laws.specs.SettableRules.{settable_rules, settable_from};
 ghost use Rattle.limit_laws.specs.SettableLaws.{IsLawful-settable};
 
-use super::limit::{Limit, MOST_LIMIT, MakeFault, SetFault};
+use super::limit::{GREATEST_LIMIT, Limit, MakeFault, SetFault};
 use super::sample::Sample;
 use std::marker::Model;
 
@@ -23,7 +24,12 @@ impl Model for Settable {
 
     ghost view = { λ s. record { lo = s.lo; limit = s.limit; hi = s.hi; first = s.first } };
 
-    ghost invariant = { λ s. IsSettable (record { lo = s.lo; limit = s.limit; hi = s.hi; first = s.first }) };
+    ghost invariant = { λ s. IsSettable (record {
+      lo = s.lo;
+      limit = s.limit;
+      hi = s.hi;
+      first = s.first;
+    }) };
 
     ghost inverse = { λ v. record { lo = v.lo; limit = v.limit; hi = v.hi; first = v.first } };
 }
@@ -32,11 +38,11 @@ impl Settable {
     /// The limit of `n` permits, which may be set from `lo` to `hi` permits; [`MakeFault::Range`]
     /// unless `1 <= lo <= n <= hi <= 10,000`.
     pub fn new(lo: u32, n: u32, hi: u32) -> Result<Settable, MakeFault>
-        ensures made { IsOk result ↔ ((1 ≤ lo) × (lo ≤ n) × (n ≤ hi) × (hi ≤ MOST_LIMIT)) }
-        ensures value { IfOk result (λ settable. settable ≡ record { lo = lo; limit = n; hi = hi; first = n }) }
+        ensures made { IsOk result ↔ ((1 ≤ lo) × (lo ≤ n) × (n ≤ hi) × (hi ≤ greatest_limit)) }
+        ensures value { IfOk result (λ settable. settable ≡ settable_from lo n hi) }
         ensures refused { OnErr result (result ≡ Err MakeFault.Range) }
     {
-        if lo < 1 || n < lo || hi < n || MOST_LIMIT < hi {
+        if lo < 1 || n < lo || hi < n || GREATEST_LIMIT < hi {
             return Err(MakeFault::Range);
         }
         Ok(Settable {

@@ -15,7 +15,8 @@ pub mod Applying
 pub mod Countings
 pub mod Finds
 pub mod Broughts
+pub mod Inserted
 pub mod Agreeing
 pub mod Opens
-pub mod Comings
+pub mod Numbers
 mod Rows

@@ -1,17 +1,17 @@
 -- A sound image stays sound with each entry that is an answer.
-use Rattle.std.proofs.Common.{◌≡◌, ℕ, zero, suc, ◌+◌, ◌-◌, ◌*◌, ◌<◌, ◌≤◌, ◌==◌, List, [], ◌∷◌, ◌++◌, Bool, true, false, not, cond, length, min, Option, None, Some, sum_by, count_by, filter, refl, sym, ap, ◌∙◌, subst, arith, zero-le, le_trans, slice_get, ltb, ◌/◌, mul-le-mul_right, div-mul-le_self, ⊎_elim, ltb-true, eqb-true, length-append, get_or, nat_lt, ltb-false, eq-eqb}
+use Rattle.std.proofs.Common.{◌≡◌, ℕ, zero, suc, ◌+◌, ◌-◌, ◌<◌, ◌≤◌, ◌==◌, List, [], ◌∷◌, ◌++◌, Bool, true, false, not, cond, length, min, sum_by, count_by, filter, refl, sym, ap, ◌∙◌, subst, arith, zero-le, le_trans, slice_get, ltb, ⊎_elim, ltb-true, eqb-true, length-append, get_or, nat_lt, ltb-false, eq-eqb}
 use Rattle.std.proofs.lemmas.List.Sums.{sum_by-append, sum_by-cons, length-filter, count_by-le-length}
 use Rattle.std.proofs.lemmas.List.Quantifiers.{all_pairs_push}
 use Rattle.std.proofs.lemmas.List.Kept.{AllPairs-filter}
 use Rattle.std.proofs.lemmas.Bool.{or_cases}
-use Rattle.std.proofs.lemmas.Nat.{le-div}
 use Rattle.limit_laws.specs.Algorithm.{IsWithin}
 use Rattle.partitions.specs.declared.part.Part.{Part}
 use Rattle.limiter_core.specs.declared.event.PermitFacts.{PermitFacts}
 use Rattle.lifo_backlog.specs.declared.waiter.Waiter.{Waiter}
-use Rattle.partitions.specs.Table.{Row, place_of, share, row_share, percent_share, places}
-use Rattle.partitions.proofs.Shares.{percent_share-divides}
-use Rattle.limiter_core.specs.History.{Gate, Image, limit, total}
+use Rattle.partitions.specs.Table.{Row, place_of, share, row_share, places}
+use Rattle.partitions.specs.ShareLaws.{share-mono}
+use Rattle.limiter_core.proofs.Inserted.{count-inserted, none_counted, in_order-inserted}
+use Rattle.limiter_core.specs.History.{Gate, Image, limit, total, inserted}
 use Rattle.limiter_core.specs.Answer.{granted_at, has_room}
 use Rattle.limiter_core.specs.Bound.{IsSound, bound_at, named}
 
@@ -81,22 +81,9 @@ leaves-bounded rows hi k f small fits bounded =
       min-down (f 3) (share rows 3 hi) (cond (k == 3) 1 0) (bit-small (k == 3)),
     )
 
--- a share grows with the limit
-percent-mono : (percent a b : ℕ) → a ≤ b → percent_share percent a ≤ percent_share percent b
-percent-mono percent a b h =
-    let hundredths : (a * percent + 99) / 100 ≤ (b * percent + 99) / 100 = le-div ((a * percent + 99) / 100) (b * percent + 99) 100 (omega arith) (omega (arith, mul-le-mul_right percent h, div-mul-le_self (a * percent + 99) 100)) in
-    omega (arith, hundredths, percent_share-divides percent a, percent_share-divides percent b)
-
-row-mono : (row : Option Row) (a b : ℕ) → a ≤ b → row_share row a ≤ row_share row b
-row-mono None a b h = zero-le
-row-mono (Some row) a b h = percent-mono row.percent a b h
-
-share-mono : (rows : List Row) (k a b : ℕ) → a ≤ b → share rows k a ≤ share rows k b
-share-mono rows k a b h = elim (k == 4) as (λ t. cond t 0 (row_share (slice_get rows k) a) ≤ cond t 0 (row_share (slice_get rows k) b)) [ true ↦ zero-le | false ↦ row-mono (slice_get rows k) a b h ]
-
 module _ {S : Type 0} (g : Gate S) (i : Image S) where
   pub sound_quiet : IsSound g i → IsSound g (record i { next = i.next + 1 })
-  sound_quiet s = record { four = s.four; within = s.within; bounded = s.bounded; backed = s.backed; few = s.few; rising = s.rising; distinct = s.distinct; below = λ n h. s.below n (omega (arith, h)) }
+  sound_quiet s = record { four = s.four; within = s.within; bounded = s.bounded; backed = s.backed; few = s.few; rising = s.rising; in_order = s.in_order; distinct = s.distinct; below = λ n h. s.below n (omega (arith, h)) }
 
   enters-bounded : (k : ℕ) → k < 5 → IsSound g i → has_room g i k ≡ true → sum_by (λ p. i.inflight p + cond (k == p) 1 0) places ≤ bound_at g.rows (g.rules.hi i.state) (λ p. i.inflight p + cond (k == p) 1 0)
   enters-bounded k small s room = ⊎_elim
@@ -113,6 +100,7 @@ module _ {S : Type 0} (g : Gate S) (i : Image S) where
     backed = λ p. omega (arith, s.backed p);
     few = s.few;
     rising = s.rising;
+    in_order = s.in_order;
     distinct = s.distinct;
     below = λ n h. s.below n (omega (arith, h));
   }
@@ -137,6 +125,7 @@ module _ {S : Type 0} (g : Gate S) (i : Image S) where
         backed = s.backed;
         few = omega (arith, longer, few);
         rising = all_pairs_push (λ v w. v.number < w.number) i.waiters one s.rising (waiter-below s);
+        in_order = s.in_order;
         distinct = λ n. own n (i.next == n) refl (counted n) (s.distinct n) (s.below n);
         below = λ n h. later n (i.next == n) refl h (counted n) (s.below n (omega (arith, h)));
       }
@@ -178,6 +167,7 @@ module _ {S : Type 0} (g : Gate S) (i : Image S) where
           backed = λ p. le_trans (fewer (λ permit. place_of g.rows permit.part == p)) (s.backed p);
           few = s.few;
           rising = s.rising;
+          in_order = AllPairs-filter (λ one later. one.number < later.number) (λ permit. not (permit.number == number)) i.granted s.in_order;
           distinct = λ n. omega (arith, fewer (λ permit. permit.number == n), s.distinct n);
           below = λ n h. omega (arith, fewer (λ permit. permit.number == n), s.below n (omega (arith, h)));
         }
@@ -192,6 +182,7 @@ module _ {S : Type 0} (g : Gate S) (i : Image S) where
           backed = s.backed;
           few = le_trans (shorter (λ (w : Waiter). not (w.number == number)) i.waiters) s.few;
           rising = AllPairs-filter (λ v w. v.number < w.number) (λ w. not (w.number == number)) i.waiters s.rising;
+          in_order = s.in_order;
           distinct = λ n. omega (arith, fewer (λ w. w.number == n), s.distinct n);
           below = λ n h. omega (arith, fewer (λ w. w.number == n), s.below n (omega (arith, h)));
         }
@@ -204,6 +195,7 @@ module _ {S : Type 0} (g : Gate S) (i : Image S) where
       backed = s.backed;
       few = s.few;
       rising = s.rising;
+      in_order = s.in_order;
       distinct = s.distinct;
       below = λ n h. s.below n (omega (arith, h));
     }
@@ -225,6 +217,7 @@ module _ {S : Type 0} (g : Gate S) (i : Image S) where
       backed = λ p. backed-leave k p (k == p) refl more (s.backed p);
       few = s.few;
       rising = s.rising;
+      in_order = s.in_order;
       distinct = s.distinct;
       below = λ n h. s.below n (omega (arith, h));
     }
@@ -232,13 +225,13 @@ module _ {S : Type 0} (g : Gate S) (i : Image S) where
     pub sound_promotion : (waiter start n : ℕ) (part : Part) → place_of g.rows part < 5 → has_room g i (place_of g.rows part) ≡ true → 0 < count_by (λ w. w.number == waiter) i.waiters → IsSound g (record i {
       inflight = λ p. i.inflight p + cond (place_of g.rows part == p) 1 0;
       waiters = filter (λ w. not (w.number == waiter)) i.waiters;
-      granted = i.granted ++ record { number = waiter; part = part; start = start; inflight = n } ∷ [];
+      granted = inserted (record { number = waiter; part = part; start = start; inflight = n }) i.granted;
       next = i.next + 1;
     })
     sound_promotion waiter start m part small room waits =
         let one : PermitFacts = record { number = waiter; part = part; start = start; inflight = m } in
         let fewer : (t : Waiter → Bool) → count_by t (filter (λ w. not (w.number == waiter)) i.waiters) ≤ count_by t i.waiters = λ t. count-filter-le t (λ (w : Waiter). not (w.number == waiter)) i.waiters in
-        let more : (t : PermitFacts → Bool) → count_by t (i.granted ++ one ∷ []) ≡ count_by t i.granted + (0 + cond (t one) 1 0) = λ t. sum_by-append (λ x. cond (t x) 1 0) i.granted (one ∷ []) in
+        let more : (t : PermitFacts → Bool) → count_by t (inserted one i.granted) ≡ count_by t i.granted + cond (t one) 1 0 = λ t. count-inserted t one i.granted in
         record {
           four = s.four;
           within = s.within;
@@ -246,13 +239,14 @@ module _ {S : Type 0} (g : Gate S) (i : Image S) where
           backed = λ p. omega (arith, more (λ permit. place_of g.rows permit.part == p), s.backed p);
           few = le_trans (shorter (λ (w : Waiter). not (w.number == waiter)) i.waiters) s.few;
           rising = AllPairs-filter (λ v w. v.number < w.number) (λ w. not (w.number == waiter)) i.waiters s.rising;
+          in_order = in_order-inserted one i.granted s.in_order (none_counted i.granted waiter (omega (arith, s.distinct waiter, waits)));
           distinct = λ n. at n (waiter == n) refl (fewer (λ w. w.number == n)) (more (λ permit. permit.number == n));
           below = λ n h. later n (waiter == n) refl (fewer (λ w. w.number == n)) (more (λ permit. permit.number == n)) (s.below n (omega (arith, h)));
         }
       where
         at : (n : ℕ) (b : Bool) → (waiter == n) ≡ b → count_by (λ w. w.number == n) (filter (λ w. not (w.number == waiter)) i.waiters) ≤ count_by (λ w. w.number == n) i.waiters
-            → count_by (λ permit. permit.number == n) (i.granted ++ record { number = waiter; part = part; start = start; inflight = m } ∷ []) ≡ count_by (λ permit. permit.number == n) i.granted + (0 + cond b 1 0)
-            → count_by (λ w. w.number == n) (filter (λ w. not (w.number == waiter)) i.waiters) + count_by (λ permit. permit.number == n) (i.granted ++ record { number = waiter; part = part; start = start; inflight = m } ∷ []) ≤ 1
+            → count_by (λ permit. permit.number == n) (inserted (record { number = waiter; part = part; start = start; inflight = m }) i.granted) ≡ count_by (λ permit. permit.number == n) i.granted + cond b 1 0
+            → count_by (λ w. w.number == n) (filter (λ w. not (w.number == waiter)) i.waiters) + count_by (λ permit. permit.number == n) (inserted (record { number = waiter; part = part; start = start; inflight = m }) i.granted) ≤ 1
         at n true e f c =
             let q : waiter ≡ n = eqb-true waiter n e in
             let gone : count_by (λ w. w.number == n) (filter (λ w. not (w.number == waiter)) i.waiters) ≡ 0 = subst (λ (x : ℕ). count_by (λ w. w.number == x) (filter (λ w. not (w.number == waiter)) i.waiters) ≡ 0) q (count-gone (λ (w : Waiter). w.number == waiter) i.waiters) in
@@ -261,8 +255,8 @@ module _ {S : Type 0} (g : Gate S) (i : Image S) where
         at n false e f c = omega (arith, c, f, s.distinct n)
 
         later : (n : ℕ) (b : Bool) → (waiter == n) ≡ b → count_by (λ w. w.number == n) (filter (λ w. not (w.number == waiter)) i.waiters) ≤ count_by (λ w. w.number == n) i.waiters
-            → count_by (λ permit. permit.number == n) (i.granted ++ record { number = waiter; part = part; start = start; inflight = m } ∷ []) ≡ count_by (λ permit. permit.number == n) i.granted + (0 + cond b 1 0)
+            → count_by (λ permit. permit.number == n) (inserted (record { number = waiter; part = part; start = start; inflight = m }) i.granted) ≡ count_by (λ permit. permit.number == n) i.granted + cond b 1 0
             → named i n ≡ 0
-            → count_by (λ w. w.number == n) (filter (λ w. not (w.number == waiter)) i.waiters) + count_by (λ permit. permit.number == n) (i.granted ++ record { number = waiter; part = part; start = start; inflight = m } ∷ []) ≡ 0
+            → count_by (λ w. w.number == n) (filter (λ w. not (w.number == waiter)) i.waiters) + count_by (λ permit. permit.number == n) (inserted (record { number = waiter; part = part; start = start; inflight = m }) i.granted) ≡ 0
         later n true e f c z = absurd (omega (arith, z, subst (λ (x : ℕ). 0 < count_by (λ w. w.number == x) i.waiters) (eqb-true waiter n e) waits))
         later n false e f c z = omega (arith, c, f, z)

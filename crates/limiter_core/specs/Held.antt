@@ -1,4 +1,4 @@
--- What the parts of a limiter show: permits by place, and granted permits, each with its reserved room.
+-- What the parts of a limiter show: permits by place, and granted permits, each with reserved room.
 use Rattle.std.specs.Prelude.{ℕ, List, [], ◌∷◌, count_by, ◌==◌}
 use Rattle.limiter_core.specs.declared.event.PermitFacts.{PermitFacts}
 
@@ -9,9 +9,11 @@ pub record Counted : Type 0 where
 
 -- how many of a list of places are of each
 abbrev pub counts_of : List ℕ → List ℕ
-counts_of xs = count_by (λ q. q == 0) xs ∷ count_by (λ q. q == 1) xs ∷ count_by (λ q. q == 2) xs ∷ count_by (λ q. q == 3) xs ∷ count_by (λ q. q == 4) xs ∷ []
+counts_of xs =
+    count_by (λ q. q == 0) xs ∷ count_by (λ q. q == 1) xs ∷ count_by (λ q. q == 2) xs
+    ∷ count_by (λ q. q == 3) xs ∷ count_by (λ q. q == 4) xs ∷ []
 
--- permits, the oldest first, and for how many there is room
+-- permits in rising order of number, and for how many there is room
 pub record Kept : Type 0 where
   pub permits : List PermitFacts
   pub room : ℕ

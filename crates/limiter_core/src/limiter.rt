@@ -1,14 +1,13 @@
 // The sequential limiter.
-ghost use Rattle.std.specs.Prelude.{◌≡◌, ◌≤◌, ◌<◌, ◌+◌, ◌*◌, ◌^◌, ◌∷◌, [], ◌↔◌, IsTrue, map, length, find, is_some, option_to_list, vec_capacity, IfOk, IsErrOf};
-ghost use Rattle.std.specs.List.{list_any};
+ghost use Rattle.std.specs.Prelude.{◌≡◌, ◌≤◌, ◌<◌, ◌+◌, ◌^◌, ◌++◌, ◌↔◌, [], length, is_some};
+ghost use Rattle.std.specs.Prelude.{option_to_list, vec_capacity, IfOk, IsErrOf};
 ghost use Rattle.partitions.specs.Table.{place_of, bound};
-ghost use Rattle.limiter_core.specs.declared.event.Entry.TheVariants.{Call};
-ghost use Rattle.limiter_core.specs.History.{image_after, total, limit};
+ghost use Rattle.limiter_core.specs.History.{AreInOrder, image_after, total, limit};
 ghost use Rattle.limiter_core.specs.Answer.{answer, granted_of, waits};
 ghost use Rattle.limiter_core.specs.Legal.{MayCome};
-ghost use Rattle.limiter_core.specs.Bound.{IsNumbered, owed, most_owed};
-ghost use Rattle.limiter_core.specs.Counting.{counters_after, no_counts};
-ghost use Rattle.limiter_core.specs.Limiter.{Limiter, gate_of, stands, entry_of};
+ghost use Rattle.limiter_core.specs.Bound.{IsNumbered, IsSound, owed, most_owed};
+ghost use Rattle.limiter_core.specs.Counting.{counters_after};
+ghost use Rattle.limiter_core.specs.Limiter.{gate_of, stands, added, unasked};
 
 use super::counters::Counters;
 use super::event::{Event, PermitFacts, Promotion, Reply};
@@ -16,7 +15,7 @@ use super::fault::CoreFault;
 use super::granted::GrantedPermits;
 use super::permits::Permits;
 use super::state::State;
-use lifo_backlog::Backlog;
+use lifo_backlog::{Backlog, Waiter};
 use limit_laws::Limit;
 use partitions::{Part, PartitionTable};
 use std::alloc::Global;
@@ -41,9 +40,20 @@ impl<L: Limit> Model for Core<L> {
 
     ghost Value = { Limiter L };
 
-    ghost view = { λ c. record { rows = c.state.table; room = c.state.backlog.room; state = c.state.limit; counts = c.state.permits.counts; waiters = c.state.backlog.waiting; granted = c.state.granted.permits; next = c.state.next; promoted = c.promoted.items; counters = c.counters } };
+    ghost view = { λ c. record {
+      rows = c.state.table;
+      room = c.state.backlog.room;
+      state = c.state.limit;
+      counts = c.state.permits.counts;
+      waiters = c.state.backlog.waiting;
+      granted = c.state.granted.permits;
+      next = c.state.next;
+      promoted = c.promoted.items;
+      counters = c.counters;
+    } };
 
-    ghost invariant = { λ c. IsHeld L.rules c.state × (1 ≤ vec_capacity c.promoted) × AreAtMost c.counters c.state.next };
+    ghost invariant = { λ c. IsHeld L.rules c.state
+        × (1 ≤ vec_capacity c.promoted) × AreAtMost c.counters c.state.next };
 }
 
 impl<L: Limit> Core<L> {
@@ -57,7 +67,7 @@ impl<L: Limit> Core<L> {
         table: PartitionTable,
         room: u32,
     ) -> Result<Core<L>, CoreFault>
-        ensures made { IfOk result (λ core. core ≡ record { rows = table; room = room; state = limit; counts = 0 ∷ 0 ∷ 0 ∷ 0 ∷ 0 ∷ []; waiters = []; granted = []; next = 0; promoted = []; counters = no_counts }) }
+        ensures made { IfOk result (λ core. core ≡ unasked table room limit) }
         ensures room { IsErrOf result CoreFault.Room ↔ (10000 < room) }
     {
         let backlog = Backlog::new(alloc, room)?;
@@ -88,10 +98,13 @@ impl<L: Limit> Core<L> {
     pub fn apply(&mut self, event: Event) -> Reply
         requires may { MayCome (gate_of L.rules self.old) (stands self.old) event }
         requires number { IsNumbered (gate_of L.rules self.old) (stands self.old) event }
-        ensures entries { Call event result ∷ map entry_of self.new.promoted ≡ answer (gate_of L.rules self.old) (stands self.old) [] event }
-        ensures stands { stands self.new ≡ image_after (gate_of L.rules self.old) (stands self.old) (Call event result ∷ map entry_of self.new.promoted) }
+        ensures entries { added event result self.new
+            ≡ answer (gate_of L.rules self.old) (stands self.old) [] event }
+        ensures stands { stands self.new
+            ≡ image_after (gate_of L.rules self.old) (stands self.old) (added event result self.new) }
         ensures gate { gate_of L.rules self.new ≡ gate_of L.rules self.old }
-        ensures counters { self.new.counters ≡ counters_after self.old.counters (Call event result ∷ map entry_of self.new.promoted) }
+        ensures counters { self.new.counters
+            ≡ counters_after self.old.counters (added event result self.new) }
     {
         let (reply, promotion) = self.state.apply(event);
         self.counters.count(event, reply, promotion);
@@ -109,7 +122,8 @@ impl<L: Limit> Core<L> {
     /// The number of the next entry. It leaves room for the numbers of all entries that are owed.
     pub fn next_number(&self) -> u64
         ensures value { result ≡ self.now.next }
-        ensures owed { result + owed (stands self.now) ≤ 2 ^ 62 + most_owed (gate_of L.rules self.now) (stands self.now) }
+        ensures owed { result + owed (stands self.now)
+            ≤ 2 ^ 62 + most_owed (gate_of L.rules self.now) (stands self.now) }
     {
         self.state.next
     }
@@ -169,6 +183,58 @@ impl<L: Limit> Core<L> {
         ensures { result ≡ granted_of (stands self.now) number }
     {
         self.state.granted.find(number)
+    }
+
+    /// The algorithm in its present state.
+    pub fn algorithm(&self) -> &L
+        ensures { result.now ≡ self.now.state }
+    {
+        &self.state.limit
+    }
+
+    /// How many permits aren't ended, place by place: of the known partitions, then of the unknown
+    /// one, which is the last of the five.
+    pub fn counts(&self) -> [u32; 5]
+        ensures { result ≡ self.now.counts }
+    {
+        self.state.permits.counts()
+    }
+
+    /// Copies those who wait, in rising order of number, behind what this list holds, into room
+    /// that it has.
+    pub fn copy_waiters(&self, into: &mut Vec<Waiter>)
+        requires { length into.old.items + length self.now.waiters ≤ vec_capacity into.old }
+        ensures items { into.new.items ≡ into.old.items ++ self.now.waiters }
+        ensures room { vec_capacity into.new ≡ vec_capacity into.old }
+    {
+        self.state.backlog.copy_into(into);
+    }
+
+    /// The promoted permits that nobody has got yet, in rising order of number.
+    pub fn granted_permits(&self) -> &[PermitFacts]
+        ensures permits { result.now ≡ self.now.granted }
+        ensures in_order { AreInOrder result.now }
+    {
+        self.state.granted.permits()
+    }
+
+    /// The most permits that can ever be in flight: the greatest limit and the shares at it, at
+    /// most 50,000.
+    pub fn bound(&self) -> u32
+        ensures value { result ≡ bound self.now.rows (L.rules.hi self.now.state) }
+        ensures at_most { result ≤ 50000 }
+    {
+        self.state.table.most(self.state.limit.hi()) as u32
+    }
+
+    /// Does nothing: what every limiter keeps is in its contract. What stands is sound, and the
+    /// next number leaves room for the numbers of all entries that are owed.
+    pub fn check(&self)
+        ensures sound { IsSound (gate_of L.rules self.now) (stands self.now) }
+        ensures owed { self.now.next + owed (stands self.now)
+            ≤ 2 ^ 62 + most_owed (gate_of L.rules self.now) (stands self.now) }
+    {
+        let _kept = &self.state;
     }
 
     /// How many replies, promotions and outcomes of each kind there were since this core was made.

@@ -14,9 +14,7 @@ use Rattle.limiter_core.specs.Legal.{IsLegal, nothing, more, MayCome}
 use Rattle.limiter_core.specs.Bound.{IsSound, IsServed, none_yet, served, owed, is_exhausted, kept_places}
 use Rattle.limiter_core.specs.Counting.{no_counts}
 use Rattle.limiter_core.specs.Limiter.{Limiter, gate_of, stands, entry_of}
-use Rattle.limiter_core.proofs.Images.{IsBacked, image_nil, image-append}
-use Rattle.limiter_core.proofs.Legals.{backed_legal, answer_image}
-use Rattle.limiter_core.proofs.Owed.{keeps_places}
+use Rattle.limiter_core.specs.Laws.{StandsStill, AnswersByImage, LeadsByImage, KeepsPlaces}
 use Rattle.load_driver.specs.Journal.{Journal, IsJournal, gate, opening, image}
 
 -- what was served is legal
@@ -24,12 +22,19 @@ legal_served : {S : Type 0} (g : Gate S) (k : ℕ) (o : Image S) (h : List Entry
 legal_served g k o [] none_yet = nothing
 legal_served g k o _ (served h e before may free) = more h e (legal_served g k o h before) may
 
-module _ {S : Type 0} (laws : Algorithm S) (lawful : IsLawful laws) (j : Journal S) (capacity : ℕ) (core : Limiter S) (held : IsJournal laws j core capacity) where
-  backed : IsBacked (gate laws j) (opening j) j.entries
-  backed = backed_legal (gate laws j) (opening j) j.entries (legal_served (gate laws j) j.kept (opening j) j.entries held.served)
+-- the laws of histories that a journal stands on
+pub record JournalLaws (S : Type 0) : Type 0 where
+  pub answers : (g : Gate S) → AnswersByImage g
+  pub leads : (g : Gate S) → LeadsByImage g
+  pub places : (g : Gate S) → KeepsPlaces g
+
+module _ {S : Type 0} (known : JournalLaws S) (laws : Algorithm S) (lawful : IsLawful laws)
+    (j : Journal S) (capacity : ℕ) (core : Limiter S) (held : IsJournal laws j core capacity) where
+  legal : IsLegal (gate laws j) (opening j) j.entries
+  legal = legal_served (gate laws j) j.kept (opening j) j.entries held.served
 
   owing : length j.entries + owed (image laws j) ≤ kept_places (gate laws j) (opening j) j.kept
-  owing = keeps_places (gate laws j) j.kept (opening j) j.entries lawful held.sound held.served
+  owing = known.places (gate laws j) j.kept (opening j) j.entries lawful held.sound held.served
 
   -- few entries are held
   pub few_held : length j.entries ≤ 2000000
@@ -43,14 +48,14 @@ module _ {S : Type 0} (laws : Algorithm S) (lawful : IsLawful laws) (j : Journal
     pub places_left : length j.entries + length (answer (gate laws j) (opening j) j.entries e) ≤ capacity
     places_left = omega (
       arith,
-      keeps_places (gate laws j) j.kept (opening j) (j.entries ++ answer (gate laws j) (opening j) j.entries e) lawful held.sound one_more,
+      known.places (gate laws j) j.kept (opening j) (j.entries ++ answer (gate laws j) (opening j) j.entries e) lawful held.sound one_more,
       held.places,
       length-append j.entries (answer (gate laws j) (opening j) j.entries e),
     )
 
     -- the answer is that of what stands now
     answer_here : answer (gate laws j) (image laws j) [] e ≡ answer (gate laws j) (opening j) j.entries e
-    answer_here = sym (answer_image (gate laws j) (opening j) j.entries e backed)
+    answer_here = sym (known.answers (gate laws j) (opening j) j.entries e legal)
 
     -- what its limiter answered, by what it stands on
     module _ (r : Reply) (ps : List Promotion) (said : Call e r ∷ map entry_of ps ≡ answer (gate_of laws core) (stands core) [] e) where
@@ -75,10 +80,12 @@ module _ {S : Type 0} (laws : Algorithm S) (lawful : IsLawful laws) (j : Journal
         pub journal_more : (wider : ℕ) → stands next ≡ image_after (gate_of laws core) (stands core) (Call e r ∷ map entry_of ps) → capacity ≤ wider → IsJournal laws after next wider
         journal_more wider leads wide =
             let answered : List Entry = answer (gate laws j) (opening j) j.entries e in
-            let led : stands next ≡ image_after (gate laws j) (image laws j) answered = leads ∙ (λ k. image_after (held.gated k) (held.leads k) (told k)) in
+            let here : List Entry = answer (gate laws j) (image laws j) [] e in
+            let led : stands next ≡ image_after (gate laws j) (image laws j) here
+            = leads ∙ (λ k. image_after (held.gated k) (held.leads k) ((told ∙ sym answer_here) k)) in
             let made : IsJournal laws (record j { entries = j.entries ++ answered }) next wider = record {
               gated = gated ∙ held.gated;
-              leads = led ∙ sym (image-append (gate laws j) (opening j) j.entries answered backed);
+              leads = led ∙ sym (known.leads (gate laws j) (opening j) j.entries e legal);
               served = one_more;
               sound = held.sound;
               places = omega (arith, held.places, wide);
@@ -98,7 +105,8 @@ zeros (suc (suc (suc (suc (suc p))))) = refl
 abbrev unasked : {S : Type 0} → List Row → ℕ → S → Limiter S
 unasked rows room limit = record { rows = rows; room = room; state = limit; counts = 0 ∷ 0 ∷ 0 ∷ 0 ∷ 0 ∷ []; waiters = []; granted = []; next = 0; promoted = []; counters = no_counts }
 
-module _ {S : Type 0} (laws : Algorithm S) (rows : List Row) (room kept capacity : ℕ) (limit : S) where
+module _ {S : Type 0} (still : (g : Gate S) → StandsStill g) (laws : Algorithm S) (rows : List Row)
+    (room kept capacity : ℕ) (limit : S) where
   abbrev begun : Journal S
   begun = record { rows = rows; room = room; first = limit; entries = []; kept = kept }
 
@@ -109,7 +117,7 @@ module _ {S : Type 0} (laws : Algorithm S) (rows : List Row) (room kept capacity
       → IsJournal laws begun (unasked rows room limit) capacity
   begins sound places modest = record {
     gated = refl;
-    leads = nothing_stands ∙ sym (image_nil (gate laws begun) (opening begun));
+    leads = nothing_stands ∙ sym (still (gate laws begun) (opening begun));
     served = none_yet;
     sound = subst (IsSound (gate laws begun)) nothing_stands sound;
     places = places;

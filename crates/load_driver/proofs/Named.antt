@@ -1,16 +1,21 @@
 -- The event of a request names an open permit where it is an ending.
-use Rattle.std.proofs.Common.{◌≡◌, ℕ, Option, None, Some, option_map, refl, sym, subst}
+use Rattle.std.proofs.Common.{◌≡◌, ℕ, ◌==◌, List, [], ◌∷◌, find, Option, None, Some, option_map, arith, refl, sym, subst}
 use Rattle.limiter_core.specs.declared.event.Outcome.{Outcome}
 use Rattle.limiter_core.specs.declared.event.PermitFacts.{PermitFacts}
 use Rattle.limiter_core.specs.declared.event.Event.{Event}
 use Rattle.limiter_core.specs.declared.event.Event.TheVariants as event
 use Rattle.limiter_core.specs.Open.{open_permit}
 use Rattle.limiter_core.specs.Handed.{NamesOpen}
-use Rattle.limiter_core.proofs.Finds.{found_number}
 use Rattle.load_driver.specs.declared.script.Request.{Request}
 use Rattle.load_driver.specs.declared.script.Request.TheVariants.{Acquire, End, Claim, GiveUp, SetLimit, Reset, Look}
 use Rattle.load_driver.specs.Replay.{event_of}
 use Rattle.load_driver.specs.Journal.{Journal, opening}
+
+-- the permit that is found by a number has it
+found_number : (xs : List PermitFacts) (number : ℕ) (found : PermitFacts)
+    → find (λ permit. permit.number == number) xs ≡ Some found → found.number ≡ number
+found_number [] number found e = cc
+found_number (x ∷ xs) number found e = grind (arith, e, found_number xs number found)
 
 module _ {S : Type 0} (j : Journal S) where
   abbrev Named : Option Event → Type 0

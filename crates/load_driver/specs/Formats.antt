@@ -20,19 +20,23 @@ fixed_line (n ∷ []) = with_number n (λ n. Some (Fixed n))
 fixed_line _ = None
 
 abbrev pub settable_line : List (List ℕ) → Option LimitLine
-settable_line (lo ∷ n ∷ hi ∷ []) = with_number lo (λ lo. with_number n (λ n. with_number hi (λ hi. Some (Settable lo n hi))))
+settable_line (lo ∷ n ∷ hi ∷ []) =
+    with_number lo (λ lo. with_number n (λ n. with_number hi (λ hi.
+    Some (Settable lo n hi))))
 settable_line _ = None
 
 abbrev pub aimd_line : List (List ℕ) → Option LimitLine
 aimd_line (lo ∷ n ∷ hi ∷ ratio ∷ timeout ∷ []) =
     with_number lo (λ lo. with_number n (λ n. with_number hi (λ hi.
-    with_number ratio (λ ratio. with_number timeout (λ timeout. Some (Aimd lo n hi ratio timeout))))))
+    with_number ratio (λ ratio. with_number timeout (λ timeout.
+    Some (Aimd lo n hi ratio timeout))))))
 aimd_line _ = None
 
 abbrev pub vegas_line : List (List ℕ) → Option LimitLine
 vegas_line (lo ∷ n ∷ hi ∷ alpha ∷ beta ∷ probe ∷ []) =
     with_number lo (λ lo. with_number n (λ n. with_number hi (λ hi.
-    with_number alpha (λ alpha. with_number beta (λ beta. with_number probe (λ probe. Some (Vegas lo n hi alpha beta probe)))))))
+    with_number alpha (λ alpha. with_number beta (λ beta. with_number probe (λ probe.
+    Some (Vegas lo n hi alpha beta probe)))))))
 vegas_line _ = None
 
 -- what follows `limit`: a kind, and its numbers
@@ -48,7 +52,8 @@ limit_line (kind ∷ rest) =
 -- what follows `window`: four numbers
 abbrev pub window_line : List (List ℕ) → Option WindowLine
 window_line (size ∷ least ∷ most ∷ min_rtt ∷ []) =
-    with_number size (λ size. with_number least (λ least. with_number most (λ most. with_number min_rtt (λ min_rtt.
+    with_number size (λ size. with_number least (λ least.
+    with_number most (λ most. with_number min_rtt (λ min_rtt.
     Some (record { size = size; least = least; most = most; min_rtt = min_rtt })))))
 window_line _ = None
 

@@ -1,12 +1,11 @@
--- The text of a script once its settings are over: line by line, each answered after all entries so far.
-use Rattle.std.specs.Prelude.{ℕ, ◌+◌, List, [], ◌∷◌, ◌++◌, false, length, codes, Option, None, Some, option_map, Ok, Err, is_ok, if◌then◌else◌}
+-- The text of a script once its settings are over: line by line, each answered after all entries so
+-- far.
+use Rattle.std.specs.Prelude.{ℕ, ◌+◌, List, [], ◌∷◌, ◌++◌, length, codes, Option, None, Some, option_map, Ok, Err, is_ok, if◌then◌else◌}
 use Rattle.limit_laws.specs.Algorithm.{Algorithm}
 use Rattle.partitions.specs.Table.{Row}
 use Rattle.limiter_core.specs.declared.event.Event.{Event}
 use Rattle.limiter_core.specs.declared.event.Event.TheVariants as event
 use Rattle.limiter_core.specs.declared.event.Entry.{Entry}
-use Rattle.limiter_core.specs.Answer.{answer}
-use Rattle.limiter_core.specs.Bound.{is_exhausted}
 use Rattle.limiter_core.specs.Open.{open_permit}
 use Rattle.load_driver.specs.declared.script.Request.{Request}
 use Rattle.load_driver.specs.declared.script.Request.TheVariants.{Acquire, End, Claim, GiveUp, SetLimit, Reset, Look}
@@ -14,7 +13,7 @@ use Rattle.load_driver.specs.declared.answers.LineFault.{LineFault}
 use Rattle.load_driver.specs.Words.{words}
 use Rattle.load_driver.specs.Script.{Asked, request_of}
 use Rattle.load_driver.specs.Text.{entry_text}
-use Rattle.load_driver.specs.Journal.{Journal, gate, opening, image}
+use Rattle.load_driver.specs.Journal.{Journal, is_over, answered}
 
 -- what a script is answered: a text, and the line at fault that ended it, if one did
 pub record Told : Type 0 where
@@ -33,7 +32,8 @@ entries_text rows number (e ∷ es) = entry_text rows number e ++ entries_text r
 -- the event of a request: an ending is one only where its number names an open permit
 abbrev pub event_of : List Entry → Request → Option Event
 event_of entries (Acquire part bypass wait now) = Some (event.Acquire part bypass wait now)
-event_of entries (End number outcome now) = option_map (λ permit. event.End permit outcome now) (open_permit 0 entries number)
+event_of entries (End number outcome now) =
+    option_map (λ permit. event.End permit outcome now) (open_permit 0 entries number)
 event_of entries (Claim number) = Some (event.Claim number)
 event_of entries (GiveUp number) = Some (event.GiveUp number)
 event_of entries (SetLimit n now) = Some (event.SetLimit n now)
@@ -42,7 +42,7 @@ event_of entries (Look part) = Some (event.Look part)
 
 -- the entries that an event adds to a journal: none where it is exhausted
 abbrev pub added : {S : Type 0} → Algorithm S → Journal S → Event → List Entry
-added rules j e = if is_exhausted j.kept false (image rules j) (length j.entries) e then [] else answer (gate rules j) (opening j) j.entries e
+added rules j e = if is_over rules j e then [] else answered rules j e
 
 -- the journal after an event, if there is one
 abbrev pub after_event : {S : Type 0} → Algorithm S → Journal S → Option Event → Journal S
@@ -53,8 +53,8 @@ after_event rules j (Some e) = record j { entries = j.entries ++ added rules j e
 abbrev pub event_text : {S : Type 0} → Algorithm S → Journal S → Option Event → List ℕ
 event_text rules j None = codes "- not open\n"
 event_text rules j (Some e) =
-    if is_exhausted j.kept false (image rules j) (length j.entries) e then codes "- exhausted\n"
-    else entries_text j.rows (length j.entries) (answer (gate rules j) (opening j) j.entries e)
+    if is_over rules j e then codes "- exhausted\n"
+    else entries_text j.rows (length j.entries) (answered rules j e)
 
 -- the same of what a line asks
 abbrev pub line_journal : {S : Type 0} → Algorithm S → Journal S → Asked → Journal S
@@ -76,5 +76,7 @@ abbrev pub lines_text : {S : Type 0} → Algorithm S → Journal S → ℕ → L
 lines_text rules j number [] = record { out = []; fault = None }
 lines_text rules j number (line ∷ rest) =
     let asked = request_of j.rows (words line) in
-    if is_ok asked then after_text (line_text rules j asked) (lines_text rules (line_journal rules j asked) (number + 1) rest)
+    if is_ok asked then
+    after_text (line_text rules j asked)
+    (lines_text rules (line_journal rules j asked) (number + 1) rest)
     else record { out = []; fault = line_fault number asked }

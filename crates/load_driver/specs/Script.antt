@@ -42,7 +42,8 @@ wait_of _ = None
 -- `acquire CLASS NOW`, with `wait` or without it
 abbrev pub acquire_of : List Row → List (List ℕ) → Asked
 acquire_of rows (class ∷ now ∷ rest) =
-    or_fault Words (wait_of rest) (λ wait. or_fault Words (number_of now) (λ t. or_fault Class (part_of rows class) (λ part. Ok (Some (Acquire part false wait t)))))
+    or_fault Words (wait_of rest) (λ wait. or_fault Words (number_of now) (λ t.
+    or_fault Class (part_of rows class) (λ part. Ok (Some (Acquire part false wait t)))))
 acquire_of rows _ = Err Words
 
 -- `bypass NOW`
@@ -52,7 +53,8 @@ bypass_of rest = or_fault Words (lone_number rest) (λ t. Ok (Some (Acquire Unkn
 -- `end N OUTCOME NOW`
 abbrev pub end_of : List (List ℕ) → Asked
 end_of (number ∷ outcome ∷ now ∷ []) =
-    or_fault Words (number_of number) (λ n. or_fault Words (outcome_of outcome) (λ o. or_fault Words (number_of now) (λ t. Ok (Some (End n o t)))))
+    or_fault Words (number_of number) (λ n. or_fault Words (outcome_of outcome) (λ o.
+    or_fault Words (number_of now) (λ t. Ok (Some (End n o t)))))
 end_of _ = Err Words
 
 -- `claim N`
@@ -66,7 +68,8 @@ give_up_of rest = or_fault Words (lone_number rest) (λ n. Ok (Some (GiveUp n)))
 -- `set N NOW`, where a limit is 32 bits long
 abbrev pub set_of : List (List ℕ) → Asked
 set_of (limit ∷ now ∷ []) =
-    or_fault Words (number_of limit) (λ n. or_fault Words (number_of now) (λ t. if nat_lt n (2 ^ 32) then Ok (Some (SetLimit n t)) else Err Value))
+    or_fault Words (number_of limit) (λ n. or_fault Words (number_of now) (λ t.
+    if nat_lt n (2 ^ 32) then Ok (Some (SetLimit n t)) else Err Value))
 set_of _ = Err Words
 
 -- `reset NOW`

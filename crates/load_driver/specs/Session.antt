@@ -15,8 +15,10 @@ use Rattle.load_driver.specs.Journal.{Journal, gate, opening, image}
 abbrev pub Permits : Type 0
 Permits = HashMap ℕ PermitFacts (BuildHasherDefault FoldHasher)
 
--- what a session keeps: its history is legal, what stands is sound, the open permits with the granted ones are those in flight, and each is found by its number
-pub record IsSession {S : Type 0} (rules : Algorithm S) (j : Journal S) (permits : Permits) : Type 0 where
+-- what a session keeps: its history is legal, what stands is sound, the open permits with the
+-- granted ones are those in flight, and each is found by its number
+pub record IsSession {S : Type 0}
+    (rules : Algorithm S) (j : Journal S) (permits : Permits) : Type 0 where
   pub legal : IsLegal (gate rules j) (opening j) j.entries
   pub sound : IsSound (gate rules j) (image rules j)
   pub handed : IsHanded (gate rules j) (opening j) j.entries

@@ -25,13 +25,15 @@ part_about (Look part) = part
 
 -- what is written of a reply to an event about a class
 abbrev pub reply_text : List ℕ → Reply → List ℕ
-reply_text class (Admitted inflight) = concat (codes "admitted " ∷ class ∷ codes " inflight " ∷ decimal inflight ∷ [])
+reply_text class (Admitted inflight) =
+    concat (codes "admitted " ∷ class ∷ codes " inflight " ∷ decimal inflight ∷ [])
 reply_text class Bypassed = codes "bypassed"
 reply_text class Full = codes "refused full"
 reply_text class BacklogFull = codes "refused backlog"
 reply_text class Waiting = codes "waiting"
 reply_text class (Ended promoted) = concat (codes "ended promoted " ∷ decimal promoted ∷ [])
-reply_text class (Granted part start inflight) = concat (codes "granted inflight " ∷ decimal inflight ∷ [])
+reply_text class (Granted part start inflight) =
+    concat (codes "granted inflight " ∷ decimal inflight ∷ [])
 reply_text class StillWaiting = codes "still waiting"
 reply_text class TimedOut = codes "timed out"
 reply_text class Lost = codes "lost"
@@ -40,12 +42,15 @@ reply_text class (Refused NotSettable) = codes "refused not settable"
 reply_text class (Refused OutOfRange) = codes "refused out of range"
 reply_text class ResetDone = codes "reset"
 reply_text class (Seen limit total waiting granted inflight share) = concat (
-    codes "seen limit " ∷ decimal limit ∷ codes " total " ∷ decimal total ∷ codes " waiting " ∷ decimal waiting
-    ∷ codes " granted " ∷ decimal granted ∷ codes " inflight " ∷ decimal inflight ∷ codes " share " ∷ decimal share ∷ [])
+    codes "seen limit " ∷ decimal limit ∷ codes " total " ∷ decimal total
+    ∷ codes " waiting " ∷ decimal waiting ∷ codes " granted " ∷ decimal granted
+    ∷ codes " inflight " ∷ decimal inflight ∷ codes " share " ∷ decimal share ∷ [])
 
 -- the line of an entry, its number first
 abbrev pub entry_text : List Row → ℕ → Entry → List ℕ
 entry_text rows number (Call event reply) =
-    concat (decimal number ∷ codes " " ∷ reply_text (name_of rows (part_about event)) reply ∷ codes "\n" ∷ [])
+    concat (decimal number ∷ codes " "
+    ∷ reply_text (name_of rows (part_about event)) reply ∷ codes "\n" ∷ [])
 entry_text rows number (Promotion waiter part start inflight) =
-    concat (decimal number ∷ codes " promoted " ∷ decimal waiter ∷ codes " inflight " ∷ decimal inflight ∷ codes "\n" ∷ [])
+    concat (decimal number ∷ codes " promoted " ∷ decimal waiter
+    ∷ codes " inflight " ∷ decimal inflight ∷ codes "\n" ∷ [])

@@ -10,7 +10,9 @@ words line = filter (λ part. nat_lt 0 (length part)) (slice_split (λ byte. byt
 
 -- 1 to 20 digits whose value fits a `u64`
 abbrev pub is_number : List ℕ → Bool
-is_number word = nat_lt 0 (length word) && nat_le (length word) 20 && list_all is_ascii_digit word && nat_lt (digits_value 10 word) (2 ^ 64)
+is_number word =
+    nat_lt 0 (length word) && nat_le (length word) 20
+    && list_all is_ascii_digit word && nat_lt (digits_value 10 word) (2 ^ 64)
 
 -- the number that a word spells
 abbrev pub number_of : List ℕ → Option ℕ

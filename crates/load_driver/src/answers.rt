@@ -31,7 +31,8 @@ fn push_entries(
     entries: &[Entry],
 ) -> Result<(), AllocError>
     requires { first + length entries.now < 2 ^ 64 }
-    ensures { OnOk result (string_bytes text.new ≡ string_bytes text.old ++ entries_text table.now first entries.now) }
+    ensures { OnOk result (string_bytes text.new
+        ≡ string_bytes text.old ++ entries_text table.now first entries.now) }
 {
     let mut number = first as u64;
     for entry in entries {
@@ -83,8 +84,10 @@ fn serve<L: Limit>(
     text: &mut String,
     request: Request,
 ) -> Result<(), AllocError>
-    ensures session { OnOk result (session.new ≡ after_event L.rules session.old (event_of session.old.entries request)) }
-    ensures text { OnOk result (string_bytes text.new ≡ string_bytes text.old ++ event_text L.rules session.old (event_of session.old.entries request)) }
+    ensures session { OnOk result (session.new
+        ≡ after_event L.rules session.old (event_of session.old.entries request)) }
+    ensures text { OnOk result (string_bytes text.new ≡ string_bytes text.old
+        ++ event_text L.rules session.old (event_of session.old.entries request)) }
 {
     let Some(event) = read_event(session, request) else {
         return text.push_str("- not open\n");
@@ -103,7 +106,9 @@ pub(crate) fn answer_lines<L: Limit>(
     first: u64,
 ) -> Result<Option<LineFault>, AllocError>
     requires { first + length script.now < 2 ^ 64 }
-    ensures { IfOk result (λ fault. record { out = string_bytes text.new; fault = fault } ≡ after_text (string_bytes text.old) (lines_text L.rules session.old first (lines script.now))) }
+    ensures { IfOk result (λ fault. record { out = string_bytes text.new; fault = fault }
+        ≡ after_text (string_bytes text.old)
+        (lines_text L.rules session.old first (lines script.now))) }
 {
     let mut rest = script;
     let mut number = first;

@@ -1,16 +1,19 @@
 // The drivers: a whole input in, a whole text out.
-ghost use Rattle.std.specs.Prelude.{◌≡◌, ◌≤◌, ◌<◌, length, OnOk, IfErr, IfSome, IsErrOf};
-ghost use Rattle.std.specs.Io.KnownBytes.{Appends};
-ghost use Rattle.counted_io.specs.Counted.{inner_of};
-ghost use Rattle.counted_io.specs.Causes.{IsReadCause, IsWriteCause};
-ghost use Rattle.load_driver.specs.Opening.{replay_text};
-ghost use Rattle.load_driver.specs.Driver.{IfLine};
+ghost use Rattle.std.specs.Prelude.{◌≡◌, ◌<◌, ◌≤◌, length, true, None, Some, OnOk, IfErr, IsErrOf};
+ghost use Rattle.counted_io.specs.Counted.{failures_of, is_flushed};
+ghost use Rattle.counted_io.specs.Effects.{IfLeft, Wrote};
+ghost use Rattle.counted_io.specs.Causes.{IsReadCause, IsWriteCause, ReadWithin};
+ghost use Rattle.load_driver.specs.Limits.{most_script, most_reads};
+ghost use Rattle.load_driver.specs.Driver.{IfLine, IsAnswer, OnAnswer};
 
 use super::answers::LineFault;
-use super::opening::{MOST_BYTES, answer_script};
-use counted_io::{Counted, ReadFault, read_all, write_all};
-use std::alloc::Global;
+use super::opening::answer_script;
+use counted_io::{Counted, ReadFault, WriteFault, read_all, write_and_flush};
+use std::alloc::{AllocError, Global};
 use std::io::{Read, Write};
+
+/// The most bytes of a script.
+pub const MOST_BYTES: usize = 16_777_216;
 
 /// The most reads that an input may take.
 pub const MOST_READS: u64 = 33_554_432;
@@ -33,10 +36,44 @@ pub enum DriverFault {
     Write,
 }
 
+impl From<AllocError> for DriverFault {
+    ghost use Rattle.load_driver.specs.declared.driver.DriverFault.TheVariants.{Memory};
+
+    ghost from_gives = { λ _ told. told ≡ Memory };
+
+    fn from(_error: AllocError) -> DriverFault {
+        DriverFault::Memory
+    }
+}
+
+impl From<ReadFault> for DriverFault {
+    ghost use Rattle.load_driver.specs.Driver.{told_of_read};
+
+    ghost from_gives = { λ fault told. told ≡ told_of_read fault };
+
+    fn from(fault: ReadFault) -> DriverFault {
+        match fault {
+            ReadFault::Memory => DriverFault::Memory,
+            ReadFault::Read => DriverFault::Read,
+            ReadFault::TooLarge => DriverFault::TooLarge,
+        }
+    }
+}
+
+impl From<WriteFault> for DriverFault {
+    ghost use Rattle.load_driver.specs.declared.driver.DriverFault.TheVariants.{Write};
+
+    ghost from_gives = { λ _ told. told ≡ Write };
+
+    fn from(_fault: WriteFault) -> DriverFault {
+        DriverFault::Write
+    }
+}
+
 /// Answers the script that the reader gives, line by line, and writes the text of the answers.
 ///
 /// `n` is the limit, in permits, where the script has no `limit` line. The script is read whole and
-/// the text written at once, so `Memory`, `Read` and `TooLarge` write nothing.
+/// the text written at once and flushed, so `Memory`, `Read` and `TooLarge` write nothing.
 pub fn replay<R: Read, W: Write>(
     alloc: Global,
     reader: &mut Counted<R>,
@@ -46,38 +83,35 @@ pub fn replay<R: Read, W: Write>(
     requires least { 1 ≤ n }
     requires most { n ≤ 10000 }
 
-    // The script's whole text is written.
-    ensures ok { OnOk result (IfSome (R.remaining (inner_of reader.old)) (λ script. (length script ≤ MOST_BYTES)
-        × ((replay_text n KEPT script).fault ≡ None)
-        × Appends (W.contents (inner_of writer.old)) (W.contents (inner_of writer.new)) (replay_text n KEPT script).out)) }
-
-    // The text of the lines before the one at fault is written.
-    ensures line { IfErr result (λ fault. IfLine fault (λ at. IfSome (R.remaining (inner_of reader.old)) (λ script. (length script ≤ MOST_BYTES)
-        × ((replay_text n KEPT script).fault ≡ Some at)
-        × Appends (W.contents (inner_of writer.old)) (W.contents (inner_of writer.new)) (replay_text n KEPT script).out))) }
+    // The script's whole text is written, or the text of the lines before the one at fault.
+    ensures ok { OnOk result (IfLeft R.remaining reader.old (λ script.
+        IsAnswer n script None (Wrote W.contents writer.old writer.new))) }
+    ensures line { IfErr result (λ fault. IfLine fault (λ at.
+        IfLeft R.remaining reader.old (λ script.
+        IsAnswer n script (Some at) (Wrote W.contents writer.old writer.new)))) }
+    ensures flushed { OnAnswer result (is_flushed writer.new ≡ true) }
 
     // Each other fault comes only for its cause.
-    ensures too_large { IsErrOf result DriverFault.TooLarge → IfSome (R.remaining (inner_of reader.old)) (λ script. MOST_BYTES < length script) }
-    ensures read { IsErrOf result DriverFault.Read → IsReadCause MOST_READS reader.old reader.new }
+    ensures memory { IsErrOf result DriverFault.Memory →
+        ReadWithin R.remaining most_script reader.old reader.new }
+    ensures read { IsErrOf result DriverFault.Read → IsReadCause most_reads reader.old reader.new }
+    ensures too_large { IsErrOf result DriverFault.TooLarge →
+        IfLeft R.remaining reader.old (λ script. most_script < length script) }
     ensures write { IsErrOf result DriverFault.Write → IsWriteCause writer.old writer.new }
+    ensures only_read_fails { ¬ IsErrOf result DriverFault.Read →
+        failures_of reader.new ≡ failures_of reader.old }
+    ensures only_write_fails { ¬ IsErrOf result DriverFault.Write →
+        failures_of writer.new ≡ failures_of writer.old }
 
     // Then nothing is written.
     ensures memory_writes_nothing { IsErrOf result DriverFault.Memory → writer.new ≡ writer.old }
     ensures read_writes_nothing { IsErrOf result DriverFault.Read → writer.new ≡ writer.old }
-    ensures too_large_writes_nothing { IsErrOf result DriverFault.TooLarge → writer.new ≡ writer.old }
+    ensures too_large_writes_nothing { IsErrOf result DriverFault.TooLarge →
+        writer.new ≡ writer.old }
 {
-    let script = match read_all(alloc, reader, MOST_BYTES, MOST_READS) {
-        Ok(script) => script,
-        Err(ReadFault::Memory) => return Err(DriverFault::Memory),
-        Err(ReadFault::Read) => return Err(DriverFault::Read),
-        Err(ReadFault::TooLarge) => return Err(DriverFault::TooLarge),
-    };
-    let Ok((text, fault)) = answer_script(alloc, n, KEPT, &script) else {
-        return Err(DriverFault::Memory);
-    };
-    if write_all(writer, text.as_bytes()).is_err() || writer.flush().is_err() {
-        return Err(DriverFault::Write);
-    }
+    let script = read_all(alloc, reader, MOST_BYTES, MOST_READS)?;
+    let (text, fault) = answer_script(alloc, n, KEPT, &script)?;
+    write_and_flush(writer, text.as_bytes())?;
     match fault {
         None => Ok(()),
         Some(fault) => Err(DriverFault::Line(fault)),

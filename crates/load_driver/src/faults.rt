@@ -1,10 +1,26 @@
 // The text of the drivers' faults.
-ghost use Rattle.std.specs.Prelude.{Some};
+ghost use Rattle.std.specs.Prelude.{◌≡◌, Some};
+ghost use Rattle.load_driver.specs.Driver.{why_text};
 
 use super::answers::LineFault;
 use super::driver::DriverFault;
 use super::script::Why;
 use std::fmt;
+
+impl Why {
+    /// The word for what is wrong with a line, as a fault's text has it.
+    pub fn text(self) -> &'static str
+        ensures { result.now ≡ why_text self }
+    {
+        match self {
+            Why::Words => "words",
+            Why::Late => "late",
+            Why::Twice => "twice",
+            Why::Value => "value",
+            Why::Class => "class",
+        }
+    }
+}
 
 impl fmt::Display for Why {
     ghost use Rattle.load_driver.specs.Driver.{why_text};
@@ -12,13 +28,7 @@ impl fmt::Display for Why {
     ghost output = { λ why. Some (why_text why) };
 
     fn fmt<W: fmt::Write>(&self, f: &mut fmt::Formatter<W>) -> fmt::Result {
-        match self {
-            Why::Words => write!(f, "words"),
-            Why::Late => write!(f, "late"),
-            Why::Twice => write!(f, "twice"),
-            Why::Value => write!(f, "value"),
-            Why::Class => write!(f, "class"),
-        }
+        f.write_str(self.text())
     }
 }
 

@@ -5,16 +5,16 @@ ghost use Rattle.limiter_core.specs.Answer.{answer};
 ghost use Rattle.limiter_core.specs.Legal.{MayCome};
 ghost use Rattle.limiter_core.specs.Bound.{IsSound, is_exhausted, is_always_served};
 ghost use Rattle.limiter_core.specs.Limiter.{stands, entry_of};
-ghost use Rattle.load_driver.specs.Journal.{gate, opening, image};
+ghost use Rattle.load_driver.specs.Limits.{most_kept};
+ghost use Rattle.load_driver.specs.Journal.{gate, opening, image, begun, is_over, answered, with_answer};
 
 use limit_laws::Limit;
-use limiter_core::{Core, CoreFault, Entry, Event, Promotion, Reply};
+use limiter_core::{
+    Core, CoreFault, Entry, Event, Promotion, Reply, answers_by_image, reserved_room_suffices,
+};
 use partitions::PartitionTable;
 use std::alloc::{AllocError, Global};
 use std::marker::Model;
-
-/// The most entries that a journal may be asked to keep.
-pub(crate) const MOST_KEPT: usize = 1_000_000;
 
 /// From this number on only what is owed is answered.
 const LAST_NUMBER: u64 = 4_611_686_018_427_387_904;
@@ -34,13 +34,15 @@ pub(crate) struct Journal<L: Limit> {
 
 impl<L: Limit> Model for Journal<L> {
     ghost use Rattle.std.specs.Prelude.{vec_capacity};
-    ghost use Rattle.load_driver.specs.Journal.{Journal, IsJournal};
+    ghost use Rattle.load_driver.specs.Journal.{Journal, IsJournal, journal_in};
 
     ghost Value = { Journal L };
 
-    ghost view = { λ j. record { rows = j.core.rows; room = j.core.room; first = j.first; entries = j.entries.items; kept = j.kept } };
+    ghost view = { λ j. journal_in j.core.rows j.core.room j.first j.entries.items j.kept };
 
-    ghost invariant = { λ j. IsJournal L.rules (record { rows = j.core.rows; room = j.core.room; first = j.first; entries = j.entries.items; kept = j.kept }) j.core (vec_capacity j.entries) };
+    ghost invariant = { λ j. IsJournal L.rules
+        (journal_in j.core.rows j.core.room j.first j.entries.items j.kept) j.core
+        (vec_capacity j.entries) };
 }
 
 impl<L: Limit> Journal<L> {
@@ -53,8 +55,8 @@ impl<L: Limit> Journal<L> {
         kept: usize,
     ) -> Result<Journal<L>, AllocError>
         requires room { room ≤ 10000 }
-        requires kept { kept ≤ MOST_KEPT }
-        ensures made { IfOk result (λ journal. journal ≡ record { rows = table; room = room; first = limit; entries = []; kept = kept }) }
+        requires kept { kept ≤ most_kept }
+        ensures made { IfOk result (λ journal. journal ≡ begun table room limit kept) }
         ensures sound { IfOk result (λ journal. IsSound (gate L.rules journal) (opening journal)) }
     {
         let most = table.most(limit.hi()) as usize;
@@ -64,6 +66,8 @@ impl<L: Limit> Journal<L> {
             Err(CoreFault::Memory) => return Err(AllocError),
             Err(CoreFault::Room) => unreachable!(),
         };
+        core.check();
+        answers_by_image::<L>();
         let entries = Vec::with_capacity(alloc, kept + 2 * most + 3 * room as usize)?;
         Ok(Journal {
             first,
@@ -89,7 +93,7 @@ impl<L: Limit> Journal<L> {
 
     /// Whether an event isn't answered any more.
     fn is_exhausted(&self, event: Event) -> bool
-        ensures { result ≡ is_exhausted self.now.kept false (image L.rules self.now) (length self.now.entries) event }
+        ensures { result ≡ is_over L.rules self.now event }
     {
         !self.is_always_served(event)
             && (self.entries.len() >= self.kept || self.core.next_number() >= LAST_NUMBER)
@@ -112,15 +116,18 @@ impl<L: Limit> Journal<L> {
     /// is left.
     pub(crate) fn apply(&mut self, event: Event) -> Option<(u64, Reply)>
         requires { MayCome (gate L.rules self.old) (image L.rules self.old) event }
-        ensures exhausted { is_none result ≡ is_exhausted self.old.kept false (image L.rules self.old) (length self.old.entries) event }
+        ensures exhausted { is_none result ≡ is_over L.rules self.old event }
         ensures unchanged { IfNone result (self.new ≡ self.old) }
         ensures number { IfSome result (λ found. found.0 ≡ length self.old.entries) }
-        ensures reply { IfSome result (λ found. slice_get (answer (gate L.rules self.old) (opening self.old) self.old.entries event) 0 ≡ Some (Call event found.1)) }
-        ensures entries { OnSome result (self.new ≡ record self.old { entries = self.old.entries ++ answer (gate L.rules self.old) (opening self.old) self.old.entries event }) }
+        ensures reply { IfSome result (λ found.
+            slice_get (answered L.rules self.old event) 0 ≡ Some (Call event found.1)) }
+        ensures entries { OnSome result (self.new ≡ with_answer L.rules self.old event) }
     {
         if self.is_exhausted(event) {
             return None;
         }
+        answers_by_image::<L>();
+        reserved_room_suffices::<L>();
         let number = self.entries.len();
         let reply = self.core.apply(event);
         push_answer(&mut self.entries, event, reply, self.core.promotions());
@@ -131,7 +138,8 @@ impl<L: Limit> Journal<L> {
 /// Keeps a call and the promotions that it caused.
 fn push_answer(entries: &mut Vec<Entry>, event: Event, reply: Reply, promotions: &[Promotion])
     requires { length entries.old.items + 1 + length promotions.now ≤ vec_capacity entries.old }
-    ensures items { entries.new.items ≡ entries.old.items ++ Call event reply ∷ map entry_of promotions.now }
+    ensures items { entries.new.items
+        ≡ entries.old.items ++ Call event reply ∷ map entry_of promotions.now }
     ensures room { vec_capacity entries.old ≤ vec_capacity entries.new }
 {
     entries.push_reserved(Entry::Call { event, reply });

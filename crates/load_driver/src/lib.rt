@@ -7,6 +7,8 @@
 
 mod answers;
 mod driver;
+#[cfg(test)]
+mod edge_tests;
 mod faults;
 mod formats;
 mod journal;
@@ -29,6 +31,5 @@ mod text;
 mod words;
 
 pub use answers::LineFault;
-pub use driver::{DriverFault, KEPT, MOST_READS, replay};
-pub use opening::MOST_BYTES;
+pub use driver::{DriverFault, KEPT, MOST_BYTES, MOST_READS, replay};
 pub use script::Why;

@@ -31,8 +31,8 @@ fn without_return(line: &[u8]) -> &[u8]
 
 /// The first line, without its end, and what follows it; nothing where the text is at its end.
 ///
-/// A line ends in a line feed, or in a carriage return and a line feed; at the last line both may be
-/// missing, and a carriage return alone is a byte of the line.
+/// A line ends in a line feed, or in a carriage return and a line feed; at the last line both may
+/// be missing, and a carriage return alone is a byte of the line.
 #[tactic(auto, using(crate::proofs::Parts::lines_whole, crate::proofs::Parts::lines_first))]
 pub(crate) fn next_line(text: &[u8]) -> Option<(&[u8], &[u8])>
     ensures none { IfNone result (lines text.now ≡ []) }

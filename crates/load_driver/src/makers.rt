@@ -11,8 +11,8 @@ use limit_kinds::BaseLimit;
 use limit_laws::{Fixed, HOUR, Settable};
 use vegas::Vegas;
 
-/// Windows in range: how many samples one must have, how long it lasts at least and at most, and the
-/// least round trip that counts, in nanoseconds.
+/// Windows in range: how many samples one must have, how long it lasts at least and at most, and
+/// the least round trip that counts, in nanoseconds.
 #[derive(Clone, Copy, Debug, PartialEq, Eq)]
 pub(crate) struct Windows {
     pub(crate) size: u32,

@@ -15,12 +15,15 @@ fn all_digits(word: &[u8]) -> bool
 /// The number that digits spell, where it fits.
 fn parse_digits(text: &str) -> Option<u64>
     requires { list_all is_ascii_digit text.now ≡ true }
-    ensures { result ≡ (if nat_lt 0 (length text.now) && nat_lt (digits_value 10 text.now) (2 ^ 64) then Some (digits_value 10 text.now) else None) }
+    ensures { result
+        ≡ (if nat_lt 0 (length text.now) && nat_lt (digits_value 10 text.now) (2 ^ 64)
+        then Some (digits_value 10 text.now) else None) }
 {
     text.parse().ok()
 }
 
-/// The number that a word spells in 1 to 20 digits, where it fits a `u64`; leading zeros are allowed.
+/// The number that a word spells in 1 to 20 digits, where it fits a `u64`; leading zeros are
+/// allowed.
 pub(crate) fn read_number(word: &[u8]) -> Option<u64>
     ensures { result ≡ number_of word.now }
 {

@@ -1,20 +1,17 @@
 // The setting lines of a script, and where they end.
 ghost use Rattle.std.specs.Prelude.{◌≡◌, ◌≤◌, ◌+◌, ℕ, length, string_bytes, IfOk};
 ghost use Rattle.std.specs.Str.Lines.{lines};
+ghost use Rattle.load_driver.specs.Limits.{most_script, most_kept};
 ghost use Rattle.load_driver.specs.Words.{words};
 ghost use Rattle.load_driver.specs.Settings.{no_settings};
 ghost use Rattle.load_driver.specs.Opening.{is_skipped, script_text, replay_text, text_after};
 
 use super::answers::{LineFault, answer_lines};
-use super::journal::MOST_KEPT;
 use super::lines::next_line;
 use super::session::Session;
 use super::settings::Settings;
 use super::words::next_word;
 use std::alloc::{AllocError, Global};
-
-/// The most bytes of a script.
-pub const MOST_BYTES: usize = 16_777_216;
 
 /// The settings of a script, and the lines that are left: the number of the first and their bytes;
 /// or the setting line at fault.
@@ -38,9 +35,12 @@ fn is_skipped(line: &[u8]) -> bool
 
 /// Reads the settings up to the first line that is neither one of them nor skipped.
 fn read_settings<'a>(alloc: Global, script: &'a [u8]) -> Result<Opening<'a>, AllocError>
-    requires { length script.now ≤ MOST_BYTES }
-    ensures text { IfOk result (λ opening. (n kept : ℕ) → text_after n kept opening.settings opening.line opening.rest.now opening.fault ≡ replay_text n kept script.now) }
-    ensures short { IfOk result (λ opening. opening.line + length opening.rest.now ≤ 1 + length script.now) }
+    requires { length script.now ≤ most_script }
+    ensures text { IfOk result (λ opening. (n kept : ℕ) →
+        text_after n kept opening.settings opening.line opening.rest.now opening.fault
+        ≡ replay_text n kept script.now) }
+    ensures short { IfOk result (λ opening.
+        opening.line + length opening.rest.now ≤ 1 + length script.now) }
 {
     let mut settings = Settings::new(alloc);
     let mut rest = script;
@@ -86,9 +86,10 @@ pub(crate) fn answer_script(
 ) -> Result<(String, Option<LineFault>), AllocError>
     requires least { 1 ≤ n }
     requires most { n ≤ 10000 }
-    requires kept { kept ≤ MOST_KEPT }
-    requires short { length script.now ≤ MOST_BYTES }
-    ensures { IfOk result (λ told. record { out = string_bytes told.0; fault = told.1 } ≡ replay_text n kept script.now) }
+    requires kept { kept ≤ most_kept }
+    requires short { length script.now ≤ most_script }
+    ensures { IfOk result (λ told.
+        record { out = string_bytes told.0; fault = told.1 } ≡ replay_text n kept script.now) }
 {
     let Opening {
         settings,

@@ -6,18 +6,22 @@ ghost use Rattle.limiter_core.specs.Answer.{answer};
 ghost use Rattle.limiter_core.specs.Bound.{is_exhausted};
 ghost use Rattle.limiter_core.specs.Open.{open_permit};
 ghost use Rattle.limiter_core.specs.Handed.{NamesOpen, open_after};
-ghost use Rattle.load_driver.specs.Journal.{gate, image, opening};
+ghost use Rattle.load_driver.specs.Limits.{most_kept};
+ghost use Rattle.load_driver.specs.Journal.{opening, begun, is_over, with_answer};
 
-use super::journal::{Journal, MOST_KEPT};
+use super::journal::Journal;
 use limit_laws::{LAST_MOMENT, Limit};
-use limiter_core::{Entry, Event, PermitFacts, Reply};
+use limiter_core::{
+    Entry, Event, PermitFacts, Reply, answers_by_image, open_permits_are_in_flight,
+    open_permits_may_end, soundness_is_kept,
+};
 use partitions::PartitionTable;
 use std::alloc::{AllocError, Global};
 use std::collections::HashMap;
 use std::marker::Model;
 
-/// A journal with the permits that are open in it, by the number of their acquire: an ending is found
-/// without a walk over the history.
+/// A journal with the permits that are open in it, by the number of their acquire: an ending is
+/// found without a walk over the history.
 #[derive(Drop)]
 pub(crate) struct Session<L: Limit> {
     journal: Journal<L>,
@@ -45,9 +49,11 @@ impl<L: Limit> Session<L> {
         kept: usize,
     ) -> Result<Session<L>, AllocError>
         requires room { room ≤ 10000 }
-        requires kept { kept ≤ MOST_KEPT }
-        ensures { IfOk result (λ session. session ≡ record { rows = table; room = room; first = limit; entries = []; kept = kept }) }
+        requires kept { kept ≤ most_kept }
+        ensures { IfOk result (λ session. session ≡ begun table room limit kept) }
     {
+        answers_by_image::<L>();
+        open_permits_are_in_flight::<L>();
         let journal = Journal::new(alloc, limit, table, room, kept)?;
         Ok(Session {
             journal,
@@ -80,11 +86,16 @@ impl<L: Limit> Session<L> {
     /// journal is exhausted. An ending names an open permit.
     pub(crate) fn ask(&mut self, event: Event) -> Result<Option<usize>, AllocError>
         requires { NamesOpen (opening self.old) self.old.entries event }
-        ensures exhausted { IfOk result (λ answered. is_none answered ≡ is_exhausted self.old.kept false (image L.rules self.old) (length self.old.entries) event) }
-        ensures unchanged { IfOk result (λ answered. IfNone answered (self.new ≡ self.old)) }
-        ensures first { IfOk result (λ answered. IfSome answered (λ first. first ≡ length self.old.entries)) }
-        ensures entries { IfOk result (λ answered. OnSome answered (self.new ≡ record self.old { entries = self.old.entries ++ answer (gate L.rules self.old) (opening self.old) self.old.entries event })) }
+        ensures exhausted { IfOk result (λ first. is_none first ≡ is_over L.rules self.old event) }
+        ensures unchanged { IfOk result (λ first. IfNone first (self.new ≡ self.old)) }
+        ensures first { IfOk result (λ first.
+            IfSome first (λ number. number ≡ length self.old.entries)) }
+        ensures entries { IfOk result (λ first.
+            OnSome first (self.new ≡ with_answer L.rules self.old event)) }
     {
+        open_permits_may_end::<L>();
+        open_permits_are_in_flight::<L>();
+        soundness_is_kept::<L>();
         self.permits.reserve(1)?;
         let first = self.journal.entries().len();
         match self.journal.apply(event) {
@@ -100,7 +111,8 @@ impl<L: Limit> Session<L> {
 /// Keeps the permit that an entry hands out, or drops the one that it ends.
 fn note(permits: &mut HashMap<u64, PermitFacts>, number: u64, event: Event, reply: Reply)
     requires { 0 < spare permits.old }
-    ensures { (n : ℕ) → get nat_eq permits.new n ≡ open_after (get nat_eq permits.old) number (Call event reply) n }
+    ensures { (n : ℕ) → get nat_eq permits.new n
+        ≡ open_after (get nat_eq permits.old) number (Call event reply) n }
 {
     match (event, reply) {
         (Event::Acquire { part, now, .. }, Reply::Admitted { inflight }) => {
@@ -154,7 +166,8 @@ fn note(permits: &mut HashMap<u64, PermitFacts>, number: u64, event: Event, repl
 /// Keeps a permit by its number.
 fn keep(permits: &mut HashMap<u64, PermitFacts>, permit: PermitFacts)
     requires { 0 < spare permits.old }
-    ensures { (n : ℕ) → get nat_eq permits.new n ≡ (if permit.number == n then Some permit else get nat_eq permits.old n) }
+    ensures { (n : ℕ) → get nat_eq permits.new n
+        ≡ (if permit.number == n then Some permit else get nat_eq permits.old n) }
 {
     if permits.insert(permit.number, permit).is_err() {
         unreachable!()

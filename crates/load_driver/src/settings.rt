@@ -42,9 +42,16 @@ impl<'a> Model for Settings<'a> {
 
     ghost Value = { SettingFacts };
 
-    ghost view = { λ s. record { limit = s.limit; window = option_map window_of s.windows; backlog = s.backlog; rows = given s.rows.items } };
+    ghost view = { λ s. record {
+      limit = s.limit;
+      window = option_map window_of s.windows;
+      backlog = s.backlog;
+      rows = given s.rows.items;
+    } };
 
-    ghost invariant = { λ s. (s.table ≡ given s.rows.items) × IfSome s.windows (λ w. AreSettings (window_of w)) × IfSome s.backlog (λ room. room ≤ 10000) };
+    ghost invariant = { λ s. (s.table ≡ given s.rows.items)
+        × IfSome s.windows (λ w. AreSettings (window_of w))
+        × IfSome s.backlog (λ room. room ≤ 10000) };
 }
 
 impl<'a> Settings<'a> {
@@ -65,7 +72,8 @@ impl<'a> Settings<'a> {
 
     /// What a line sets: nothing where it is no setting's. A line at fault changes nothing.
     pub(crate) fn read(&mut self, line: &'a [u8]) -> Result<Option<Result<(), Why>>, AllocError>
-        ensures line { IfOk result (λ answer. AnswersLine self.old (words line.now) answer self.new) }
+        ensures line { IfOk result (λ answer.
+            AnswersLine self.old (words line.now) answer self.new) }
         ensures memory { OnErr result (self.new ≡ self.old) }
     {
         let Some((first, line)) = next_word(line) else {
@@ -133,7 +141,8 @@ impl<'a> Settings<'a> {
 
     /// What follows `class`.
     fn read_class(&mut self, line: &'a [u8]) -> Result<Result<(), Why>, AllocError>
-        ensures line { IfOk result (Answers (with_class self.old (words line.now)) self.old self.new) }
+        ensures line { IfOk result (Answers
+            (with_class self.old (words line.now)) self.old self.new) }
         ensures memory { OnErr result (self.new ≡ self.old) }
     {
         let Some((name, percent)) = read_class(line) else {
@@ -147,7 +156,9 @@ impl<'a> Settings<'a> {
 
     /// One more partition, where those so far and this one make a table.
     fn add_row(&mut self, name: &'a [u8], percent: u32) -> Result<Result<(), Why>, AllocError>
-        ensures row { IfOk result (Answers (with_row self.old (record { name = name.now; percent = percent })) self.old self.new) }
+        ensures row { IfOk result (Answers
+            (with_row self.old (record { name = name.now; percent = percent }))
+            self.old self.new) }
         ensures memory { OnErr result (self.new ≡ self.old) }
     {
         let count = self.rows.len();
@@ -202,7 +213,8 @@ impl<'a> Settings<'a> {
 
 /// The table of rows that make one.
 fn make_table(alloc: Global, rows: &[(&[u8], u32)]) -> Result<Option<PartitionTable>, AllocError>
-    ensures { IfOk result (λ table. table ≡ (if is_none (fault_of (given rows.now)) then Some (given rows.now) else None)) }
+    ensures { IfOk result (λ table. table
+        ≡ (if is_none (fault_of (given rows.now)) then Some (given rows.now) else None)) }
 {
     match PartitionTable::new(alloc, rows) {
         Ok(table) => Ok(Some(table)),

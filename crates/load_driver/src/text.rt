@@ -44,10 +44,10 @@ impl fmt::Display for ReplyText<'_> {
                 granted,
                 inflight,
                 share,
-            } => write!(
-                f,
-                "seen limit {limit} total {total} waiting {waiting} granted {granted} inflight {inflight} share {share}"
-            ),
+            } => {
+                write!(f, "seen limit {limit} total {total} waiting {waiting}")?;
+                write!(f, " granted {granted} inflight {inflight} share {share}")
+            }
         }
     }
 }
@@ -72,7 +72,8 @@ pub(crate) fn push_entry(
     number: u64,
     entry: Entry,
 ) -> Result<(), AllocError>
-    ensures { OnOk result (string_bytes text.new ≡ string_bytes text.old ++ entry_text table.now number entry) }
+    ensures { OnOk result (string_bytes text.new
+        ≡ string_bytes text.old ++ entry_text table.now number entry) }
 {
     match entry {
         Entry::Call { event, reply } => {

@@ -20,7 +20,6 @@ fn spaces_before(bytes: &[u8]) -> usize
 }
 
 /// What follows the spaces in front.
-#[tactic(auto, using(crate::proofs::Parts::words_spaces, crate::proofs::Parts::word_after_spaces, std::proofs::lemmas::List::take_rest))]
 fn without_spaces(line: &[u8]) -> &[u8]
     ensures words { words result.now ≡ words line.now }
     ensures starts { 0 < length result.now → 0 < position_or_len (λ found. found == 32) result.now }

@@ -10,20 +10,23 @@ use Rattle.partitions.specs.declared.fault.TableFault.TheVariants.{Memory, Empty
 abbrev pub given : List (Bor (List ℕ) × ℕ) → List Row
 given pairs = map (λ pair. record { name = pair.0.now; percent = pair.1 }) pairs
 
--- what is wrong with a row behind the rows before it: its name is none or is one of theirs, its percentage is
+-- what is wrong with a row behind the rows before it: its name is none or is one of theirs, its
+-- percentage is
 -- none, or the percentages with its own come to more than 100
 abbrev pub row_fault : List Row → Row → Option TableFault
 row_fault before row =
     if not (is_name row.name) then Some Name else (
     if list_any (λ other. bytes_eq other.name row.name) before then Some Twice else (
     if not (is_percent row.percent) then Some Percent else (
-    if nat_lt 100 (sum_by (λ other. other.percent) before + row.percent) then Some Over100 else None)))
+    if nat_lt 100 (sum_by (λ other. other.percent) before + row.percent) then Some Over100
+    else None)))
 
 -- what is wrong with the row at a place
 abbrev pub fault_at : List Row → ℕ → Option TableFault
 fault_at rows place = option_and_then (row_fault (take place rows)) (slice_get rows place)
 
--- what is wrong with rows: there is none, there are more than four, or else the fault of the first row that has one
+-- what is wrong with rows: there is none, there are more than four, or else the fault of the
+-- first row that has one
 abbrev pub fault_of : List Row → Option TableFault
 fault_of rows =
     if length rows == 0 then Some Empty else (

@@ -1,3 +1,4 @@
 pub mod Table
 pub mod Faults
 pub mod Stored
+pub mod ShareLaws

@@ -9,7 +9,8 @@ pub record Row : Type 0 where
   pub name : List ℕ
   pub percent : ℕ
 
--- the place of a part among the five: a known partition has its row's, and every other part the last
+-- the place of a part among the five: a known partition has its row's, and every other part the
+-- last
 abbrev pub place_of : List Row → Part → ℕ
 place_of rows Unknown = 4
 place_of rows (Known k) = if nat_lt k (length rows) then k else 4
@@ -25,12 +26,15 @@ places = 0 ∷ 1 ∷ 2 ∷ 3 ∷ 4 ∷ []
 -- the least number below the bound that passes the test, or the bound where none does
 unfoldable pub least : (ℕ → Bool) → ℕ → ℕ
 least test zero = zero
-least test (suc bound) = elim (test zero) [ true ↦ zero | false ↦ suc (least (λ n. test (suc n)) bound) ]
+least test (suc bound) =
+    elim (test zero) [ true ↦ zero | false ↦ suc (least (λ n. test (suc n)) bound) ]
 
--- the share of a limit that a percentage gives: the greater of 1 and the least number whose hundredfold is
+-- the share of a limit that a percentage gives: the greater of 1 and the least number whose
+-- hundredfold is
 -- the limit times the percentage, or more
 unfoldable pub percent_share : ℕ → ℕ → ℕ
-percent_share percent limit = max 1 (least (λ n. nat_le (limit * percent) (100 * n)) (limit * percent))
+percent_share percent limit =
+    max 1 (least (λ n. nat_le (limit * percent) (100 * n)) (limit * percent))
 
 -- in other words: at least 1, enough for the percentage, and no more than any such number
 pub record IsShare (percent limit n : ℕ) : Type 0 where
@@ -47,7 +51,8 @@ row_share (Some row) limit = percent_share row.percent limit
 abbrev pub share : List Row → ℕ → ℕ → ℕ
 share rows place limit = if place == 4 then 0 else row_share (slice_get rows place) limit
 
--- the bound on what is ever in flight under a greatest limit: that limit, and each known partition's share of it
+-- the bound on what is ever in flight under a greatest limit: that limit, and each known
+-- partition's share of it
 abbrev pub bound : List Row → ℕ → ℕ
 bound rows hi = hi + sum_by (λ place. share rows place hi) known_places
 
@@ -67,11 +72,15 @@ name_of rows (Known k) = row_name (slice_get rows k)
 
 -- the bytes of names: a to z, 0 to 9, the dash and the underscore
 abbrev pub is_name_byte : ℕ → Bool
-is_name_byte byte = (nat_le 97 byte && nat_le byte 122) || (nat_le 48 byte && nat_le byte 57) || byte == 45 || byte == 95
+is_name_byte byte =
+    (nat_le 97 byte && nat_le byte 122) || (nat_le 48 byte && nat_le byte 57) || byte == 45
+    || byte == 95
 
 -- a name has 1 to 32 such bytes, and isn't `unknown`
 abbrev pub is_name : List ℕ → Bool
-is_name name = nat_le 1 (length name) && nat_le (length name) 32 && list_all is_name_byte name && not (bytes_eq name (codes "unknown"))
+is_name name =
+    nat_le 1 (length name) && nat_le (length name) 32 && list_all is_name_byte name
+    && not (bytes_eq name (codes "unknown"))
 
 -- a percentage is 1 to 100
 abbrev pub is_percent : ℕ → Bool

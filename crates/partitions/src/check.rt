@@ -1,12 +1,13 @@
 // The checks of the rows of a table.
 ghost use Rattle.std.specs.Prelude.{◌≡◌, ◌*◌, ◌^◌, ◌<◌, ◌≤◌, length, bytes_eq, sum_by, OnOk};
-ghost use Rattle.std.specs.List.{list_any, list_all};
+ghost use Rattle.std.specs.List.{list_any};
 ghost use Rattle.std.specs.Result.{result_err};
-ghost use Rattle.partitions.specs.Table.{IsTable, is_name_byte, is_name, is_percent};
+ghost use Rattle.partitions.specs.Table.{IsTable, is_percent};
 ghost use Rattle.partitions.specs.Faults.{given, fault_at, row_fault, fault_of};
 
 use crate::fault::TableFault;
-use crate::table::{MOST_KNOWN, UNKNOWN_NAME};
+use crate::name::is_name;
+use crate::table::MOST_KNOWN;
 
 /// Whether these rows make a table.
 pub(crate) fn check(rows: &[(&[u8], u32)]) -> Result<(), TableFault>
@@ -71,25 +72,4 @@ fn is_percent(percent: u32) -> bool
     ensures { result ≡ is_percent percent }
 {
     1 <= percent && percent <= 100
-}
-
-/// Whether a partition may have this name.
-fn is_name(name: &[u8]) -> bool
-    ensures { result ≡ is_name name.now }
-{
-    1 <= name.len() && name.len() <= 32 && has_name_bytes(name) && name != UNKNOWN_NAME.as_bytes()
-}
-
-/// Whether each byte is one that names may have.
-fn has_name_bytes(name: &[u8]) -> bool
-    ensures { result ≡ list_all is_name_byte name.now }
-{
-    name.iter().all(|byte| is_name_byte(*byte))
-}
-
-/// Whether names may have this byte.
-fn is_name_byte(byte: u8) -> bool
-    ensures { result ≡ is_name_byte byte }
-{
-    matches!(byte, b'a'..=b'z' | b'0'..=b'9' | b'-' | b'_')
 }

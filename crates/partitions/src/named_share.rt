@@ -17,7 +17,8 @@ pub(crate) struct NamedShare {
 impl NamedShare {
     pub(crate) fn new(alloc: Global, name: &[u8], percent: u32) -> Result<NamedShare, AllocError>
         requires { IsTrue (is_name name.now) }
-        ensures { IfOk result (λ kept. row_of kept ≡ record { name = name.now; percent = percent }) }
+        ensures { IfOk result
+            (λ kept. row_of kept ≡ record { name = name.now; percent = percent }) }
     {
         let name = String::from_str(alloc, text(name))?;
         Ok(NamedShare { name, percent })

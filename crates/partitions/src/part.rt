@@ -3,7 +3,7 @@
 pub enum Part {
     /// Callers of no known partition. They are promised no share.
     Unknown,
-    /// The known partition in this row of the table, counted from 0. One that the table doesn't hold is
-    /// read as unknown.
+    /// The known partition in this row of the table, counted from 0. One that the table doesn't
+    /// hold is read as unknown.
     Known(u8),
 }

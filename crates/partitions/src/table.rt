@@ -1,10 +1,11 @@
 // The table of partitions.
-ghost use Rattle.std.specs.Prelude.{◌≡◌, ℕ, ◌+◌, ◌*◌, ◌<◌, ◌≤◌, ◌↔◌, max, [], length, map, slice_get, option_map, position, bytes_eq, IfSome, IfOk, IsOkUnless, MatchOption, IsTrue, codes};
+ghost use Rattle.std.specs.Prelude.{◌≡◌, ℕ, ◌+◌, ◌*◌, ◌<◌, ◌≤◌, ◌↔◌, max, [], length, map, slice_get, option_map, position, bytes_eq, IfSome, IfOk, IsOk, IsOkUnless, MatchOption, IsTrue, codes};
 ghost use Rattle.partitions.specs.Table.{IsTable, place_of, find_part, name_of, IsShare, share, bound};
 ghost use Rattle.partitions.specs.Faults.{given, fault_of};
 
 use crate::check::check;
 use crate::fault::TableFault;
+use crate::name::UNKNOWN_NAME;
 use crate::named_share::{NamedShare, copied_rows, kept_rows};
 use crate::part::Part;
 use std::alloc::Global;
@@ -15,9 +16,6 @@ pub(crate) const MOST_KNOWN: usize = 4;
 
 /// The place of the unknown partition, behind those of the known ones.
 const UNKNOWN_PLACE: usize = MOST_KNOWN;
-
-/// The name of every part that a table doesn't hold.
-pub(crate) const UNKNOWN_NAME: &str = "unknown";
 
 /// The known partitions, at most four of them, with the shares that they are promised.
 #[derive(Debug, Drop)]
@@ -62,14 +60,16 @@ impl PartitionTable {
         })
     }
 
-    /// An equal table, on this table's allocator.
+    /// An equal table, on this table's allocator. The table that knows no partition takes no
+    /// memory.
     pub fn copy(&self) -> Result<PartitionTable, TableFault>
         ensures rows { IfOk result (λ copy. copy ≡ self.now) }
         ensures fault { IsOkUnless result TableFault.Memory }
+        ensures unknown_only { self.now ≡ [] → IsOk result }
     {
         let rows = match &self.rows {
-            Some(rows) => Some(copied_rows(*rows.allocator(), rows)?),
-            None => None,
+            Some(rows) if !rows.is_empty() => Some(copied_rows(*rows.allocator(), rows)?),
+            _ => None,
         };
         Ok(PartitionTable { rows })
     }
@@ -109,8 +109,8 @@ impl PartitionTable {
         self.len() == 0
     }
 
-    /// The place of a part among the five: the row of a partition that the table holds, counted from 0,
-    /// and 4 for every other part.
+    /// The place of a part among the five: the row of a partition that the table holds, counted
+    /// from 0, and 4 for every other part.
     pub fn place(&self, part: Part) -> usize
         ensures place { result ≡ place_of self.now part }
         ensures among_five { result < 5 }
@@ -169,7 +169,8 @@ impl PartitionTable {
     fn share_at(&self, place: usize, limit: u32) -> u32
         requires { place < 5 }
         ensures share { result ≡ share self.now place limit }
-        ensures least { IfSome (slice_get self.now place) (λ row. IsShare row.percent limit result) }
+        ensures least { IfSome (slice_get self.now place)
+            (λ row. IsShare row.percent limit result) }
         ensures within { result ≤ max 1 limit }
     {
         match self.row(place) {

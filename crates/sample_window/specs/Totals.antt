@@ -3,7 +3,8 @@ use Rattle.std.specs.Prelude.{ℕ, ◌+◌, ◌*◌, ◌≤◌, Bool, List, [], 
 use Rattle.std.specs.List.{list_any}
 use Rattle.limit_laws.specs.Facts.{SampleFacts, hour}
 
--- how many samples, the sum and the least of their round trips in nanoseconds, the most permits in flight that one tells of, and whether one was dropped
+-- how many samples, the sum and the least of their round trips in nanoseconds, the most permits in
+-- flight that one tells of, and whether one was dropped
 pub record WindowTotals : Type 0 where
   pub count : ℕ
   pub sum : ℕ

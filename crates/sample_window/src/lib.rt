@@ -6,8 +6,6 @@
 //! and one more sample.
 #![tactic(auto)]
 
-#[cfg(test)]
-mod tests;
 mod window;
 
-pub use window::{MOST_SAMPLES, Window};
+pub use window::Window;

@@ -1,13 +1,10 @@
 // Totals of samples.
 ghost use Rattle.std.specs.Prelude.{◌≡◌, ◌/◌, ◌<◌, ◌≤◌, List, [], ◌∷◌, ◌++◌};
-ghost use Rattle.limit_laws.specs.Facts.{SampleFacts};
-ghost use Rattle.sample_window.specs.Totals.{totals, with_sample};
+ghost use Rattle.limit_laws.specs.Facts.{SampleFacts, hour};
+ghost use Rattle.sample_window.specs.Totals.{totals, with_sample, most_samples};
 
-use limit_laws::{HOUR, Sample};
+use limit_laws::Sample;
 use std::marker::Model;
-
-/// The most samples that a window holds.
-pub const MOST_SAMPLES: u32 = 1_000_000;
 
 /// The totals of the samples added, 1,000,000 of them at most.
 #[derive(Clone, Copy, Debug, PartialEq, Eq)]
@@ -24,11 +21,29 @@ impl Model for Window {
 
     ghost Value = { WindowTotals };
 
-    ghost view = { λ w. record { count = w.count; sum = w.sum; least = w.least; greatest_inflight = w.greatest_inflight; dropped = w.dropped } };
+    ghost view = { λ w. record {
+      count = w.count;
+      sum = w.sum;
+      least = w.least;
+      greatest_inflight = w.greatest_inflight;
+      dropped = w.dropped;
+    } };
 
-    ghost invariant = { λ w. AreTotals (record { count = w.count; sum = w.sum; least = w.least; greatest_inflight = w.greatest_inflight; dropped = w.dropped }) };
+    ghost invariant = { λ w. AreTotals (record {
+      count = w.count;
+      sum = w.sum;
+      least = w.least;
+      greatest_inflight = w.greatest_inflight;
+      dropped = w.dropped;
+    }) };
 
-    ghost inverse = { λ t. record { count = t.count; sum = t.sum; least = t.least; greatest_inflight = t.greatest_inflight; dropped = t.dropped } };
+    ghost inverse = { λ t. record {
+      count = t.count;
+      sum = t.sum;
+      least = t.least;
+      greatest_inflight = t.greatest_inflight;
+      dropped = t.dropped;
+    } };
 }
 
 impl Window {
@@ -47,25 +62,30 @@ impl Window {
 
     /// Adds a sample.
     pub fn add(&mut self, sample: &Sample)
-        requires { self.old.count < MOST_SAMPLES }
+        requires { self.old.count < most_samples }
         ensures adds { self.new ≡ with_sample self.old sample.now }
-        ensures totals { (xs : List SampleFacts) → self.old ≡ totals xs → self.new ≡ totals (xs ++ sample.now ∷ []) }
+        ensures totals { (xs : List SampleFacts) →
+            self.old ≡ totals xs → self.new ≡ totals (xs ++ sample.now ∷ []) }
     {
-        self.least = if self.count == 0 {
-            sample.rtt()
+        let rtt = sample.rtt();
+        let least = if self.count == 0 {
+            rtt
         } else {
-            self.least.min(sample.rtt())
+            self.least.min(rtt)
         };
-        self.count += 1;
-        self.sum += sample.rtt();
-        self.greatest_inflight = self.greatest_inflight.max(sample.inflight());
-        self.dropped = self.dropped || sample.dropped();
+        *self = Window {
+            count: self.count + 1,
+            sum: self.sum + rtt,
+            least,
+            greatest_inflight: self.greatest_inflight.max(sample.inflight()),
+            dropped: self.dropped || sample.dropped(),
+        };
     }
 
     /// How many samples were added: 1,000,000 at most.
     pub fn count(&self) -> u32
         ensures value { result ≡ self.now.count }
-        ensures most { result ≤ MOST_SAMPLES }
+        ensures most { result ≤ most_samples }
     {
         self.count
     }
@@ -80,7 +100,7 @@ impl Window {
     /// The least of their round trips, in nanoseconds; 0 without samples.
     pub fn least(&self) -> u64
         ensures value { result ≡ self.now.least }
-        ensures most { result ≤ HOUR }
+        ensures most { result ≤ hour }
     {
         self.least
     }
@@ -104,7 +124,7 @@ impl Window {
         requires { 0 < self.now.count }
         ensures value { result ≡ self.now.sum / self.now.count }
         ensures least { 1 ≤ result }
-        ensures most { result ≤ HOUR }
+        ensures most { result ≤ hour }
     {
         self.sum / u64::from(self.count)
     }

@@ -7,13 +7,16 @@ use Rattle.std.proofs.lemmas.Grind.{div_ceil_times}
 use Rattle.vegas.specs.VegasRules.{queue}
 use Rattle.vegas.specs.Queues.{EstimatesTheLeastQueue}
 
--- the first of a, a + 1, .. that passes is q, where q is among them and passes, and none before it does
-find-range : (test : ℕ → Bool) (n a q : ℕ) → a ≤ q → q < a + n → test q ≡ true → ((k : ℕ) → a ≤ k → k < q → test k ≡ false) → find test (range_with_len a n) ≡ Some q
+-- the first of a, a + 1, .. that passes is q, where q is among them and passes, and none before
+-- it does
+find-range : (test : ℕ → Bool) (n a q : ℕ) → a ≤ q → q < a + n → test q ≡ true →
+    ((k : ℕ) → a ≤ k → k < q → test k ≡ false) → find test (range_with_len a n) ≡ Some q
 find-range test zero a q low high passes before = absurd (omega arith)
 find-range test (suc n) a q low high passes before = elim (cases_lt a q) [
   | inl less ↦
       let e : test a ≡ false = before a (omega arith) less in
-      rw e (find-range test n (a + 1) q (omega arith) (omega arith) passes (λ k l h. before k (omega arith) h))
+      rw e (find-range test n (a + 1) q (omega arith) (omega arith) passes
+      (λ k l h. before k (omega arith) h))
   | inr more ↦
       let same : q ≡ a = omega arith in
       let e : test a ≡ true = rw same at passes in
@@ -33,15 +36,17 @@ below_rounded_up n d k positive h =
     omega (arith, ceiling.1, more, parts)
 
 rounded_up_most : (limit rtt base : ℕ) → 1 ≤ rtt → rounded_up (limit * (rtt - base)) rtt ≤ limit
-rounded_up_most limit rtt base positive = elim (cases_lt limit (rounded_up (limit * (rtt - base)) rtt)) [
-  | inl less ↦
-      let below = below_rounded_up (limit * (rtt - base)) rtt limit positive less in
-      let products : limit * (rtt - base) ≤ limit * rtt = mul-le-mul_left limit (omega arith) in
-      absurd (omega (arith, below, products))
-  | inr h ↦ h
-]
+rounded_up_most limit rtt base positive =
+    elim (cases_lt limit (rounded_up (limit * (rtt - base)) rtt)) [
+      | inl less ↦
+          let below = below_rounded_up (limit * (rtt - base)) rtt limit positive less in
+          let products : limit * (rtt - base) ≤ limit * rtt = mul-le-mul_left limit (omega arith) in
+          absurd (omega (arith, below, products))
+      | inr h ↦ h
+    ]
 
-pub queue-rounded_up : (limit rtt base : ℕ) → 1 ≤ rtt → queue limit rtt base ≡ rounded_up (limit * (rtt - base)) rtt
+pub queue-rounded_up : (limit rtt base : ℕ) → 1 ≤ rtt →
+    queue limit rtt base ≡ rounded_up (limit * (rtt - base)) rtt
 unfolding queue
 queue-rounded_up limit rtt base positive =
     let n : ℕ = limit * (rtt - base) in
@@ -49,7 +54,9 @@ queue-rounded_up limit rtt base positive =
     let test : ℕ → Bool = λ q. nat_le n (q * rtt) in
     let most : q ≤ limit = rounded_up_most limit rtt base positive in
     let enough : test q ≡ true = le-leb _ _ (div_ceil_times n rtt positive).0 in
-    let found = find-range test (limit + 1) 0 q (omega arith) (omega arith) enough (λ k l h. lt-leb _ _ (below_rounded_up n rtt k positive h)) in
+    let found =
+    find-range test (limit + 1) 0 q (omega arith) (omega arith) enough
+    (λ k l h. lt-leb _ _ (below_rounded_up n rtt k positive h)) in
     ap (λ o. unwrap_or o limit) found
 
 pub ruleset queues = queue-rounded_up
@@ -60,7 +67,8 @@ queue_is_least limit rtt base positive =
     rw (queue-rounded_up limit rtt base positive) (
       (div_ceil_times n rtt positive).0,
       λ q enough. elim (cases_lt q (rounded_up n rtt)) [
-        | inl less ↦ let below = below_rounded_up n rtt q positive less in absurd (omega (arith, below, enough))
+        | inl less ↦ let below = below_rounded_up n rtt q positive less in
+            absurd (omega (arith, below, enough))
         | inr h ↦ h
       ],
     )
@@ -74,7 +82,11 @@ no_times a b =
 pub queue-at_base : (limit rtt : ℕ) → queue limit rtt rtt ≡ 0
 unfolding queue
 queue-at_base limit rtt =
-    let enough : nat_le (limit * (rtt - rtt)) (0 * rtt) ≡ true = le-leb _ _ (omega (arith, no_times limit rtt)) in
-    let none : (k : ℕ) → 0 ≤ k → k < 0 → nat_le (limit * (rtt - rtt)) (k * rtt) ≡ false = λ k l h. absurd (omega (arith, h)) in
-    let found = find-range (λ q. nat_le (limit * (rtt - rtt)) (q * rtt)) (limit + 1) 0 0 (omega arith) (omega arith) enough none in
+    let enough : nat_le (limit * (rtt - rtt)) (0 * rtt) ≡ true =
+    le-leb _ _ (omega (arith, no_times limit rtt)) in
+    let none : (k : ℕ) → 0 ≤ k → k < 0 → nat_le (limit * (rtt - rtt)) (k * rtt) ≡ false =
+    λ k l h. absurd (omega (arith, h)) in
+    let found =
+    find-range (λ q. nat_le (limit * (rtt - rtt)) (q * rtt)) (limit + 1) 0 0 (omega arith)
+    (omega arith) enough none in
     ap (λ o. unwrap_or o limit) found

@@ -8,15 +8,19 @@ use Rattle.vegas.specs.VegasRules.{VegasState, vegas_rules, vegas_next, queue}
 abbrev pub EstimatesTheLeastQueue : Type 0
 EstimatesTheLeastQueue =
     (limit rtt base : ℕ) → 1 ≤ rtt →
-    (limit * (rtt - base) ≤ queue limit rtt base * rtt) × ((q : ℕ) → limit * (rtt - base) ≤ q * rtt → queue limit rtt base ≤ q)
+    (limit * (rtt - base) ≤ queue limit rtt base * rtt)
+    × ((q : ℕ) → limit * (rtt - base) ≤ q * rtt → queue limit rtt base ≤ q)
 
 -- a sample that wasn't dropped and took as long as the base
 pub record IsAtBase (base : ℕ) (x : SampleFacts) : Type 0 where
   pub rtt : x.rtt ≡ base
   pub success : x.dropped ≡ false
 
--- THE LAW of an empty queue: over samples at the base the limit of a later state is no less than that of an earlier one
+-- THE LAW of an empty queue: over samples at the base the limit of a later state is no less than
+-- that of an earlier one
 abbrev pub NeverFallsAtTheBase : Type 0
 NeverFallsAtTheBase =
-    (s : VegasState) (base : ℕ) (xs ys : List SampleFacts) → IsWithin vegas_rules s → 1 ≤ s.alpha → IfSome s.base (λ b. b ≡ base) →
-    All (IsAtBase base) (xs ++ ys) → (fold vegas_next s xs).limit ≤ (fold vegas_next s (xs ++ ys)).limit
+    (s : VegasState) (base : ℕ) (xs ys : List SampleFacts) → IsWithin vegas_rules s →
+    1 ≤ s.alpha → IfSome s.base (λ b. b ≡ base) →
+    All (IsAtBase base) (xs ++ ys) →
+    (fold vegas_next s xs).limit ≤ (fold vegas_next s (xs ++ ys)).limit

@@ -3,9 +3,13 @@ use Rattle.std.specs.Prelude.{ℕ, ◌+◌, ◌-◌, ◌*◌, ◌≤◌, Bool, t
 use Rattle.std.specs.List.{range_with_len}
 use Rattle.limit_laws.specs.declared.limit.SetFault.TheVariants.{NotSettable}
 use Rattle.limit_laws.specs.Facts.{SampleFacts}
-use Rattle.limit_laws.specs.Algorithm.{Algorithm}
+use Rattle.limit_laws.specs.Algorithm.{Algorithm, greatest_limit}
 
--- the bounds, the limit now and the first one in permits; the thresholds of the queue in permits; how many samples come to a probe, none where that is 0; the base round trip in nanoseconds, once there is one; the samples since the last probe
+-- the bounds, the limit now and the first one in permits; the thresholds of the queue in
+-- permits; how
+-- many samples come to a probe, none where that is 0; the base round trip in nanoseconds, once
+-- there is
+-- one; the samples since the last probe
 pub record VegasState : Type 0 where
   pub lo : ℕ
   pub limit : ℕ
@@ -17,15 +21,19 @@ pub record VegasState : Type 0 where
   pub base : Option ℕ
   pub count : ℕ
 
+-- the most samples that come to a probe
+abbrev pub most_probe : ℕ
+most_probe = 1000000
+
 -- 1 ≤ lo ≤ first ≤ hi ≤ 10,000, and a probe each 1,000,000 samples or more often
 pub record IsInRange (lo first hi probe_every : ℕ) : Type 0 where
   pub positive : 1 ≤ lo
   pub first_least : lo ≤ first
   pub first_most : first ≤ hi
-  pub small : hi ≤ 10000
-  pub probe_most : probe_every ≤ 1000000
+  pub small : hi ≤ greatest_limit
+  pub probe_most : probe_every ≤ most_probe
 
--- thresholds of a queue
+-- thresholds of a queue: 1 ≤ alpha ≤ beta ≤ 100
 pub record AreThresholds (alpha beta : ℕ) : Type 0 where
   pub least : 1 ≤ alpha
   pub order : alpha ≤ beta
@@ -39,39 +47,67 @@ pub record IsVegas (s : VegasState) : Type 0 where
   pub most : s.limit ≤ s.hi
   pub counted : s.count ≤ s.probe_every
 
+-- the first state of these numbers
+abbrev pub vegas_from : ℕ → ℕ → ℕ → ℕ → ℕ → ℕ → VegasState
+vegas_from lo first hi alpha beta probe_every = record {
+  lo = lo;
+  limit = first;
+  hi = hi;
+  first = first;
+  alpha = alpha;
+  beta = beta;
+  probe_every = probe_every;
+  base = None;
+  count = 0;
+}
+
 -- whether the next sample is a probe: the count reaches its end with it
 abbrev pub probes : VegasState → Bool
 probes s = if nat_eq s.probe_every 0 then false else nat_le s.probe_every (s.count + 1)
 
 -- the count after the next sample: it begins again at a probe, and stays 0 where there are none
 abbrev pub count_after : VegasState → ℕ
-count_after s = if nat_eq s.probe_every 0 then s.count else (if nat_le s.probe_every (s.count + 1) then 0 else s.count + 1)
+count_after s =
+    if nat_eq s.probe_every 0 then s.count
+    else (if nat_le s.probe_every (s.count + 1) then 0 else s.count + 1)
 
 -- whether a round trip is below the base, or the first one
 abbrev pub is_new_base : Option ℕ → ℕ → Bool
 is_new_base None rtt = true
 is_new_base (Some base) rtt = nat_lt rtt base
 
--- the queue: the least q with q * rtt ≥ limit * (rtt - base), sought among 0 to the limit, which is one
+-- the queue: the least q with q * rtt ≥ limit * (rtt - base), sought among 0 to the limit, which
+-- is one
 unfoldable pub queue : ℕ → ℕ → ℕ → ℕ
-queue limit rtt base = unwrap_or (find (λ q. nat_le (limit * (rtt - base)) (q * rtt)) (range_with_len 0 (limit + 1))) limit
+queue limit rtt base =
+    unwrap_or (find (λ q. nat_le (limit * (rtt - base)) (q * rtt)) (range_with_len 0 (limit + 1)))
+    limit
 
 -- one more below alpha, one less above beta
 abbrev pub by_queue : VegasState → ℕ → ℕ
-by_queue s q = if nat_lt q s.alpha then s.limit + 1 else (if nat_lt s.beta q then s.limit - 1 else s.limit)
+by_queue s q =
+    if nat_lt q s.alpha then s.limit + 1
+    else (if nat_lt s.beta q then s.limit - 1 else s.limit)
 
--- the limit after a sample that is measured against a base: one less at a drop, the same where less than half of it was in use, else by the queue
+-- the limit after a sample that is measured against a base: one less at a drop, the same where
+-- less than half of it was in use, else by the queue
 abbrev pub measured : VegasState → ℕ → SampleFacts → ℕ
 measured s base x =
     if x.dropped then s.limit - 1
-    else (if nat_lt (2 * x.inflight) s.limit then s.limit else by_queue s (queue s.limit x.rtt base))
+    else
+    (if nat_lt (2 * x.inflight) s.limit then s.limit
+    else by_queue s (queue s.limit x.rtt base))
 
--- a probe and a new base set the base and leave the limit; every other sample is measured, and the limit brought into the bounds
+-- a probe and a new base set the base and leave the limit; every other sample is measured, and
+-- the limit brought into the bounds
 abbrev pub vegas_next : VegasState → SampleFacts → VegasState
 vegas_next s x =
     if probes s || is_new_base s.base x.rtt
     then record s { base = Some x.rtt; count = count_after s }
-    else record s { limit = min (max (measured s (unwrap_or s.base 0) x) s.lo) s.hi; count = count_after s }
+    else record s {
+      limit = min (max (measured s (unwrap_or s.base 0) x) s.lo) s.hi;
+      count = count_after s;
+    }
 
 abbrev pub vegas_rules : Algorithm VegasState
 vegas_rules = record {

@@ -9,8 +9,6 @@
 #![tactic(auto)]
 
 mod laws;
-#[cfg(test)]
-mod tests;
 mod vegas;
 
 pub use laws::{estimates_the_least_queue, never_falls_at_the_base};

@@ -1,10 +1,11 @@
 // A limit that follows the queue behind it.
-ghost use Rattle.std.specs.Prelude.{◌≡◌, ◌≤◌, ◌↔◌, IfOk, IsOk, None};
+ghost use Rattle.std.specs.Prelude.{◌≡◌, ◌≤◌, ◌↔◌, IfOk, IsOk};
 ghost use Rattle.limit_laws.specs.Facts.{hour};
-ghost use Rattle.vegas.specs.VegasRules.{vegas_rules, queue as queue_lem, measured, probes, count_after, IsInRange, AreThresholds};
+ghost use Rattle.limit_laws.specs.Algorithm.{greatest_limit};
+ghost use Rattle.vegas.specs.VegasRules.{vegas_rules, vegas_from, queue as queue_lem, measured, probes, count_after, IsInRange, AreThresholds};
 ghost use Rattle.vegas.specs.VegasLaws.{IsLawful-vegas};
 
-use limit_laws::{Limit, MOST_LIMIT, MakeFault, Sample, SetFault};
+use limit_laws::{GREATEST_LIMIT, Limit, MakeFault, Sample, SetFault};
 use std::marker::Model;
 
 /// The most samples between two probes.
@@ -33,11 +34,41 @@ impl Model for Vegas {
 
     ghost Value = { VegasState };
 
-    ghost view = { λ v. record { lo = v.lo; limit = v.limit; hi = v.hi; first = v.first; alpha = v.alpha; beta = v.beta; probe_every = v.probe_every; base = v.base; count = v.count } };
+    ghost view = { λ v. record {
+      lo = v.lo;
+      limit = v.limit;
+      hi = v.hi;
+      first = v.first;
+      alpha = v.alpha;
+      beta = v.beta;
+      probe_every = v.probe_every;
+      base = v.base;
+      count = v.count;
+    } };
 
-    ghost invariant = { λ v. IsVegas (record { lo = v.lo; limit = v.limit; hi = v.hi; first = v.first; alpha = v.alpha; beta = v.beta; probe_every = v.probe_every; base = v.base; count = v.count }) };
+    ghost invariant = { λ v. IsVegas (record {
+      lo = v.lo;
+      limit = v.limit;
+      hi = v.hi;
+      first = v.first;
+      alpha = v.alpha;
+      beta = v.beta;
+      probe_every = v.probe_every;
+      base = v.base;
+      count = v.count;
+    }) };
 
-    ghost inverse = { λ s. record { lo = s.lo; limit = s.limit; hi = s.hi; first = s.first; alpha = s.alpha; beta = s.beta; probe_every = s.probe_every; base = s.base; count = s.count } };
+    ghost inverse = { λ s. record {
+      lo = s.lo;
+      limit = s.limit;
+      hi = s.hi;
+      first = s.first;
+      alpha = s.alpha;
+      beta = s.beta;
+      probe_every = s.probe_every;
+      base = s.base;
+      count = s.count;
+    } };
 }
 
 impl Vegas {
@@ -56,12 +87,15 @@ impl Vegas {
         beta: u32,
         probe_every: u32,
     ) -> Result<Vegas, MakeFault>
-        ensures made { IsOk result ↔ (IsInRange lo first hi probe_every × AreThresholds alpha beta) }
-        ensures value { IfOk result (λ vegas. vegas ≡ record { lo = lo; limit = first; hi = hi; first = first; alpha = alpha; beta = beta; probe_every = probe_every; base = None; count = 0 }) }
+        ensures made { IsOk result
+            ↔ (IsInRange lo first hi probe_every × AreThresholds alpha beta) }
+        ensures value { IfOk result
+            (λ vegas. vegas ≡ vegas_from lo first hi alpha beta probe_every) }
         ensures range { ¬ IsInRange lo first hi probe_every → result ≡ Err MakeFault.Range }
-        ensures alpha { IsInRange lo first hi probe_every → ¬ AreThresholds alpha beta → result ≡ Err MakeFault.Alpha }
+        ensures alpha { IsInRange lo first hi probe_every → ¬ AreThresholds alpha beta →
+            result ≡ Err MakeFault.Alpha }
     {
-        if lo < 1 || first < lo || hi < first || MOST_LIMIT < hi {
+        if lo < 1 || first < lo || hi < first || GREATEST_LIMIT < hi {
             return Err(MakeFault::Range);
         }
         if MOST_PROBE < probe_every {
@@ -168,7 +202,7 @@ impl Limit for Vegas {
 /// is above the base, as a part of the limit.
 #[tactic(auto, using(crate::proofs::Least::queues))]
 fn queue(limit: u32, rtt: u64, base: u64) -> u64
-    requires limit { limit ≤ MOST_LIMIT }
+    requires limit { limit ≤ greatest_limit }
     requires base { base ≤ rtt }
     requires least { 1 ≤ rtt }
     requires most { rtt ≤ hour }

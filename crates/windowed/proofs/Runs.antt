@@ -7,65 +7,97 @@ use Rattle.std.proofs.lemmas.List.Sums.{fold-append}
 use Rattle.limit_laws.specs.Facts.{SampleFacts, IsSample}
 use Rattle.limit_laws.specs.Algorithm.{Algorithm}
 use Rattle.sample_window.specs.Totals.{most_samples}
-use Rattle.windowed.specs.WindowedRules.{opened, WindowSettings, windowed_rules, windowed_next, is_kept, end_of}
+use Rattle.windowed.specs.WindowedRules.{opened, WindowNumbers, windowed_rules, windowed_next, is_kept, end_of}
 use Rattle.windowed.specs.Windows.{Input, Sampled, SetTo, after, run, is_setting, kept_sample, Stretch, samples_of, inputs_of, window_samples, handed_on, StaysOpen, IsWindow, AreWindows, due_after, due_after_all, InnerRunsOverWindows}
 use Rattle.windowed.proofs.Totals.{all_left, all_right}
 use Rattle.windowed.proofs.Cuttings.{samples_of_kept, no_sample}
 use Rattle.windowed.proofs.Steps.{state_of, after-set, next-left_out, next-added, next-ended}
 
-module _ {S : Type 0} (rules : Algorithm S) (w : WindowSettings) where
+module _ {S : Type 0} (rules : Algorithm S) (w : WindowNumbers) where
   -- inputs that end no window: the settings are passed on, and the samples gathered
-  run_open : (due : ℕ) (inner : S) (xs : List SampleFacts) (inputs : List Input) → All (λ x. end_of x ≤ due) (samples_of w inputs) → length xs + length (samples_of w inputs) < most_samples →
-      run (windowed_rules rules) (state_of w due inner xs) inputs ≡ state_of w due (run rules inner (filter is_setting inputs)) (xs ++ samples_of w inputs)
+  run_open : (due : ℕ) (inner : S) (xs : List SampleFacts) (inputs : List Input) →
+      All (λ x. end_of x ≤ due) (samples_of w inputs) →
+      length xs + length (samples_of w inputs) < most_samples →
+      run (windowed_rules rules) (state_of w due inner xs) inputs
+      ≡ state_of w due (run rules inner (filter is_setting inputs))
+      (xs ++ samples_of w inputs)
   run_open due inner xs [] early few = ap (state_of w due inner) (sym (append-nil xs))
   run_open due inner xs (SetTo n ∷ inputs) early few =
-      ap (λ s. run (windowed_rules rules) s inputs) (after-set rules w due inner xs n) ∙ run_open due (after rules inner (SetTo n)) xs inputs early few
+      ap (λ s. run (windowed_rules rules) s inputs) (after-set rules w due inner xs n)
+      ∙ run_open due (after rules inner (SetTo n)) xs inputs early few
   run_open due inner xs (Sampled x ∷ inputs) early few = elim (cases_Bool (is_kept w x)) [
     | inr e ↦
         let same : samples_of w (Sampled x ∷ inputs) ≡ samples_of w inputs = rw (no_sample w x e) in
         ap (λ s. run (windowed_rules rules) s inputs) (next-left_out rules w due inner xs x e)
         ∙ run_open due inner xs inputs (rw same at early) (rw same at few)
-        ∙ ap (λ ys. state_of w due (run rules inner (filter is_setting inputs)) (xs ++ ys)) (sym same)
+        ∙ ap (λ ys. state_of w due (run rules inner (filter is_setting inputs)) (xs ++ ys))
+        (sym same)
     | inl e ↦
         let more : samples_of w (Sampled x ∷ inputs) ≡ x ∷ samples_of w inputs = rw e in
         let early' = rw more at early in
         let few' = rw more at few in
-        ap (λ s. run (windowed_rules rules) s inputs) (next-added rules w due inner xs x e (All-head (λ x. end_of x ≤ due) x (samples_of w inputs) early') (omega (arith, few')))
-        ∙ run_open due inner (xs ++ x ∷ []) inputs (All-tail (λ x. end_of x ≤ due) x (samples_of w inputs) early') (rw length-append (omega (arith, few')))
-        ∙ ap (state_of w due (run rules inner (filter is_setting inputs))) (append_assoc xs (x ∷ []) (samples_of w inputs) ∙ ap (λ ys. xs ++ ys) (sym more))
+        ap (λ s. run (windowed_rules rules) s inputs) (next-added rules w due inner xs x e
+        (All-head (λ x. end_of x ≤ due) x (samples_of w inputs) early') (omega (arith, few')))
+        ∙ run_open due inner (xs ++ x ∷ []) inputs
+        (All-tail (λ x. end_of x ≤ due) x (samples_of w inputs) early')
+        (rw length-append (omega (arith, few')))
+        ∙ ap (state_of w due (run rules inner (filter is_setting inputs)))
+        (append_assoc xs (x ∷ []) (samples_of w inputs) ∙ ap (λ ys. xs ++ ys) (sym more))
   ]
 
   -- a window: its settings and its mean sample are passed on, and the next one is empty
-  run_window : (due : ℕ) (inner : S) (s : Stretch) → IsWindow w due s → All IsSample (window_samples w s) →
-      run (windowed_rules rules) (state_of w due inner []) (inputs_of s) ≡ state_of w (due_after w s) (run rules inner (handed_on w s)) []
+  run_window : (due : ℕ) (inner : S) (s : Stretch) → IsWindow w due s →
+      All IsSample (window_samples w s) →
+      run (windowed_rules rules) (state_of w due inner []) (inputs_of s)
+      ≡ state_of w (due_after w s) (run rules inner (handed_on w s)) []
   run_window due inner s is samples =
       let settings : List Input = filter is_setting s.before in
-      let before = run_open due inner [] s.before is.none_before.none_late (omega (arith, is.none_before.few)) in
-      let last = next-ended rules w due (run rules inner settings) (samples_of w s.before) s.last (le-leb w.min_rtt s.last.rtt is.kept) is.ends samples in
-      fold-append (after (windowed_rules rules)) (state_of w due inner []) s.before (Sampled s.last ∷ [])
+      let before =
+      run_open due inner [] s.before is.none_before.none_late
+      (omega (arith, is.none_before.few)) in
+      let last =
+      next-ended rules w due (run rules inner settings) (samples_of w s.before) s.last
+      (le-leb w.min_rtt s.last.rtt is.kept) is.ends samples in
+      fold-append (after (windowed_rules rules)) (state_of w due inner []) s.before
+      (Sampled s.last ∷ [])
       ∙ ap (λ t. windowed_next rules t s.last) before
       ∙ last
       ∙ ap (λ i. state_of w (due_after w s) i []) (sym (fold-append (after rules) inner settings _))
 
-  window_inputs : (due : ℕ) (s : Stretch) → IsWindow w due s → samples_of w (inputs_of s) ≡ window_samples w s
+  window_inputs : (due : ℕ) (s : Stretch) → IsWindow w due s →
+      samples_of w (inputs_of s) ≡ window_samples w s
   window_inputs due s is = samples_of_kept w s.before s.last (le-leb w.min_rtt s.last.rtt is.kept)
 
-  pub run_windows : (due : ℕ) (inner : S) (windows : List Stretch) (rest : List Input) → AreWindows w due windows → StaysOpen w (due_after_all w due windows) rest →
+  pub run_windows : (due : ℕ) (inner : S) (windows : List Stretch) (rest : List Input) →
+      AreWindows w due windows → StaysOpen w (due_after_all w due windows) rest →
       All IsSample (samples_of w (flat_map inputs_of windows ++ rest)) →
       run (windowed_rules rules) (state_of w due inner []) (flat_map inputs_of windows ++ rest)
-      ≡ state_of w (due_after_all w due windows) (run rules inner (flat_map (handed_on w) windows ++ filter is_setting rest)) (samples_of w rest)
-  run_windows due inner [] rest each after_it samples = run_open due inner [] rest after_it.none_late (omega (arith, after_it.few))
+      ≡ state_of w (due_after_all w due windows)
+      (run rules inner (flat_map (handed_on w) windows ++ filter is_setting rest))
+      (samples_of w rest)
+  run_windows due inner [] rest each after_it samples =
+      run_open due inner [] rest after_it.none_late (omega (arith, after_it.few))
   run_windows due inner (s ∷ windows) rest each after_it samples =
       let later : List Input = flat_map inputs_of windows ++ rest in
-      let parts : (inputs_of s ++ flat_map inputs_of windows) ++ rest ≡ inputs_of s ++ later = append_assoc (inputs_of s) (flat_map inputs_of windows) rest in
+      let parts : (inputs_of s ++ flat_map inputs_of windows) ++ rest ≡ inputs_of s ++ later =
+      append_assoc (inputs_of s) (flat_map inputs_of windows) rest in
       let split : samples_of w (inputs_of s ++ later) ≡ window_samples w s ++ samples_of w later =
-      filter_map-append (kept_sample w) (inputs_of s) later ∙ ap (λ ys. ys ++ samples_of w later) (window_inputs due s each.0) in
-      let all : All IsSample (window_samples w s ++ samples_of w later) = subst (All IsSample) (ap (samples_of w) parts ∙ split) samples in
-      let first = run_window due inner s each.0 (all_left (window_samples w s) (samples_of w later) all) in
-      let rest_of = run_windows (due_after w s) (run rules inner (handed_on w s)) windows rest each.1 after_it (all_right (window_samples w s) (samples_of w later) all) in
+      filter_map-append (kept_sample w) (inputs_of s) later
+      ∙ ap (λ ys. ys ++ samples_of w later) (window_inputs due s each.0) in
+      let all : All IsSample (window_samples w s ++ samples_of w later) =
+      subst (All IsSample) (ap (samples_of w) parts ∙ split) samples in
+      let first =
+      run_window due inner s each.0 (all_left (window_samples w s) (samples_of w later) all) in
+      let rest_of =
+      run_windows (due_after w s) (run rules inner (handed_on w s)) windows rest each.1
+      after_it (all_right (window_samples w s) (samples_of w later) all) in
       let passed : List Input = flat_map (handed_on w) windows ++ filter is_setting rest in
-      let joined : (handed_on w s ++ flat_map (handed_on w) windows) ++ filter is_setting rest ≡ handed_on w s ++ passed = append_assoc (handed_on w s) (flat_map (handed_on w) windows) (filter is_setting rest) in
-      let inner_joined : run rules (run rules inner (handed_on w s)) passed ≡ run rules inner ((handed_on w s ++ flat_map (handed_on w) windows) ++ filter is_setting rest) =
+      let joined : (handed_on w s ++ flat_map (handed_on w) windows) ++ filter is_setting rest
+      ≡ handed_on w s ++ passed =
+      append_assoc (handed_on w s) (flat_map (handed_on w) windows) (filter is_setting rest) in
+      let inner_joined : run rules (run rules inner (handed_on w s)) passed
+      ≡ run rules inner
+      ((handed_on w s ++ flat_map (handed_on w) windows) ++ filter is_setting rest) =
       sym (ap (run rules inner) joined ∙ fold-append (after rules) inner (handed_on w s) passed) in
       ap (run (windowed_rules rules) (state_of w due inner [])) parts
       ∙ fold-append (after (windowed_rules rules)) (state_of w due inner []) (inputs_of s) later
@@ -75,6 +107,7 @@ module _ {S : Type 0} (rules : Algorithm S) (w : WindowSettings) where
 
 pub inner_runs : {S : Type 0} (rules : Algorithm S) → InnerRunsOverWindows rules
 inner_runs rules w inner inputs windows rest samples cutting =
-    let all : All IsSample (samples_of w (flat_map inputs_of windows ++ rest)) = subst (λ ys. All IsSample (samples_of w ys)) cutting.whole samples in
+    let all : All IsSample (samples_of w (flat_map inputs_of windows ++ rest)) =
+    subst (λ ys. All IsSample (samples_of w ys)) cutting.whole samples in
     ap (run (windowed_rules rules) (opened w inner)) cutting.whole
     ∙ run_windows rules w 0 inner windows rest cutting.each cutting.none_after all

@@ -8,10 +8,20 @@ use Rattle.windowed.specs.WindowedRules.{WindowedState, opened, windowed_rules, 
 
 module _ {S : Type 0} (rules : Algorithm S) where
   inner_within : (s : WindowedState S) → IsWithin (windowed_rules rules) s → IsWithin rules s.inner
-  inner_within s w = record { positive = w.positive; least = w.least; most = w.most; small = w.small; first_least = w.first_least; first_most = w.first_most }
+  inner_within s w = record {
+    positive = w.positive;
+    least = w.least;
+    most = w.most;
+    small = w.small;
+    first_least = w.first_least;
+    first_most = w.first_most;
+  }
 
   -- whatever its window, a state follows where its inner state does
-  outer_follows : (s : WindowedState S) (inner : S) (t : WindowTotals) (update : ℕ) → Follows rules s.inner inner → Follows (windowed_rules rules) s (record s { inner = inner; totals = t; next_update = update })
+  outer_follows : (s : WindowedState S) (inner : S) (t : WindowTotals) (update : ℕ) →
+      Follows rules s.inner inner →
+      Follows (windowed_rules rules) s
+      (record s { inner = inner; totals = t; next_update = update })
   outer_follows s inner t update f = record {
     within = record {
       positive = f.within.positive;
@@ -29,36 +39,54 @@ module _ {S : Type 0} (rules : Algorithm S) where
   stays : (s : S) → IsWithin rules s → Follows rules s s
   stays s w = record { within = w; lo = refl; hi = refl; first = refl }
 
-  in_range_sample : (t : WindowTotals) (x : SampleFacts) → IsSample x → IsSample (in_range (mean_sample t x))
+  in_range_sample : (t : WindowTotals) (x : SampleFacts) → IsSample x →
+      IsSample (in_range (mean_sample t x))
   in_range_sample t x i = record { start = i.start; least = omega arith; most = omega arith }
 
-  handed_on : (enough : Bool) (s n : S) → IsWithin rules s → Follows rules s n → Follows rules s (if enough then n else s)
+  handed_on : (enough : Bool) (s n : S) → IsWithin rules s → Follows rules s n →
+      Follows rules s (if enough then n else s)
   handed_on true s n w f = f
   handed_on false s n w f = stays s w
 
   -- by the tests of a sample
-  next_follows : (s : WindowedState S) (kept ends : Bool) (inner : S) (t : WindowTotals) (update : ℕ) → IsWithin (windowed_rules rules) s → Follows rules s.inner inner →
-      Follows (windowed_rules rules) s (if kept then (if ends then record s { inner = inner; totals = totals []; next_update = update } else record s { totals = t }) else s)
+  next_follows : (s : WindowedState S) (kept ends : Bool) (inner : S) (t : WindowTotals)
+      (update : ℕ) →
+      IsWithin (windowed_rules rules) s → Follows rules s.inner inner →
+      Follows (windowed_rules rules) s (if kept
+      then (if ends then record s { inner = inner; totals = totals []; next_update = update }
+      else record s { totals = t })
+      else s)
   next_follows s true true inner t update w f = outer_follows s inner (totals []) update f
-  next_follows s true false inner t update w f = outer_follows s s.inner t s.next_update (stays s.inner (inner_within s w))
-  next_follows s false ends inner t update w f = outer_follows s s.inner s.totals s.next_update (stays s.inner (inner_within s w))
+  next_follows s true false inner t update w f =
+      outer_follows s s.inner t s.next_update (stays s.inner (inner_within s w))
+  next_follows s false ends inner t update w f =
+      outer_follows s s.inner s.totals s.next_update (stays s.inner (inner_within s w))
 
-  put_follows : (s : WindowedState S) (r : Result S SetFault) → IfOk r (Follows rules s.inner) → IfOk (with_inner s r) (Follows (windowed_rules rules) s)
+  put_follows : (s : WindowedState S) (r : Result S SetFault) → IfOk r (Follows rules s.inner) →
+      IfOk (with_inner s r) (Follows (windowed_rules rules) s)
   put_follows s (Ok inner) f = outer_follows s inner s.totals s.next_update f
   put_follows s (Err fault) f = tt
 
-  after_sample : IsLawful rules → (s : WindowedState S) (x : SampleFacts) → IsWithin (windowed_rules rules) s → IsSample x → Follows (windowed_rules rules) s ((windowed_rules rules).next s x)
+  after_sample : IsLawful rules → (s : WindowedState S) (x : SampleFacts) →
+      IsWithin (windowed_rules rules) s → IsSample x →
+      Follows (windowed_rules rules) s ((windowed_rules rules).next s x)
   after_sample law s x w i =
       let t : WindowTotals = with_sample s.totals x in
       let mean : SampleFacts = in_range (mean_sample t x) in
       let inner = inner_within s w in
       let next = law.after_sample s.inner mean inner (in_range_sample t x i) in
-      let learned = handed_on (nat_le s.settings.size t.count) s.inner (rules.next s.inner mean) inner next in
-      next_follows s (is_kept s.settings x) (nat_lt s.next_update (end_of x) || nat_le most_samples t.count) _ t (update_after s.settings t x) w learned
+      let learned =
+      handed_on (nat_le s.settings.size t.count) s.inner (rules.next s.inner mean) inner next in
+      next_follows s (is_kept s.settings x)
+      (nat_lt s.next_update (end_of x) || nat_le most_samples t.count) _ t
+      (update_after s.settings t x) w learned
 
   pub IsLawful-windowed : IsLawful rules → IsLawful (windowed_rules rules)
   IsLawful-windowed law = record {
     after_sample = after_sample law;
-    after_setting = λ s n w. put_follows s (rules.put s.inner n) (law.after_setting s.inner n (inner_within s w));
-    after_reset = λ s w. outer_follows s (rules.first s.inner) (totals []) 0 (law.after_reset s.inner (inner_within s w));
+    after_setting = λ s n w.
+        put_follows s (rules.put s.inner n) (law.after_setting s.inner n (inner_within s w));
+    after_reset = λ s w.
+        outer_follows s (rules.first s.inner) (totals []) 0
+        (law.after_reset s.inner (inner_within s w));
   }

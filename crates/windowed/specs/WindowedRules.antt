@@ -5,15 +5,25 @@ use Rattle.limit_laws.specs.Facts.{SampleFacts, hour}
 use Rattle.limit_laws.specs.Algorithm.{Algorithm}
 use Rattle.sample_window.specs.Totals.{WindowTotals, totals, with_sample, most_samples}
 
--- how many samples a window must have to be handed on, the least and the most time that a window lasts, and the least round trip that counts; times in nanoseconds
-pub record WindowSettings : Type 0 where
+-- how many samples a window must have to be handed on, the least and the most time that a window
+-- lasts, and the least round trip that counts; times in nanoseconds
+pub record WindowNumbers : Type 0 where
   pub size : ℕ
   pub min_window : ℕ
   pub max_window : ℕ
   pub min_rtt : ℕ
 
+-- these numbers
+abbrev pub numbers_from : ℕ → ℕ → ℕ → ℕ → WindowNumbers
+numbers_from size min_window max_window min_rtt = record {
+  size = size;
+  min_window = min_window;
+  max_window = max_window;
+  min_rtt = min_rtt;
+}
+
 -- the ranges of the settings
-pub record AreSettings (w : WindowSettings) : Type 0 where
+pub record AreSettings (w : WindowNumbers) : Type 0 where
   pub size_least : 1 ≤ w.size
   pub size_most : w.size ≤ most_samples
   pub min_least : 1 ≤ w.min_window
@@ -26,10 +36,10 @@ pub record WindowedState (S : Type 0) : Type 0 where
   pub inner : S
   pub totals : WindowTotals
   pub next_update : ℕ
-  pub settings : WindowSettings
+  pub settings : WindowNumbers
 
 -- a state with an empty window, before its first sample
-abbrev pub opened : {S : Type 0} → WindowSettings → S → WindowedState S
+abbrev pub opened : {S : Type 0} → WindowNumbers → S → WindowedState S
 opened w inner = record { inner = inner; totals = totals []; next_update = 0; settings = w }
 
 -- when a sample's round trip ended
@@ -37,41 +47,56 @@ abbrev pub end_of : SampleFacts → ℕ
 end_of x = x.start + x.rtt
 
 -- whether a sample counts
-abbrev pub is_kept : WindowSettings → SampleFacts → Bool
+abbrev pub is_kept : WindowNumbers → SampleFacts → Bool
 is_kept w x = nat_le w.min_rtt x.rtt
 
--- after which moment the next window ends, where a window of these totals ended with this sample: twice its least round trip later, within the bounds
-abbrev pub update_after : WindowSettings → WindowTotals → SampleFacts → ℕ
+-- after which moment the next window ends, where a window of these totals ended with this
+-- sample: twice its least round trip later, within the bounds
+abbrev pub update_after : WindowNumbers → WindowTotals → SampleFacts → ℕ
 update_after w t x = end_of x + min (max (2 * t.least) w.min_window) w.max_window
 
 -- the mean sample of a window of these totals that ended with this sample
 abbrev pub mean_sample : WindowTotals → SampleFacts → SampleFacts
-mean_sample t x = record { start = x.start; rtt = t.sum / t.count; inflight = t.greatest_inflight; dropped = t.dropped }
+mean_sample t x = record {
+  start = x.start;
+  rtt = t.sum / t.count;
+  inflight = t.greatest_inflight;
+  dropped = t.dropped;
+}
 
--- a sample with its round trip brought into the range of samples, in which each mean of samples already lies: so the rule is lawful at any totals, those that no samples have among them
+-- a sample with its round trip brought into the range of samples, in which each mean of samples
+-- already lies: so the rule is lawful at any totals, those that no samples have among them
 abbrev pub in_range : SampleFacts → SampleFacts
 in_range x = record x { rtt = min (max x.rtt 1) hour }
 
 -- a window ends: its mean sample is handed on where it has enough, and an empty one begins
-abbrev pub end_window : {S : Type 0} → Algorithm S → WindowedState S → WindowTotals → SampleFacts → WindowedState S
+abbrev pub end_window : {S : Type 0} → Algorithm S → WindowedState S → WindowTotals →
+    SampleFacts → WindowedState S
 end_window rules s t x = record s {
-  inner = if nat_le s.settings.size t.count then rules.next s.inner (in_range (mean_sample t x)) else s.inner;
+  inner =
+      if nat_le s.settings.size t.count then rules.next s.inner (in_range (mean_sample t x))
+      else s.inner;
   totals = totals [];
   next_update = update_after s.settings t x;
 }
 
--- a sample, with which the window has these totals, ends it where the sample ended after the next update, or is the 1,000,000th
-abbrev pub learn : {S : Type 0} → Algorithm S → WindowedState S → WindowTotals → SampleFacts → WindowedState S
+-- a sample, with which the window has these totals, ends it where the sample ended after the
+-- next update, or is the 1,000,000th
+abbrev pub learn : {S : Type 0} → Algorithm S → WindowedState S → WindowTotals → SampleFacts →
+    WindowedState S
 learn rules s t x =
     if nat_lt s.next_update (end_of x) || nat_le most_samples t.count then end_window rules s t x
     else record s { totals = t }
 
 -- a sample is added where it counts, and else left out
-abbrev pub windowed_next : {S : Type 0} → Algorithm S → WindowedState S → SampleFacts → WindowedState S
-windowed_next rules s x = if is_kept s.settings x then learn rules s (with_sample s.totals x) x else s
+abbrev pub windowed_next : {S : Type 0} → Algorithm S → WindowedState S → SampleFacts →
+    WindowedState S
+windowed_next rules s x =
+    if is_kept s.settings x then learn rules s (with_sample s.totals x) x else s
 
 -- the state with what a setting made of the inner algorithm
-abbrev pub with_inner : {S : Type 0} → WindowedState S → Result S SetFault → Result (WindowedState S) SetFault
+abbrev pub with_inner : {S : Type 0} → WindowedState S → Result S SetFault →
+    Result (WindowedState S) SetFault
 with_inner s (Ok inner) = Ok (record s { inner = inner })
 with_inner s (Err fault) = Err fault
 

@@ -5,7 +5,7 @@ use Rattle.std.specs.Result.{result_unwrap_or}
 use Rattle.limit_laws.specs.Facts.{SampleFacts, IsSample}
 use Rattle.limit_laws.specs.Algorithm.{Algorithm}
 use Rattle.sample_window.specs.Totals.{totals, most_samples}
-use Rattle.windowed.specs.WindowedRules.{WindowSettings, opened, windowed_rules, is_kept, end_of, update_after, mean_sample}
+use Rattle.windowed.specs.WindowedRules.{WindowNumbers, opened, windowed_rules, is_kept, end_of, update_after, mean_sample}
 
 -- what an algorithm is told: a sample, or a setting by hand
 pub data Input : Type 0 where
@@ -25,12 +25,12 @@ abbrev pub is_setting : Input → Bool
 is_setting (Sampled x) = false
 is_setting (SetTo n) = true
 
-abbrev pub kept_sample : WindowSettings → Input → Option SampleFacts
+abbrev pub kept_sample : WindowNumbers → Input → Option SampleFacts
 kept_sample w (Sampled x) = if is_kept w x then Some x else None
 kept_sample w (SetTo n) = None
 
 -- the samples that count
-abbrev pub samples_of : WindowSettings → List Input → List SampleFacts
+abbrev pub samples_of : WindowNumbers → List Input → List SampleFacts
 samples_of w inputs = filter_map (kept_sample w) inputs
 
 -- a window: its inputs, the sample that ends it being the last
@@ -42,51 +42,60 @@ abbrev pub inputs_of : Stretch → List Input
 inputs_of s = s.before ++ Sampled s.last ∷ []
 
 -- the samples of a window that count
-abbrev pub window_samples : WindowSettings → Stretch → List SampleFacts
+abbrev pub window_samples : WindowNumbers → Stretch → List SampleFacts
 window_samples w s = samples_of w s.before ++ s.last ∷ []
 
--- no sample ends the window: none of them ended after the due moment, and there are fewer than 1,000,000
-pub record StaysOpen (w : WindowSettings) (due : ℕ) (inputs : List Input) : Type 0 where
+-- no sample ends the window: none of them ended after the due moment, and there are fewer than
+-- 1,000,000
+pub record StaysOpen (w : WindowNumbers) (due : ℕ) (inputs : List Input) : Type 0 where
   pub none_late : All (λ x. end_of x ≤ due) (samples_of w inputs)
   pub few : length (samples_of w inputs) < most_samples
 
 -- a window ends at its first sample that ended after the due moment, or at its 1,000,000th
-pub record IsWindow (w : WindowSettings) (due : ℕ) (s : Stretch) : Type 0 where
+pub record IsWindow (w : WindowNumbers) (due : ℕ) (s : Stretch) : Type 0 where
   pub none_before : StaysOpen w due s.before
   pub kept : w.min_rtt ≤ s.last.rtt
   pub ends : (due < end_of s.last) ⊎ (length (window_samples w s) ≡ most_samples)
 
 -- the due moment of the window after this one
-abbrev pub due_after : WindowSettings → Stretch → ℕ
+abbrev pub due_after : WindowNumbers → Stretch → ℕ
 due_after w s = update_after w (totals (window_samples w s)) s.last
 
 -- the due moment after windows, the first of which had this one
-abbrev pub due_after_all : WindowSettings → ℕ → List Stretch → ℕ
+abbrev pub due_after_all : WindowNumbers → ℕ → List Stretch → ℕ
 due_after_all w due windows = fold (λ _ s. due_after w s) due windows
 
 -- each is a window by the due moment that the one before it leaves
-abbrev pub AreWindows : WindowSettings → ℕ → List Stretch → Type 0
+abbrev pub AreWindows : WindowNumbers → ℕ → List Stretch → Type 0
 AreWindows w due [] = Unit {0}
 AreWindows w due (s ∷ windows) = IsWindow w due s × AreWindows w (due_after w s) windows
 
 -- the inputs are cut into windows, the first of which is due at 0, and a rest that is still open
-pub record IsCutting (w : WindowSettings) (inputs : List Input) (windows : List Stretch) (rest : List Input) : Type 0 where
+pub record IsCutting (w : WindowNumbers) (inputs : List Input) (windows : List Stretch)
+    (rest : List Input) : Type 0 where
   pub whole : inputs ≡ flat_map inputs_of windows ++ rest
   pub each : AreWindows w 0 windows
   pub none_after : StaysOpen w (due_after_all w 0 windows) rest
 
 -- what a window hands on: its settings, and its mean sample where it has enough samples
-abbrev pub handed_on : WindowSettings → Stretch → List Input
-handed_on w s = filter is_setting s.before ++ (if nat_le w.size (length (window_samples w s)) then Sampled (mean_sample (totals (window_samples w s)) s.last) ∷ [] else [])
+abbrev pub handed_on : WindowNumbers → Stretch → List Input
+handed_on w s =
+    filter is_setting s.before
+    ++ (if nat_le w.size (length (window_samples w s))
+    then Sampled (mean_sample (totals (window_samples w s)) s.last) ∷ [] else [])
 
 -- THE LAW of cuttings: every list of inputs has one
 abbrev pub CutsIntoWindows : Type 0
-CutsIntoWindows = (w : WindowSettings) (inputs : List Input) → (windows : List Stretch) × ((rest : List Input) × IsCutting w inputs windows rest)
+CutsIntoWindows =
+    (w : WindowNumbers) (inputs : List Input) →
+    (windows : List Stretch) × ((rest : List Input) × IsCutting w inputs windows rest)
 
--- THE LAW of windows: from an empty window on, the inner algorithm is where its own run over what the windows hand on leads, and the totals are those of the rest
+-- THE LAW of windows: from an empty window on, the inner algorithm is where its own run over
+-- what the windows hand on leads, and the totals are those of the rest
 abbrev pub InnerRunsOverWindows : {S : Type 0} → Algorithm S → Type 0
 InnerRunsOverWindows {S} rules =
-    (w : WindowSettings) (inner : S) (inputs : List Input) (windows : List Stretch) (rest : List Input) →
+    (w : WindowNumbers) (inner : S) (inputs : List Input) (windows : List Stretch)
+    (rest : List Input) →
     All IsSample (samples_of w inputs) → IsCutting w inputs windows rest →
     run (windowed_rules rules) (opened w inner) inputs ≡ record {
       inner = run rules inner (flat_map (handed_on w) windows ++ filter is_setting rest);

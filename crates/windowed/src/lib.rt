@@ -10,9 +10,9 @@
 #![tactic(auto)]
 
 mod laws;
-#[cfg(test)]
-mod tests;
+mod settings;
 mod windowed;
 
 pub use laws::{cuts_into_windows, inner_runs_over_windows};
+pub use settings::WindowSettings;
 pub use windowed::Windowed;

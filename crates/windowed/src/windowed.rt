@@ -1,10 +1,11 @@
 // A limit that learns from windows of samples.
 ghost use Rattle.std.specs.Prelude.{◌≡◌, ◌↔◌, IfOk, IfErr, IsOk};
-ghost use Rattle.windowed.specs.WindowedRules.{AreSettings, opened, windowed_rules};
+ghost use Rattle.windowed.specs.WindowedRules.{AreSettings, numbers_from, opened, windowed_rules};
 ghost use Rattle.windowed.specs.WindowedLaws.{IsLawful-windowed};
 
-use limit_laws::{HOUR, Limit, MakeFault, Sample, SetFault};
-use sample_window::{MOST_SAMPLES, Window};
+use super::settings::{MOST_SAMPLES, WindowSettings};
+use limit_laws::{Limit, MakeFault, Sample, SetFault};
+use sample_window::Window;
 use std::marker::Model;
 
 /// Any limit algorithm, learning from the mean samples of windows.
@@ -16,31 +17,29 @@ pub struct Windowed<L: Limit> {
     inner: L,
     window: Window,
     next_update: u64,
-    size: u32,
-    min_window: u64,
-    max_window: u64,
-    min_rtt: u64,
+    settings: WindowSettings,
 }
 
 impl<L: Limit> Model for Windowed<L> {
     ghost use Rattle.std.specs.Prelude.{◌<◌};
     ghost use Rattle.sample_window.specs.Totals.{most_samples};
-    ghost use Rattle.windowed.specs.WindowedRules.{WindowedState, AreSettings};
+    ghost use Rattle.windowed.specs.WindowedRules.{WindowedState};
 
     ghost Value = { WindowedState L };
 
-    ghost view = { λ w. record { inner = w.inner; totals = w.window; next_update = w.next_update; settings = record { size = w.size; min_window = w.min_window; max_window = w.max_window; min_rtt = w.min_rtt } } };
+    ghost view = { λ w. record {
+      inner = w.inner;
+      totals = w.window;
+      next_update = w.next_update;
+      settings = w.settings;
+    } };
 
-    ghost invariant = { λ w. AreSettings (record { size = w.size; min_window = w.min_window; max_window = w.max_window; min_rtt = w.min_rtt }) × (w.window.count < most_samples) };
+    ghost invariant = { λ w. w.window.count < most_samples };
 }
 
 impl<L: Limit> Windowed<L> {
-    /// `inner` over windows: those of fewer than `size` samples are not handed on; a window lasts
-    /// for `min_window` to `max_window` nanoseconds after the sample that ends the one before; a
-    /// round trip below `min_rtt` nanoseconds is left out.
-    ///
-    /// [`MakeFault::Window`], with the inner limit handed back, unless `size` is 1 to 1,000,000,
-    /// `1 <= min_window <= max_window <= one hour` and `min_rtt <= one hour`.
+    /// `inner` over windows of these numbers, by the rules of [`WindowSettings::new`]; where those
+    /// refuse them, their fault with the inner limit handed back.
     pub fn new(
         inner: L,
         size: u32,
@@ -48,25 +47,29 @@ impl<L: Limit> Windowed<L> {
         max_window: u64,
         min_rtt: u64,
     ) -> Result<Windowed<L>, (MakeFault, L)>
-        ensures made { IsOk result ↔ AreSettings (record { size = size; min_window = min_window; max_window = max_window; min_rtt = min_rtt }) }
-        ensures value { IfOk result (λ windowed. windowed ≡ opened (record { size = size; min_window = min_window; max_window = max_window; min_rtt = min_rtt }) inner) }
+        ensures made { IsOk result
+            ↔ AreSettings (numbers_from size min_window max_window min_rtt) }
+        ensures value { IfOk result (λ windowed. windowed
+            ≡ opened (numbers_from size min_window max_window min_rtt) inner) }
         ensures fault { IfErr result (λ refusal. refusal.0 ≡ MakeFault.Window) }
         ensures handed_back { IfErr result (λ refusal. refusal.1 ≡ inner) }
     {
-        let is_size = 1 <= size && size <= MOST_SAMPLES;
-        let is_window = 1 <= min_window && min_window <= max_window && max_window <= HOUR;
-        if !is_size || !is_window || HOUR < min_rtt {
-            return Err((MakeFault::Window, inner));
+        match WindowSettings::new(size, min_window, max_window, min_rtt) {
+            Ok(settings) => Ok(Windowed::with_settings(inner, settings)),
+            Err(fault) => Err((fault, inner)),
         }
-        Ok(Windowed {
+    }
+
+    /// `inner` over windows, before their first sample.
+    pub fn with_settings(inner: L, settings: WindowSettings) -> Windowed<L>
+        ensures { result ≡ opened settings inner }
+    {
+        Windowed {
             inner,
             window: Window::empty(),
             next_update: 0,
-            size,
-            min_window,
-            max_window,
-            min_rtt,
-        })
+            settings,
+        }
     }
 
     /// The inner limit, in the state in which the windows so far left it.
@@ -93,7 +96,7 @@ impl<L: Limit> Limit for Windowed<L> {
     }
 
     fn on_sample(&mut self, sample: &Sample) {
-        if sample.rtt() < self.min_rtt {
+        if sample.rtt() < self.settings.min_rtt() {
             return;
         }
         self.window.add(sample);
@@ -104,10 +107,10 @@ impl<L: Limit> Limit for Windowed<L> {
         let window = self.window;
         self.window = Window::empty();
         let lasts = (2 * window.least())
-            .max(self.min_window)
-            .min(self.max_window);
+            .max(self.settings.min_window())
+            .min(self.settings.max_window());
         self.next_update = end + lasts;
-        if self.size <= window.count() {
+        if self.settings.size() <= window.count() {
             let mean = Sample::of_rtt(
                 sample.start(),
                 window.mean(),
@@ -133,10 +136,7 @@ impl<L: Limit> Limit for Windowed<L> {
             inner: self.inner.copy(),
             window: self.window,
             next_update: self.next_update,
-            size: self.size,
-            min_window: self.min_window,
-            max_window: self.max_window,
-            min_rtt: self.min_rtt,
+            settings: self.settings,
         }
     }
 

@@ -1,4 +1,6 @@
-use Rattle.std.proofs.Common.{◌≡◌, ◌++◌, take, rules, arith, length-append, append-nil, sym}
+use Rattle.std.proofs.Common.{◌≡◌, ◌++◌, take, rules, arith, length-append, append-nil, sym, ap, ◌∙◌, Err, ◌<◌, length}
+use Rattle.std.proofs.lemmas.List.{length-take}
+use Rattle.counted_io.specs.declared.reading.ReadFault.TheVariants.{Memory, TooLarge}
 use Rattle.std.proofs.KnownBytes.{Consumes-nil, Consumes-trans, Consumes-whole}
 use Rattle.std.proofs.lemmas.Grind.{common_steps}
 use Rattle.counted_io.proofs.Known.{consumed_over}
@@ -15,17 +17,33 @@ loop-turn-init g c = record {
 pub returns-then-count-eq0-clause-whole : goal.returns-then-count-eq0-clause-whole
 returns-then-count-eq0-clause-whole g c =
     let all = Consumes-trans _ _ _ _ _ c.loop-turn.invariant.consumed c.in-Ok.ensures.bytes.0 in
-    Consumes-whole _ _ _ (λ all. c.loop-turn.bytes.items ≡ all) all (c.in-Ok.ensures.bytes.1 c.if-count-eq0.true (omega arith)) (rw c.if-count-eq0.true (sym (append-nil _)))
+    let at_end = c.in-Ok.ensures.bytes.1 c.if-count-eq0.true (omega arith) in
+    Consumes-whole _ _ _ (λ all. c.loop-turn.bytes.items ≡ all) all at_end
+    (rw c.if-count-eq0.true (sym (append-nil _)))
 
-pub returns-then-count-most_bytes-clause-too_large : goal.returns-then-count-most_bytes-clause-too_large
-returns-then-count-most_bytes-clause-too_large g c =
+pub returns-in_err-push_piece-clause-memory : goal.returns-in_err-push_piece-clause-memory
+returns-in_err-push_piece-clause-memory g c = λ e.
+    let same = rw e at c.from_residual.ensures.1 in
+    let memory : c.push_piece.result ≡ Err Memory = c.in_err-push_piece.was ∙ ap Err (sym same) in
+    let room = c.push_piece.ensures.memory memory in
     let all = Consumes-trans _ _ _ _ _ c.loop-turn.invariant.consumed c.in-Ok.ensures.bytes.0 in
-    λ _. consumed_over _ _ _ _ all (simp length-append (omega (arith, c.in-Ok.ensures.bound)))
+    let some : 0 < length (c.loop-turn.bytes.items ++ take c.in-Ok.count c.read.new.buf) =
+    simp (length-append, length-take) (omega (arith, c.if-count-eq0.false, c.in-Ok.ensures.bound)) in
+    (c.in-Ok.ensures.failures ∙ c.loop-turn.invariant.failures, (_, all, some, rw length-append (omega (arith, room))))
+
+pub returns-in_err-push_piece-clause-too_large : goal.returns-in_err-push_piece-clause-too_large
+returns-in_err-push_piece-clause-too_large g c = λ e.
+    let same = rw e at c.from_residual.ensures.1 in
+    let large : c.push_piece.result ≡ Err TooLarge = c.in_err-push_piece.was ∙ ap Err (sym same) in
+    let over = c.push_piece.ensures.too_large.0 large in
+    let all = Consumes-trans _ _ _ _ _ c.loop-turn.invariant.consumed c.in-Ok.ensures.bytes.0 in
+    consumed_over _ _ _ _ all (rw length-append (omega (arith, over)))
 
 pub loop-turn-preserved : goal.loop-turn-preserved
 loop-turn-preserved g c =
     let all = Consumes-trans _ _ _ _ _ c.loop-turn.invariant.consumed c.in-Ok.ensures.bytes.0 in
-    let items : c.extend_from_slice.new.self.items ≡ c.loop-turn.bytes.items ++ take c.in-Ok.count c.read.new.buf = grind (arith, common_steps) in
+    let items : c.push_piece.new.bytes.items ≡ c.loop-turn.bytes.items ++ take c.in-Ok.count c.read.new.buf =
+    grind (arith, common_steps) in
     record {
       consumed = rw items all;
       fits = search rules;

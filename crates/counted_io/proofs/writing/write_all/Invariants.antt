@@ -1,6 +1,6 @@
 use Rattle.std.proofs.Common.{◌≡◌, ◌≤◌, ◌-◌, take, length}
 use Rattle.std.specs.Io.KnownBytes.{Appends}
-use Rattle.counted_io.specs.Counted.{inner_of, failures_of}
+use Rattle.counted_io.specs.Counted.{inner_of, failures_of, flushes_of}
 use Rattle.counted_io.proofs.writing.write_all.Given as goal
 
 abbrev pub invariant-loop-at : goal.invariant-loop-at
@@ -10,6 +10,7 @@ invariant-loop-at g l =
       written : Appends (held (inner_of l.fn.writer)) (held (inner_of l.writer)) (take l.at l.bytes);
       inside : l.at ≤ length l.bytes;
       failures : failures_of l.writer ≡ failures_of l.fn.writer;
+      flushes : flushes_of l.writer ≡ flushes_of l.fn.writer;
     }
 
 abbrev pub decreases-loop-at : goal.decreases-loop-at

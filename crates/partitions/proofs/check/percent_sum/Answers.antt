@@ -7,5 +7,6 @@ use Rattle.partitions.proofs.check.percent_sum.Goals as goal
 pub returns-clause-sum : goal.returns-clause-sum
 returns-clause-sum c =
     c.loop-row.invariant.0
-    ∙ ap (sum_by (λ (pair : Bor (List ℕ) × ℕ). pair.1)) (take_all c.loop-row.row-index c.args.rows.now c.loop-row-test.false)
+    ∙ ap (sum_by (λ (pair : Bor (List ℕ) × ℕ). pair.1))
+    (take_all c.loop-row.row-index c.args.rows.now c.loop-row-test.false)
     ∙ sym (sum_by-given (λ (row : Row). row.percent) c.args.rows.now)

@@ -10,7 +10,7 @@ returns-then-is_written c =
     let read = is_address_read c.args.text.now c.in-Ok.socket c.in-Ok.ensures.value in
     search rules
 
-pub returns : goal.returns
-returns c =
+pub returns-else-is_written : goal.returns-else-is_written
+returns-else-is_written c =
     let read = is_address_read c.args.text.now c.in-Ok.socket c.in-Ok.ensures.value in
     search rules

@@ -1,4 +1,4 @@
-use Rattle.std.proofs.Common.{ℕ, ◌<◌, ◌∙◌, refl, sym, ap, subst}
+use Rattle.std.proofs.Common.{rules, ℕ, ◌<◌, ◌∙◌, refl, sym, ap, subst}
 use Rattle.partitions.specs.Table.{place_of}
 use Rattle.lifo_backlog.specs.Waiters.{Waiters}
 use Rattle.limiter_core.specs.Held.{Kept}
@@ -11,6 +11,9 @@ use Rattle.limiter_core.proofs.state.State.promote.Goals as goal
 pub returns-in_default-clause-stands : goal.returns-in_default-clause-stands
 returns-in_default-clause-stands g c = sym (image_nil (gate_in g.L.Limit.rules c.args.self.now) (stands_in c.args.self.now))
 
+pub returns-then-not-has_room-clause-promoted : goal.returns-then-not-has_room-clause-promoted
+returns-then-not-has_room-clause-promoted g c = search rules
+
 pub returns-then-not-has_room-clause-stands : goal.returns-then-not-has_room-clause-stands
 returns-then-not-has_room-clause-stands g c = sym (image_nil (gate_in g.L.Limit.rules c.args.self.now) (stands_in c.args.self.now))
 
@@ -21,6 +24,9 @@ enter-requires-clause-room g c =
 pub push-requires : goal.push-requires
 push-requires g c =
     granted_left g.L.Limit.rules c.args.self.now (place_of c.args.self.now.table c.in-Some.waiter.part) (subst (λ (k : ℕ). k < 5) c.place.ensures.place c.place.ensures.among_five) c.requires (sym c.has_room.ensures ∙ c.if-not-has_room.false)
+
+pub returns-clause-promoted : goal.returns-clause-promoted
+returns-clause-promoted g c = search rules
 
 pub returns-clause-stands : goal.returns-clause-stands
 returns-clause-stands g c =

@@ -26,7 +26,11 @@ push_answer-requires g c =
     omega (
       arith,
       ap length c.promotions.ensures,
-      answer_fits g.L.Limit.rules g.met.L.Limit.lawful j _ _ c.self.invariant c.args.event may free c.apply-reply.result c.apply-reply.new.self.promoted c.apply-reply.ensures.entries,
+      answer_fits (record {
+        answers = c.answers_by_image.ensures.answers;
+        leads = c.answers_by_image.ensures.leads;
+        places = c.reserved_room_suffices.ensures.places;
+      }) g.L.Limit.rules g.met.L.Limit.lawful j _ _ c.self.invariant c.args.event may free c.apply-reply.result c.apply-reply.new.self.promoted c.apply-reply.ensures.entries,
     )
 
 pub invariant_of-self : goal.invariant_of-self
@@ -36,7 +40,11 @@ invariant_of-self g c =
     = subst (λ (v : Journal g.row.L.Denot). MayCome (gate g.L.Limit.rules v) (image g.L.Limit.rules v) c.args.event) (sym c.self.view_is) c.requires in
     let free : is_exhausted j.kept false (image g.L.Limit.rules j) (length j.entries) c.args.event ≡ false
     = subst (λ (v : Journal g.row.L.Denot). is_exhausted v.kept false (image g.L.Limit.rules v) (length v.entries) c.args.event ≡ false) (sym c.self.view_is) (sym c.is_exhausted.ensures ∙ c.if-is_exhausted.false) in
-    journal_more g.L.Limit.rules g.met.L.Limit.lawful j _ _ c.self.invariant c.args.event may free c.apply-reply.result c.apply-reply.new.self.promoted c.apply-reply.ensures.entries
+    journal_more (record {
+      answers = c.answers_by_image.ensures.answers;
+      leads = c.answers_by_image.ensures.leads;
+      places = c.reserved_room_suffices.ensures.places;
+    }) g.L.Limit.rules g.met.L.Limit.lawful j _ _ c.self.invariant c.args.event may free c.apply-reply.result c.apply-reply.new.self.promoted c.apply-reply.ensures.entries
     c.apply-reply.new.self c.push_answer.new.entries.items c.apply-reply.ensures.gate
     (c.push_answer.ensures.items ∙ ap (λ (ps : List Promotion). c.self.inside.entries.items ++ Call c.args.event c.apply-reply.result ∷ map entry_of ps) c.promotions.ensures) _ c.apply-reply.ensures.stands c.push_answer.ensures.room
 
@@ -48,7 +56,11 @@ returns-clause-reply g c =
     let free : is_exhausted j.kept false (image g.L.Limit.rules j) (length j.entries) c.args.event ≡ false
     = subst (λ (v : Journal g.row.L.Denot). is_exhausted v.kept false (image g.L.Limit.rules v) (length v.entries) c.args.event ≡ false) (sym c.self.view_is) (sym c.is_exhausted.ensures ∙ c.if-is_exhausted.false) in
     subst (λ (v : Journal g.row.L.Denot). slice_get (answer (gate g.L.Limit.rules v) (opening v) v.entries c.args.event) 0 ≡ Some (Call c.args.event c.apply-reply.result)) c.self.view_is
-    (ap (λ (xs : List Entry). slice_get xs 0) (sym (told g.L.Limit.rules g.met.L.Limit.lawful j _ _ c.self.invariant c.args.event may free c.apply-reply.result c.apply-reply.new.self.promoted c.apply-reply.ensures.entries)))
+    (ap (λ (xs : List Entry). slice_get xs 0) (sym (told (record {
+      answers = c.answers_by_image.ensures.answers;
+      leads = c.answers_by_image.ensures.leads;
+      places = c.reserved_room_suffices.ensures.places;
+    }) g.L.Limit.rules g.met.L.Limit.lawful j _ _ c.self.invariant c.args.event may free c.apply-reply.result c.apply-reply.new.self.promoted c.apply-reply.ensures.entries)))
 
 pub returns-clause-entries : goal.returns-clause-entries
 returns-clause-entries g c =
@@ -59,6 +71,10 @@ returns-clause-entries g c =
     = subst (λ (v : Journal g.row.L.Denot). is_exhausted v.kept false (image g.L.Limit.rules v) (length v.entries) c.args.event ≡ false) (sym c.self.view_is) (sym c.is_exhausted.ensures ∙ c.if-is_exhausted.false) in
     let after : Journal g.row.L.Denot = record { rows = c.apply-reply.new.self.rows; room = c.apply-reply.new.self.room; first = c.self.inside.first; entries = c.push_answer.new.entries.items; kept = c.self.inside.kept } in
     subst (λ (v : Journal g.row.L.Denot). after ≡ record v { entries = v.entries ++ answer (gate g.L.Limit.rules v) (opening v) v.entries c.args.event }) c.self.view_is
-    (journal_grown g.L.Limit.rules g.met.L.Limit.lawful j _ _ c.self.invariant c.args.event may free c.apply-reply.result c.apply-reply.new.self.promoted c.apply-reply.ensures.entries
+    (journal_grown (record {
+      answers = c.answers_by_image.ensures.answers;
+      leads = c.answers_by_image.ensures.leads;
+      places = c.reserved_room_suffices.ensures.places;
+    }) g.L.Limit.rules g.met.L.Limit.lawful j _ _ c.self.invariant c.args.event may free c.apply-reply.result c.apply-reply.new.self.promoted c.apply-reply.ensures.entries
     c.apply-reply.new.self c.push_answer.new.entries.items c.apply-reply.ensures.gate
     (c.push_answer.ensures.items ∙ ap (λ (ps : List Promotion). c.self.inside.entries.items ++ Call c.args.event c.apply-reply.result ∷ map entry_of ps) c.promotions.ensures))

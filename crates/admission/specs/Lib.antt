@@ -1,3 +1,0 @@
-pub mod Check
-pub mod Run
-pub mod Words

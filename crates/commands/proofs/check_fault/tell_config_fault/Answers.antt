@@ -1,0 +1,14 @@
+use Rattle.std.proofs.Common.{subst, codes}
+use Rattle.gate_config.specs.FaultText.{fault_text}
+use Rattle.commands.specs.FaultLine.{IsTold, fault_line}
+use Rattle.commands.proofs.Pieces.{word_and_three}
+use Rattle.commands.proofs.check_fault.tell_config_fault.Goals as goal
+
+-- the pieces make the fault's text
+pub returns : goal.returns
+returns g c =
+    let pieces = c.pieces.result in
+    subst (λ text. IsTold g.E.Write.contents c.args.errors.now c.tell.new.errors (fault_line text))
+    (word_and_three (codes "config: ") pieces.0.now pieces.1.now pieces.2.now
+    (fault_text c.args.fault.now) c.pieces.ensures)
+    c.tell.ensures

@@ -1,0 +1,12 @@
+use Rattle.std.proofs.Common.{rules, subst}
+use Rattle.std.specs.Io.KnownBytes.{Appends}
+use Rattle.commands.proofs.Pieces.{appends_piece}
+use Rattle.commands.proofs.fault_line.write_pieces.Goals as goal
+
+pub loop-piece-preserved : goal.loop-piece-preserved
+loop-piece-preserved g c = record {
+  written = appends_piece (λ piece. piece.now) _ _ _ c.args.pieces.now c.loop-piece.piece-index _
+      (search rules) c.loop-piece.invariant.written
+      (subst (Appends _ _) c.as_bytes.ensures.value c.in_ok-write_all.ensures.all);
+  failures = search rules;
+}

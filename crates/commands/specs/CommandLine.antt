@@ -1,0 +1,83 @@
+-- The command line, and the run that its words name.
+use Rattle.std.specs.Prelude.{◌≡◌, ◌≤◌, ℕ, List, [], ◌∷◌, Option, Some, None, true, false, codes, pos}
+use Rattle.std.specs.Str.Parse.{IsNumeral, digits_value, without_leading_plus}
+use Rattle.clap.specs.Words.{App, Row, Rule, Text, first_of, new_app, new_rule, one_of, shape_of, with_rule, with_subcommand}
+use Rattle.clap.specs.declared.builder.command.Command.{Command}
+use Rattle.clap.specs.declared.builder.command.Command.TheViews.{out-Command}
+use Rattle.clap.specs.declared.builder.value_parser.ValueParser.TheVariants as Parser
+use Rattle.commands.specs.declared.command_line.Run.{Run}
+use Rattle.commands.specs.declared.command_line.Run.TheVariants.{Text as OfText, Check}
+use Rattle.commands.specs.declared.command_line.TextTask.{TextTask}
+use Rattle.commands.specs.declared.command_line.TextTask.TheVariants.{Replay}
+
+-- an option of this name that takes a whole number from low to high
+abbrev pub number_rule : Text → Text → ℕ → ℕ → Rule
+number_rule name default low high = record (new_rule name) {
+  long = Some name;
+  value_names = 1;
+  defaults = default ∷ [];
+  parser = Some (Parser.Signed (pos low) (pos high));
+}
+
+-- `--limit N`, 20 where it isn't given
+abbrev pub limit_rule : Rule
+limit_rule = number_rule (codes "limit") (codes "20") 1 10000
+
+-- `CONFIG`
+abbrev pub config_rule : Rule
+config_rule = record (new_rule (codes "config")) { value_names = 1; required = true }
+
+abbrev pub replay_app : App
+replay_app = with_rule (new_app (codes "replay")) limit_rule
+
+abbrev pub check_app : App
+check_app = with_rule (new_app (codes "check")) config_rule
+
+-- a command that has a version, and subcommands of which one is required
+abbrev pub asking : Text → App
+asking name = record (new_app name) {
+  top = record (new_app name).top { has_version = true; subcommand_required = true };
+}
+
+-- the whole command line
+abbrev pub admission_app : App
+admission_app = with_subcommand (with_subcommand (asking (codes "admission")) replay_app.top) check_app.top
+
+-- the command, as a subcommand, is the one of this definition
+abbrev pub IsLeaf : App → Command → Type 0
+IsLeaf app command = (shape_of command ≡ app.top) × ((out-Command command).has_globals ≡ false)
+
+-- the number that the rows have for an option lies in the range
+abbrev pub HasNumber : List Row → Text → ℕ → ℕ → ℕ → Type 0
+HasNumber rows id low high n = (text : Text) × (one_of id rows ≡ Some text)
+    × IsNumeral 10 (without_leading_plus text)
+    × (digits_value 10 (without_leading_plus text) ≡ n) × (low ≤ n) × (n ≤ high)
+
+-- the task is that of this subcommand, with the numbers that its rows have
+abbrev pub IsTaskOf : Text → List Row → TextTask → Type 0
+IsTaskOf name rows (Replay limit) =
+    (name ≡ codes "replay") × HasNumber rows (codes "limit") 1 10000 limit
+
+-- the run is that of this subcommand, with the numbers and the path that its rows have
+abbrev pub IsCommandOf : Text → List Row → Run → Type 0
+IsCommandOf name rows (OfText task) = IsTaskOf name rows task
+IsCommandOf name rows (Check path) =
+    (name ≡ codes "check") × (first_of (codes "config") rows ≡ Some path.now)
+
+-- the run is that of the subcommand which the words name
+abbrev pub IsRunOf : Option (Text × List Row) → Run → Type 0
+IsRunOf None run = ⊥
+IsRunOf (Some named) run = IsCommandOf named.0 named.1 run
+
+-- the subcommand which the words name, if they name one, is none of a run
+abbrev pub NamesNoRun : Option (Text × List Row) → Type 0
+NamesNoRun named = (run : Run) → IsRunOf named run → ⊥
+
+-- the limit of a text without a limit line
+abbrev pub limit_of : TextTask → ℕ
+limit_of (Replay limit) = limit
+
+-- the limit of a run over a text is 1 to 10,000
+abbrev pub HasLimit : Run → Type 0
+HasLimit (OfText task) = (1 ≤ limit_of task) × (limit_of task ≤ 10000)
+HasLimit (Check path) = Unit {0}

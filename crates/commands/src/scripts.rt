@@ -1,0 +1,81 @@
+// A command over a text.
+ghost use Rattle.std.specs.Prelude.{◌≡◌, ◌≤◌, ◌⊎◌, true, None};
+ghost use Rattle.counted_io.specs.Counted.{failures_of, is_flushed};
+ghost use Rattle.counted_io.specs.Effects.{IfLeft, Wrote};
+ghost use Rattle.load_driver.specs.Driver.{fault_text};
+ghost use Rattle.commands.specs.CommandLine.{limit_of};
+ghost use Rattle.commands.specs.FaultLine.{IsTold, fault_line};
+ghost use Rattle.commands.specs.Scripts.{IsStop, text_of};
+
+use super::command_line::TextTask;
+use super::fault_line::tell;
+use super::status::{DONE, FAULT};
+use counted_io::Counted;
+use itoa::Buffer;
+use load_driver::{DriverFault, LineFault, replay};
+use std::alloc::Global;
+use std::io::{Read, Write};
+
+/// Carries out a command over a text, tells its fault on `errors`, and answers the exit status.
+///
+/// The line of the fault comes after all output, is flushed and takes no memory; where it can't be
+/// written itself, it is dropped.
+pub fn run_text<R: Read, W: Write, E: Write>(
+    alloc: Global,
+    task: TextTask,
+    reader: &mut Counted<R>,
+    writer: &mut Counted<W>,
+    errors: &mut Counted<E>,
+) -> u8
+    requires least { 1 ≤ limit_of task }
+    requires most { limit_of task ≤ 10000 }
+    ensures status { (result ≡ 0) ⊎ (result ≡ 1) }
+
+    // The whole text is written and flushed.
+    ensures done { result ≡ 0 → IfLeft R.remaining reader.old (λ script.
+        ((text_of task script).fault ≡ None)
+        × Wrote W.contents writer.old writer.new (text_of task script).out) }
+    ensures flushed { result ≡ 0 → is_flushed writer.new ≡ true }
+    ensures read { result ≡ 0 → failures_of reader.new ≡ failures_of reader.old }
+    ensures unfailing { result ≡ 0 → failures_of writer.new ≡ failures_of writer.old }
+    ensures quiet { result ≡ 0 → errors.new ≡ errors.old }
+
+    // The fault is told.
+    ensures stopped { result ≡ 1 → (fault : DriverFault)
+        × IsStop R.remaining W.contents (text_of task) reader.old reader.new writer.old writer.new fault
+        × IsTold E.contents errors.old errors.new (fault_line (fault_text fault)) }
+{
+    let outcome = match task {
+        TextTask::Replay { limit } => replay(alloc, reader, writer, limit),
+    };
+    match outcome {
+        Ok(()) => DONE,
+        Err(fault) => {
+            tell_driver_fault(errors, fault);
+            FAULT
+        }
+    }
+}
+
+/// Tells why a driver stopped.
+fn tell_driver_fault<E: Write>(errors: &mut Counted<E>, fault: DriverFault)
+    ensures { IsTold E.contents errors.old errors.new (fault_line (fault_text fault)) }
+{
+    match fault {
+        DriverFault::Memory => tell(errors, &["memory"]),
+        DriverFault::Read => tell(errors, &["read"]),
+        DriverFault::TooLarge => tell(errors, &["too large"]),
+        DriverFault::Line(fault) => tell_line_fault(errors, fault),
+        DriverFault::Write => tell(errors, &["write"]),
+    }
+}
+
+/// Tells which line is at fault, and why.
+fn tell_line_fault<E: Write>(errors: &mut Counted<E>, fault: LineFault)
+    ensures { IsTold E.contents errors.old errors.new
+        (fault_line (fault_text (DriverFault.Line fault))) }
+{
+    let mut number = Buffer::new();
+    let pieces = ["line ", number.format(fault.line), ": ", fault.why.text()];
+    tell(errors, &pieces);
+}

@@ -1,0 +1,3 @@
+pub mod Fault
+pub mod Image
+pub mod Journal

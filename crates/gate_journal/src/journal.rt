@@ -1,0 +1,222 @@
+// The limiter with the history of all that it was asked and answered.
+ghost use Rattle.std.specs.Prelude.{◌≡◌, ◌≤◌, ◌<◌, ◌⊎◌, ◌+◌, ◌↔◌, ◌++◌, ◌∷◌, [], false};
+ghost use Rattle.std.specs.Prelude.{map, length, vec_capacity, slice_get, is_none};
+ghost use Rattle.std.specs.Prelude.{IfOk, IfSome, OnSome, IfNone, IsErrOf, Some};
+ghost use Rattle.limiter_core.specs.declared.event.Entry.TheVariants.{Call};
+ghost use Rattle.limiter_core.specs.Answer.{answer};
+ghost use Rattle.limiter_core.specs.Legal.{IsLegal, MayCome};
+ghost use Rattle.limiter_core.specs.Bound.{IsSound, is_exhausted, is_always_served};
+ghost use Rattle.limiter_core.specs.Counting.{counters_after};
+ghost use Rattle.limiter_core.specs.Limiter.{stands, entry_of};
+ghost use Rattle.gate_journal.specs.Image.{standing_of};
+ghost use Rattle.gate_journal.specs.Journal.{gate, opening, image, answered, with_answer};
+
+use crate::fault::JournalFault;
+use crate::image::Image;
+use limit_laws::Limit;
+use limiter_core::{
+    Core, Entry, Event, Promotion, Reply, answers_by_image, counters_add_up,
+    reserved_room_suffices, soundness_is_kept,
+};
+use std::alloc::Global;
+use std::marker::Model;
+
+/// The most entries that a journal may be asked to keep.
+const MOST_KEPT: usize = 1_000_000;
+
+/// From this number on only what is owed is answered: 2^62.
+const LAST_NUMBER: u64 = 4_611_686_018_427_387_904;
+
+/// A limiter with all that it was asked and answered since the journal was made.
+///
+/// It answers until it holds as many entries as it keeps. Then endings alone are answered, and
+/// givings up of what waits or lies granted; for all entries that may still come there is a place
+/// from the start, so no answer takes memory.
+#[derive(Drop)]
+pub struct Journal<L: Limit> {
+    opening: Image<L>,
+    core: Core<L>,
+    entries: Vec<Entry>,
+    kept: usize,
+}
+
+impl<L: Limit> Model for Journal<L> {
+    ghost use Rattle.std.specs.Prelude.{vec_capacity};
+    ghost use Rattle.gate_journal.specs.Journal.{Journal, IsJournal, journal_in};
+
+    ghost Value = { Journal L };
+
+    ghost view = { λ j. journal_in j.core j.opening j.entries.items j.kept };
+
+    ghost invariant = { λ j.
+        IsJournal L.rules (journal_in j.core j.opening j.entries.items j.kept) j.core
+        (vec_capacity j.entries) };
+}
+
+impl<L: Limit> Journal<L> {
+    /// A journal that opens with what stands in the limiter now.
+    ///
+    /// [`JournalFault::Places`] where `kept` isn't 1 to 1,000,000, else [`JournalFault::Memory`]
+    /// where memory is wanting: all that a journal ever needs is taken here.
+    pub fn new(alloc: Global, core: Core<L>, kept: usize) -> Result<Journal<L>, JournalFault>
+        ensures made { IfOk result (λ journal. journal ≡ record {
+          rows = core.rows;
+          room = core.room;
+          opening = standing_of core;
+          entries = [];
+          kept = kept;
+        }) }
+        ensures places { IsErrOf result JournalFault.Places ↔ (kept < 1) ⊎ (1000000 < kept) }
+    {
+        if kept < 1 || MOST_KEPT < kept {
+            return Err(JournalFault::Places);
+        }
+        core.check();
+        answers_by_image::<L>();
+        let opening = Image::of(alloc, &core)?;
+        let owed = 2 * core.bound() as usize + 3 * core.room() as usize;
+        let entries = Vec::with_capacity(alloc, kept + owed)?;
+        Ok(Journal {
+            opening,
+            core,
+            entries,
+            kept,
+        })
+    }
+
+    /// All that was asked and answered, in order.
+    pub fn entries(&self) -> &[Entry]
+        ensures entries { result.now ≡ self.now.entries }
+        ensures legal { IsLegal (gate L.rules self.now) (opening self.now) self.now.entries }
+        ensures sound { IsSound (gate L.rules self.now) (opening self.now) }
+    {
+        &self.entries
+    }
+
+    /// What stood when the journal was made.
+    pub fn opening(&self) -> &Image<L>
+        ensures { result.now ≡ self.now.opening }
+    {
+        &self.opening
+    }
+
+    /// The number of the first entry.
+    pub fn base(&self) -> u64
+        ensures { result ≡ self.now.opening.next }
+    {
+        self.opening.next_number()
+    }
+
+    /// The number of the next entry.
+    pub fn number(&self) -> u64
+        ensures { result ≡ self.now.opening.next + length self.now.entries }
+    {
+        self.core.next_number()
+    }
+
+    /// How many entries are kept, but for those that are owed: 1 to 1,000,000.
+    pub fn kept(&self) -> usize
+        ensures { result ≡ self.now.kept }
+    {
+        self.kept
+    }
+
+    /// The limiter, which stands where the entries lead and has counted them.
+    pub fn core(&self) -> &Core<L>
+        ensures rows { result.now.rows ≡ self.now.rows }
+        ensures room { result.now.room ≡ self.now.room }
+        ensures stands { stands result.now ≡ image L.rules self.now }
+        ensures counters { result.now.counters ≡ counters_after self.now.opening.counters self.now.entries }
+    {
+        &self.core
+    }
+
+    /// The limiter alone, from which another journal may open.
+    pub fn into_core(self) -> Core<L>
+        ensures rows { result.rows ≡ self.rows }
+        ensures room { result.room ≡ self.room }
+        ensures stands { stands result ≡ image L.rules self }
+        ensures counters { result.counters ≡ counters_after self.opening.counters self.entries }
+    {
+        self.core
+    }
+
+    /// What every journal keeps: its entries are legal, what stands is sound, and few are held.
+    pub fn check(&self)
+        ensures legal { IsLegal (gate L.rules self.now) (opening self.now) self.now.entries }
+        ensures sound { IsSound (gate L.rules self.now) (image L.rules self.now) }
+        ensures few { length self.now.entries ≤ 2000000 }
+    {
+        soundness_is_kept::<L>();
+        reserved_room_suffices::<L>();
+        let _ = &self.entries;
+    }
+
+    /// Whether an event isn't answered any more.
+    pub fn is_exhausted(&self, event: Event) -> bool
+        ensures { result ≡ is_exhausted self.now.kept false
+            (image L.rules self.now) (length self.now.entries) event }
+    {
+        !self.is_always_served(event)
+            && (self.entries.len() >= self.kept || self.core.next_number() >= LAST_NUMBER)
+    }
+
+    /// Whether an event is answered however many entries are held.
+    fn is_always_served(&self, event: Event) -> bool
+        ensures { result ≡ is_always_served (image L.rules self.now) event }
+    {
+        match event {
+            Event::End { .. } => true,
+            Event::GiveUp { number } => {
+                self.core.is_waiting(number) || self.core.is_granted(number)
+            }
+            _ => false,
+        }
+    }
+
+    /// Answers an event, and keeps what that adds from the number on that it gives; nothing where
+    /// the journal is exhausted.
+    ///
+    /// An ending asks that more of its partition are in flight than lie granted.
+    pub fn apply(&mut self, event: Event) -> Option<(u64, Reply)>
+        requires { MayCome (gate L.rules self.old) (image L.rules self.old) event }
+        ensures exhausted { is_none result ≡ is_exhausted self.old.kept false
+            (image L.rules self.old) (length self.old.entries) event }
+        ensures unchanged { IfNone result (self.new ≡ self.old) }
+        ensures number { IfSome result (λ found.
+            found.0 ≡ self.old.opening.next + length self.old.entries) }
+        ensures reply { IfSome result (λ found. Some (Call event found.1)
+            ≡ slice_get (answered L.rules self.old event) 0) }
+        ensures entries { OnSome result (self.new ≡ with_answer L.rules self.old event) }
+    {
+        if self.is_exhausted(event) {
+            return None;
+        }
+        self.core.check();
+        answers_by_image::<L>();
+        reserved_room_suffices::<L>();
+        counters_add_up();
+        let number = self.core.next_number();
+        let reply = self.core.apply(event);
+        push_answer(&mut self.entries, event, reply, self.core.promotions());
+        Some((number, reply))
+    }
+}
+
+/// Keeps a call and the promotions that it caused.
+fn push_answer(entries: &mut Vec<Entry>, event: Event, reply: Reply, promotions: &[Promotion])
+    requires { length entries.old.items + 1 + length promotions.now ≤ vec_capacity entries.old }
+    ensures items { entries.new.items
+        ≡ entries.old.items ++ Call event reply ∷ map entry_of promotions.now }
+    ensures room { vec_capacity entries.old ≤ vec_capacity entries.new }
+{
+    entries.push_reserved(Entry::Call { event, reply });
+    for promotion in promotions {
+        entries.push_reserved(Entry::Promotion {
+            waiter: promotion.waiter,
+            part: promotion.part,
+            start: promotion.start,
+            inflight: promotion.inflight,
+        });
+    }
+}

@@ -1,0 +1,23 @@
+use Rattle.std.proofs.Common.{rules}
+use Rattle.load_driver.proofs.driver.replay.Goals as goal
+
+pub returns-in-None-clause-ok : goal.returns-in-None-clause-ok
+returns-in-None-clause-ok g c = search rules
+
+pub returns-in-None-clause-flushed : goal.returns-in-None-clause-flushed
+returns-in-None-clause-flushed g c = search rules
+
+pub returns-clause-line : goal.returns-clause-line
+returns-clause-line g c = search rules
+
+pub returns-clause-flushed : goal.returns-clause-flushed
+returns-clause-flushed g c = search rules
+
+pub returns-in_err-script-clause-memory : goal.returns-in_err-script-clause-memory
+returns-in_err-script-clause-memory g c = search rules
+
+pub returns-in_err-script-clause-read : goal.returns-in_err-script-clause-read
+returns-in_err-script-clause-read g c = search rules
+
+pub returns-in_err-script-clause-too_large : goal.returns-in_err-script-clause-too_large
+returns-in_err-script-clause-too_large g c = search rules

@@ -1,0 +1,307 @@
+// Configurations, and their settings or faults.
+use gate_config::*;
+use limit_laws::Limit;
+use std::alloc::Global;
+use std::process::Abort;
+use std::test::Fail;
+
+pub const ADDRESSES: &str =
+    "version = 1\nlisten = \"127.0.0.1:8080\"\nbackend = \"127.0.0.1:9000\"\n";
+
+pub const FIXED: &str = "[limit]\nkind = \"fixed\"\ninitial = 4\n";
+
+pub const LIVE: &str = "[[class]]\nname = \"live\"\npercent = 60\n";
+
+const BY_HEADER: &str = "[[resolver]]\nkind = \"header\"\nheader = \"X-Class\"\n";
+
+/// The fault of a text, as the program prints it, and `ok` where there is none.
+pub fn answer(rt: &impl Abort, alloc: Global, text: &str) -> String {
+    match read(alloc, text.as_bytes()) {
+        Ok(_) => String::from_str(alloc, "ok").expect(rt, "memory"),
+        Err(fault) => fault.to_string(alloc).expect(rt, "memory"),
+    }
+}
+
+/// Whether each text, between the given lines, gets its answer.
+fn check(rt: &impl Abort, alloc: Global, before: &str, after: &str, cases: &[(&str, &str)]) {
+    for (lines, expected) in cases {
+        let text = format!(in alloc; "{before}{lines}{after}").expect(rt, "memory");
+        assert_eq!(rt; answer(rt, alloc, text.as_str()).as_str(), *expected);
+    }
+}
+
+#[test]
+fn the_sample_is_read(rt: HostRuntime) -> Result<(), Fail> {
+    let alloc = rt.alloc();
+    let text = format!(in alloc; "{ADDRESSES}{FIXED}{LIVE}{BY_HEADER}")?;
+    let settings = read(alloc, text.as_bytes())?;
+    assert_eq!(rt; settings.limit.limit(), 4);
+    assert_eq!(rt; settings.backlog, 100);
+    assert_eq!(rt; settings.timeout, 1_000_000_000);
+    assert_eq!(rt; settings.keep, 4_096);
+    assert!(rt; settings.wait);
+    assert_eq!(rt; settings.table.len(), 1);
+    assert_eq!(rt; settings.rules.resolvers().len(), 1);
+    assert_eq!(rt; settings.rules.bypass().len(), 0);
+    assert_eq!(rt; settings.listen.socket().port(), 8080);
+    Ok(())
+}
+
+#[test]
+fn each_key_outside_the_tables_has_its_faults(rt: HostRuntime) {
+    let alloc = rt.alloc();
+    let head = [
+        ("", "version"),
+        ("version = 2\n", "version"),
+        ("version = \"1\"\n", "version"),
+        ("version = \n", "toml"),
+        ("version = 1\n", "missing listen"),
+        ("version = 1\nlisten = 1\n", "kind listen"),
+        ("version = 1\nlisten = \"127.0.0.1:0\"\n", "value listen"),
+        ("version = 1\nlisten = \"127.0.0.1:080\"\n", "value listen"),
+        ("version = 1\nlisten = \"127.0.0.01:80\"\n", "value listen"),
+        ("version = 1\nlisten = \"localhost:80\"\n", "value listen"),
+        (
+            "version = 1\nlisten = \"127.0.0.1:80\"\n",
+            "missing backend",
+        ),
+        (
+            "version = 1\nlisten = \"127.0.0.1:80\"\nbackend = true\n",
+            "kind backend",
+        ),
+        (
+            "version = 1\nlisten = \"127.0.0.1:80\"\nbackend = \"::1:80\"\n",
+            "value backend",
+        ),
+    ];
+    check(&rt, alloc, "", FIXED, &head);
+    let cases = [
+        ("", "ok"),
+        ("backlog = \"1\"\n", "kind backlog"),
+        ("backlog = -1\n", "value backlog"),
+        ("backlog = 10001\n", "value backlog"),
+        ("backlog = 10000\n", "ok"),
+        ("wait = 1\n", "kind wait"),
+        ("timeout_ms = 0\n", "value timeout_ms"),
+        ("timeout_ms = 3600001\n", "value timeout_ms"),
+        ("timeout_ms = 1.5\n", "kind timeout_ms"),
+        ("keep = 0\n", "value keep"),
+        ("keep = []\n", "kind keep"),
+        ("window = 1\n", "kind window"),
+        ("class = 1\n", "kind class"),
+        ("class = [1]\n", "kind class"),
+        ("class = [{}, {}, {}, {}, {}]\n", "value class"),
+        ("resolver = {}\n", "kind resolver"),
+        ("bypass = \"no\"\n", "kind bypass"),
+        ("zebra = 1\napple = 2\n", "unknown apple"),
+        ("zebra = 1\nkeep = 0\n", "value keep"),
+    ];
+    check(&rt, alloc, ADDRESSES, FIXED, &cases);
+}
+
+#[test]
+fn each_key_of_a_limit_has_its_faults(rt: HostRuntime) {
+    let alloc = rt.alloc();
+    let limits = [
+        ("", "missing limit"),
+        ("limit = 1\n", "kind limit"),
+        ("[limit]\n", "missing limit.kind"),
+        ("[limit]\nkind = 1\n", "kind limit.kind"),
+        ("[limit]\nkind = \"none\"\n", "value limit.kind"),
+        (
+            "[limit]\nkind = \"fixed\"\ninitial = 0\n",
+            "value limit.initial",
+        ),
+        (
+            "[limit]\nkind = \"fixed\"\nratio = 900\n",
+            "unknown limit.ratio",
+        ),
+        ("[limit]\nkind = \"settable\"\nmin = 0\n", "value limit.min"),
+        (
+            "[limit]\nkind = \"settable\"\nmin = \"\"\n",
+            "kind limit.min",
+        ),
+        (
+            "[limit]\nkind = \"settable\"\nmin = 9\nmax = 8\n",
+            "value limit.max",
+        ),
+        (
+            "[limit]\nkind = \"settable\"\nmax = 10001\n",
+            "value limit.max",
+        ),
+        (
+            "[limit]\nkind = \"settable\"\nmin = 9\ninitial = 8\n",
+            "value limit.initial",
+        ),
+        ("[limit]\nkind = \"settable\"\nmin = 300\n", "ok"),
+        (
+            "[limit]\nkind = \"aimd\"\nratio = 499\n",
+            "value limit.ratio",
+        ),
+        (
+            "[limit]\nkind = \"aimd\"\nratio = 1000\n",
+            "value limit.ratio",
+        ),
+        (
+            "[limit]\nkind = \"aimd\"\ntimeout_us = 0\n",
+            "value limit.timeout_us",
+        ),
+        (
+            "[limit]\nkind = \"aimd\"\nalpha = 1\n",
+            "unknown limit.alpha",
+        ),
+        (
+            "[limit]\nkind = \"vegas\"\nalpha = 0\n",
+            "value limit.alpha",
+        ),
+        (
+            "[limit]\nkind = \"vegas\"\nalpha = 7\nbeta = 6\n",
+            "value limit.beta",
+        ),
+        ("[limit]\nkind = \"vegas\"\nalpha = 7\n", "ok"),
+        (
+            "[limit]\nkind = \"vegas\"\nprobe_every = 1000001\n",
+            "value limit.probe_every",
+        ),
+    ];
+    check(&rt, alloc, ADDRESSES, "", &limits);
+    let windows = [
+        ("[window]\n", "ok"),
+        ("[window]\nsize = 0\n", "value window.size"),
+        ("[window]\nmin_us = 3600000001\n", "value window.min_us"),
+        ("[window]\nmax_us = 5\n", "value window.max_us"),
+        ("[window]\nmin_rtt_us = -1\n", "value window.min_rtt_us"),
+        ("[window]\nlength = 1\n", "unknown window.length"),
+    ];
+    let before = format!(in alloc; "{ADDRESSES}{FIXED}").expect(&rt, "memory");
+    check(&rt, alloc, before.as_str(), "", &windows);
+}
+
+#[test]
+fn each_key_of_the_classes_and_rules_has_its_faults(rt: HostRuntime) {
+    let alloc = rt.alloc();
+    let before = format!(in alloc; "{ADDRESSES}{FIXED}{LIVE}").expect(&rt, "memory");
+    let cases = [
+        ("[[class]]\n", "missing class.name"),
+        ("[[class]]\nname = 1\n", "kind class.name"),
+        ("[[class]]\nname = \"live\"\n", "value class.name"),
+        ("[[class]]\nname = \"unknown\"\n", "value class.name"),
+        ("[[class]]\nname = \"batch\"\n", "missing class.percent"),
+        (
+            "[[class]]\nname = \"batch\"\npercent = 50\n",
+            "value class.percent",
+        ),
+        ("[[class]]\nname = \"batch\"\npercent = 40\n", "ok"),
+        (
+            "[[class]]\nname = \"batch\"\npercent = 4\nshare = 1\n",
+            "unknown class.share",
+        ),
+        ("[[resolver]]\n", "missing resolver.kind"),
+        ("[[resolver]]\nkind = \"path\"\n", "value resolver.kind"),
+        (
+            "[[resolver]]\nkind = \"header\"\nheader = \"X Y\"\n",
+            "value resolver.header",
+        ),
+        (
+            "[[resolver]]\nkind = \"method\"\nmethod = \"\"\n",
+            "value resolver.method",
+        ),
+        (
+            "[[resolver]]\nkind = \"method\"\nmethod = \"GET\"\n",
+            "missing resolver.class",
+        ),
+        (
+            "[[resolver]]\nkind = \"method\"\nmethod = \"GET\"\nclass = \"Live\"\n",
+            "value resolver.class",
+        ),
+        (
+            "[[resolver]]\nkind = \"route\"\n",
+            "missing resolver.routes",
+        ),
+        (
+            "[[resolver]]\nkind = \"route\"\nroutes = { \"/a\" = 1 }\n",
+            "kind resolver.routes",
+        ),
+        (
+            "[[resolver]]\nkind = \"route\"\nroutes = { \"/a\" = \"b\" }\n",
+            "value resolver.routes",
+        ),
+        (
+            "[[resolver]]\nkind = \"route\"\nroutes = { \"/{a}\" = \"live\" }\n",
+            "ok",
+        ),
+        (
+            "[[resolver]]\nkind = \"route\"\nroutes = { \"/{a}\" = \"live\", \"/{b}\" = \"live\" }\n",
+            "route",
+        ),
+        ("[[bypass]]\n", "missing bypass.kind"),
+        (
+            "[[bypass]]\nkind = \"method\"\nmethod = \"G T\"\n",
+            "value bypass.method",
+        ),
+        (
+            "[[bypass]]\nkind = \"prefix\"\nprefix = \"a\"\n",
+            "value bypass.prefix",
+        ),
+        (
+            "[[bypass]]\nkind = \"header\"\nheader = \"A\"\n",
+            "missing bypass.equals",
+        ),
+        (
+            "[[bypass]]\nkind = \"header\"\nequals = \"A\"\n",
+            "missing bypass.header",
+        ),
+        (
+            "[[bypass]]\nkind = \"prefix\"\nprefix = \"/\"\nequals = \"A\"\n",
+            "unknown bypass.equals",
+        ),
+    ];
+    check(&rt, alloc, before.as_str(), "", &cases);
+}
+
+/// The files of `examples/`, after their addresses.
+const EXAMPLES: [(&str, u32, u32, u32); 5] = [
+    (
+        "[limit]\nkind = \"fixed\"\ninitial = 40\n[[class]]\nname = \"live\"\npercent = 60\n[[resolver]]\nkind = \"header\"\nheader = \"X-Class\"\n",
+        40,
+        40,
+        40,
+    ),
+    (
+        "wait = false\n[limit]\nkind = \"settable\"\nmin = 5\nmax = 100\ninitial = 20\n[[bypass]]\nkind = \"prefix\"\nprefix = \"/health\"\n",
+        5,
+        20,
+        100,
+    ),
+    (
+        "backlog = 50\ntimeout_ms = 500\n[limit]\nkind = \"aimd\"\nmin = 2\nmax = 400\ninitial = 20\nratio = 900\ntimeout_us = 500000\n[[class]]\nname = \"live\"\npercent = 50\n[[class]]\nname = \"batch\"\npercent = 20\n[[resolver]]\nkind = \"route\"\n[resolver.routes]\n\"/jobs/{id}\" = \"batch\"\n\"/jobs\" = \"batch\"\n[[resolver]]\nkind = \"method\"\nmethod = \"GET\"\nclass = \"live\"\n",
+        2,
+        20,
+        400,
+    ),
+    (
+        "keep = 10000\n[limit]\nkind = \"vegas\"\nmin = 1\nmax = 1000\ninitial = 20\nalpha = 3\nbeta = 6\nprobe_every = 1000\n[[bypass]]\nkind = \"method\"\nmethod = \"OPTIONS\"\n[[bypass]]\nkind = \"header\"\nheader = \"X-Probe\"\nequals = \"1\"\n",
+        1,
+        20,
+        1000,
+    ),
+    (
+        "[limit]\nkind = \"vegas\"\n[window]\nsize = 10\nmin_us = 1000000\nmax_us = 2000000\nmin_rtt_us = 100\n",
+        1,
+        20,
+        200,
+    ),
+];
+
+#[test]
+fn each_example_is_read(rt: HostRuntime) -> Result<(), Fail> {
+    let alloc = rt.alloc();
+    for (lines, lo, limit, hi) in EXAMPLES {
+        let text = format!(in alloc; "{ADDRESSES}{lines}")?;
+        let settings = read(alloc, text.as_bytes())?;
+        assert_eq!(rt; settings.limit.lo(), lo);
+        assert_eq!(rt; settings.limit.limit(), limit);
+        assert_eq!(rt; settings.limit.hi(), hi);
+    }
+    Ok(())
+}

@@ -1,0 +1,228 @@
+// Both ends of each range of the keys, names that need quotes, and a request's class.
+use super::gate_config_tests::{ADDRESSES, FIXED, LIVE, answer};
+use classifier::classify;
+use gate_config::*;
+use http::Method;
+use partitions::Part;
+use std::alloc::{AllocError, Global};
+use std::process::Abort;
+use std::test::Fail;
+use wire::{Bytes, Header, Headers, Request, Text, Version};
+
+/// A key that holds a number: the lines before it and after it, its name, its path, and its range.
+type RangeRow = (
+    &'static str,
+    &'static str,
+    &'static str,
+    &'static str,
+    i64,
+    i64,
+);
+
+const TOP: [RangeRow; 3] = [
+    ("", FIXED, "backlog", "backlog", 0, 10_000),
+    ("", FIXED, "timeout_ms", "timeout_ms", 1, 3_600_000),
+    ("", FIXED, "keep", "keep", 1, 1_000_000),
+];
+
+const SETTABLE: &str = "[limit]\nkind = \"settable\"\n";
+
+const AIMD: &str = "[limit]\nkind = \"aimd\"\n";
+
+const VEGAS: &str = "[limit]\nkind = \"vegas\"\n";
+
+const LIMIT: [RangeRow; 10] = [
+    (
+        "[limit]\nkind = \"fixed\"\n",
+        "",
+        "initial",
+        "limit.initial",
+        1,
+        10_000,
+    ),
+    (SETTABLE, "max = 10000\n", "min", "limit.min", 1, 10_000),
+    (
+        "[limit]\nkind = \"settable\"\nmin = 7\n",
+        "",
+        "max",
+        "limit.max",
+        7,
+        10_000,
+    ),
+    (
+        "[limit]\nkind = \"settable\"\nmin = 7\nmax = 9\n",
+        "",
+        "initial",
+        "limit.initial",
+        7,
+        9,
+    ),
+    (AIMD, "", "ratio", "limit.ratio", 500, 999),
+    (AIMD, "", "timeout_us", "limit.timeout_us", 1, 3_600_000_000),
+    (VEGAS, "", "alpha", "limit.alpha", 1, 100),
+    (VEGAS, "", "beta", "limit.beta", 3, 100),
+    (
+        "[limit]\nkind = \"vegas\"\nalpha = 50\n",
+        "",
+        "beta",
+        "limit.beta",
+        50,
+        100,
+    ),
+    (VEGAS, "", "probe_every", "limit.probe_every", 0, 1_000_000),
+];
+
+const WINDOW: &str = "[limit]\nkind = \"vegas\"\n[window]\n";
+
+const OTHERS: [RangeRow; 6] = [
+    (WINDOW, "", "size", "window.size", 1, 1_000_000),
+    (
+        WINDOW,
+        "max_us = 3600000000\n",
+        "min_us",
+        "window.min_us",
+        1,
+        3_600_000_000,
+    ),
+    (
+        WINDOW,
+        "min_us = 8\n",
+        "max_us",
+        "window.max_us",
+        8,
+        3_600_000_000,
+    ),
+    (
+        WINDOW,
+        "",
+        "min_rtt_us",
+        "window.min_rtt_us",
+        0,
+        3_600_000_000,
+    ),
+    (
+        "[limit]\nkind = \"fixed\"\n[[class]]\nname = \"a\"\n",
+        "",
+        "percent",
+        "class.percent",
+        1,
+        100,
+    ),
+    (
+        "[limit]\nkind = \"fixed\"\n[[class]]\nname = \"a\"\npercent = 99\n[[class]]\nname = \"b\"\n",
+        "",
+        "percent",
+        "class.percent",
+        1,
+        1,
+    ),
+];
+
+/// The answer to a configuration that has a number at a key.
+fn answer_to(rt: &impl Abort, alloc: Global, row: &RangeRow, number: i64) -> String {
+    let (before, after, key, _, _, _) = row;
+    let text = format!(in alloc; "{ADDRESSES}{before}{key} = {number}\n{after}").expect(
+        rt, "memory",
+    );
+    answer(rt, alloc, text.as_str())
+}
+
+/// The two numbers at the ends of each range are accepted, and the two beyond them are not.
+fn check_ends(rt: &impl Abort, alloc: Global, rows: &[RangeRow]) {
+    for row in rows {
+        let (_, _, _, path, low, high) = row;
+        let fault = format!(in alloc; "value {path}").expect(rt, "memory");
+        let below = low.saturating_sub(1);
+        let above = high.saturating_add(1);
+        assert_eq!(rt; answer_to(rt, alloc, row, *low).as_str(), "ok");
+        assert_eq!(rt; answer_to(rt, alloc, row, *high).as_str(), "ok");
+        assert_eq!(rt; answer_to(rt, alloc, row, below).as_str(), fault.as_str());
+        assert_eq!(rt; answer_to(rt, alloc, row, above).as_str(), fault.as_str());
+    }
+}
+
+#[test]
+fn each_range_has_both_its_ends(rt: HostRuntime) {
+    let alloc = rt.alloc();
+    check_ends(&rt, alloc, &TOP);
+    check_ends(&rt, alloc, &LIMIT);
+    check_ends(&rt, alloc, &OTHERS);
+}
+
+#[test]
+fn an_unknown_key_is_one_line(rt: HostRuntime) {
+    let alloc = rt.alloc();
+    let cases = [
+        ("Zebra_9-z = 1\n", "unknown Zebra_9-z"),
+        ("\"\" = 1\n", "unknown \"\""),
+        ("\"x y\" = 1\n", "unknown \"x y\""),
+        ("\"a.b\" = 1\n", "unknown \"a.b\""),
+        ("\"a\\nb\" = 1\n", "unknown \"a\\nb\""),
+        ("\"a\\\"b\\\\c\" = 1\n", "unknown \"a\\\"b\\\\c\""),
+        ("\"\\b\\t\\f\\r\" = 1\n", "unknown \"\\b\\t\\f\\r\""),
+        (
+            "\"\\u0000\\u001b\\u007f\\u009f\" = 1\n",
+            "unknown \"\\u0000\\u001B\\u007F\\u009F\"",
+        ),
+        ("\"\u{e9}\" = 1\n", "unknown \"\u{e9}\""),
+        (
+            "\"x\\nadmission: config: toml\" = 1\n",
+            "unknown \"x\\nadmission: config: toml\"",
+        ),
+        ("\"b\" = 1\n\"a b\" = 1\n", "unknown \"a b\""),
+    ];
+    for (lines, expected) in cases {
+        let text = format!(in alloc; "{ADDRESSES}{lines}{FIXED}").expect(&rt, "memory");
+        assert_eq!(rt; answer(&rt, alloc, text.as_str()).as_str(), expected);
+    }
+    let text = format!(in alloc; "{ADDRESSES}{FIXED}\"x y\" = 1\n").expect(&rt, "memory");
+    assert_eq!(rt;
+        answer(&rt, alloc, text.as_str()).as_str(),
+        "unknown limit.\"x y\""
+    );
+}
+
+#[test]
+fn a_faults_pieces_are_its_text(rt: HostRuntime) -> Result<(), Fail> {
+    let alloc = rt.alloc();
+    let text = format!(in alloc; "{ADDRESSES}{FIXED}ratio = 1\n")?;
+    let fault = read(alloc, text.as_bytes()).err().expect(&rt, "a fault");
+    assert_eq!(rt; fault.pieces().0, "unknown ");
+    assert_eq!(rt; fault.pieces().1, "limit.ratio");
+    assert_eq!(rt; ConfigFault::Kind(Key::WindowSize).pieces().1, "window.");
+    assert_eq!(rt; ConfigFault::Kind(Key::WindowSize).pieces().2, "size");
+    Ok(())
+}
+
+/// A request whose header `X-Class` has the value.
+fn request_of(alloc: Global, value: &[u8]) -> Result<Request, AllocError> {
+    let name = Bytes::from_slice(alloc, b"X-Class")?;
+    let value = Bytes::from_slice(alloc, value)?;
+    Ok(Request {
+        method: Method::GET,
+        target: Text::copy_of(alloc, "/")?,
+        path: Text::copy_of(alloc, "/")?,
+        version: Version::Http11,
+        headers: Headers::new(vec![in alloc; Header { name, value }]?),
+        body: None,
+    })
+}
+
+#[test]
+fn the_samples_class_is_compared_byte_for_byte(rt: HostRuntime) -> Result<(), Fail> {
+    let alloc = rt.alloc();
+    let resolver = "[[resolver]]\nkind = \"header\"\nheader = \"X-Class\"\n";
+    let text = format!(in alloc; "{ADDRESSES}{FIXED}{LIVE}{resolver}")?;
+    let settings = read(alloc, text.as_bytes())?;
+    let live = request_of(alloc, b"live")?;
+    let other = request_of(alloc, b"Live")?;
+    assert_eq!(rt;
+        classify(&settings.rules, &settings.table, &live).part,
+        Part::Known(0)
+    );
+    assert_eq!(rt;
+        classify(&settings.rules, &settings.table, &other).part,
+        Part::Unknown
+    );
+    Ok(())
+}

@@ -1,0 +1,109 @@
+// Each kind, over each sample and over windows.
+use aimd::Aimd;
+use limit_kinds::*;
+use limit_laws::{Fixed, Limit, MakeFault, Sample, SetFault, Settable};
+use std::process::Abort;
+use std::test::Fail;
+use vegas::Vegas;
+use windowed::Windowed;
+
+/// A kind between 1 and 100 permits that begins at 20, and what becomes of it.
+#[derive(Clone, Copy, Debug)]
+struct Row {
+    limit: BaseLimit,
+    /// Its ends.
+    ends: (u32, u32),
+    /// After a sample of 20 in flight that was dropped.
+    dropped: u32,
+    /// What a setting to 30 answers, and the limit after it.
+    set: Result<(), SetFault>,
+    after_set: u32,
+}
+
+fn rows() -> Result<[Row; 4], MakeFault> {
+    let refused = Err(SetFault::NotSettable);
+    Ok([
+        Row {
+            limit: BaseLimit::Fixed(Fixed::new(20)?),
+            ends: (20, 20),
+            dropped: 20,
+            set: refused,
+            after_set: 20,
+        },
+        Row {
+            limit: BaseLimit::Settable(Settable::new(1, 20, 100)?),
+            ends: (1, 100),
+            dropped: 20,
+            set: Ok(()),
+            after_set: 30,
+        },
+        Row {
+            limit: BaseLimit::Aimd(Aimd::new(1, 20, 100, 900, 1_000)?),
+            ends: (1, 100),
+            dropped: 18,
+            set: refused,
+            after_set: 18,
+        },
+        Row {
+            limit: BaseLimit::Vegas(Vegas::new(1, 20, 100, 3, 6, 0)?),
+            ends: (1, 100),
+            dropped: 19,
+            set: refused,
+            after_set: 19,
+        },
+    ])
+}
+
+/// Takes a limit through the calls of a row.
+fn follows<L: Limit>(rt: &impl Abort, limit: &mut L, row: &Row) {
+    assert!(rt; (limit.lo(), limit.hi()) == row.ends);
+    // The first sample gives Vegas its base.
+    limit.on_sample(&Sample::of(0, 100, 1, false));
+    assert_eq!(rt; limit.limit(), 20);
+    limit.on_sample(&Sample::of(1_000, 1_100, 20, true));
+    assert_eq!(rt; limit.limit(), row.dropped);
+    assert!(rt; limit.set(30) == row.set);
+    assert_eq!(rt; limit.limit(), row.after_set);
+    assert_eq!(rt; limit.copy().limit(), row.after_set);
+    limit.reset();
+    assert_eq!(rt; limit.limit(), 20);
+}
+
+#[test]
+fn each_kind_passes_its_calls_on(rt: HostRuntime) -> Result<(), Fail> {
+    for row in rows()? {
+        let mut limit = row.limit;
+        follows(&rt, &mut limit, &row);
+    }
+    Ok(())
+}
+
+#[test]
+fn each_kind_passes_its_calls_on_without_windows(rt: HostRuntime) -> Result<(), Fail> {
+    for row in rows()? {
+        let mut limit = AnyLimit::Plain(row.limit);
+        follows(&rt, &mut limit, &row);
+    }
+    Ok(())
+}
+
+#[test]
+fn each_kind_passes_its_calls_on_from_windows(rt: HostRuntime) -> Result<(), Fail> {
+    for row in rows()? {
+        let windowed = Windowed::new(row.limit, 1, 1, 1, 0).map_err(|refusal| refusal.0)?;
+        let mut limit = AnyLimit::Windowed(windowed);
+        follows(&rt, &mut limit, &row);
+    }
+    Ok(())
+}
+
+#[test]
+fn a_limit_is_called_by_its_kind_with_and_without_windows(rt: HostRuntime) -> Result<(), Fail> {
+    let [fixed, settable, aimd, vegas] = rows()?;
+    assert_eq!(rt; fixed.limit.kind(), "fixed");
+    assert_eq!(rt; AnyLimit::Plain(settable.limit).kind(), "settable");
+    assert_eq!(rt; AnyLimit::Plain(vegas.limit).kind(), "vegas");
+    let windowed = Windowed::new(aimd.limit, 1, 1, 1, 0).map_err(|refusal| refusal.0)?;
+    assert_eq!(rt; AnyLimit::Windowed(windowed).kind(), "aimd");
+    Ok(())
+}

@@ -1,0 +1,92 @@
+// The help texts: their examples are carried out, and their lines are no wider than a screen.
+use commands::{
+    EXAMPLE_ANSWERS, EXAMPLE_SCRIPT, FULLEST_CONFIG, SMALLEST_CONFIG, TextTask, check_text,
+    run_text, words,
+};
+use counted_io::Counted;
+use std::test::Fail;
+
+/// The text that these words end with.
+fn text_of(rt: &HostRuntime, list: &[&str]) -> Result<String, Fail> {
+    let mut all = Vec::new(rt.alloc());
+    for word in list {
+        all.push(String::from_str(rt.alloc(), word)?)?;
+    }
+    match words(rt.alloc(), &all) {
+        Ok(_) => Ok(String::new(rt.alloc())),
+        Err(error) => Ok(error.to_string(rt.alloc())?),
+    }
+}
+
+#[test]
+fn the_script_of_the_help_is_answered_as_it_says(rt: HostRuntime) -> Result<(), Fail> {
+    let help = text_of(&rt, &["admission", "replay", "--help"])?;
+    assert!(rt; help.as_str().contains(EXAMPLE_SCRIPT));
+    assert!(rt; help.as_str().contains(EXAMPLE_ANSWERS));
+    let mut output = Vec::new(rt.alloc());
+    let mut fault = Vec::new(rt.alloc());
+    let status = run_text(
+        rt.alloc(),
+        TextTask::Replay { limit: 20 },
+        &mut Counted::new(EXAMPLE_SCRIPT.as_bytes()),
+        &mut Counted::new(&mut output),
+        &mut Counted::new(&mut fault),
+    );
+    assert_eq!(rt; status, 0);
+    assert!(rt; fault.is_empty());
+    let mut shown = String::new(rt.alloc());
+    for line in EXAMPLE_ANSWERS.lines() {
+        shown.push_str(line.trim_start())?;
+        shown.push('\n')?;
+    }
+    assert!(rt; output.as_slice() == shown.as_bytes());
+    Ok(())
+}
+
+#[test]
+fn the_configurations_of_the_help_are_accepted(rt: HostRuntime) -> Result<(), Fail> {
+    let help = text_of(&rt, &["admission", "check", "--help"])?;
+    let rows: [(&str, &[u8]); 2] = [
+        (
+            SMALLEST_CONFIG,
+            b"ok fixed 40 classes 0 resolvers 0 bypass 0 backlog 100\n",
+        ),
+        (
+            FULLEST_CONFIG,
+            b"ok aimd 40 classes 1 resolvers 1 bypass 1 backlog 40\n",
+        ),
+    ];
+    for (text, line) in rows {
+        assert!(rt; help.as_str().contains(text));
+        let mut output = Vec::new(rt.alloc());
+        let mut fault = Vec::new(rt.alloc());
+        let status = check_text(
+            rt.alloc(),
+            text.as_bytes(),
+            &mut Counted::new(&mut output),
+            &mut Counted::new(&mut fault),
+        );
+        assert_eq!(rt; status, 0);
+        assert!(rt; output.as_slice() == line);
+        assert!(rt; fault.is_empty());
+    }
+    Ok(())
+}
+
+#[test]
+fn no_line_of_help_is_wider_than_a_hundred_columns(rt: HostRuntime) -> Result<(), Fail> {
+    for command in ["replay", "check"] {
+        let help = text_of(&rt, &["admission", command, "--help"])?;
+        for line in help.as_str().lines() {
+            assert!(rt; line.len() <= 100);
+        }
+    }
+    Ok(())
+}
+
+#[test]
+fn the_version_is_shown(rt: HostRuntime) -> Result<(), Fail> {
+    let version = text_of(&rt, &["admission", "--version"])?;
+    assert!(rt; version.as_str() == "admission 0.1.0\n");
+    Ok(())
+}
