@@ -5,4 +5,4 @@ use Rattle.std.specs.declared.io.ErrorKind.TheVariants as Kind
 
 abbrev pub unread_line : ErrorKind → List ℕ
 unread_line Kind.OutOfMemory = codes "error: out of memory\n"
-unread_line other = codes "error: a word of the command line isn't UTF-8\n"
+unread_line _ = codes "error: a word of the command line isn't UTF-8\n"
