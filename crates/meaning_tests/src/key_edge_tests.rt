@@ -127,17 +127,22 @@ fn answer_to(rt: &impl Abort, alloc: Global, row: &RangeRow, number: i64) -> Str
     answer(rt, alloc, text.as_str())
 }
 
+/// Whether that is the answer to a configuration that has a number at a key.
+fn is_answered(rt: &impl Abort, alloc: Global, row: &RangeRow, number: i64, wanted: &str) -> bool {
+    answer_to(rt, alloc, row, number).as_str() == wanted
+}
+
 /// The two numbers at the ends of each range are accepted, and the two beyond them are not.
 fn check_ends(rt: &impl Abort, alloc: Global, rows: &[RangeRow]) {
     for row in rows {
-        let (_, _, _, path, low, high) = row;
+        let (_, _, _, path, low, high) = *row;
         let fault = format!(in alloc; "value {path}").expect(rt, "memory");
         let below = low.saturating_sub(1);
         let above = high.saturating_add(1);
-        assert_eq!(rt; answer_to(rt, alloc, row, *low).as_str(), "ok");
-        assert_eq!(rt; answer_to(rt, alloc, row, *high).as_str(), "ok");
-        assert_eq!(rt; answer_to(rt, alloc, row, below).as_str(), fault.as_str());
-        assert_eq!(rt; answer_to(rt, alloc, row, above).as_str(), fault.as_str());
+        assert!(rt; is_answered(rt, alloc, row, low, "ok"));
+        assert!(rt; is_answered(rt, alloc, row, high, "ok"));
+        assert!(rt; is_answered(rt, alloc, row, below, fault.as_str()));
+        assert!(rt; is_answered(rt, alloc, row, above, fault.as_str()));
     }
 }
 

@@ -50,18 +50,20 @@ fn the_first_number_out_of_its_range_is_answered(rt: HostRuntime) {
     }
 }
 
+/// The limit after one drop.
+fn after_a_drop(mut limit: AnyLimit) -> u32 {
+    limit.on_sample(&Sample::of(0, 5, 1, true));
+    limit.limit()
+}
+
 #[test]
 fn settings_put_windows_over_a_limit(rt: HostRuntime) -> Result<(), Fail> {
-    let base = BaseLimit::aimd(1, 20, 100, 900, 1_000)?;
-    let dropped = Sample::of(0, 5, 1, true);
-    let mut plain = AnyLimit::new(base, None);
-    plain.on_sample(&dropped);
-    assert_eq!(rt; plain.limit(), 18);
+    let plain = AnyLimit::new(BaseLimit::aimd(1, 20, 100, 900, 1_000)?, None);
+    assert_eq!(rt; after_a_drop(plain), 18);
     let settings = window_settings(1_000_000, 1, 1, 0)?;
     assert_eq!(rt; settings.size(), 1_000_000);
-    let mut windowed = AnyLimit::new(base, Some(settings));
-    windowed.on_sample(&dropped);
-    assert_eq!(rt; windowed.limit(), 20);
+    let windowed = AnyLimit::new(BaseLimit::aimd(1, 20, 100, 900, 1_000)?, Some(settings));
     assert_eq!(rt; windowed.kind(), "aimd");
+    assert_eq!(rt; after_a_drop(windowed), 20);
     Ok(())
 }
