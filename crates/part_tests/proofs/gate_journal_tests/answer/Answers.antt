@@ -14,14 +14,14 @@ apply-requires-2 g c =
     let core = c.core-core.result.now in
     let part = c.in-End.permit.part in
     let few : length core.granted < (stands core).inflight (place_of core.rows part) =
-        omega (arith, c.granted.ensures, c.inflight.ensures) in
+    omega (arith, c.granted.ensures, c.inflight.ensures) in
     let gated : gate_of rules core ≡ gate rules c.args.journal.now = λ k. record {
       rules = rules;
       rows = c.core-core.ensures.rows k;
       room = c.core-core.ensures.room k;
     } in
     let IsFew : Gate g.row.L.Denot → Image g.row.L.Denot → Type 0 = λ v i.
-        granted_at v i (place_of v.rows part) < i.inflight (place_of v.rows part) in
+    granted_at v i (place_of v.rows part) < i.inflight (place_of v.rows part) in
     subst (IsFew (gate rules c.args.journal.now)) c.core-core.ensures.stands
     (subst (λ (v : Gate g.row.L.Denot). IsFew v (stands core)) gated
-      (ending_may_come (gate_of rules core) (stands core) c.in-End.permit few))
+    (ending_may_come (gate_of rules core) (stands core) c.in-End.permit few))
