@@ -1,7 +1,4 @@
-pub mod Addresses
 mod Blank
-pub mod Chains
 mod Documents
-pub mod Limits
-pub mod Lists
+mod Lists
 mod Told

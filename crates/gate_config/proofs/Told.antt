@@ -1,20 +1,21 @@
 -- Faults that are told before any memory is taken.
 use Rattle.std.proofs.Common.{◌≡◌, sym, subst, Option, Some, None, Result, Ok, Err, ok_or}
 use Rattle.toml.specs.Data.{Members}
-use Rattle.gate_config.specs.declared.fault.ConfigFault.{ConfigFault}
-use Rattle.gate_config.specs.declared.fault.ConfigFault.TheVariants as Fault
+use Rattle.config_values.specs.declared.fault.ConfigFault.{ConfigFault}
+use Rattle.config_values.specs.declared.fault.ConfigFault.TheVariants as Fault
+use Rattle.config_values.specs.Outcomes.{◌>>=◌}
+use Rattle.config_values.specs.Unknown.{Stranger, least}
 use Rattle.gate_config.specs.declared.settings.Settings.{Settings}
 use Rattle.gate_config.specs.Document.{DocumentValues}
 use Rattle.gate_config.specs.Settings.{IsOfKey, known, made_of}
 use Rattle.gate_config.specs.Strangers.{strangers_of}
-use Rattle.gate_config.specs.Unknown.{Stranger, least}
-use Rattle.gate_config.specs.Values.{◌>>=◌}
 
 abbrev IsEarly : Result Settings ConfigFault → Type 0
 IsEarly (Ok settings) = ⊥
 IsEarly (Err fault) = IsOfKey fault
 
-early : (r : Result Settings ConfigFault) (fault : ConfigFault) → IsOfKey fault → r ≡ Err fault → IsEarly r
+early : (r : Result Settings ConfigFault) (fault : ConfigFault) → IsOfKey fault → r ≡ Err fault
+    → IsEarly r
 early r fault of_a_key said = subst IsEarly (sym said) of_a_key
 
 not_made : (o : Option Settings) → ¬ (IsEarly (ok_or o Fault.Route))
@@ -26,8 +27,10 @@ not_known d None = not_made (made_of d)
 not_known d (Some key) = λ h. h
 
 -- a key's fault is that of the document
-pub of_document : (t : Members) (r : Result DocumentValues ConfigFault) (fault : ConfigFault) → IsOfKey fault →
+pub of_document : (t : Members) (r : Result DocumentValues ConfigFault) (fault : ConfigFault)
+    → IsOfKey fault →
     (r >>= λ d. known d (least (strangers_of t d))) ≡ Err fault → r ≡ Err fault
 of_document t (Err e) fault of_a_key said = cc
 of_document t (Ok d) fault of_a_key said =
-    absurd (not_known d (least (strangers_of t d)) (early (known d (least (strangers_of t d))) fault of_a_key said))
+    absurd (not_known d (least (strangers_of t d))
+    (early (known d (least (strangers_of t d))) fault of_a_key said))

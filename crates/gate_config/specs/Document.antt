@@ -1,27 +1,30 @@
 -- A whole configuration: its tables, each with the values of its keys.
-use Rattle.std.specs.Prelude.{List, [], map, Option, Some, None, option_map, Result, Ok, String, codes}
-use Rattle.std.specs.Borrow.{Bor}
-use Rattle.std.specs.BTreeMap.{BTreeMap}
 use Rattle.std.specs.declared.alloc.Global.{Global}
-use Rattle.arrayvec.specs.ArrayVec.{ArrayVec}
-use Rattle.partitions.specs.Table.{Row}
+use Rattle.std.specs.BTreeMap.{BTreeMap}
+use Rattle.std.specs.Borrow.{Bor}
+use Rattle.std.specs.Prelude.{List, [], map, Option, Some, None, option_map, Result, Ok, String, codes}
+use Rattle.toml.specs.declared.value.Value.{Value}
 use Rattle.toml.specs.Data.{Members, get_member}
 use Rattle.toml.specs.View.{table_view}
-use Rattle.toml.specs.declared.value.Value.{Value}
-use Rattle.gate_config.specs.declared.class.ClassKeys.{ClassKeys}
+use Rattle.arrayvec.specs.ArrayVec.{ArrayVec}
+use Rattle.partitions.specs.Table.{Row}
+use Rattle.config_values.specs.declared.fault.ConfigFault.{ConfigFault}
+use Rattle.config_values.specs.declared.key.Key.TheVariants as Key
+use Rattle.config_values.specs.Outcomes.{◌>>=◌}
+use Rattle.config_values.specs.Table.{optional_from, table_from, tables_among, tables_from}
+use Rattle.config_sections.specs.declared.class.ClassKeys.{ClassKeys}
+use Rattle.config_sections.specs.declared.limit.LimitKeys.{LimitKeys}
+use Rattle.config_sections.specs.declared.window.WindowKeys.{WindowKeys}
+use Rattle.config_sections.specs.Bypass.{bypass_after, bypass_member}
+use Rattle.config_sections.specs.Class.{classes_of}
+use Rattle.config_sections.specs.ClassRows.{class_row}
+use Rattle.config_sections.specs.Limit.{limit_values}
+use Rattle.config_sections.specs.Resolver.{resolver_after, resolver_member}
+use Rattle.config_sections.specs.Rows.{limit_rows, top_rows, window_rows}
+use Rattle.config_sections.specs.Section.{Values, read_each, section_values}
+use Rattle.config_sections.specs.Top.{top_values}
+use Rattle.config_sections.specs.Window.{window_values}
 use Rattle.gate_config.specs.declared.document.Document.{Document}
-use Rattle.gate_config.specs.declared.fault.ConfigFault.{ConfigFault}
-use Rattle.gate_config.specs.declared.key.Key.TheVariants as Key
-use Rattle.gate_config.specs.declared.limit.LimitKeys.{LimitKeys}
-use Rattle.gate_config.specs.declared.window.WindowKeys.{WindowKeys}
-use Rattle.gate_config.specs.Bypasses.{bypass_member, bypass_of}
-use Rattle.gate_config.specs.Classes.{classes_of, row_of}
-use Rattle.gate_config.specs.Limit.{limit_values}
-use Rattle.gate_config.specs.Resolvers.{resolver_member, resolver_of}
-use Rattle.gate_config.specs.Rows.{top_rows, limit_rows, window_rows}
-use Rattle.gate_config.specs.Sections.{top_values, window_values}
-use Rattle.gate_config.specs.Tables.{optional_from, read_each, tables_among, tables_from}
-use Rattle.gate_config.specs.Values.{◌>>=◌, section_of, table_from, Values}
 
 -- what a configuration holds
 pub record DocumentValues : Type 0 where
@@ -43,7 +46,7 @@ abbrev pub window_member : TableRef × WindowKeys → Members × Values
 window_member member = (table_view member.0.now, window_values member.1)
 
 abbrev pub tables_and_rows : Bor (List Value) × ArrayVec ClassKeys → List Members × List Row
-tables_and_rows classes = (tables_among classes.0.now, map row_of classes.1.items)
+tables_and_rows classes = (tables_among classes.0.now, map class_row classes.1.items)
 
 abbrev pub document_values : Document → DocumentValues
 document_values d = record {
@@ -58,13 +61,13 @@ document_values d = record {
 -- the table `limit` and its keys
 abbrev pub limit_of : Members → Result (Members × Values) ConfigFault
 limit_of t = table_from Key.Limit (get_member (codes "limit") t) >>= λ limit.
-    section_of [] limit_rows limit >>= λ values. Ok (limit, values)
+    section_values [] limit_rows limit >>= λ values. Ok (limit, values)
 
 -- the keys of a window, where there is one
 abbrev pub read_window : Option Members → Result (Option (Members × Values)) ConfigFault
 read_window None = Ok None
 read_window (Some window) =
-    section_of [] window_rows window >>= λ values. Ok (Some (window, values))
+    section_values [] window_rows window >>= λ values. Ok (Some (window, values))
 
 abbrev pub window_of : Members → Result (Option (Members × Values)) ConfigFault
 window_of t = optional_from Key.Window (get_member (codes "window") t) >>= read_window
@@ -78,16 +81,17 @@ classes_in t = tables_from Key.Class 4 (get_member (codes "class") t) >>= λ tab
 abbrev pub resolvers_of : List Row → Members → Result (List (Members × Values)) ConfigFault
 resolvers_of classes t =
     tables_from Key.Resolver 32 (get_member (codes "resolver") t)
-    >>= read_each (resolver_of classes) []
+    >>= read_each (resolver_after classes) []
 
 -- the bypass rules, at most 32
 abbrev pub bypasses_of : Members → Result (List (Members × Values)) ConfigFault
-bypasses_of t = tables_from Key.Bypass 32 (get_member (codes "bypass") t) >>= read_each bypass_of []
+bypasses_of t =
+    tables_from Key.Bypass 32 (get_member (codes "bypass") t) >>= read_each bypass_after []
 
 -- every key, in the order of the rows
 abbrev pub document_of : Members → Result DocumentValues ConfigFault
 document_of t =
-    section_of [] top_rows t >>= λ top.
+    section_values [] top_rows t >>= λ top.
     limit_of t >>= λ limit.
     window_of t >>= λ window.
     classes_in t >>= λ classes.

@@ -1,82 +1,62 @@
--- The section `limit`: its keys kind by kind, and as the values of the section.
-use Rattle.std.specs.Prelude.{ℕ, ◌≤◌, List, [], ◌∷◌, Some, Result, Ok, codes}
-use Rattle.toml.specs.Data.{Members, get_member}
-use Rattle.gate_config.specs.declared.fault.ConfigFault.{ConfigFault}
-use Rattle.gate_config.specs.declared.key.Key.TheVariants as Key
-use Rattle.gate_config.specs.declared.limit.LimitKind.{LimitKind}
-use Rattle.gate_config.specs.declared.limit.LimitKind.TheVariants as Kind
-use Rattle.gate_config.specs.declared.limit.LimitKeys.{LimitKeys}
-use Rattle.gate_config.specs.declared.limit.LimitKeys.TheVariants as Keys
-use Rattle.gate_config.specs.declared.limit.Moving.{Moving}
-use Rattle.gate_config.specs.Rows.{fixed, settable, aimd, vegas}
-use Rattle.gate_config.specs.Values.{◌>>=◌, number_from, number_is, text_is, Values}
+-- The limit that keys make.
+use Rattle.std.specs.Prelude.{◌*◌, Option, option_map, bytes_eq, codes, if◌then◌else◌}
+use Rattle.limit_laws.specs.SettableRules.{settable_from}
+use Rattle.aimd.specs.AimdRules.{aimd_from}
+use Rattle.vegas.specs.VegasRules.{vegas_from}
+use Rattle.windowed.specs.WindowedRules.{WindowNumbers, numbers_from}
+use Rattle.limit_kinds.specs.declared.kinds.AnyLimit.{AnyLimit}
+use Rattle.limit_kinds.specs.declared.kinds.BaseLimit.{BaseLimit}
+use Rattle.limit_kinds.specs.declared.kinds.BaseLimit.TheVariants as Base
+use Rattle.limit_kinds.specs.AnyKinds.{any_from}
+use Rattle.config_sections.specs.declared.limit.LimitKeys.{LimitKeys}
+use Rattle.config_sections.specs.declared.limit.LimitKeys.TheVariants as Keys
+use Rattle.config_sections.specs.declared.limit.Moving.{Moving}
+use Rattle.config_sections.specs.declared.window.WindowKeys.{WindowKeys}
+use Rattle.config_sections.specs.Rows.{aimd, fixed, settable}
+use Rattle.config_sections.specs.Section.{Values, number_at, text_at}
 
--- the word of a kind
-abbrev pub word_of : LimitKind → List ℕ
-word_of Kind.Fixed = fixed
-word_of Kind.Settable = settable
-word_of Kind.Aimd = aimd
-word_of Kind.Vegas = vegas
+-- a limit in its first state; times are in nanoseconds
+abbrev pub base_of : LimitKeys → BaseLimit
+base_of (Keys.Fixed initial) = Base.Fixed initial
+base_of (Keys.Settable m) = Base.Settable (settable_from m.min m.initial m.max)
+base_of (Keys.Aimd m ratio timeout_us) =
+    Base.Aimd (aimd_from m.min m.initial m.max ratio (timeout_us * 1000))
+base_of (Keys.Vegas m alpha beta probe_every) =
+    Base.Vegas (vegas_from m.min m.initial m.max alpha beta probe_every)
 
--- the numbers of a limit of each kind
-abbrev pub fixed_of : Members → Result LimitKeys ConfigFault
-fixed_of t =
-    number_from Key.LimitInitial 1 10000 (Some 20) (get_member (codes "initial") t) >>= λ initial.
-    Ok (Keys.Fixed initial)
+-- the windows; times are in nanoseconds
+abbrev pub windows_of : WindowKeys → WindowNumbers
+windows_of w =
+    numbers_from w.size (w.min_us * 1000) (w.max_us * 1000) (w.min_rtt_us * 1000)
 
-abbrev pub moving_of : Members → Result Moving ConfigFault
-moving_of t =
-    number_from Key.LimitMin 1 10000 (Some 1) (get_member (codes "min") t) >>= λ min.
-    number_from Key.LimitMax min 10000 (Some 200) (get_member (codes "max") t) >>= λ max.
-    number_from Key.LimitInitial min max (Some 20) (get_member (codes "initial") t) >>= λ initial.
-    Ok (record { min = min; max = max; initial = initial })
+-- a limit before its first sample, over windows where there are some
+abbrev pub any_of : LimitKeys → Option WindowKeys → AnyLimit
+any_of keys window = any_from (base_of keys) (option_map windows_of window)
 
-abbrev pub settable_of : Members → Result LimitKeys ConfigFault
-settable_of t = moving_of t >>= λ moving. Ok (Keys.Settable moving)
+-- the keys that the values of the sections are
+abbrev pub moving_from : Values → Moving
+moving_from values = record {
+  min = number_at (codes "min") values;
+  max = number_at (codes "max") values;
+  initial = number_at (codes "initial") values;
+}
 
-abbrev pub aimd_of : Members → Result LimitKeys ConfigFault
-aimd_of t =
-    moving_of t >>= λ moving.
-    number_from Key.LimitRatio 500 999 (Some 900) (get_member (codes "ratio") t) >>= λ ratio.
-    number_from Key.LimitTimeoutUs 1 3600000000 (Some 5000000) (get_member (codes "timeout_us") t) >>= λ timeout_us.
-    Ok (Keys.Aimd moving ratio timeout_us)
+abbrev pub limit_from : Values → LimitKeys
+limit_from values =
+    if bytes_eq (text_at (codes "kind") values) fixed
+    then Keys.Fixed (number_at (codes "initial") values) else (
+    if bytes_eq (text_at (codes "kind") values) settable
+    then Keys.Settable (moving_from values) else (
+    if bytes_eq (text_at (codes "kind") values) aimd
+    then Keys.Aimd (moving_from values)
+    (number_at (codes "ratio") values) (number_at (codes "timeout_us") values)
+    else Keys.Vegas (moving_from values) (number_at (codes "alpha") values)
+    (number_at (codes "beta") values) (number_at (codes "probe_every") values)))
 
-abbrev pub vegas_of : Members → Result LimitKeys ConfigFault
-vegas_of t =
-    moving_of t >>= λ moving.
-    number_from Key.LimitAlpha 1 100 (Some 3) (get_member (codes "alpha") t) >>= λ alpha.
-    number_from Key.LimitBeta alpha 100 (Some 6) (get_member (codes "beta") t) >>= λ beta.
-    number_from Key.LimitProbeEvery 0 1000000 (Some 0) (get_member (codes "probe_every") t) >>= λ probe_every.
-    Ok (Keys.Vegas moving alpha beta probe_every)
-
--- the kind and the three numbers of each limit that isn't fixed, as values
-abbrev pub moving_values : List ℕ → Moving → Values → Values
-moving_values kind m others =
-    (codes "kind", text_is kind) ∷ (codes "min", number_is m.min) ∷ (codes "max", number_is m.max)
-    ∷ (codes "initial", number_is m.initial) ∷ others
-
--- the keys as values
-abbrev pub limit_values : LimitKeys → Values
-limit_values (Keys.Fixed initial) = (codes "kind", text_is fixed) ∷ (codes "initial", number_is initial) ∷ []
-limit_values (Keys.Settable m) = moving_values settable m []
-limit_values (Keys.Aimd m ratio timeout_us) =
-    moving_values aimd m ((codes "ratio", number_is ratio) ∷ (codes "timeout_us", number_is timeout_us) ∷ [])
-limit_values (Keys.Vegas m alpha beta probe_every) =
-    moving_values vegas m ((codes "alpha", number_is alpha) ∷ (codes "beta", number_is beta)
-    ∷ (codes "probe_every", number_is probe_every) ∷ [])
-
--- a limit that lies between its ends
-pub record IsMoving (m : Moving) : Type 0 where
-  pub positive : 1 ≤ m.min
-  pub least : m.min ≤ m.initial
-  pub most : m.initial ≤ m.max
-  pub small : m.max ≤ 10000
-
--- the keys are in their ranges
-abbrev pub AreInRange : LimitKeys → Type 0
-AreInRange (Keys.Fixed initial) = (1 ≤ initial) × (initial ≤ 10000)
-AreInRange (Keys.Settable m) = IsMoving m
-AreInRange (Keys.Aimd m ratio timeout_us) =
-    IsMoving m × (500 ≤ ratio) × (ratio ≤ 999) × (1 ≤ timeout_us) × (timeout_us ≤ 3600000000)
-AreInRange (Keys.Vegas m alpha beta probe_every) =
-    IsMoving m × (1 ≤ alpha) × (alpha ≤ beta) × (beta ≤ 100) × (probe_every ≤ 1000000)
+abbrev pub window_from : Values → WindowKeys
+window_from values = record {
+  size = number_at (codes "size") values;
+  min_us = number_at (codes "min_us") values;
+  max_us = number_at (codes "max_us") values;
+  min_rtt_us = number_at (codes "min_rtt_us") values;
+}

@@ -1,38 +1,31 @@
 -- The rules that the values of a configuration make.
 use Rattle.std.specs.Prelude.{◌≡◌, ◌≢◌, ℕ, List, [], ◌∷◌, ◌++◌, Option, Some, None, option_map, option_and_then, Result, Ok, Err, unwrap_or, is_none, bytes_eq, codes, if◌then◌else◌}
-use Rattle.partitions.specs.Table.{Row, find_part}
-use Rattle.partitions.specs.declared.part.Part.{Part}
-use Rattle.partitions.specs.declared.part.Part.TheVariants.{Unknown}
-use Rattle.matchit.specs.Rows.{RowsOf}
+use Rattle.matchit.specs.declared.error.InsertError.{InsertError}
 use Rattle.matchit.specs.Order.{placed}
 use Rattle.matchit.specs.Route.{Scan, parse_route}
 use Rattle.matchit.specs.Router.{RouteOf, nearest, route_from}
-use Rattle.matchit.specs.declared.error.InsertError.{InsertError}
-use Rattle.matchit.specs.declared.error.InsertError.TheVariants as Insert
+use Rattle.matchit.specs.Rows.{RowsOf}
 use Rattle.toml.specs.Data.{Members}
+use Rattle.partitions.specs.declared.part.Part.{Part}
+use Rattle.partitions.specs.declared.part.Part.TheVariants.{Unknown}
+use Rattle.partitions.specs.Table.{Row, find_part}
 use Rattle.classifier.specs.declared.bypass.Bypass.{Bypass}
 use Rattle.classifier.specs.declared.bypass.Bypass.TheVariants as Rule
 use Rattle.classifier.specs.declared.resolver.Resolver.{Resolver}
 use Rattle.classifier.specs.declared.resolver.Resolver.TheVariants as Read
-use Rattle.gate_config.specs.declared.fault.ConfigFault.{ConfigFault}
-use Rattle.gate_config.specs.declared.fault.ConfigFault.TheVariants as Fault
-use Rattle.gate_config.specs.Values.{routes_at, text_at, Values}
+use Rattle.config_values.specs.declared.fault.ConfigFault.{ConfigFault}
+use Rattle.config_values.specs.declared.fault.ConfigFault.TheVariants as Fault
+use Rattle.config_sections.specs.Section.{Values, routes_at, text_at}
 
 -- the partition of a name, or unknown
 abbrev pub part_named : List Row → List ℕ → Part
 part_named rows name = unwrap_or (find_part rows name) Unknown
 
--- what the making of rules answers: what is said, or want of memory, or where nothing is said, patterns
--- that can't stand together
+-- what the making of rules answers: what is said, or want of memory, or where nothing is said,
+-- patterns that can't stand together
 abbrev pub Makes : {A V : Type 0} → (A → V) → Option V → Result A ConfigFault → Type 0
 Makes shown said (Ok a) = said ≡ Some (shown a)
 Makes shown said (Err fault) = fault ≢ Fault.Memory → (fault ≡ Fault.Route) × (said ≡ None)
-
--- the fault of a pattern that a router refuses: want of memory, or else a pattern that can't stand with
--- the others
-abbrev pub insert_fault : InsertError → ConfigFault
-insert_fault Insert.OutOfMemory = Fault.Memory
-insert_fault _ = Fault.Route
 
 -- the routes with one more, unless its pattern can't be read or can't stand with one of theirs
 abbrev pub route_read :

@@ -1,17 +1,18 @@
 -- The settings that a text holds.
-use Rattle.std.specs.Prelude.{◌≡◌, ℕ, ◌*◌, ℤ, pos, Bool, false, ◌==◌, List, [], map, Option, Some, None, option_map, ok_or, Result, Err, codes, IsUtf8, if◌then◌else◌}
-use Rattle.toml.specs.Data.{Data, integer, Members, get_member}
+use Rattle.std.specs.Prelude.{◌≡◌, ◌≤◌, ℕ, ◌*◌, ℤ, pos, Bool, false, ◌==◌, List, [], map, Option, Some, None, option_map, ok_or, Result, Err, codes, IsUtf8, if◌then◌else◌}
+use Rattle.toml.specs.Data.{Data, Members, get_member, integer}
 use Rattle.toml.specs.Parse.{parse_document}
 use Rattle.classifier.specs.declared.resolver.Resolver.{Resolver}
-use Rattle.gate_config.specs.declared.fault.ConfigFault.{ConfigFault}
-use Rattle.gate_config.specs.declared.fault.ConfigFault.TheVariants as Fault
+use Rattle.config_values.specs.declared.fault.ConfigFault.{ConfigFault}
+use Rattle.config_values.specs.declared.fault.ConfigFault.TheVariants as Fault
+use Rattle.config_values.specs.Outcomes.{◌>>=◌}
+use Rattle.config_values.specs.Unknown.{Stranger, least, stranger_text}
+use Rattle.config_sections.specs.Section.{flag_at, number_at, text_at}
 use Rattle.gate_config.specs.declared.settings.Settings.{Settings}
 use Rattle.gate_config.specs.Document.{DocumentValues, document_of}
-use Rattle.gate_config.specs.Made.{any_of, limit_from, window_from}
+use Rattle.gate_config.specs.Limit.{any_of, limit_from, window_from}
 use Rattle.gate_config.specs.Rules.{bypass_from, resolvers_after}
 use Rattle.gate_config.specs.Strangers.{strangers_of}
-use Rattle.gate_config.specs.Unknown.{Stranger, least, path_text}
-use Rattle.gate_config.specs.Values.{◌>>=◌, flag_at, number_at, text_at}
 
 -- the bytes are text that toml reads as this table
 abbrev pub Reads : List ℕ → Members → Type 0
@@ -47,10 +48,10 @@ made_of d = option_map (settings_with d) (resolvers_after d.classes.1 [] d.resol
 -- the settings that keys make, or the first fault: of the least unknown key, of a route
 abbrev pub known : DocumentValues → Option Stranger → Result Settings ConfigFault
 known d None = ok_or (made_of d) Fault.Route
-known d (Some key) = Err (Fault.Unknown (path_text key))
+known d (Some key) = Err (Fault.Unknown (stranger_text key))
 
--- the settings that a table holds, or the first fault: of the version, of a key, of an unknown key, of
--- a route
+-- the settings that a table holds, or the first fault: of the version, of a key, of an unknown key,
+-- of a route
 abbrev pub settings_of : Members → Result Settings ConfigFault
 settings_of t =
     if is_version_one (get_member (codes "version") t)
@@ -67,3 +68,12 @@ IsOfKey (Fault.Kind key) = Unit {0}
 IsOfKey (Fault.Value key) = Unit {0}
 IsOfKey (Fault.Unknown path) = ⊥
 IsOfKey Fault.Route = ⊥
+
+-- the numbers of settings are in their ranges: the timeout is from a millisecond to an hour, in
+-- nanoseconds
+pub record AreSound (s : Settings) : Type 0 where
+  pub backlog_most : s.backlog ≤ 10000
+  pub timeout_least : 1000000 ≤ s.timeout
+  pub timeout_most : s.timeout ≤ 3600000000000
+  pub keep_least : 1 ≤ s.keep
+  pub keep_most : s.keep ≤ 1000000

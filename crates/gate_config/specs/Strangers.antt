@@ -1,13 +1,13 @@
 -- The keys of a configuration that aren't allowed where they stand.
 use Rattle.std.specs.Prelude.{ℕ, List, [], ◌∷◌, ◌++◌, map, flat_map, Option, Some, None}
 use Rattle.toml.specs.Data.{Members}
-use Rattle.gate_config.specs.declared.key.Key.{Key}
-use Rattle.gate_config.specs.declared.key.Section.TheVariants as In
+use Rattle.config_values.specs.declared.key.Key.{Key}
+use Rattle.config_values.specs.declared.key.Section.TheVariants as In
+use Rattle.config_values.specs.Key.{name_of}
+use Rattle.config_values.specs.Unknown.{Stranger, strangers_in}
+use Rattle.config_sections.specs.Rows.{bypass_rows, class_rows, limit_rows, resolver_rows, top_rows, window_rows}
+use Rattle.config_sections.specs.Section.{Values, names_of}
 use Rattle.gate_config.specs.Document.{DocumentValues}
-use Rattle.gate_config.specs.Key.{name_of}
-use Rattle.gate_config.specs.Rows.{top_rows, limit_rows, window_rows, class_rows, resolver_rows, bypass_rows}
-use Rattle.gate_config.specs.Unknown.{Stranger, strangers_in}
-use Rattle.gate_config.specs.Values.{names_of, Values}
 
 -- the keys that no section holds: the version, those of the rows, and those of the tables
 abbrev pub top_names : List (List ℕ)

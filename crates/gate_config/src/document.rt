@@ -1,27 +1,26 @@
 // All keys of a configuration, section by section.
-ghost use Rattle.std.specs.Prelude.{◌≡◌, [], Err, IfErr, IfOk, IsErrOf, IsOk, map, option_map};
 ghost use Rattle.std.specs.Option.{ForSome};
+ghost use Rattle.std.specs.Prelude.{◌≡◌, [], Err, IfErr, IfOk, IsErrOf, IsOk, map, option_map};
 ghost use Rattle.toml.specs.View.{table_view};
-ghost use Rattle.gate_config.specs.Classes.{row_of};
-ghost use Rattle.gate_config.specs.Resolvers.{resolver_of};
-ghost use Rattle.gate_config.specs.Bypasses.{bypass_of};
-ghost use Rattle.gate_config.specs.Tables.{read_each, tables_among};
-ghost use Rattle.gate_config.specs.declared.fault.ConfigFault.{ConfigFault as FaultValue};
-ghost use Rattle.gate_config.specs.Limit.{AreInRange};
-ghost use Rattle.gate_config.specs.Sections.{IsTop, IsWindow};
-ghost use Rattle.gate_config.specs.Values.{Answers, result_map};
+ghost use Rattle.config_values.specs.declared.fault.ConfigFault.{ConfigFault as FaultValue};
+ghost use Rattle.config_values.specs.Outcomes.{Answers, result_map};
+ghost use Rattle.config_values.specs.Table.{tables_among};
+ghost use Rattle.config_sections.specs.Bypass.{bypass_after};
+ghost use Rattle.config_sections.specs.ClassRows.{class_row};
+ghost use Rattle.config_sections.specs.Limit.{AreInRange};
+ghost use Rattle.config_sections.specs.Resolver.{resolver_after};
+ghost use Rattle.config_sections.specs.Section.{read_each};
+ghost use Rattle.config_sections.specs.Top.{IsTop};
+ghost use Rattle.config_sections.specs.Window.{IsWindow};
 ghost use Rattle.gate_config.specs.Document.{bypasses_of, classes_in, document_of, document_values, limit_member, limit_of, resolvers_of, tables_and_rows, window_member, window_of};
 
-use crate::bypass::{BypassKeys, check_bypasses, read_bypasses};
-use crate::class::{ClassKeys, read_classes};
-use crate::fault::ConfigFault;
-use crate::key::Key;
-use crate::limit::{LimitKeys, read_limit};
-use crate::resolver::{ResolverKeys, check_resolvers, read_resolvers};
-use crate::tables::{optional_table_at, table_at, tables_at};
-use crate::top::{TopKeys, read_top};
-use crate::window::{WindowKeys, read_window};
 use arrayvec::ArrayVec;
+use config_sections::{
+    BypassKeys, ClassKeys, LimitKeys, ResolverKeys, TopKeys, WindowKeys, check_bypasses,
+    check_resolvers, read_bypasses, read_classes, read_limit, read_resolvers, read_top,
+    read_window,
+};
+use config_values::{ConfigFault, Key, read_optional_table, read_table, read_tables};
 use std::alloc::Global;
 use toml::{Table, Value};
 
@@ -73,7 +72,7 @@ fn limit_in<'a>(table: &'a Table) -> Result<(&'a Table, LimitKeys), ConfigFault>
     ensures within { IfOk result (λ limit. AreInRange limit.1) }
     ensures said { result_map limit_member result ≡ limit_of (table_view table.now) }
 {
-    let limit = table_at(table, Key::Limit)?;
+    let limit = read_table(table, Key::Limit)?;
     Ok((limit, read_limit(limit)?))
 }
 
@@ -82,7 +81,7 @@ fn window_in<'a>(table: &'a Table) -> Result<Option<(&'a Table, WindowKeys)>, Co
     ensures within { IfOk result (λ window. ForSome window (λ w. IsWindow w.1)) }
     ensures said { result_map (option_map window_member) result ≡ window_of (table_view table.now) }
 {
-    match optional_table_at(table, Key::Window)? {
+    match read_optional_table(table, Key::Window)? {
         Some(window) => Ok(Some((window, read_window(window)?))),
         None => Ok(None),
     }
@@ -94,7 +93,7 @@ fn classes_in<'a>(
 ) -> Result<(&'a [Value], ArrayVec<ClassKeys<'a>, 4>), ConfigFault>
     ensures { result_map tables_and_rows result ≡ classes_in (table_view table.now) }
 {
-    let tables = tables_at(table, Key::Class, 4)?;
+    let tables = read_tables(table, Key::Class, 4)?;
     let classes = read_classes(tables)?;
     Ok((tables, classes))
 }
@@ -102,14 +101,14 @@ fn classes_in<'a>(
 /// The tables of the array `resolver`, whose keys are not at fault.
 fn resolvers_in<'a>(classes: &[ClassKeys], table: &'a Table) -> Result<&'a [Value], ConfigFault>
     ensures settled { IfOk result (λ _.
-        IsOk (resolvers_of (map row_of classes.now) (table_view table.now))) }
+        IsOk (resolvers_of (map class_row classes.now) (table_view table.now))) }
     ensures tables { IfOk result (λ tables.
-        resolvers_of (map row_of classes.now) (table_view table.now)
-        ≡ read_each (resolver_of (map row_of classes.now)) [] (tables_among tables.now)) }
+        resolvers_of (map class_row classes.now) (table_view table.now)
+        ≡ read_each (resolver_after (map class_row classes.now)) [] (tables_among tables.now)) }
     ensures fault { IfErr result (λ fault.
-        resolvers_of (map row_of classes.now) (table_view table.now) ≡ Err fault) }
+        resolvers_of (map class_row classes.now) (table_view table.now) ≡ Err fault) }
 {
-    let tables = tables_at(table, Key::Resolver, MOST_RULES)?;
+    let tables = read_tables(table, Key::Resolver, MOST_RULES)?;
     check_resolvers(classes, tables)?;
     Ok(tables)
 }
@@ -118,10 +117,10 @@ fn resolvers_in<'a>(classes: &[ClassKeys], table: &'a Table) -> Result<&'a [Valu
 fn bypasses_in<'a>(table: &'a Table) -> Result<&'a [Value], ConfigFault>
     ensures settled { IfOk result (λ _. IsOk (bypasses_of (table_view table.now))) }
     ensures tables { IfOk result (λ tables. bypasses_of (table_view table.now)
-        ≡ read_each bypass_of [] (tables_among tables.now)) }
+        ≡ read_each bypass_after [] (tables_among tables.now)) }
     ensures fault { IfErr result (λ fault. bypasses_of (table_view table.now) ≡ Err fault) }
 {
-    let tables = tables_at(table, Key::Bypass, MOST_RULES)?;
+    let tables = read_tables(table, Key::Bypass, MOST_RULES)?;
     check_bypasses(tables)?;
     Ok(tables)
 }

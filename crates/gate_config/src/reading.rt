@@ -1,30 +1,28 @@
 // From bytes to settings.
-ghost use Rattle.std.specs.Prelude.{◌≡◌, [], ◌≢◌, ◌⊎◌, IfOk, IfErr, IsErrOf, IsOk, Err, IsUtf8, codes, map};
 ghost use Rattle.std.specs.Option.{ForSome};
+ghost use Rattle.std.specs.Prelude.{◌≡◌, [], ◌≢◌, ◌⊎◌, IfOk, IfErr, IsErrOf, IsOk, Err, IsUtf8, codes, map};
 ghost use Rattle.toml.specs.Data.{Members, get_member};
 ghost use Rattle.toml.specs.Errors.{IsBlank};
 ghost use Rattle.toml.specs.View.{table_view};
-ghost use Rattle.gate_config.specs.Bypasses.{bypass_member};
+ghost use Rattle.config_values.specs.declared.fault.ConfigFault.{ConfigFault as FaultValue};
+ghost use Rattle.config_values.specs.Outcomes.{Answers};
+ghost use Rattle.config_sections.specs.Bypass.{bypass_member};
+ghost use Rattle.config_sections.specs.Limit.{AreInRange};
+ghost use Rattle.config_sections.specs.Resolver.{resolver_member};
+ghost use Rattle.config_sections.specs.Top.{IsTop};
+ghost use Rattle.config_sections.specs.Window.{IsWindow};
 ghost use Rattle.gate_config.specs.Document.{document_values};
-ghost use Rattle.gate_config.specs.Limit.{AreInRange};
-ghost use Rattle.gate_config.specs.Sections.{AreSound, IsTop, IsWindow};
-ghost use Rattle.gate_config.specs.Resolvers.{resolver_member};
-ghost use Rattle.gate_config.specs.Settings.{IsOfKey, Reads, is_version_one, made_of, settings_of};
-ghost use Rattle.gate_config.specs.declared.fault.ConfigFault.{ConfigFault as FaultValue};
 ghost use Rattle.gate_config.specs.Rules.{Makes, bypass_from, resolvers_after};
-ghost use Rattle.gate_config.specs.Values.{Answers};
+ghost use Rattle.gate_config.specs.Settings.{AreSound, IsOfKey, Reads, is_version_one, made_of, settings_of};
 
-use crate::build::{bypass_of, partitions_of, resolver_of};
-use crate::bypass::BypassKeys;
+use crate::build::limit::any_limit;
+use crate::build::rules::{make_bypass, make_resolver, partitions_of};
 use crate::document::{Document, read_document};
-use crate::entry::entry;
-use crate::fault::ConfigFault;
-use crate::key::Key;
-use crate::make::any_limit;
-use crate::resolver::ResolverKeys;
 use crate::settings::Settings;
 use crate::strangers::least_stranger;
 use classifier::{Bypass, Resolver, Rules};
+use config_sections::{BypassKeys, ResolverKeys};
+use config_values::{ConfigFault, Key, value_at};
 use partitions::PartitionTable;
 use std::alloc::{AllocError, Global};
 use toml::Table;
@@ -35,11 +33,12 @@ const MILLI: u64 = 1_000_000;
 /// The settings that a text of version 1 holds.
 ///
 /// The faults, of which the first is told: [`ConfigFault::Toml`] for a text that isn't TOML in
-/// UTF-8; [`ConfigFault::Version`] unless `version` is 1; then key by key in the order of the keys, an
-/// array's members one after the other, [`ConfigFault::Missing`], [`ConfigFault::Kind`] and [`ConfigFault::Value`];
-/// [`ConfigFault::Unknown`] for the least path that isn't allowed; [`ConfigFault::Route`] for patterns
-/// that can't stand together. [`ConfigFault::Memory`] comes where memory is wanting for the table of the
-/// text, and otherwise as [`settings_in`] says; a text of white space and comments alone never asks for any.
+/// UTF-8; [`ConfigFault::Version`] unless `version` is 1; then key by key in the order of the keys,
+/// an array's members one after the other, [`ConfigFault::Missing`], [`ConfigFault::Kind`] and
+/// [`ConfigFault::Value`]; [`ConfigFault::Unknown`] for the least path that isn't allowed;
+/// [`ConfigFault::Route`] for patterns that can't stand together. [`ConfigFault::Memory`] comes
+/// where memory is wanting for the table of the text, and otherwise as [`settings_in`] says; a text
+/// of white space and comments alone never asks for any.
 pub fn read(alloc: Global, bytes: &[u8]) -> Result<Settings, ConfigFault>
     ensures settings { (t : Members) → Reads bytes.now t →
         Answers (λ settings. settings) (settings_of t) result }
@@ -95,7 +94,7 @@ pub fn settings_in(alloc: Global, table: &Table) -> Result<Settings, ConfigFault
 fn is_version_one(table: &Table) -> bool
     ensures { result ≡ is_version_one (get_member (codes "version") (table_view table.now)) }
 {
-    match entry(table, Key::Version) {
+    match value_at(table, Key::Version) {
         Some(value) => value.as_integer() == Some(1),
         None => false,
     }
@@ -146,7 +145,7 @@ fn resolvers_made(
 {
     let mut resolvers = Vec::new(alloc);
     for (_, keys) in members {
-        let resolver = resolver_of(alloc, table, keys)?;
+        let resolver = make_resolver(alloc, table, keys)?;
         resolvers.push(resolver).map_err(AllocError::from)?;
     }
     Ok(resolvers)
@@ -159,7 +158,7 @@ fn bypasses_made(alloc: Global, members: &[(&Table, BypassKeys)]) -> Result<Vec<
 {
     let mut rules = Vec::new(alloc);
     for (_, keys) in members {
-        rules.push(bypass_of(alloc, keys)?)?;
+        rules.push(make_bypass(alloc, keys)?)?;
     }
     Ok(rules)
 }

@@ -1,6 +1,6 @@
 // What a configuration says.
-use crate::address::Address;
 use classifier::Rules;
+use config_values::Address;
 use limit_kinds::AnyLimit;
 use partitions::PartitionTable;
 

@@ -1,63 +1,35 @@
 // The keys that aren't allowed where they stand.
 ghost use Rattle.std.specs.Prelude.{◌≡◌, flat_map, fold, map, option_map};
 ghost use Rattle.toml.specs.View.{table_view};
-ghost use Rattle.gate_config.specs.Bypasses.{bypass_member};
+ghost use Rattle.config_values.specs.Table.{tables_among};
+ghost use Rattle.config_values.specs.Unknown.{least, lesser, stranger_of};
+ghost use Rattle.config_sections.specs.Bypass.{bypass_member};
+ghost use Rattle.config_sections.specs.Resolver.{resolver_member};
 ghost use Rattle.gate_config.specs.Document.{document_values};
-ghost use Rattle.gate_config.specs.Resolvers.{resolver_member};
-ghost use Rattle.gate_config.specs.Tables.{tables_among};
-ghost use Rattle.gate_config.specs.Unknown.{least, lesser, stranger_of};
 ghost use Rattle.gate_config.specs.Strangers.{bypass_strangers, class_strangers, resolver_strangers, strangers_of};
 
-use crate::bypass::BypassKeys;
 use crate::document::Document;
-use crate::key::{Key, Section};
-use crate::resolver::ResolverKeys;
-use crate::unknown::{Stranger, least_in};
+use config_sections::{BypassKeys, CLASS_KEYS, ResolverKeys, TOP_KEYS, WINDOW_KEYS};
+use config_values::{Section, Stranger, least_unknown};
 use toml::{Table, Value};
-
-/// The keys outside all tables.
-const TOP: [Key; 12] = [
-    Key::Version,
-    Key::Listen,
-    Key::Backend,
-    Key::Backlog,
-    Key::Wait,
-    Key::TimeoutMs,
-    Key::Keep,
-    Key::Limit,
-    Key::Window,
-    Key::Class,
-    Key::Resolver,
-    Key::Bypass,
-];
-
-/// The keys of a window.
-const WINDOW: [Key; 4] = [
-    Key::WindowSize,
-    Key::WindowMinUs,
-    Key::WindowMaxUs,
-    Key::WindowMinRttUs,
-];
-
-/// The keys of a class.
-const CLASS: [Key; 2] = [Key::ClassName, Key::ClassPercent];
 
 /// The key that isn't allowed where it stands, of several the one with the least path.
 pub fn least_stranger<'a>(table: &'a Table, document: &Document<'a>) -> Option<Stranger<'a>>
     ensures { option_map stranger_of result
         ≡ least (strangers_of (table_view table.now) (document_values document.now)) }
 {
-    let mut least = least_in(None, Section::Top, &TOP, table);
+    let mut least = least_unknown(None, Section::Top, &TOP_KEYS, table);
     let (limit, keys) = &document.limit;
-    least = least_in(least, Section::Limit, keys.keys(), limit);
+    least = least_unknown(least, Section::Limit, keys.keys(), limit);
     if let Some((window, _)) = &document.window {
-        least = least_in(least, Section::Window, &WINDOW, window);
+        least = least_unknown(least, Section::Window, &WINDOW_KEYS, window);
     }
     least = least_of_classes(least, document.classes.0);
     least = least_of_resolvers(least, &document.resolvers);
     least_of_bypasses(least, &document.bypasses)
 }
 
+/// The least of these classes' and one more.
 fn least_of_classes<'a>(least: Option<Stranger<'a>>, items: &'a [Value]) -> Option<Stranger<'a>>
     ensures { option_map stranger_of result
         ≡ fold lesser (option_map stranger_of least.entry)
@@ -66,12 +38,13 @@ fn least_of_classes<'a>(least: Option<Stranger<'a>>, items: &'a [Value]) -> Opti
     let mut least = least;
     for item in items {
         if let Some(table) = item.as_table() {
-            least = least_in(least, Section::Class, &CLASS, table);
+            least = least_unknown(least, Section::Class, &CLASS_KEYS, table);
         }
     }
     least
 }
 
+/// The least of these resolvers' and one more.
 fn least_of_resolvers<'a>(
     least: Option<Stranger<'a>>,
     resolvers: &[(&'a Table, ResolverKeys)],
@@ -82,11 +55,12 @@ fn least_of_resolvers<'a>(
 {
     let mut least = least;
     for (table, keys) in resolvers {
-        least = least_in(least, Section::Resolver, keys.keys(), table);
+        least = least_unknown(least, Section::Resolver, keys.keys(), table);
     }
     least
 }
 
+/// The least of these bypass rules' and one more.
 fn least_of_bypasses<'a>(
     least: Option<Stranger<'a>>,
     rules: &[(&'a Table, BypassKeys)],
@@ -97,7 +71,7 @@ fn least_of_bypasses<'a>(
 {
     let mut least = least;
     for (table, keys) in rules {
-        least = least_in(least, Section::Bypass, keys.keys(), table);
+        least = least_unknown(least, Section::Bypass, keys.keys(), table);
     }
     least
 }

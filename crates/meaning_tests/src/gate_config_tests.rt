@@ -231,7 +231,10 @@ fn each_key_of_the_classes_and_rules_has_its_faults(rt: HostRuntime) {
             "ok",
         ),
         (
-            "[[resolver]]\nkind = \"route\"\nroutes = { \"/{a}\" = \"live\", \"/{b}\" = \"live\" }\n",
+            "[[resolver]]
+kind = \"route\"
+routes = { \"/{a}\" = \"live\", \"/{b}\" = \"live\" }
+",
             "route",
         ),
         ("[[bypass]]\n", "missing bypass.kind"),
@@ -262,31 +265,96 @@ fn each_key_of_the_classes_and_rules_has_its_faults(rt: HostRuntime) {
 /// The files of `examples/`, after their addresses.
 const EXAMPLES: [(&str, u32, u32, u32); 5] = [
     (
-        "[limit]\nkind = \"fixed\"\ninitial = 40\n[[class]]\nname = \"live\"\npercent = 60\n[[resolver]]\nkind = \"header\"\nheader = \"X-Class\"\n",
+        "[limit]
+kind = \"fixed\"
+initial = 40
+[[class]]
+name = \"live\"
+percent = 60
+[[resolver]]
+kind = \"header\"
+header = \"X-Class\"
+",
         40,
         40,
         40,
     ),
     (
-        "wait = false\n[limit]\nkind = \"settable\"\nmin = 5\nmax = 100\ninitial = 20\n[[bypass]]\nkind = \"prefix\"\nprefix = \"/health\"\n",
+        "wait = false
+[limit]
+kind = \"settable\"
+min = 5
+max = 100
+initial = 20
+[[bypass]]
+kind = \"prefix\"
+prefix = \"/health\"
+",
         5,
         20,
         100,
     ),
     (
-        "backlog = 50\ntimeout_ms = 500\n[limit]\nkind = \"aimd\"\nmin = 2\nmax = 400\ninitial = 20\nratio = 900\ntimeout_us = 500000\n[[class]]\nname = \"live\"\npercent = 50\n[[class]]\nname = \"batch\"\npercent = 20\n[[resolver]]\nkind = \"route\"\n[resolver.routes]\n\"/jobs/{id}\" = \"batch\"\n\"/jobs\" = \"batch\"\n[[resolver]]\nkind = \"method\"\nmethod = \"GET\"\nclass = \"live\"\n",
+        "backlog = 50
+timeout_ms = 500
+[limit]
+kind = \"aimd\"
+min = 2
+max = 400
+initial = 20
+ratio = 900
+timeout_us = 500000
+[[class]]
+name = \"live\"
+percent = 50
+[[class]]
+name = \"batch\"
+percent = 20
+[[resolver]]
+kind = \"route\"
+[resolver.routes]
+\"/jobs/{id}\" = \"batch\"
+\"/jobs\" = \"batch\"
+[[resolver]]
+kind = \"method\"
+method = \"GET\"
+class = \"live\"
+",
         2,
         20,
         400,
     ),
     (
-        "keep = 10000\n[limit]\nkind = \"vegas\"\nmin = 1\nmax = 1000\ninitial = 20\nalpha = 3\nbeta = 6\nprobe_every = 1000\n[[bypass]]\nkind = \"method\"\nmethod = \"OPTIONS\"\n[[bypass]]\nkind = \"header\"\nheader = \"X-Probe\"\nequals = \"1\"\n",
+        "keep = 10000
+[limit]
+kind = \"vegas\"
+min = 1
+max = 1000
+initial = 20
+alpha = 3
+beta = 6
+probe_every = 1000
+[[bypass]]
+kind = \"method\"
+method = \"OPTIONS\"
+[[bypass]]
+kind = \"header\"
+header = \"X-Probe\"
+equals = \"1\"
+",
         1,
         20,
         1000,
     ),
     (
-        "[limit]\nkind = \"vegas\"\n[window]\nsize = 10\nmin_us = 1000000\nmax_us = 2000000\nmin_rtt_us = 100\n",
+        "[limit]
+kind = \"vegas\"
+[window]
+size = 10
+min_us = 1000000
+max_us = 2000000
+min_rtt_us = 100
+",
         1,
         20,
         200,

@@ -109,7 +109,14 @@ const OTHERS: [RangeRow; 6] = [
         100,
     ),
     (
-        "[limit]\nkind = \"fixed\"\n[[class]]\nname = \"a\"\npercent = 99\n[[class]]\nname = \"b\"\n",
+        "[limit]
+kind = \"fixed\"
+[[class]]
+name = \"a\"
+percent = 99
+[[class]]
+name = \"b\"
+",
         "",
         "percent",
         "class.percent",

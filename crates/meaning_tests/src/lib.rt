@@ -1,4 +1,5 @@
-//! Tests of the messages' types, of the class of a request and of the configuration, by their public calls.
+//! Tests of the messages' types, of the class of a request and of the configuration, by their
+//! public calls.
 #![tactic(auto)]
 
 #[cfg(test)]

@@ -1,14 +1,14 @@
 use Rattle.std.proofs.Common.{rules, ◌≡◌, option_map, Err, IsOk}
 use Rattle.toml.specs.View.{table_view}
+use Rattle.config_sections.specs.Top.{top_values}
 use Rattle.gate_config.specs.Document.{bypasses_of, document_of, limit_member, resolvers_of, tables_and_rows, window_member}
-use Rattle.gate_config.specs.Sections.{top_values}
-use Rattle.gate_config.proofs.Chains.{one_fault}
-use Rattle.gate_config.proofs.Documents.{IsRead, no_bypasses, no_resolvers}
+use Rattle.gate_config.proofs.Documents.{IsRead, no_bypasses, no_resolvers, one_fault}
 use Rattle.gate_config.proofs.document.read_document.Goals as goal
 
 pub returns-in_err-resolvers-clause-fault : goal.returns-in_err-resolvers-clause-fault
 returns-in_err-resolvers-clause-fault c = λ fault said.
-    let read : IsRead (table_view c.args.table.now) (tables_and_rows c.in_ok-classes.classes) = record {
+    let read : IsRead (table_view c.args.table.now) (tables_and_rows c.in_ok-classes.classes) =
+    record {
       top = top_values c.in_ok-top.top;
       limit = limit_member c.in_ok-limit.limit;
       window = option_map window_member c.in_ok-window.window;
@@ -17,7 +17,8 @@ returns-in_err-resolvers-clause-fault c = λ fault said.
       is_window = search rules;
       is_classes = search rules;
     } in
-    let resolvers : resolvers_of (tables_and_rows c.in_ok-classes.classes).1 (table_view c.args.table.now)
+    let resolvers : resolvers_of (tables_and_rows c.in_ok-classes.classes).1
+    (table_view c.args.table.now)
     ≡ Err c.in_err-resolvers.field-0.0 = rw c.deref.ensures.0 at c.in_err-resolvers.ensures.fault in
     let told = no_resolvers (table_view c.args.table.now) (tables_and_rows c.in_ok-classes.classes)
     c.in_err-resolvers.field-0.0 read resolvers in
@@ -26,7 +27,8 @@ returns-in_err-resolvers-clause-fault c = λ fault said.
 
 pub returns-in_err-bypasses-clause-fault : goal.returns-in_err-bypasses-clause-fault
 returns-in_err-bypasses-clause-fault c = λ fault said.
-    let read : IsRead (table_view c.args.table.now) (tables_and_rows c.in_ok-classes.classes) = record {
+    let read : IsRead (table_view c.args.table.now) (tables_and_rows c.in_ok-classes.classes) =
+    record {
       top = top_values c.in_ok-top.top;
       limit = limit_member c.in_ok-limit.limit;
       window = option_map window_member c.in_ok-window.window;
@@ -35,9 +37,11 @@ returns-in_err-bypasses-clause-fault c = λ fault said.
       is_window = search rules;
       is_classes = search rules;
     } in
-    let fine : IsOk (resolvers_of (tables_and_rows c.in_ok-classes.classes).1 (table_view c.args.table.now))
+    let fine : IsOk
+    (resolvers_of (tables_and_rows c.in_ok-classes.classes).1 (table_view c.args.table.now))
     = search rules in
-    let bypasses : bypasses_of (table_view c.args.table.now) ≡ Err c.in_err-bypasses.field-0.0 = search rules in
+    let bypasses : bypasses_of (table_view c.args.table.now) ≡ Err c.in_err-bypasses.field-0.0 =
+    search rules in
     let told = no_bypasses (table_view c.args.table.now) (tables_and_rows c.in_ok-classes.classes)
     c.in_err-bypasses.field-0.0 read fine bypasses in
     one_fault (document_of (table_view c.args.table.now)) c.from_residual-in_err-bypasses.result

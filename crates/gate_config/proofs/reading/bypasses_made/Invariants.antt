@@ -1,5 +1,5 @@
 use Rattle.std.proofs.Common.{◌≡◌, ◌++◌, drop, map}
-use Rattle.gate_config.specs.Bypasses.{bypass_member}
+use Rattle.config_sections.specs.Bypass.{bypass_member}
 use Rattle.gate_config.specs.Rules.{bypass_from}
 use Rattle.gate_config.proofs.reading.bypasses_made.Given as goal
 
@@ -7,4 +7,5 @@ use Rattle.gate_config.proofs.reading.bypasses_made.Given as goal
 abbrev pub invariant-loop-keys : goal.invariant-loop-keys
 invariant-loop-keys l =
     map (λ rule. bypass_from rule.1) (map bypass_member l.members)
-    ≡ l.rules.items ++ map (λ rule. bypass_from rule.1) (map bypass_member (drop l.keys-index l.members))
+    ≡ l.rules.items
+    ++ map (λ rule. bypass_from rule.1) (map bypass_member (drop l.keys-index l.members))

@@ -8,9 +8,18 @@ use Rattle.gate_config.proofs.reading.settings_in.Goals as goal
 
 pub returns-in_err-document-clause-fault : goal.returns-in_err-document-clause-fault
 returns-in_err-document-clause-fault c = λ fault of_a_key said.
-    let version : is_version_one (get_member (codes "version") (table_view c.args.table.now)) ≡ true = cc in
+    let version : is_version_one (get_member (codes "version") (table_view c.args.table.now))
+    ≡ true = cc in
     let key : document_of (table_view c.args.table.now) ≡ Err fault =
-    of_document (table_view c.args.table.now) (document_of (table_view c.args.table.now)) fault of_a_key
+    of_document (table_view c.args.table.now) (document_of (table_view c.args.table.now)) fault
+    of_a_key
     (rw version at said) in
     let told : IsErrOf c.read_document.result fault = c.read_document.ensures.fault fault key in
     search rules
+
+pub returns-then-not-is_version_one-clause-fault :
+    goal.returns-then-not-is_version_one-clause-fault
+returns-then-not-is_version_one-clause-fault c = search rules
+
+pub returns-in_ok-path-in-Some-clause-said : goal.returns-in_ok-path-in-Some-clause-said
+returns-in_ok-path-in-Some-clause-said c = search rules

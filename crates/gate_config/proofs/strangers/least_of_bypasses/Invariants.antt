@@ -1,11 +1,13 @@
 use Rattle.std.proofs.Common.{◌≡◌, drop, flat_map, fold, map, option_map}
-use Rattle.gate_config.specs.Bypasses.{bypass_member}
+use Rattle.config_values.specs.Unknown.{lesser, stranger_of}
+use Rattle.config_sections.specs.Bypass.{bypass_member}
 use Rattle.gate_config.specs.Strangers.{bypass_strangers}
-use Rattle.gate_config.specs.Unknown.{lesser, stranger_of}
 use Rattle.gate_config.proofs.strangers.least_of_bypasses.Given as goal
 
 -- the least of all, by the least so far and the tables to come
 abbrev pub invariant-loop-table : goal.invariant-loop-table
 invariant-loop-table l =
-    fold lesser (option_map stranger_of l.initial.least) (flat_map bypass_strangers (map bypass_member l.rules))
-    ≡ fold lesser (option_map stranger_of l.least) (flat_map bypass_strangers (map bypass_member (drop l.table-index l.rules)))
+    fold lesser (option_map stranger_of l.initial.least)
+    (flat_map bypass_strangers (map bypass_member l.rules))
+    ≡ fold lesser (option_map stranger_of l.least)
+    (flat_map bypass_strangers (map bypass_member (drop l.table-index l.rules)))

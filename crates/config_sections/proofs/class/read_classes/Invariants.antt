@@ -1,0 +1,15 @@
+use Rattle.std.proofs.Common.{◌≡◌, ◌≤◌, drop, length, map}
+use Rattle.config_values.specs.Table.{tables_among}
+use Rattle.config_sections.specs.Class.{class_after, classes_of}
+use Rattle.config_sections.specs.ClassRows.{class_row}
+use Rattle.config_sections.specs.Section.{read_each}
+use Rattle.config_sections.proofs.class.read_classes.Given as goal
+
+-- the classes so far, at most one an item, and those of the tables to come
+abbrev pub invariant-loop-item : goal.invariant-loop-item
+invariant-loop-item l = record {
+  few : length l.classes.items ≤ l.item-index;
+  said : classes_of (tables_among l.items)
+      ≡ read_each class_after (map class_row l.classes.items)
+      (tables_among (drop l.item-index l.items));
+}

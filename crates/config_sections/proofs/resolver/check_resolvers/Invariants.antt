@@ -1,0 +1,15 @@
+use Rattle.std.proofs.Common.{◌≡◌, List, [], drop, map}
+use Rattle.toml.specs.Data.{Members}
+use Rattle.config_values.specs.Table.{tables_among}
+use Rattle.config_sections.specs.ClassRows.{class_row}
+use Rattle.config_sections.specs.Resolver.{resolver_after}
+use Rattle.config_sections.specs.Section.{Values, read_each}
+use Rattle.config_sections.proofs.resolver.check_resolvers.Given as goal
+
+-- what was read so far, and what of the items to come
+abbrev pub invariant-loop-item : goal.invariant-loop-item
+invariant-loop-item l =
+    (done : List (Members × Values))
+    × (read_each (resolver_after (map class_row l.classes)) [] (tables_among l.items)
+    ≡ read_each (resolver_after (map class_row l.classes)) done
+    (tables_among (drop l.item-index l.items)))

@@ -1,0 +1,10 @@
+pub mod Rows
+pub mod ClassRows
+pub mod Routes
+pub mod Section
+pub mod Top
+pub mod Limit
+pub mod Window
+pub mod Class
+pub mod Resolver
+pub mod Bypass

@@ -1,0 +1,123 @@
+-- The table of keys: which keys there are, in the order in which faults are looked for, and what
+-- each may hold.
+use Rattle.std.specs.Prelude.{ℕ, Bool, true, List, [], ◌∷◌, Option, Some, None, codes}
+use Rattle.config_values.specs.declared.key.Key.{Key}
+
+-- an end of a range: a number, the number of an earlier key of the section, or what the classes so
+-- far leave of a hundred
+pub data Bound : Type 0 where
+  at : ℕ → Bound
+  of : List ℕ → Bound
+  left_of_hundred : Bound
+
+-- what a key holds
+pub data Holds : Type 0 where
+  -- a whole number in a range, with its default, or required
+  number : Bound → Bound → Option ℕ → Holds
+  -- a boolean with its default
+  flag : Bool → Holds
+  -- a required text: an address, one of some words, a partition's name that no class has yet, a
+  -- class's name, a token, a path's beginning, or any text
+  address : Holds
+  word : List (List ℕ) → Holds
+  new_name : Holds
+  class_name : Holds
+  token : Holds
+  prefix : Holds
+  text : Holds
+  -- a required table of patterns, each with a class's name
+  routes : Holds
+
+-- a key, the kinds of its section that have it (all kinds where none is named), and what it holds
+pub record Row : Type 0 where
+  pub key : Key
+  pub kinds : List (List ℕ)
+  pub holds : Holds
+
+abbrev pub row : Key → Holds → Row
+row key holds = record { key = key; kinds = []; holds = holds }
+
+-- the row of a key that only some kinds have
+abbrev pub row_for : List (List ℕ) → Key → Holds → Row
+row_for kinds key holds = record { key = key; kinds = kinds; holds = holds }
+
+abbrev pub fixed : List ℕ
+fixed = codes "fixed"
+
+abbrev pub settable : List ℕ
+settable = codes "settable"
+
+abbrev pub aimd : List ℕ
+aimd = codes "aimd"
+
+abbrev pub vegas : List ℕ
+vegas = codes "vegas"
+
+-- the kinds of limits, and those that are not fixed
+abbrev pub limit_kinds : List (List ℕ)
+limit_kinds = fixed ∷ settable ∷ aimd ∷ vegas ∷ []
+
+abbrev pub moving : List (List ℕ)
+moving = settable ∷ aimd ∷ vegas ∷ []
+
+abbrev pub top_rows : List Row
+top_rows =
+    row Key.Listen address
+    ∷ row Key.Backend address
+    ∷ row Key.Backlog (number (at 0) (at 10000) (Some 100))
+    ∷ row Key.Wait (flag true)
+    ∷ row Key.TimeoutMs (number (at 1) (at 3600000) (Some 1000))
+    ∷ row Key.Keep (number (at 1) (at 1000000) (Some 4096))
+    ∷ []
+
+abbrev pub limit_rows : List Row
+limit_rows =
+    row Key.LimitKind (word limit_kinds)
+    ∷ row_for moving Key.LimitMin (number (at 1) (at 10000) (Some 1))
+    ∷ row_for moving Key.LimitMax (number (of (codes "min")) (at 10000) (Some 200))
+    ∷ row_for moving Key.LimitInitial (number (of (codes "min")) (of (codes "max")) (Some 20))
+    ∷ row_for (fixed ∷ []) Key.LimitInitial (number (at 1) (at 10000) (Some 20))
+    ∷ row_for (aimd ∷ []) Key.LimitRatio (number (at 500) (at 999) (Some 900))
+    ∷ row_for (aimd ∷ []) Key.LimitTimeoutUs (number (at 1) (at 3600000000) (Some 5000000))
+    ∷ row_for (vegas ∷ []) Key.LimitAlpha (number (at 1) (at 100) (Some 3))
+    ∷ row_for (vegas ∷ []) Key.LimitBeta (number (of (codes "alpha")) (at 100) (Some 6))
+    ∷ row_for (vegas ∷ []) Key.LimitProbeEvery (number (at 0) (at 1000000) (Some 0))
+    ∷ []
+
+abbrev pub window_rows : List Row
+window_rows =
+    row Key.WindowSize (number (at 1) (at 1000000) (Some 10))
+    ∷ row Key.WindowMinUs (number (at 1) (at 3600000000) (Some 1000000))
+    ∷ row Key.WindowMaxUs (number (of (codes "min_us")) (at 3600000000) (Some 1000000))
+    ∷ row Key.WindowMinRttUs (number (at 0) (at 3600000000) (Some 100))
+    ∷ []
+
+abbrev pub class_rows : List Row
+class_rows =
+    row Key.ClassName new_name
+    ∷ row Key.ClassPercent (number (at 1) left_of_hundred None)
+    ∷ []
+
+abbrev pub resolver_kinds : List (List ℕ)
+resolver_kinds = codes "header" ∷ codes "method" ∷ codes "route" ∷ []
+
+abbrev pub resolver_rows : List Row
+resolver_rows =
+    row Key.ResolverKind (word resolver_kinds)
+    ∷ row_for (codes "header" ∷ []) Key.ResolverHeader token
+    ∷ row_for (codes "method" ∷ []) Key.ResolverMethod token
+    ∷ row_for (codes "method" ∷ []) Key.ResolverClass class_name
+    ∷ row_for (codes "route" ∷ []) Key.ResolverRoutes routes
+    ∷ []
+
+abbrev pub bypass_kinds : List (List ℕ)
+bypass_kinds = codes "method" ∷ codes "prefix" ∷ codes "header" ∷ []
+
+abbrev pub bypass_rows : List Row
+bypass_rows =
+    row Key.BypassKind (word bypass_kinds)
+    ∷ row_for (codes "method" ∷ []) Key.BypassMethod token
+    ∷ row_for (codes "prefix" ∷ []) Key.BypassPrefix prefix
+    ∷ row_for (codes "header" ∷ []) Key.BypassHeader token
+    ∷ row_for (codes "header" ∷ []) Key.BypassEquals text
+    ∷ []

@@ -1,0 +1,23 @@
+//! The sections of a gateway's configuration: each reads its keys from a table, in their order.
+//!
+//! Contracts are by the list of keys in `specs/Rows.antt`, which holds every key's place in the
+//! order of faults, its name, its range and its default; `specs/Section.antt` reads a section by
+//! its rows.
+#![tactic(auto)]
+
+mod bypass;
+mod class;
+mod limit;
+mod resolver;
+mod top;
+mod window;
+
+pub use bypass::{BypassKeys, check_bypasses, read_bypasses};
+pub use class::{CLASS_KEYS, ClassKeys, read_classes};
+pub use limit::{LimitKeys, Moving, read_limit};
+pub use resolver::{ResolverKeys, check_resolvers, read_resolvers};
+pub use top::{TOP_KEYS, TopKeys, read_top};
+pub use window::{WINDOW_KEYS, WindowKeys, read_window};
+
+/// One hour in microseconds.
+const HOUR_US: u32 = 3_600_000_000;

@@ -1,0 +1,63 @@
+// The keys outside all tables.
+ghost use Rattle.std.specs.Prelude.{◌≡◌, [], IfOk};
+ghost use Rattle.toml.specs.View.{table_view};
+ghost use Rattle.config_values.specs.Outcomes.{result_map};
+ghost use Rattle.config_sections.specs.Rows.{top_rows};
+ghost use Rattle.config_sections.specs.Section.{section_values};
+ghost use Rattle.config_sections.specs.Top.{IsTop, top_values};
+
+use config_values::{Address, ConfigFault, Key, Range, read_address, read_flag, read_number};
+use toml::Table;
+
+/// The keys outside all tables.
+pub const TOP_KEYS: [Key; 12] = [
+    Key::Version,
+    Key::Listen,
+    Key::Backend,
+    Key::Backlog,
+    Key::Wait,
+    Key::TimeoutMs,
+    Key::Keep,
+    Key::Limit,
+    Key::Window,
+    Key::Class,
+    Key::Resolver,
+    Key::Bypass,
+];
+
+/// What the keys outside all tables hold.
+#[derive(Drop)]
+pub struct TopKeys {
+    pub listen: Address,
+    pub backend: Address,
+    /// How many callers may wait.
+    pub backlog: u32,
+    /// Whether refused callers wait.
+    pub wait: bool,
+    /// The longest wait, in milliseconds.
+    pub timeout_ms: u32,
+    /// How many entries of the history are kept.
+    pub keep: u32,
+}
+
+/// The keys outside all tables.
+pub fn read_top(table: &Table) -> Result<TopKeys, ConfigFault>
+    ensures within { IfOk result IsTop }
+    ensures value { result_map top_values result
+        ≡ section_values [] top_rows (table_view table.now) }
+{
+    let listen = read_address(table, Key::Listen)?;
+    let backend = read_address(table, Key::Backend)?;
+    let backlog = read_number(table, Key::Backlog, Range::new(0, 10_000, 100))?;
+    let wait = read_flag(table, Key::Wait, true)?;
+    let timeout_ms = read_number(table, Key::TimeoutMs, Range::new(1, 3_600_000, 1_000))?;
+    let keep = read_number(table, Key::Keep, Range::new(1, 1_000_000, 4_096))?;
+    Ok(TopKeys {
+        listen,
+        backend,
+        backlog,
+        wait,
+        timeout_ms,
+        keep,
+    })
+}

@@ -1,0 +1,92 @@
+// Why a configuration is refused.
+ghost use Rattle.std.specs.Prelude.{◌≡◌, ◌++◌, Some};
+ghost use Rattle.config_values.specs.Fault.{fault_text};
+
+use crate::key::Key;
+use matchit::InsertError;
+use std::alloc::AllocError;
+use std::error::Error;
+use std::fmt;
+use wire::Text;
+
+/// Why a configuration was refused. Of several faults the first in this order is told, and of
+/// several keys the first in the order of the keys; of unknown keys the one with the least path in
+/// byte order.
+///
+/// Its text is one line of the fault's word and the key's dotted path.
+#[derive(Debug, Drop)]
+pub enum ConfigFault {
+    /// Memory was wanting.
+    Memory,
+    /// The text isn't TOML, or isn't UTF-8.
+    Toml,
+    /// `version` isn't the whole number 1.
+    Version,
+    /// A required key is absent.
+    Missing(Key),
+    /// A key holds a value of another kind of TOML.
+    Kind(Key),
+    /// A key's value is out of its range.
+    Value(Key),
+    /// The dotted path of a key that isn't allowed where it stands. A name that isn't bare in TOML
+    /// (one or more letters, digits, dashes and underscores) is quoted and escaped as a basic
+    /// string, as in `limit."x\ny"`.
+    Unknown(Text),
+    /// Two patterns can't stand together, or one can't be read.
+    Route,
+}
+
+impl From<AllocError> for ConfigFault {
+    ghost use Rattle.std.specs.Prelude.{◌≡◌};
+    ghost use Rattle.config_values.specs.declared.fault.ConfigFault.TheVariants.{Memory};
+
+    ghost from_gives = { λ _ fault. fault ≡ Memory };
+
+    fn from(_: AllocError) -> ConfigFault {
+        ConfigFault::Memory
+    }
+}
+
+impl From<InsertError> for ConfigFault {
+    ghost use Rattle.std.specs.Prelude.{◌≡◌};
+    ghost use Rattle.config_values.specs.Fault.{insert_fault};
+
+    ghost from_gives = { λ error fault. fault ≡ insert_fault error };
+
+    fn from(error: InsertError) -> ConfigFault {
+        match error {
+            InsertError::OutOfMemory => ConfigFault::Memory,
+            _ => ConfigFault::Route,
+        }
+    }
+}
+
+impl ConfigFault {
+    /// The fault's text in pieces that follow one another, of which the last two may be empty.
+    /// Takes no memory.
+    pub fn pieces(&self) -> (&str, &str, &str)
+        ensures { result.0.now ++ (result.1.now ++ result.2.now) ≡ fault_text self.now }
+    {
+        match self {
+            ConfigFault::Memory => ("memory", "", ""),
+            ConfigFault::Toml => ("toml", "", ""),
+            ConfigFault::Version => ("version", "", ""),
+            ConfigFault::Missing(key) => ("missing ", key.section().prefix(), key.name()),
+            ConfigFault::Kind(key) => ("kind ", key.section().prefix(), key.name()),
+            ConfigFault::Value(key) => ("value ", key.section().prefix(), key.name()),
+            ConfigFault::Unknown(path) => ("unknown ", path.as_str(), ""),
+            ConfigFault::Route => ("route", "", ""),
+        }
+    }
+}
+
+impl fmt::Display for ConfigFault {
+    ghost output = { λ fault. Some (fault_text fault) };
+
+    fn fmt<W: fmt::Write>(&self, f: &mut fmt::Formatter<W>) -> fmt::Result {
+        let (word, prefix, name) = self.pieces();
+        write!(f, "{word}{prefix}{name}")
+    }
+}
+
+impl Error for ConfigFault {}

@@ -1,0 +1,3 @@
+// From keys to what they make.
+pub mod limit;
+pub mod rules;

@@ -1,0 +1,135 @@
+// From keys to partitions, resolvers and bypass rules.
+ghost use Rattle.std.specs.Prelude.{◌≡◌, ◌≢◌, ◌≤◌, length, map, Some, None, IfOk, IsOk, OnOk, IfErr};
+ghost use Rattle.http_header.specs.Token.{IsToken};
+ghost use Rattle.toml.specs.View.{table_view};
+ghost use Rattle.partitions.specs.Faults.{given};
+ghost use Rattle.config_sections.specs.Bypass.{bypass_values};
+ghost use Rattle.config_sections.specs.ClassRows.{class_row};
+ghost use Rattle.config_sections.specs.Resolver.{resolver_values};
+ghost use Rattle.config_sections.specs.Routes.{routes_of};
+ghost use Rattle.gate_config.specs.Rules.{Makes, bypass_from, part_named, resolver_from, route_with, router_from};
+
+use classifier::{Bypass, Resolver};
+use config_sections::{BypassKeys, ClassKeys, ResolverKeys};
+use config_values::{ConfigFault, string_of};
+use http::Method;
+use matchit::Router;
+use partitions::{Part, PartitionTable};
+use std::alloc::{AllocError, Global};
+use toml::Table;
+use wire::Bytes;
+
+/// The partitions that the classes name. Fails where memory is wanting.
+pub fn partitions_of(alloc: Global, classes: &[ClassKeys]) -> Result<PartitionTable, AllocError>
+    ensures { IfOk result (λ table. table ≡ map class_row classes.now) }
+{
+    if classes.is_empty() {
+        return Ok(PartitionTable::unknown_only());
+    }
+    let rows = class_pairs(alloc, classes)?;
+    match PartitionTable::new(alloc, &rows) {
+        Ok(table) => Ok(table),
+        Err(_) => Err(AllocError),
+    }
+}
+
+/// The classes as pairs of a name and a percentage.
+fn class_pairs<'a>(
+    alloc: Global,
+    classes: &'a [ClassKeys],
+) -> Result<Vec<(&'a [u8], u32)>, AllocError>
+    ensures { IfOk result (λ pairs. given pairs.items ≡ map class_row classes.now) }
+{
+    let mut pairs = Vec::new(alloc);
+    for class in classes {
+        pairs.push((class.name.as_bytes(), class.percent))?;
+    }
+    Ok(pairs)
+}
+
+/// The resolver of these keys.
+pub fn make_resolver(
+    alloc: Global,
+    table: &PartitionTable,
+    keys: &ResolverKeys,
+) -> Result<Resolver, ConfigFault>
+    ensures { Makes (λ resolver. resolver)
+        (resolver_from table.now (resolver_values keys.now)) result }
+{
+    match keys {
+        ResolverKeys::Header(name) => Ok(Resolver::Header(bytes_of(alloc, name)?)),
+        ResolverKeys::Method { method, class } => {
+            let method = method_of(alloc, method)?;
+            Ok(Resolver::Method(method, part_named(table, class)))
+        }
+        ResolverKeys::Route(routes) => Ok(Resolver::Route(router_of(alloc, table, routes)?)),
+    }
+}
+
+/// The bypass rule of these keys.
+pub fn make_bypass(alloc: Global, keys: &BypassKeys) -> Result<Bypass, AllocError>
+    ensures { IfOk result (λ rule. rule ≡ bypass_from (bypass_values keys.now)) }
+{
+    match keys {
+        BypassKeys::Method(method) => Ok(Bypass::Method(method_of(alloc, method)?)),
+        BypassKeys::Prefix(prefix) => Ok(Bypass::Prefix(bytes_of(alloc, prefix)?)),
+        BypassKeys::Header { header, equals } => {
+            let name = bytes_of(alloc, header)?;
+            Ok(Bypass::HeaderEquals(name, bytes_of(alloc, equals)?))
+        }
+    }
+}
+
+/// A copy of a text's bytes.
+fn bytes_of(alloc: Global, text: &str) -> Result<Bytes, AllocError>
+    ensures { IfOk result (λ bytes. bytes ≡ text.now) }
+{
+    Bytes::from_slice(alloc, text.as_bytes())
+}
+
+/// The method of this token. Fails where memory is wanting, and never for one of up to 15 bytes.
+fn method_of(alloc: Global, text: &str) -> Result<Method, AllocError>
+    ensures method { IfOk result (λ method. method ≡ text.now) }
+    ensures short { IsToken text.now → length text.now ≤ 15 → IsOk result }
+{
+    match Method::from_bytes(alloc, text.as_bytes()) {
+        Ok(method) => Ok(method),
+        Err(_) => Err(AllocError),
+    }
+}
+
+/// The partition of this name, or unknown.
+fn part_named(table: &PartitionTable, name: &str) -> Part
+    ensures { result ≡ part_named table.now name.now }
+{
+    match table.find(name.as_bytes()) {
+        Some(part) => part,
+        None => Part::Unknown,
+    }
+}
+
+/// The router of these patterns, added in their order.
+fn router_of(
+    alloc: Global,
+    table: &PartitionTable,
+    routes: &Table,
+) -> Result<Router<Part>, ConfigFault>
+    ensures { Makes (λ router. router)
+        (router_from table.now (routes_of (table_view routes.now))) result }
+{
+    let mut router = Router::new(alloc);
+    for (pattern, class) in routes {
+        let part = part_named(table, string_of(class));
+        add_route(&mut router, pattern.as_str(), part)?;
+    }
+    Ok(router)
+}
+
+/// Adds a pattern with its partition.
+fn add_route(router: &mut Router<Part>, pattern: &str, part: Part) -> Result<(), ConfigFault>
+    ensures ok { OnOk result (route_with pattern.now part router.old ≡ Some router.new) }
+    ensures route { IfErr result (λ fault. fault ≢ ConfigFault.Memory →
+        (fault ≡ ConfigFault.Route) × (route_with pattern.now part router.old ≡ None)) }
+{
+    Ok(router.insert(pattern, part)?)
+}
