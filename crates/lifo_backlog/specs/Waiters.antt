@@ -2,6 +2,10 @@
 use Rattle.std.specs.Prelude.{ℕ, ◌-◌, ◌<◌, ◌≤◌, List, length, slice_get, AllPairs, Option}
 use Rattle.lifo_backlog.specs.declared.waiter.Waiter.{Waiter}
 
+-- the most that may be let wait
+abbrev pub most_waiters : ℕ
+most_waiters = 10000
+
 -- a backlog: those who wait, the newest last, and how many may
 pub record Waiters : Type 0 where
   pub waiting : List Waiter
@@ -15,9 +19,10 @@ newest_of waiting = slice_get waiting (length waiting - 1)
 abbrev pub IsRising : List Waiter → Type 0
 IsRising waiting = AllPairs (λ (one later : Waiter). one.number < later.number) waiting
 
--- what every backlog keeps: at most room wait, in rising order, and places are reserved for all of them
+-- what every backlog keeps: at most room wait, in rising order, and places are reserved for all of
+-- them
 pub record IsBacklog (waiting : List Waiter) (room reserved : ℕ) : Type 0 where
   pub within_room : length waiting ≤ room
-  pub most_room : room ≤ 10000
+  pub most_room : room ≤ most_waiters
   pub rising : IsRising waiting
   pub reserved_all : room ≤ reserved

@@ -2,7 +2,7 @@
 ghost use Rattle.std.specs.Prelude.{◌≡◌, ℕ, ◌+◌, ◌<◌, ◌≤◌, ◌==◌, ◌↔◌, not, [], ◌∷◌, ◌++◌, length, filter};
 ghost use Rattle.std.specs.Prelude.{find, All, vec_capacity, IfOk, IfSome, OnOk, OnErr, IsErr, IsErrOf, IsTrue};
 ghost use Rattle.std.specs.List.{list_any};
-ghost use Rattle.lifo_backlog.specs.Waiters.{newest_of};
+ghost use Rattle.lifo_backlog.specs.Waiters.{most_waiters, newest_of};
 
 use crate::fault::{BacklogFault, Full};
 use crate::waiter::Waiter;
@@ -32,11 +32,11 @@ impl Model for Backlog {
 }
 
 impl Backlog {
-    /// An empty backlog with room for this many waiters, 0 to 10,000, all of it reserved. `Room` comes
-    /// before `Memory`.
+    /// An empty backlog with room for this many waiters, 0 to 10,000, all of it reserved. `Room`
+    /// comes before `Memory`.
     pub fn new(alloc: Global, room: u32) -> Result<Backlog, BacklogFault>
         ensures empty { IfOk result (λ backlog. backlog ≡ record { waiting = []; room = room }) }
-        ensures room { IsErrOf result BacklogFault.Room ↔ (10000 < room) }
+        ensures room { IsErrOf result BacklogFault.Room ↔ (most_waiters < room) }
     {
         if room > MOST_ROOM {
             return Err(BacklogFault::Room);
@@ -92,8 +92,8 @@ impl Backlog {
             .copied()
     }
 
-    /// Copies those who wait, in rising order of number, behind what this list holds, into room that it
-    /// has: no memory is taken.
+    /// Copies those who wait, in rising order of number, behind what this list holds, into room
+    /// that it has: no memory is taken.
     pub fn copy_into(&self, into: &mut Vec<Waiter>)
         requires { length into.old.items + length self.now.waiting ≤ vec_capacity into.old }
         ensures items { into.new.items ≡ into.old.items ++ self.now.waiting }
@@ -127,7 +127,7 @@ impl Backlog {
     /// How many may wait, 0 to 10,000.
     pub fn room(&self) -> u32
         ensures room { result ≡ self.now.room }
-        ensures at_most { result ≤ 10000 }
+        ensures at_most { result ≤ most_waiters }
     {
         self.room as u32
     }

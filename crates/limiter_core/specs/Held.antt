@@ -1,6 +1,6 @@
 -- What the parts of a limiter show: permits by place, and granted permits, each with reserved room.
 use Rattle.std.specs.Prelude.{ℕ, List, [], ◌∷◌, count_by, ◌==◌}
-use Rattle.limiter_core.specs.declared.event.PermitFacts.{PermitFacts}
+use Rattle.limiter_core.specs.Events.{PermitFacts}
 
 -- how many permits are of each of the five places, and for how many there is room
 pub record Counted : Type 0 where

@@ -1,5 +1,9 @@
--- Histories: what stands after a list of entries, each quantity by a filter or a fold over the whole
--- list.
+-- Histories: what stands after a list of entries, each quantity by a filter or a fold over the
+-- whole list.
+--
+-- Short letters mean the same in all definitions and proofs: g is a gate, o an opening image, i and
+-- j are images, h is the entries of a history, e an event or an entry, r a reply, s and t are
+-- states of the algorithm, p and k places, and n is a number.
 use Rattle.std.specs.Prelude.{ℕ, ◌+◌, ◌-◌, ◌<◌, ◌==◌, nat_lt, Bool, true, false, not, if◌then◌else◌}
 use Rattle.std.specs.Prelude.{List, [], ◌∷◌, ◌++◌, length, fold, count_by, sum_by, filter, AllPairs}
 use Rattle.std.specs.Prelude.{Option, None, Some, option_to_list, Result, Ok, Err}
@@ -10,15 +14,7 @@ use Rattle.limit_laws.specs.Algorithm.{Algorithm}
 use Rattle.partitions.specs.declared.part.Part.{Part}
 use Rattle.partitions.specs.Table.{Row, place_of, places}
 use Rattle.lifo_backlog.specs.declared.waiter.Waiter.{Waiter}
-use Rattle.limiter_core.specs.declared.event.Outcome.{Outcome}
-use Rattle.limiter_core.specs.declared.event.Outcome.TheVariants.{Success, Ignored, Dropped}
-use Rattle.limiter_core.specs.declared.event.PermitFacts.{PermitFacts}
-use Rattle.limiter_core.specs.declared.event.Event.{Event}
-use Rattle.limiter_core.specs.declared.event.Event.TheVariants.{Acquire, End, Claim, GiveUp, SetLimit, Reset}
-use Rattle.limiter_core.specs.declared.event.Reply.{Reply}
-use Rattle.limiter_core.specs.declared.event.Reply.TheVariants.{Admitted, Waiting, Granted, TimedOut}
-use Rattle.limiter_core.specs.declared.event.Entry.{Entry}
-use Rattle.limiter_core.specs.declared.event.Entry.TheVariants.{Call, Promotion}
+use Rattle.limiter_core.specs.Events.{Outcome, Success, Ignored, Dropped, PermitFacts, Event, Acquire, End, Claim, GiveUp, SetLimit, Reset, Reply, Admitted, Waiting, Granted, TimedOut, Entry, Call, Promotion}
 
 -- what a limiter is made with: its algorithm, its known partitions, and how many may wait
 pub record Gate (S : Type 0) : Type 0 where
@@ -68,8 +64,8 @@ state_after_entry rules s (Promotion waiter part start inflight) = s
 abbrev pub state_after : {S : Type 0} → Algorithm S → Image S → List Entry → S
 state_after rules o h = fold (state_after_entry rules) o.state h
 
--- IN FLIGHT at a place: the opening's count, the acquires of it that were admitted and the promotions
--- of it, less the endings of it
+-- IN FLIGHT at a place: the opening's count, the acquires of it that were admitted and the
+-- promotions of it, less the endings of it
 abbrev pub admits : List Row → ℕ → Event → Reply → Bool
 admits rows p (Acquire part bypass wait now) (Admitted inflight) = place_of rows part == p
 admits rows p _ _ = false
@@ -89,8 +85,8 @@ leaves rows p (Promotion waiter part start inflight) = false
 abbrev pub inflight_after : {S : Type 0} → List Row → Image S → List Entry → ℕ → ℕ
 inflight_after rows o h p = o.inflight p + count_by (enters rows p) h - count_by (leaves rows p) h
 
--- what stays of a list that entries add to and take from: those that no entry takes, and those that an
--- entry brings and no later one takes
+-- what stays of a list that entries add to and take from: those that no entry takes, and those that
+-- an entry brings and no later one takes
 abbrev pub untaken : {X : Type 0} → (X → Entry → Bool) → List Entry → List X → List X
 untaken takes h xs = filter (λ x. not (list_any (takes x) h)) xs
 

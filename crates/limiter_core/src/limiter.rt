@@ -2,6 +2,7 @@
 ghost use Rattle.std.specs.Prelude.{◌≡◌, ◌≤◌, ◌<◌, ◌+◌, ◌^◌, ◌++◌, ◌↔◌, [], length, is_some};
 ghost use Rattle.std.specs.Prelude.{option_to_list, vec_capacity, IfOk, IsErrOf};
 ghost use Rattle.partitions.specs.Table.{place_of, bound};
+ghost use Rattle.lifo_backlog.specs.Waiters.{most_waiters};
 ghost use Rattle.limiter_core.specs.History.{AreInOrder, image_after, total, limit};
 ghost use Rattle.limiter_core.specs.Answer.{answer, granted_of, waits};
 ghost use Rattle.limiter_core.specs.Legal.{MayCome};
@@ -68,7 +69,7 @@ impl<L: Limit> Core<L> {
         room: u32,
     ) -> Result<Core<L>, CoreFault>
         ensures made { IfOk result (λ core. core ≡ unasked table room limit) }
-        ensures room { IsErrOf result CoreFault.Room ↔ (10000 < room) }
+        ensures room { IsErrOf result CoreFault.Room ↔ (most_waiters < room) }
     {
         let backlog = Backlog::new(alloc, room)?;
         prove!(table.len() <= 4);
@@ -101,7 +102,8 @@ impl<L: Limit> Core<L> {
         ensures entries { added event result self.new
             ≡ answer (gate_of L.rules self.old) (stands self.old) [] event }
         ensures stands { stands self.new
-            ≡ image_after (gate_of L.rules self.old) (stands self.old) (added event result self.new) }
+            ≡ image_after (gate_of L.rules self.old) (stands self.old)
+            (added event result self.new) }
         ensures gate { gate_of L.rules self.new ≡ gate_of L.rules self.old }
         ensures counters { self.new.counters
             ≡ counters_after self.old.counters (added event result self.new) }
@@ -254,7 +256,7 @@ impl<L: Limit> Core<L> {
     /// How many may wait: 0 to 10,000.
     pub fn room(&self) -> u32
         ensures value { result ≡ self.now.room }
-        ensures most { result ≤ 10000 }
+        ensures most { result ≤ most_waiters }
     {
         self.state.backlog.room()
     }

@@ -28,8 +28,11 @@ returns-in_err-push_piece-clause-memory g c = λ e.
     let room = c.push_piece.ensures.memory memory in
     let all = Consumes-trans _ _ _ _ _ c.loop-turn.invariant.consumed c.in-Ok.ensures.bytes.0 in
     let some : 0 < length (c.loop-turn.bytes.items ++ take c.in-Ok.count c.read.new.buf) =
-    simp (length-append, length-take) (omega (arith, c.if-count-eq0.false, c.in-Ok.ensures.bound)) in
-    (c.in-Ok.ensures.failures ∙ c.loop-turn.invariant.failures, (_, all, some, rw length-append (omega (arith, room))))
+    simp (length-append, length-take) (omega (arith, c.if-count-eq0.false, c.in-Ok.ensures.bound))
+    in (
+      c.in-Ok.ensures.failures ∙ c.loop-turn.invariant.failures,
+      (_, all, some, rw length-append (omega (arith, room))),
+    )
 
 pub returns-in_err-push_piece-clause-too_large : goal.returns-in_err-push_piece-clause-too_large
 returns-in_err-push_piece-clause-too_large g c = λ e.
@@ -42,7 +45,8 @@ returns-in_err-push_piece-clause-too_large g c = λ e.
 pub loop-turn-preserved : goal.loop-turn-preserved
 loop-turn-preserved g c =
     let all = Consumes-trans _ _ _ _ _ c.loop-turn.invariant.consumed c.in-Ok.ensures.bytes.0 in
-    let items : c.push_piece.new.bytes.items ≡ c.loop-turn.bytes.items ++ take c.in-Ok.count c.read.new.buf =
+    let items : c.push_piece.new.bytes.items
+    ≡ c.loop-turn.bytes.items ++ take c.in-Ok.count c.read.new.buf =
     grind (arith, common_steps) in
     record {
       consumed = rw items all;

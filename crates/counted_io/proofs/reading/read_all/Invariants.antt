@@ -10,6 +10,7 @@ invariant-loop-turn g l =
     record {
       consumed : Consumes (left (inner_of l.fn.reader)) (left (inner_of l.reader)) l.bytes.items;
       fits : vec_len l.bytes ≤ l.most_bytes;
-      calls : (calls_of l.fn.reader + l._turn ≤ calls_of l.reader) ⊎ (calls_of l.reader ≡ 2 ^ 64 - 1);
+      calls : (calls_of l.fn.reader + l._turn ≤ calls_of l.reader) ⊎
+          (calls_of l.reader ≡ 2 ^ 64 - 1);
       failures : failures_of l.reader ≡ failures_of l.fn.reader;
     }

@@ -1,5 +1,5 @@
 use Rattle.std.proofs.Common.{◌∙◌, nat_lt, length, unwrap_or}
-use Rattle.limiter_core.proofs.Inserted.{position_or_end}
+use Rattle.limiter_core.proofs.InsertedPermit.{position_or_end}
 use Rattle.limiter_core.proofs.granted.place_above.Goals as goal
 
 pub returns : goal.returns

@@ -8,8 +8,10 @@ use Rattle.lifo_backlog.proofs.backlog.Backlog.find.Goals as goal
 pub returns : goal.returns
 returns c =
     let test : Waiter → Bool = λ one. one.number == c.args.number in
-    let found : option_map (λ (one : Bor Waiter). one.now) c.find.result ≡ find test c.deref.result.now =
-    find_from_yields_List test _ _ c.find.result c.find.ensures.ran (YieldsList-from_slice c.deref.result.now cc) (λ x b q k. search (rules, tests)) in
+    let found : option_map (λ (one : Bor Waiter). one.now) c.find.result
+    ≡ find test c.deref.result.now =
+    find_from_yields_List test _ _ c.find.result c.find.ensures.ran
+    (YieldsList-from_slice c.deref.result.now cc) (λ x b q k. search (rules, tests)) in
     c.copied.ensures
     ∙ found
     ∙ ap (find test) c.deref.ensures.value
