@@ -9,14 +9,14 @@ use Rattle.limiter_core.specs.declared.event.Reply.{Reply}
 use Rattle.limiter_core.specs.declared.event.Promotion.{Promotion}
 use Rattle.limiter_core.specs.declared.event.Entry.{Entry}
 use Rattle.limiter_core.specs.declared.event.Entry.TheVariants.{Call}
-use Rattle.limiter_core.specs.History.{Gate, Image, image_after}
+use Rattle.limiter_core.specs.History.{Gate, Image, image_after, total}
 use Rattle.limiter_core.specs.Answer.{answer}
 use Rattle.limiter_core.specs.Legal.{IsLegal, nothing, more, MayCome}
 use Rattle.limiter_core.specs.Bound.{IsSound, IsServed, IsNumbered, none_yet, served}
 use Rattle.limiter_core.specs.Bound.{owed, most_owed, is_exhausted, kept_places}
 use Rattle.limiter_core.specs.Counting.{counters_after}
 use Rattle.limiter_core.specs.Laws.{AnswersByImage, LeadsByImage, StandsStill, StaysSound}
-use Rattle.limiter_core.specs.Laws.{KeepsPlaces, KeepsNumbers, CountersAddUp}
+use Rattle.limiter_core.specs.Laws.{StaysBounded, KeepsPlaces, KeepsNumbers, CountersAddUp}
 use Rattle.limiter_core.specs.Limiter.{Limiter, gate_of, stands, entry_of}
 use Rattle.gate_journal.specs.Image.{standing_of}
 use Rattle.gate_journal.specs.Journal.{Journal, IsJournal, gate, opening, image}
@@ -56,6 +56,16 @@ module _ {S : Type 0} (rules : Algorithm S) (j v : Journal S) (is : j ≡ v) (co
       (omega (
         arith,
         keeps (gate rules j) j.kept (opening j) j.entries lawful held.sound held.served,
+        held.modest,
+      ))
+
+  pub few_out : IsLawful rules → ((g : Gate S) → StaysBounded g)
+      → total (image rules v) ≤ 1000000
+  few_out lawful stays =
+      subst (λ (w : Journal S). total (image rules w) ≤ 1000000) is
+      (omega (
+        arith,
+        stays (gate rules j) (opening j) j.entries lawful held.sound legal_in,
         held.modest,
       ))
 

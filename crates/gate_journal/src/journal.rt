@@ -1,17 +1,18 @@
 // The limiter with the history of all that it was asked and answered.
-ghost use Rattle.std.specs.Prelude.{◌≡◌, ◌≤◌, ◌<◌, ◌⊎◌, ◌+◌, ◌↔◌, ◌++◌, ◌∷◌, [], false};
+ghost use Rattle.std.specs.Prelude.{◌≡◌, ◌≤◌, ◌<◌, ◌⊎◌, ◌+◌, ◌↔◌, ◌++◌, ◌∷◌};
 ghost use Rattle.std.specs.Prelude.{map, length, vec_capacity, slice_get, is_none};
 ghost use Rattle.std.specs.Prelude.{IfOk, IfSome, OnSome, IfNone, IsErrOf, Some};
 ghost use Rattle.limiter_core.specs.declared.event.Entry.TheVariants.{Call};
-ghost use Rattle.limiter_core.specs.Answer.{answer};
+ghost use Rattle.limiter_core.specs.History.{total};
 ghost use Rattle.limiter_core.specs.Legal.{IsLegal, MayCome};
-ghost use Rattle.limiter_core.specs.Bound.{IsSound, is_exhausted, is_always_served};
+ghost use Rattle.limiter_core.specs.Bound.{IsSound, is_always_served};
 ghost use Rattle.limiter_core.specs.Counting.{counters_after};
 ghost use Rattle.limiter_core.specs.Limiter.{stands, entry_of};
-ghost use Rattle.gate_journal.specs.Image.{standing_of};
-ghost use Rattle.gate_journal.specs.Journal.{gate, opening, image, answered, with_answer};
+ghost use Rattle.gate_journal.specs.Journal.{gate, opening, image, next_number, is_over};
+ghost use Rattle.gate_journal.specs.Journal.{answered, with_answer, opened, most_kept};
 
 use crate::fault::JournalFault;
+use crate::history::History;
 use crate::image::Image;
 use limit_laws::Limit;
 use limiter_core::{
@@ -59,14 +60,8 @@ impl<L: Limit> Journal<L> {
     /// [`JournalFault::Places`] where `kept` isn't 1 to 1,000,000, else [`JournalFault::Memory`]
     /// where memory is wanting: all that a journal ever needs is taken here.
     pub fn new(alloc: Global, core: Core<L>, kept: usize) -> Result<Journal<L>, JournalFault>
-        ensures made { IfOk result (λ journal. journal ≡ record {
-          rows = core.rows;
-          room = core.room;
-          opening = standing_of core;
-          entries = [];
-          kept = kept;
-        }) }
-        ensures places { IsErrOf result JournalFault.Places ↔ (kept < 1) ⊎ (1000000 < kept) }
+        ensures made { IfOk result (λ journal. journal ≡ opened core kept) }
+        ensures places { IsErrOf result JournalFault.Places ↔ (kept < 1) ⊎ (most_kept < kept) }
     {
         if kept < 1 || MOST_KEPT < kept {
             return Err(JournalFault::Places);
@@ -109,7 +104,7 @@ impl<L: Limit> Journal<L> {
 
     /// The number of the next entry.
     pub fn number(&self) -> u64
-        ensures { result ≡ self.now.opening.next + length self.now.entries }
+        ensures { result ≡ next_number self.now }
     {
         self.core.next_number()
     }
@@ -126,7 +121,8 @@ impl<L: Limit> Journal<L> {
         ensures rows { result.now.rows ≡ self.now.rows }
         ensures room { result.now.room ≡ self.now.room }
         ensures stands { stands result.now ≡ image L.rules self.now }
-        ensures counters { result.now.counters ≡ counters_after self.now.opening.counters self.now.entries }
+        ensures counters { result.now.counters
+            ≡ counters_after self.now.opening.counters self.now.entries }
     {
         &self.core
     }
@@ -141,11 +137,33 @@ impl<L: Limit> Journal<L> {
         self.core
     }
 
-    /// What every journal keeps: its entries are legal, what stands is sound, and few are held.
+    /// The history alone, which is legal from its sound opening as [`Journal::entries`] has it.
+    pub fn into_history(self) -> History<L>
+        ensures opening { result.opening ≡ self.opening }
+        ensures base { result.base ≡ self.opening.next }
+        ensures entries { result.entries.items ≡ self.entries }
+    {
+        let base = self.opening.next_number();
+        let Journal {
+            opening,
+            core: _,
+            entries,
+            kept: _,
+        } = self;
+        History {
+            opening,
+            base,
+            entries,
+        }
+    }
+
+    /// What every journal keeps: its entries are legal, what stands is sound, few are held, and few
+    /// permits are out.
     pub fn check(&self)
         ensures legal { IsLegal (gate L.rules self.now) (opening self.now) self.now.entries }
         ensures sound { IsSound (gate L.rules self.now) (image L.rules self.now) }
         ensures few { length self.now.entries ≤ 2000000 }
+        ensures bounded { total (image L.rules self.now) ≤ 1000000 }
     {
         soundness_is_kept::<L>();
         reserved_room_suffices::<L>();
@@ -154,8 +172,7 @@ impl<L: Limit> Journal<L> {
 
     /// Whether an event isn't answered any more.
     pub fn is_exhausted(&self, event: Event) -> bool
-        ensures { result ≡ is_exhausted self.now.kept false
-            (image L.rules self.now) (length self.now.entries) event }
+        ensures { result ≡ is_over L.rules self.now event }
     {
         !self.is_always_served(event)
             && (self.entries.len() >= self.kept || self.core.next_number() >= LAST_NUMBER)
@@ -180,11 +197,9 @@ impl<L: Limit> Journal<L> {
     /// An ending asks that more of its partition are in flight than lie granted.
     pub fn apply(&mut self, event: Event) -> Option<(u64, Reply)>
         requires { MayCome (gate L.rules self.old) (image L.rules self.old) event }
-        ensures exhausted { is_none result ≡ is_exhausted self.old.kept false
-            (image L.rules self.old) (length self.old.entries) event }
+        ensures exhausted { is_none result ≡ is_over L.rules self.old event }
         ensures unchanged { IfNone result (self.new ≡ self.old) }
-        ensures number { IfSome result (λ found.
-            found.0 ≡ self.old.opening.next + length self.old.entries) }
+        ensures number { IfSome result (λ found. found.0 ≡ next_number self.old) }
         ensures reply { IfSome result (λ found. Some (Call event found.1)
             ≡ slice_get (answered L.rules self.old event) 0) }
         ensures entries { OnSome result (self.new ≡ with_answer L.rules self.old event) }

@@ -1,4 +1,4 @@
-use Rattle.std.proofs.Common.{sym, subst, arith, vec_capacity}
+use Rattle.std.proofs.Common.{sym, subst, arith, rules, vec_capacity}
 use Rattle.gate_journal.specs.Image.{Standing}
 use Rattle.gate_journal.specs.Journal.{IsJournal, journal_in}
 use Rattle.gate_journal.proofs.Grown.{begins}
@@ -23,3 +23,15 @@ invariant_of-result g c =
       c.room.ensures.most,
       c.if-kept-gt-MOST_KEPT.false,
     )))
+
+pub returns-clause-places : goal.returns-clause-places
+returns-clause-places g c = search rules
+
+pub returns-in_err-opening-clause-places : goal.returns-in_err-opening-clause-places
+returns-in_err-opening-clause-places g c = search rules
+
+pub returns-in_err-entries-clause-places : goal.returns-in_err-entries-clause-places
+returns-in_err-entries-clause-places g c = search rules
+
+pub returns-then-kept-lt1-clause-places : goal.returns-then-kept-lt1-clause-places
+returns-then-kept-lt1-clause-places g c = search rules
