@@ -1,0 +1,5 @@
+pub mod Counts
+pub mod Ledgers
+pub mod Answered
+pub mod Agreeing
+pub mod Endings

@@ -1,0 +1,281 @@
+// A journal with the ledgers of who holds what.
+ghost use Rattle.std.specs.Prelude.{◌≡◌, ◌+◌, ◌<◌, ◌≤◌, ◌⊎◌, [], ◌∷◌, length, true, false};
+ghost use Rattle.std.specs.Prelude.{IfSome, IfNone};
+ghost use Rattle.limiter_core.specs.Legal.{IsLegal};
+ghost use Rattle.limiter_core.specs.Bound.{IsSound};
+ghost use Rattle.gate_journal.specs.Journal.{gate, opening};
+ghost use Rattle.gate_ledgers.specs.Names.{AreNamed, AreWhole};
+ghost use Rattle.gate_ledgers.specs.Places.{no_places};
+ghost use Rattle.gate_history.specs.Book.{Agrees, book_in, granted_now, inflight_now};
+ghost use Rattle.gate_history.specs.Handing.{IsChange};
+ghost use Rattle.gate_history.specs.Steps.{Steps, event_of};
+
+use crate::asking::ask;
+use crate::handing::{entry_at, grant, hand_acquired, hand_granted};
+use crate::permit::Permit;
+use crate::step::{Call, Handed, Step};
+use crate::ticket::Ticket;
+use gate_journal::Journal;
+use gate_ledgers::{Blanks, Naming, Pass, Places, Tally, open_ledgers};
+use limit_laws::{LAST_MOMENT, Limit};
+use limiter_core::{Event, Outcome, PermitFacts, answers_by_image};
+use partitions::Part;
+use std::marker::Model;
+
+/// A journal with the ledgers of who holds what: of the calls by passes, and of what is in flight
+/// at each place of its table. Nothing is in flight that no permit shows, but for what lies
+/// granted.
+#[derive(Drop)]
+pub struct Book<L: Limit, N: Naming> {
+    journal: Journal<L>,
+    tally: Tally<N>,
+    places: Places<N>,
+    is_sealed: bool,
+}
+
+impl<L: Limit, N: Naming> Model for Book<L, N> {
+    ghost use Rattle.gate_history.specs.Book.{Book, IsBook, book_in};
+
+    ghost Value = { Book L };
+
+    ghost view = { λ b. book_in b.journal b.tally b.places b.is_sealed };
+
+    ghost invariant = { λ b.
+        IsBook L.rules N.rows N.room (book_in b.journal b.tally b.places b.is_sealed) };
+}
+
+impl<L: Limit, N: Naming> Book<L, N> {
+    /// Opens the ledgers of a journal that has no entries and begins with number 0, and in whose
+    /// limiter nothing is in flight and nothing lies granted.
+    pub fn new(journal: Journal<L>, blanks: Blanks) -> Book<L, N>
+        requires empty { journal.entries ≡ [] }
+        requires base { journal.opening.next ≡ 0 }
+        requires idle { journal.opening.counts ≡ 0 ∷ 0 ∷ 0 ∷ 0 ∷ 0 ∷ [] }
+        requires nobody { journal.opening.granted ≡ [] }
+        requires rows { journal.rows ≡ N.rows }
+        requires room { journal.room ≡ N.room }
+        requires names { AreNamed N.calls N.place blanks }
+        requires parts { AreWhole blanks }
+        ensures { result ≡ book_in journal (record { calls = 0; passes = 0 }) no_places false }
+    {
+        let (tally, places) = open_ledgers(blanks);
+        Book {
+            journal,
+            tally,
+            places,
+            is_sealed: false,
+        }
+    }
+
+    /// A pass of no calls; `None` where 1,000,000 were made, or where the book is sealed.
+    pub fn pass(&mut self) -> Option<Pass<N>>
+        ensures new { IfSome result (λ pass. pass ≡ 0) }
+        ensures few { IfSome result (λ pass. self.old.tally.passes < 1000000) }
+        ensures unsealed { IfSome result (λ pass. self.old.is_sealed ≡ false) }
+        ensures made { IfSome result (λ pass. self.new ≡ record self.old {
+          tally = record self.old.tally { passes = self.old.tally.passes + 1 };
+        }) }
+        ensures none { IfNone result
+            ((self.old.is_sealed ≡ true) ⊎ (1000000 ≤ self.old.tally.passes)) }
+        ensures unchanged { IfNone result (self.new ≡ self.old) }
+    {
+        if self.is_sealed {
+            return None;
+        }
+        self.tally.pass()
+    }
+
+    /// From here on it gives no pass.
+    pub fn seal(&mut self)
+        ensures { self.new ≡ record self.old { is_sealed = true } }
+    {
+        self.is_sealed = true;
+    }
+
+    /// The journal.
+    pub fn journal(&self) -> &Journal<L>
+        ensures { result.now ≡ self.now.journal }
+    {
+        &self.journal
+    }
+
+    /// The journal alone, whose ledgers end with the book.
+    pub fn into_journal(self) -> Journal<L>
+        ensures { result ≡ self.journal }
+    {
+        let Book {
+            journal,
+            tally: _,
+            places: _,
+            is_sealed: _,
+        } = self;
+        journal
+    }
+
+    /// How many calls were made: by all passes, and in the history. Each has its number.
+    pub fn calls(&self) -> u64
+        ensures calls { result ≡ self.now.tally.calls }
+        ensures few { result ≤ self.now.journal.opening.next + length self.now.journal.entries }
+    {
+        self.tally.calls()
+    }
+
+    /// What every book keeps: its history is legal, from a sound opening; its table and the room
+    /// for waiters are those of its names; and its ledgers stand at what the history says.
+    pub fn check(&self)
+        ensures legal { IsLegal (gate L.rules self.now.journal) (opening self.now.journal)
+            self.now.journal.entries }
+        ensures sound { IsSound (gate L.rules self.now.journal) (opening self.now.journal) }
+        ensures rows { self.now.journal.rows ≡ N.rows }
+        ensures room { self.now.journal.room ≡ N.room }
+        ensures agrees { Agrees L.rules self.now }
+    {
+        let _kept = self.journal.entries();
+    }
+
+    /// A permit shows that more of its partition are in flight than lie granted. Nothing changes.
+    pub fn show(&mut self, permit: Permit<N>) -> Permit<N>
+        ensures same { self.new ≡ self.old }
+        ensures permit { result ≡ permit }
+        ensures in_flight { granted_now L.rules self.old.journal permit.part
+            < inflight_now L.rules self.old.journal permit.part }
+    {
+        self.journal.check();
+        let (facts, mark) = permit.open();
+        let mark = self.places.show(mark);
+        Permit::new(facts, mark)
+    }
+
+    /// One call by a pass: one event of the limiter, where the history isn't exhausted.
+    ///
+    /// It is [`Step::Done`] or [`Step::Exhausted`] by the rule of exhaustion; `specs/Steps.antt`
+    /// has what either says of the book, the pass, the receipt and what is handed out. Takes no
+    /// memory.
+    pub fn step(&mut self, pass: &mut Pass<N>, call: Call<N>) -> Step<N>
+        ensures { Steps L.rules self.old self.new pass.old pass.new (event_of call) result }
+    {
+        match call {
+            Call::Acquire {
+                part,
+                bypass,
+                wait,
+                now,
+            } => self.acquire(pass, part, bypass, wait, now),
+            Call::End {
+                permit,
+                outcome,
+                now,
+            } => self.end(pass, permit, outcome, now),
+            Call::Claim { ticket } => self.claim(pass, ticket.open()),
+            Call::GiveUp { ticket } => self.give_up(pass, ticket.open()),
+            Call::SetLimit { n, now } => self.change(pass, Event::SetLimit { n, now }),
+            Call::Reset { now } => self.change(pass, Event::Reset { now }),
+            Call::Look { part } => self.change(pass, Event::Look { part }),
+        }
+    }
+
+    /// Asks for a permit, or for a place in line.
+    fn acquire(
+        &mut self,
+        pass: &mut Pass<N>,
+        part: Part,
+        bypass: bool,
+        wait: bool,
+        now: u64,
+    ) -> Step<N>
+        ensures { Steps L.rules self.old self.new pass.old pass.new
+            (Event.Acquire part bypass wait now) result }
+    {
+        self.journal.check();
+        answers_by_image::<L>();
+        let event = Event::Acquire {
+            part,
+            bypass,
+            wait,
+            now,
+        };
+        let receipt = match ask(&mut self.journal, &mut self.tally, pass, event) {
+            Ok(receipt) => receipt,
+            Err(spent) => return Step::Exhausted(spent, Handed::Nothing),
+        };
+        let place = self.journal.core().table().place(part);
+        let facts = PermitFacts {
+            number: receipt.number(),
+            part,
+            start: now.min(LAST_MOMENT),
+            inflight: 0,
+        };
+        let handed = hand_acquired(&mut self.places, place, facts, receipt.reply());
+        Step::Done(receipt, handed)
+    }
+
+    /// Ends a permit; the newest waiter may be promoted by it.
+    fn end(&mut self, pass: &mut Pass<N>, permit: Permit<N>, outcome: Outcome, now: u64) -> Step<N>
+        ensures { Steps L.rules self.old self.new pass.old pass.new
+            (Event.End permit outcome now) result }
+    {
+        self.journal.check();
+        answers_by_image::<L>();
+        let promoted = self.journal.entries().len() + 1;
+        let (permit, mark) = permit.open();
+        self.places.leave(mark);
+        let event = Event::End {
+            permit,
+            outcome,
+            now,
+        };
+        let receipt = match ask(&mut self.journal, &mut self.tally, pass, event) {
+            Ok(receipt) => receipt,
+            Err(_spent) => unreachable!(),
+        };
+        let entry = entry_at(self.journal.entries(), promoted);
+        grant(&mut self.places, self.journal.core().table(), entry);
+        Step::Done(receipt, Handed::Nothing)
+    }
+
+    /// Asks for the permit of a waiter.
+    fn claim(&mut self, pass: &mut Pass<N>, number: u64) -> Step<N>
+        ensures { Steps L.rules self.old self.new pass.old pass.new (Event.Claim number) result }
+    {
+        self.journal.check();
+        answers_by_image::<L>();
+        let event = Event::Claim { number };
+        let receipt = match ask(&mut self.journal, &mut self.tally, pass, event) {
+            Ok(receipt) => receipt,
+            Err(spent) => return Step::Exhausted(spent, Handed::Ticket(Ticket::new(number))),
+        };
+        let table = self.journal.core().table();
+        let handed = hand_granted(&mut self.places, table, event, number, receipt.reply());
+        Step::Done(receipt, handed)
+    }
+
+    /// Ends the wait of a waiter, which gets the permit that lies granted under its number.
+    fn give_up(&mut self, pass: &mut Pass<N>, number: u64) -> Step<N>
+        ensures { Steps L.rules self.old self.new pass.old pass.new (Event.GiveUp number) result }
+    {
+        self.journal.check();
+        answers_by_image::<L>();
+        let event = Event::GiveUp { number };
+        let receipt = match ask(&mut self.journal, &mut self.tally, pass, event) {
+            Ok(receipt) => receipt,
+            Err(spent) => return Step::Exhausted(spent, Handed::Nothing),
+        };
+        let table = self.journal.core().table();
+        let handed = hand_granted(&mut self.places, table, event, number, receipt.reply());
+        Step::Done(receipt, handed)
+    }
+
+    /// An event that hands nothing out and ends no permit.
+    fn change(&mut self, pass: &mut Pass<N>, event: Event) -> Step<N>
+        requires { IsChange event }
+        ensures { Steps L.rules self.old self.new pass.old pass.new event result }
+    {
+        self.journal.check();
+        answers_by_image::<L>();
+        let receipt = match ask(&mut self.journal, &mut self.tally, pass, event) {
+            Ok(receipt) => receipt,
+            Err(spent) => return Step::Exhausted(spent, Handed::Nothing),
+        };
+        Step::Done(receipt, Handed::Nothing)
+    }
+}
