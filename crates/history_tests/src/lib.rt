@@ -1,0 +1,7 @@
+//! Tests of a gate's history and its ledgers, by their public calls.
+#![tactic(auto)]
+
+#[cfg(test)]
+mod book_tests;
+#[cfg(test)]
+mod shared_gate_tests;

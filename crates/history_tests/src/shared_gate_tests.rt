@@ -1,0 +1,183 @@
+// A shared gate by worked rows, and by two threads of which one waits for the other.
+ghost use Rattle.std.specs.Prelude.{◌≡◌, []};
+ghost use Rattle.gate_ledgers.specs.Names.{AreNamed, AreWhole};
+
+use gate_history::{Blanks, Book, Journal, Naming, Permit, Ticket};
+use limit_laws::Fixed;
+use limiter_core::{Core, Outcome, Reply};
+use partitions::{Part, PartitionTable};
+use shared_gate::{Claimed, Clock, GaveUp, Got, Pass, SharedGate, Waited};
+use std::alloc::Global;
+use std::marker::Brand;
+use std::process::Abort;
+use std::sync::Wait;
+use std::test::Fail;
+use std::thread::{Threads, join};
+use std::time::Clock as SystemClock;
+
+/// A clock that stands still.
+struct Still {}
+
+impl Clock for Still {
+    fn now(&self) -> u64 {
+        0
+    }
+}
+
+/// A book over one permit, without classes, that keeps a million entries.
+fn single<M: Naming>(alloc: Global, blanks: Blanks) -> Result<Book<Fixed, M>, Fail>
+    requires names { AreNamed M.calls M.place blanks }
+    requires parts { AreWhole blanks }
+    requires rows { M.rows ≡ [] }
+    requires room { M.room ≡ 100 }
+{
+    let table = PartitionTable::unknown_only();
+    let core = Core::new(alloc, Fixed::new(1)?, table, 100)?;
+    Ok(Book::new(Journal::new(alloc, core, 1_000_000)?, blanks))
+}
+
+/// The permit of an acquire that is admitted.
+fn admitted<M: Naming, R: Abort>(rt: &R, got: Got<M>) -> Permit<M> {
+    match got {
+        Got::Admitted(_receipt, permit) => permit,
+        Got::Bypassed(_receipt) => rt.abort(),
+        Got::Full(_receipt) => rt.abort(),
+        Got::BacklogFull(_receipt) => rt.abort(),
+        Got::Waiting(_receipt, _ticket) => rt.abort(),
+        Got::Exhausted(_spent) => rt.abort(),
+    }
+}
+
+/// The ticket of an acquire that waits.
+fn queued<M: Naming, R: Abort>(rt: &R, got: Got<M>) -> Ticket<M> {
+    match got {
+        Got::Waiting(_receipt, ticket) => ticket,
+        Got::Admitted(_receipt, _permit) => rt.abort(),
+        Got::Bypassed(_receipt) => rt.abort(),
+        Got::Full(_receipt) => rt.abort(),
+        Got::BacklogFull(_receipt) => rt.abort(),
+        Got::Exhausted(_spent) => rt.abort(),
+    }
+}
+
+#[test]
+fn one_waits_and_one_is_promoted(rt: HostRuntime) -> Result<(), Fail> {
+    by_one_pass::<Brand, _>(&rt, rt.alloc(), Blanks::new())
+}
+
+fn by_one_pass<M: Naming, R: Wait + Abort>(
+    rt: &R,
+    alloc: Global,
+    blanks: Blanks,
+) -> Result<(), Fail>
+    requires names { AreNamed M.calls M.place blanks }
+    requires parts { AreWhole blanks }
+    requires rows { M.rows ≡ [] }
+    requires room { M.room ≡ 100 }
+{
+    let mut book = single::<M>(alloc, blanks)?;
+    let mut pass = Pass::of(book.pass().ok_or("a pass")?);
+    book.seal();
+    let gate = SharedGate::new(book);
+    let unknown = Part::Unknown;
+    let permit = admitted(rt, gate.acquire(rt, &mut pass, unknown, false, false, 0));
+    let first = queued(rt, gate.acquire(rt, &mut pass, unknown, false, true, 1));
+    let second = queued(rt, gate.acquire(rt, &mut pass, unknown, false, true, 2));
+    let ended = gate.end(rt, &mut pass, permit, Outcome::Success, 5);
+    assert!(rt; ended.reply() == Reply::Ended { promoted: 1 });
+    let first = match gate.claim(rt, &mut pass, first) {
+        Claimed::StillWaiting(_receipt, ticket) => ticket,
+        Claimed::Granted(_receipt, _permit) => rt.abort(),
+        Claimed::Lost(_receipt) => rt.abort(),
+        Claimed::Exhausted(_spent, _ticket) => rt.abort(),
+    };
+    let permit = match gate.give_up(rt, &mut pass, second) {
+        GaveUp::Granted(_receipt, permit) => permit,
+        GaveUp::TimedOut(_receipt) => rt.abort(),
+        GaveUp::Lost(_receipt) => rt.abort(),
+        GaveUp::Exhausted(_spent) => rt.abort(),
+    };
+    match gate.give_up(rt, &mut pass, first) {
+        GaveUp::TimedOut(_receipt) => {}
+        GaveUp::Granted(_receipt, _permit) => rt.abort(),
+        GaveUp::Lost(_receipt) => rt.abort(),
+        GaveUp::Exhausted(_spent) => rt.abort(),
+    }
+    let ended = gate.end(rt, &mut pass, permit, Outcome::Ignored, 9);
+    assert!(rt; (ended.number(), pass.count()) == (8, 8));
+    let counters = gate.counters(rt);
+    assert!(rt; (counters.admitted, counters.promoted, counters.timed_out) == (1, 1, 1));
+    Ok(())
+}
+
+#[test]
+fn who_waits_gets_the_permit_that_another_ends(rt: HostRuntime) -> Result<(), Fail> {
+    by_two_threads::<Brand, _>(&rt, rt.alloc(), Blanks::new())
+}
+
+fn by_two_threads<M: Naming + Send + Sync, R: Threads + Wait + SystemClock + Abort + Sync>(
+    rt: &R,
+    alloc: Global,
+    blanks: Blanks,
+) -> Result<(), Fail>
+    requires names { AreNamed M.calls M.place blanks }
+    requires parts { AreWhole blanks }
+    requires rows { M.rows ≡ [] }
+    requires room { M.room ≡ 100 }
+{
+    let mut book = single::<M>(alloc, blanks)?;
+    let one = Pass::of(book.pass().ok_or("a pass")?);
+    let two = Pass::of(book.pass().ok_or("a pass")?);
+    book.seal();
+    let gate = SharedGate::new(book);
+    let (one, two) = join(rt, || holds(rt, &gate, one), || waits(rt, &gate, two));
+    assert!(rt; one.count() >= 2 && two.count() == 3);
+    Ok(())
+}
+
+/// Holds the only permit until somebody waits for it.
+fn holds<M: Naming, R: Wait + Abort>(
+    rt: &R,
+    gate: &SharedGate<Fixed, M>,
+    mut pass: Pass<M>,
+) -> Pass<M> {
+    let permit = admitted(
+        rt,
+        gate.acquire(rt, &mut pass, Part::Unknown, false, false, 0),
+    );
+    for _ in 0..900_000 {
+        let seen = gate
+            .look(rt, &mut pass, Part::Unknown)
+            .map(|receipt| receipt.reply());
+        if let Ok(Reply::Seen { waiting: 1, .. }) = seen {
+            break;
+        }
+    }
+    let _receipt = gate.end(rt, &mut pass, permit, Outcome::Success, 1);
+    pass
+}
+
+/// Waits for the permit, once it is held, by a clock that stands still.
+fn waits<M: Naming, R: Wait + SystemClock + Abort>(
+    rt: &R,
+    gate: &SharedGate<Fixed, M>,
+    mut pass: Pass<M>,
+) -> Pass<M> {
+    for _ in rt.forever() {
+        if gate.counters(rt).admitted == 1 {
+            break;
+        }
+    }
+    let far = 1 << 62;
+    match gate.acquire_wait(rt, &mut pass, Part::Unknown, 0, &Still {}, far) {
+        Waited::Promoted(_first, _second, permit) => {
+            let _receipt = gate.end(rt, &mut pass, permit, Outcome::Success, 2);
+        }
+        Waited::Admitted(_receipt, _permit) => rt.abort(),
+        Waited::TimedOut(_first, _second) => rt.abort(),
+        Waited::BacklogFull(_receipt) => rt.abort(),
+        Waited::Lost(_first, _second) => rt.abort(),
+        Waited::Exhausted(_spent) => rt.abort(),
+    }
+    pass
+}

@@ -1,0 +1,139 @@
+-- What the calls of a shared gate tell.
+use Rattle.std.specs.Prelude.{◌≡◌, ℕ, ◌+◌, ◌≤◌, ◌<◌, Bool, true, false, Result, Ok, Err}
+use Rattle.partitions.specs.declared.part.Part.{Part}
+use Rattle.limiter_core.specs.declared.event.Event.{Event}
+use Rattle.limiter_core.specs.declared.event.Event.TheVariants.{Acquire, End, Claim, GiveUp}
+use Rattle.limiter_core.specs.declared.event.Outcome.{Outcome}
+use Rattle.limiter_core.specs.declared.event.PermitFacts.{PermitFacts}
+use Rattle.limiter_core.specs.declared.event.Reply.TheVariants as reply
+use Rattle.gate_history.specs.declared.step.Handed.TheVariants as handed
+use Rattle.gate_history.specs.declared.step.Step.{Step}
+use Rattle.gate_history.specs.declared.step.Step.TheVariants as step
+use Rattle.gate_history.specs.Told.{Told, Refusal}
+use Rattle.shared_gate.specs.declared.answers.Got.{Got}
+use Rattle.shared_gate.specs.declared.answers.Got.TheVariants as got
+use Rattle.shared_gate.specs.declared.answers.Waited.{Waited}
+use Rattle.shared_gate.specs.declared.answers.Waited.TheVariants as waited
+use Rattle.shared_gate.specs.declared.answers.Claimed.{Claimed}
+use Rattle.shared_gate.specs.declared.answers.Claimed.TheVariants as claimed
+use Rattle.shared_gate.specs.declared.answers.GaveUp.{GaveUp}
+use Rattle.shared_gate.specs.declared.answers.GaveUp.TheVariants as gave_up
+use Rattle.shared_gate.specs.Answers.{Answers, HandsBack, IsOf, IsOwn, WasGranted}
+
+-- a pass: how many calls were made by it
+pub record Pass : Type 0 where
+  pub count : ℕ
+
+-- the receipt is of this event; the call is counted on the pass, and its number is no less than the
+-- pass's calls before it
+pub record IsTold (before after : ℕ) (e : Event) (receipt : Told) : Type 0 where
+  pub event : receipt.event ≡ e
+  pub counted : after ≡ before + 1
+  pub ahead : before ≤ receipt.number
+
+-- the refusal is of this event, and nothing is counted
+pub record IsUntold (before after : ℕ) (e : Event) (refusal : Refusal) : Type 0 where
+  pub event : refusal.event ≡ e
+  pub uncounted : after ≡ before
+
+-- a step, without what it did under the lock
+abbrev pub Tells : {M : Type 0} → ℕ → ℕ → Event → Step M → Type 0
+Tells before after e (step.Done told handed) =
+    IsTold before after e told × Answers told.number e told.reply handed
+Tells before after e (step.Exhausted refusal handed) =
+    IsUntold before after e refusal × HandsBack e handed
+
+-- the receipt of an acquire that waits
+abbrev pub IsQueued : ℕ → Part → ℕ → Told → Type 0
+IsQueued before part now receipt =
+    IsTold before (before + 1) (Acquire part false true now) receipt
+    × (receipt.reply ≡ reply.Waiting)
+
+-- an acquire
+abbrev pub Gets : {M : Type 0} → ℕ → ℕ → Part → Bool → Bool → ℕ → Got M → Type 0
+Gets before after part bypass wait now (got.Admitted receipt permit) =
+    IsTold before after (Acquire part bypass wait now) receipt
+    × IsOwn receipt.number (Acquire part bypass wait now) receipt.reply permit
+Gets before after part bypass wait now (got.Bypassed receipt) =
+    IsTold before after (Acquire part bypass wait now) receipt
+    × (receipt.reply ≡ reply.Bypassed) × (bypass ≡ true)
+Gets before after part bypass wait now (got.Full receipt) =
+    IsTold before after (Acquire part bypass wait now) receipt
+    × (receipt.reply ≡ reply.Full) × (wait ≡ false)
+Gets before after part bypass wait now (got.BacklogFull receipt) =
+    IsTold before after (Acquire part bypass wait now) receipt
+    × (receipt.reply ≡ reply.BacklogFull) × (wait ≡ true)
+Gets before after part bypass wait now (got.Waiting receipt ticket) =
+    IsTold before after (Acquire part bypass wait now) receipt
+    × (receipt.reply ≡ reply.Waiting) × (ticket ≡ receipt.number) × (wait ≡ true)
+Gets before after part bypass wait now (got.Exhausted spent) =
+    IsUntold before after (Acquire part bypass wait now) spent
+
+-- an acquire that may wait: an acquire with `wait`, and where that waits a giving up of its number
+abbrev pub Waits : {M : Type 0} → ℕ → ℕ → Part → ℕ → Waited M → Type 0
+Waits {M} before after part now (waited.Admitted receipt permit) =
+    Gets {M = M} before after part false true now (got.Admitted receipt permit)
+Waits {M} before after part now (waited.BacklogFull receipt) =
+    Gets {M = M} before after part false true now (got.BacklogFull receipt)
+Waits before after part now (waited.Exhausted spent) =
+    IsUntold before after (Acquire part false true now) spent
+Waits before after part now (waited.Promoted first second permit) =
+    IsQueued before part now first
+    × IsTold (before + 1) after (GiveUp first.number) second
+    × WasGranted second.number first.number second.reply permit
+Waits before after part now (waited.TimedOut first second) =
+    IsQueued before part now first
+    × IsTold (before + 1) after (GiveUp first.number) second
+    × (second.reply ≡ reply.TimedOut) × (first.number < second.number)
+Waits before after part now (waited.Lost first (Ok second)) =
+    IsQueued before part now first
+    × IsTold (before + 1) after (GiveUp first.number) second × (second.reply ≡ reply.Lost)
+Waits before after part now (waited.Lost first (Err spent)) =
+    IsQueued before part now first × IsUntold (before + 1) after (GiveUp first.number) spent
+
+-- an ending
+abbrev pub Ends : ℕ → ℕ → PermitFacts → Outcome → ℕ → Told → Type 0
+Ends before after permit outcome now receipt =
+    IsTold before after (End permit outcome now) receipt
+    × IsOf (End permit outcome now) receipt.reply
+
+-- a claim: its number is below the receipt's where it isn't lost
+abbrev pub Claims : {M : Type 0} → ℕ → ℕ → ℕ → Claimed M → Type 0
+Claims before after named (claimed.Granted receipt permit) =
+    IsTold before after (Claim named) receipt
+    × WasGranted receipt.number named receipt.reply permit
+Claims before after named (claimed.StillWaiting receipt ticket) =
+    IsTold before after (Claim named) receipt
+    × (receipt.reply ≡ reply.StillWaiting) × (ticket ≡ named) × (named < receipt.number)
+Claims before after named (claimed.Lost receipt) =
+    IsTold before after (Claim named) receipt × (receipt.reply ≡ reply.Lost)
+Claims before after named (claimed.Exhausted spent ticket) =
+    IsUntold before after (Claim named) spent × (ticket ≡ named)
+
+-- a giving up
+abbrev pub GivesUp : {M : Type 0} → ℕ → ℕ → ℕ → GaveUp M → Type 0
+GivesUp before after named (gave_up.Granted receipt permit) =
+    IsTold before after (GiveUp named) receipt
+    × WasGranted receipt.number named receipt.reply permit
+GivesUp before after named (gave_up.TimedOut receipt) =
+    IsTold before after (GiveUp named) receipt
+    × (receipt.reply ≡ reply.TimedOut) × (named < receipt.number)
+GivesUp before after named (gave_up.Lost receipt) =
+    IsTold before after (GiveUp named) receipt × (receipt.reply ≡ reply.Lost)
+GivesUp before after named (gave_up.Exhausted spent) =
+    IsUntold before after (GiveUp named) spent
+
+-- a setting, a reset or a look
+abbrev pub Changes : ℕ → ℕ → Event → Result Told Refusal → Type 0
+Changes before after e (Ok receipt) = IsTold before after e receipt × IsOf e receipt.reply
+Changes before after e (Err refusal) = IsUntold before after e refusal
+
+-- a step that hands nothing out or back, and what it tells
+abbrev pub HandsNothing : {M : Type 0} → Step M → Type 0
+HandsNothing (step.Done told handed.Nothing) = Unit {0}
+HandsNothing (step.Exhausted refusal handed.Nothing) = Unit {0}
+HandsNothing _ = ⊥
+
+abbrev pub plainly : {M : Type 0} → Step M → Result Told Refusal
+plainly (step.Done told handed) = Ok told
+plainly (step.Exhausted refusal handed) = Err refusal

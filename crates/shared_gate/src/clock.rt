@@ -1,0 +1,45 @@
+// Clocks.
+ghost use Rattle.std.specs.Prelude.{◌≤◌, ◌^◌};
+
+use limit_laws::LAST_MOMENT;
+use std::time::{Clock as SystemClock, Duration};
+
+/// A clock that counts nanoseconds. Nothing is promised of what it tells: it may stand still.
+pub trait Clock {
+    /// The moment now, in nanoseconds.
+    fn now(&self) -> u64;
+}
+
+/// The program's clock: nanoseconds since it was started, and 2^62 where the system's clock fails.
+#[derive(Drop)]
+pub struct ProgramClock<R: SystemClock> {
+    rt: R,
+    start: Option<Duration>,
+}
+
+impl<R: SystemClock> ProgramClock<R> {
+    /// A clock that starts now.
+    pub fn start(rt: R) -> ProgramClock<R> {
+        let start = rt.monotonic().ok();
+        ProgramClock { rt, start }
+    }
+
+    /// The nanoseconds since its start, at most 2^62.
+    fn elapsed(&self) -> u64
+        ensures { result ≤ 2 ^ 62 }
+    {
+        match (self.start, self.rt.monotonic()) {
+            (Some(start), Ok(now)) => {
+                let nanos = now.saturating_sub(start).as_nanos();
+                nanos.min(LAST_MOMENT as u128) as u64
+            }
+            _ => LAST_MOMENT,
+        }
+    }
+}
+
+impl<R: SystemClock> Clock for ProgramClock<R> {
+    fn now(&self) -> u64 {
+        self.elapsed()
+    }
+}

@@ -1,0 +1,273 @@
+// A gate that threads share.
+ghost use Rattle.std.specs.Prelude.{◌≡◌, true};
+ghost use Rattle.limiter_core.specs.declared.event.Event.TheVariants.{SetLimit, Reset, Look};
+ghost use Rattle.gate_history.specs.Handing.{IsChange};
+ghost use Rattle.gate_history.specs.Steps.{event_of};
+ghost use Rattle.shared_gate.specs.Calls.{Tells, Gets, Waits, Claims, GivesUp, Ends, Changes};
+ghost use Rattle.shared_gate.specs.Calls.{HandsNothing, plainly};
+
+use crate::answers::{Claimed, GaveUp, Got, Waited};
+use crate::clock::Clock;
+use crate::pass::Pass;
+use crate::sealed::Sealed;
+use gate_history::{Book, Call, Handed, Naming, Permit, Receipt, Spent, Step, Ticket};
+use limit_laws::Limit;
+use limiter_core::{Counters, Outcome, Reply};
+use partitions::Part;
+use std::sync::{Condvar, Mutex, Wait};
+use std::time::{Clock as SystemClock, Duration};
+
+/// A gate that threads share. A call that takes the lock keeps its promise if it returns. Every
+/// moment is in nanoseconds; one above 2^62 is taken as 2^62.
+#[derive(Drop)]
+pub struct SharedGate<L: Limit, M: Naming> {
+    book: Mutex<Sealed<L, M>>,
+    freed: Condvar,
+}
+
+impl<L: Limit, M: Naming> SharedGate<L, M> {
+    /// A gate over a sealed book, whose passes are all made.
+    pub fn new(book: Book<L, M>) -> SharedGate<L, M>
+        requires { book.is_sealed ≡ true }
+    {
+        SharedGate {
+            book: Mutex::new(Sealed { book }),
+            freed: Condvar::new(),
+        }
+    }
+
+    /// One step of the book under the lock.
+    fn step(&self, rt: &impl Wait, pass: &mut Pass<M>, call: Call<M>) -> Step<M>
+        ensures { Tells pass.old.count pass.new.count (event_of call) result }
+    {
+        self.book.lock(rt).step(pass, call)
+    }
+
+    /// How many replies, promotions and outcomes of each kind there were so far.
+    pub fn counters(&self, rt: &impl Wait) -> Counters {
+        self.book.lock(rt).book.journal().core().counters()
+    }
+
+    /// Asks for a permit, or with `wait` for a place in line.
+    pub fn acquire(
+        &self,
+        rt: &impl Wait,
+        pass: &mut Pass<M>,
+        part: Part,
+        bypass: bool,
+        wait: bool,
+        now: u64,
+    ) -> Got<M>
+        ensures { Gets pass.old.count pass.new.count part bypass wait now result }
+    {
+        let call = Call::Acquire {
+            part,
+            bypass,
+            wait,
+            now,
+        };
+        match self.step(rt, pass, call) {
+            Step::Done(receipt, handed) => match handed {
+                Handed::Permit(permit) => Got::Admitted(receipt, permit),
+                Handed::Ticket(ticket) => Got::Waiting(receipt, ticket),
+                Handed::Nothing => match receipt.reply() {
+                    Reply::Bypassed => Got::Bypassed(receipt),
+                    Reply::Full => Got::Full(receipt),
+                    Reply::BacklogFull => Got::BacklogFull(receipt),
+                    _ => unreachable!(),
+                },
+            },
+            Step::Exhausted(spent, handed) => match handed {
+                Handed::Nothing => Got::Exhausted(spent),
+                Handed::Permit(_permit) => unreachable!(),
+                Handed::Ticket(_ticket) => unreachable!(),
+            },
+        }
+    }
+
+    /// Asks for a permit, and where there is no room waits for one until the clock reaches the
+    /// deadline: one step, and where that waits one giving up, once its permit lies granted or the
+    /// deadline has come. It looks at the clock at least every 100 ms.
+    pub fn acquire_wait<R: Wait + SystemClock, C: Clock>(
+        &self,
+        rt: &R,
+        pass: &mut Pass<M>,
+        part: Part,
+        now: u64,
+        clock: &C,
+        deadline: u64,
+    ) -> Waited<M>
+        ensures { Waits pass.old.count pass.new.count part now result }
+    {
+        match self.acquire(rt, pass, part, false, true, now) {
+            Got::Admitted(receipt, permit) => Waited::Admitted(receipt, permit),
+            Got::Bypassed(_receipt) => unreachable!(),
+            Got::Full(_receipt) => unreachable!(),
+            Got::BacklogFull(receipt) => Waited::BacklogFull(receipt),
+            Got::Exhausted(spent) => Waited::Exhausted(spent),
+            Got::Waiting(receipt, ticket) => {
+                self.wait_for(rt, ticket.number(), clock, deadline);
+                match self.give_up(rt, pass, ticket) {
+                    GaveUp::Granted(second, permit) => Waited::Promoted(receipt, second, permit),
+                    GaveUp::TimedOut(second) => Waited::TimedOut(receipt, second),
+                    GaveUp::Lost(second) => Waited::Lost(receipt, Ok(second)),
+                    GaveUp::Exhausted(spent) => Waited::Lost(receipt, Err(spent)),
+                }
+            }
+        }
+    }
+
+    /// Waits until a permit of this number lies granted, or the clock has reached the deadline.
+    fn wait_for<R: Wait + SystemClock, C: Clock>(
+        &self,
+        rt: &R,
+        number: u64,
+        clock: &C,
+        deadline: u64,
+    ) {
+        let mut locked = self.book.lock(rt);
+        for _ in rt.forever() {
+            if locked.book.journal().core().is_granted(number) || clock.now() >= deadline {
+                return;
+            }
+            let longest = Duration::from_millis(100);
+            locked = self.freed.wait_timeout(rt, locked, longest).0;
+        }
+    }
+
+    /// Ends a permit, and wakes all who wait.
+    pub fn end(
+        &self,
+        rt: &impl Wait,
+        pass: &mut Pass<M>,
+        permit: Permit<M>,
+        outcome: Outcome,
+        now: u64,
+    ) -> Receipt<M>
+        ensures { Ends pass.old.count pass.new.count permit outcome now result }
+    {
+        let call = Call::End {
+            permit,
+            outcome,
+            now,
+        };
+        let step = self.step(rt, pass, call);
+        self.freed.notify_all();
+        match step {
+            Step::Done(receipt, handed) => match handed {
+                Handed::Nothing => receipt,
+                Handed::Permit(_permit) => unreachable!(),
+                Handed::Ticket(_ticket) => unreachable!(),
+            },
+            Step::Exhausted(_spent, _handed) => unreachable!(),
+        }
+    }
+
+    /// Asks for the permit of a waiter.
+    pub fn claim(&self, rt: &impl Wait, pass: &mut Pass<M>, ticket: Ticket<M>) -> Claimed<M>
+        ensures { Claims pass.old.count pass.new.count ticket result }
+    {
+        match self.step(rt, pass, Call::Claim { ticket }) {
+            Step::Done(receipt, handed) => match handed {
+                Handed::Permit(permit) => Claimed::Granted(receipt, permit),
+                Handed::Ticket(ticket) => Claimed::StillWaiting(receipt, ticket),
+                Handed::Nothing => Claimed::Lost(receipt),
+            },
+            Step::Exhausted(spent, handed) => match handed {
+                Handed::Ticket(ticket) => Claimed::Exhausted(spent, ticket),
+                Handed::Nothing => unreachable!(),
+                Handed::Permit(_permit) => unreachable!(),
+            },
+        }
+    }
+
+    /// Ends the wait of a waiter; a permit that it was given meanwhile is the caller's.
+    pub fn give_up(&self, rt: &impl Wait, pass: &mut Pass<M>, ticket: Ticket<M>) -> GaveUp<M>
+        ensures { GivesUp pass.old.count pass.new.count ticket result }
+    {
+        match self.step(rt, pass, Call::GiveUp { ticket }) {
+            Step::Done(receipt, handed) => match handed {
+                Handed::Permit(permit) => GaveUp::Granted(receipt, permit),
+                Handed::Ticket(_ticket) => unreachable!(),
+                Handed::Nothing => match receipt.reply() {
+                    Reply::TimedOut => GaveUp::TimedOut(receipt),
+                    _ => GaveUp::Lost(receipt),
+                },
+            },
+            Step::Exhausted(spent, handed) => match handed {
+                Handed::Nothing => GaveUp::Exhausted(spent),
+                Handed::Permit(_permit) => unreachable!(),
+                Handed::Ticket(_ticket) => unreachable!(),
+            },
+        }
+    }
+
+    /// Sets the limit by hand.
+    pub fn set_limit(
+        &self,
+        rt: &impl Wait,
+        pass: &mut Pass<M>,
+        n: u32,
+        now: u64,
+    ) -> Result<Receipt<M>, Spent<M>>
+        ensures { Changes pass.old.count pass.new.count (SetLimit n now) result }
+    {
+        self.change(rt, pass, Call::SetLimit { n, now })
+    }
+
+    /// Puts the algorithm back into its first state; what is in flight and who waits stay.
+    pub fn reset(
+        &self,
+        rt: &impl Wait,
+        pass: &mut Pass<M>,
+        now: u64,
+    ) -> Result<Receipt<M>, Spent<M>>
+        ensures { Changes pass.old.count pass.new.count (Reset now) result }
+    {
+        self.change(rt, pass, Call::Reset { now })
+    }
+
+    /// Shows what stands.
+    pub fn look(
+        &self,
+        rt: &impl Wait,
+        pass: &mut Pass<M>,
+        part: Part,
+    ) -> Result<Receipt<M>, Spent<M>>
+        ensures { Changes pass.old.count pass.new.count (Look part) result }
+    {
+        self.change(rt, pass, Call::Look { part })
+    }
+
+    /// A call that hands nothing out.
+    fn change(
+        &self,
+        rt: &impl Wait,
+        pass: &mut Pass<M>,
+        call: Call<M>,
+    ) -> Result<Receipt<M>, Spent<M>>
+        requires { IsChange (event_of call) }
+        ensures { Changes pass.old.count pass.new.count (event_of call) result }
+    {
+        plain(self.step(rt, pass, call))
+    }
+}
+
+/// What a step tells that hands nothing out.
+fn plain<M: Naming>(step: Step<M>) -> Result<Receipt<M>, Spent<M>>
+    requires { HandsNothing step }
+    ensures { result ≡ plainly step }
+{
+    match step {
+        Step::Done(receipt, handed) => match handed {
+            Handed::Nothing => Ok(receipt),
+            Handed::Permit(_permit) => unreachable!(),
+            Handed::Ticket(_ticket) => unreachable!(),
+        },
+        Step::Exhausted(spent, handed) => match handed {
+            Handed::Nothing => Err(spent),
+            Handed::Permit(_permit) => unreachable!(),
+            Handed::Ticket(_ticket) => unreachable!(),
+        },
+    }
+}
