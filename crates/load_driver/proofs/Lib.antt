@@ -1,6 +1,3 @@
-pub mod Parts
-pub mod Digits
-pub mod Journals
 pub mod Sessions
 pub mod Named
 pub mod Openings

@@ -1,80 +1,102 @@
 -- A session after one answer more.
-use Rattle.std.proofs.Common.{◌≡◌, ℕ, ◌+◌, List, [], ◌∷◌, ◌++◌, drop, Option, Some, length, slice_get, unwrap_or, nat_eq, sym, ap, ◌∙◌, subst, arith}
+use Rattle.std.proofs.Common.{◌≡◌, ℕ, zero, suc, List, [], ◌∷◌, ◌++◌, drop, Option, Some, slice_get}
+use Rattle.std.proofs.Common.{slice_index, unwrap_or, nat_eq, refl, sym, ap, ◌∙◌, subst}
 use Rattle.std.specs.HashMap.{get}
 use Rattle.std.specs.Map.{lookup}
-use Rattle.limit_laws.specs.Algorithm.{Algorithm, IsLawful}
+use Rattle.limit_laws.specs.Algorithm.{Algorithm}
+use Rattle.partitions.specs.Table.{Row}
 use Rattle.limiter_core.specs.declared.event.PermitFacts.{PermitFacts}
 use Rattle.limiter_core.specs.declared.event.Event.{Event}
 use Rattle.limiter_core.specs.declared.event.Reply.{Reply}
 use Rattle.limiter_core.specs.declared.event.Entry.{Entry}
 use Rattle.limiter_core.specs.declared.event.Entry.TheVariants.{Call}
-use Rattle.limiter_core.specs.Answer.{answer}
+use Rattle.limiter_core.specs.History.{Gate, Image, empty_image}
 use Rattle.limiter_core.specs.Bound.{IsSound}
-use Rattle.limiter_core.specs.Legal.{nothing, more, MayCome}
+use Rattle.limiter_core.specs.Legal.{IsLegal, MayCome}
+use Rattle.limiter_core.specs.Limiter.{Limiter, unasked, stands}
 use Rattle.limiter_core.specs.Open.{open_permit}
-use Rattle.limiter_core.specs.Handed.{NamesOpen, open_after}
-use Rattle.limiter_core.specs.History.{Gate}
-use Rattle.limiter_core.specs.Laws.{StandsStill, AnswersSoundly, MayEndOpen}
-use Rattle.limiter_core.specs.Laws.{BeginsHanded, AnswersHanded, OpensByItsCall}
-use Rattle.load_driver.specs.Journal.{Journal, gate, opening, image}
+use Rattle.limiter_core.specs.Handed.{IsHanded, NamesOpen, open_after}
+use Rattle.limiter_core.specs.Laws.{MayEndOpen, BeginsHanded, AnswersHanded, OpensByItsCall}
+use Rattle.gate_journal.specs.Journal.{Journal, gate, opening, image, next_number}
+use Rattle.gate_journal.specs.Journal.{answered, with_answer, opened}
 use Rattle.load_driver.specs.Session.{Permits, IsSession}
 
--- the laws of histories that a session stands on
-pub record SessionLaws (S : Type 0) : Type 0 where
-  pub may_end : (g : Gate S) → MayEndOpen g
-  pub sound : (g : Gate S) → AnswersSoundly g
-  pub handed : (g : Gate S) → AnswersHanded g
-  pub opened : (g : Gate S) → OpensByItsCall g
+-- j: the journal of a session, v: the same as contracts see the session
+module _ {S : Type 0} (rules : Algorithm S) (j v : Journal S) (is : j ≡ v) (permits : Permits)
+    (held : IsSession rules j permits) (e : Event)
+    (named : NamesOpen (opening v) v.entries e) where
+  named_in : NamesOpen (opening j) j.entries e
+  named_in = subst (λ (w : Journal S). NamesOpen (opening w) w.entries e) (sym is) named
 
-module _ {S : Type 0} (known : SessionLaws S) (laws : Algorithm S) (lawful : IsLawful laws) (j : Journal S)
-    (permits : Permits) (held : IsSession laws j permits) (e : Event) (named : NamesOpen (opening j) j.entries e) where
-  pub session_may : MayCome (gate laws j) (image laws j) e
-  session_may = known.may_end (gate laws j) (opening j) j.entries e held.handed named
+  pub may : ((g : Gate S) → MayEndOpen g) → MayCome (gate rules j) (image rules j) e
+  may ends = ends (gate rules j) (opening j) j.entries e held.handed named_in
 
-  abbrev told : List Entry
-  told = answer (gate laws j) (opening j) j.entries e
-
-  answered : (after : Permits) → ((q : ℕ) → get nat_eq after q ≡ open_permit 0 (j.entries ++ told) q)
-      → IsSession laws (record j { entries = j.entries ++ told }) after
-  answered after found = record {
-    legal = more j.entries e held.legal session_may;
-    sound = known.sound (gate laws j) (opening j) j.entries e lawful held.legal held.sound session_may;
-    handed = known.handed (gate laws j) (opening j) j.entries e held.legal held.sound held.handed named;
-    found = found;
-  }
-
-  pub session_more : (between after : Permits) (number : ℕ) (r : Reply) (next : Journal S)
-      → number ≡ length j.entries → slice_get told 0 ≡ Some (Call e r)
-      → next ≡ record j { entries = j.entries ++ told }
+  -- the permits of the answer's call are noted by its number
+  pub goes_on : IsLegal (gate rules j) (opening j) j.entries
+      → IsSound (gate rules j) (image rules j)
+      → ((g : Gate S) → AnswersHanded g) → ((g : Gate S) → OpensByItsCall g)
+      → (between after : Permits) (number : ℕ) (r : Reply) (next : Journal S)
+      → number ≡ next_number j → Some (Call e r) ≡ slice_get (answered rules j e) 0
+      → next ≡ with_answer rules j e
       → ((q : ℕ) → get nat_eq between q ≡ get nat_eq permits q)
       → ((q : ℕ) → get nat_eq after q ≡ open_after (get nat_eq between) number (Call e r) q)
-      → IsSession laws next after
-  session_more between after number r next here replied moved same noted =
-      let before : get nat_eq between ≡ open_permit 0 j.entries = λ k q. (same q ∙ held.found q) k in
-      let place : number ≡ 0 + length j.entries = here ∙ omega arith in
-      let called : told ≡ Call e r ∷ drop 1 told
-      = ap (λ (o : Option Entry). unwrap_or o (Call e r) ∷ drop 1 told) replied in
-      let step : (q : ℕ) → get nat_eq after q ≡ open_permit 0 (j.entries ++ told) q
-      = λ q.
-      noted q ∙ (λ k. open_after (before k) (place k) (Call e r) q)
-      ∙ sym (known.opened (gate laws j) (opening j) j.entries e r (drop 1 told) held.handed called q) in
-      subst (λ (k : Journal S). IsSession laws k after) (sym moved) (answered after step)
+      → IsSession rules next after
+  goes_on legal sound handed opens between after number r next here replied moved same noted =
+      let told : List Entry = answered rules j e in
+      let before : get nat_eq between ≡ open_permit j.opening.next j.entries =
+      λ k q. (same q ∙ held.found q) k in
+      let called : told ≡ Call e r ∷ drop 1 told =
+      ap (λ (o : Option Entry). unwrap_or o (Call e r) ∷ drop 1 told) (sym replied) in
+      let opened_by : (q : ℕ) → open_permit j.opening.next (j.entries ++ told) q
+      ≡ open_after (open_permit j.opening.next j.entries) (next_number j) (Call e r) q =
+      opens (gate rules j) (opening j) j.entries e r (drop 1 told) held.handed called in
+      let made : IsSession rules (with_answer rules j e) after = record {
+        begins = held.begins;
+        handed = handed (gate rules j) (opening j) j.entries e legal sound held.handed named_in;
+        found = λ q.
+            noted q ∙ (λ k. open_after (before k) (here k) (Call e r) q) ∙ sym (opened_by q);
+      } in
+      subst (λ (w : Journal S). IsSession rules w after) (sym moved) made
 
 -- a session in which nothing was answered, with its permits in another order
-pub session_same : {S : Type 0} (laws : Algorithm S) (j : Journal S) (permits after : Permits) (next : Journal S) → IsSession laws j permits → next ≡ j → ((q : ℕ) → get nat_eq after q ≡ get nat_eq permits q) → IsSession laws next after
-session_same {S} laws j permits after next held path same =
-    subst (λ (k : Journal S). IsSession laws k after) (sym path) (record { legal = held.legal; sound = held.sound; handed = held.handed; found = λ q. same q ∙ held.found q })
+pub stays : {S : Type 0} (rules : Algorithm S) (j : Journal S) (permits after : Permits)
+    (next : Journal S) → IsSession rules j permits → next ≡ j
+    → ((q : ℕ) → get nat_eq after q ≡ get nat_eq permits q) → IsSession rules next after
+stays {S} rules j permits after next held path same =
+    let made : IsSession rules j after = record {
+      begins = held.begins;
+      handed = held.handed;
+      found = λ q. same q ∙ held.found q;
+    } in
+    subst (λ (w : Journal S). IsSession rules w after) (sym path) made
 
--- a session in which nothing was asked yet
-pub session_begins : {S : Type 0}
-    → ((g : Gate S) → StandsStill g) → ((g : Gate S) → BeginsHanded g) → (laws : Algorithm S) (j : Journal S) (permits : Permits) → j.entries ≡ [] → IsSound (gate laws j) (opening j) → permits.entries ≡ [] → IsSession laws j permits
-session_begins still begun_handed laws j permits none sound empty =
-    let begun : Journal _ = record j { entries = [] } in
-    let path : begun ≡ j = λ k. record j { entries = sym none k } in
-    let session : IsSession laws begun permits = record {
-      legal = nothing;
-      sound = subst (IsSound (gate laws j)) (sym (still (gate laws j) (opening j))) sound;
-      handed = begun_handed (gate laws j) j.first;
+zeros : (p : ℕ) → slice_index (0 ∷ 0 ∷ 0 ∷ 0 ∷ 0 ∷ []) p ≡ 0
+zeros zero = refl
+zeros (suc zero) = refl
+zeros (suc (suc zero)) = refl
+zeros (suc (suc (suc zero))) = refl
+zeros (suc (suc (suc (suc zero)))) = refl
+zeros (suc (suc (suc (suc (suc p))))) = refl
+
+-- nothing stands in a limiter that was asked nothing yet
+nothing_stands : {S : Type 0} (rows : List Row) (room : ℕ) (limit : S)
+    → empty_image limit ≡ stands (unasked rows room limit)
+nothing_stands rows room limit =
+    λ k. record (empty_image limit) { inflight = λ p. sym (zeros p) k }
+
+-- a session over such a limiter
+pub begins : {S : Type 0} (rules : Algorithm S) (rows : List Row) (room : ℕ) (limit : S)
+    (core : Limiter S) (kept : ℕ) (j : Journal S) (permits : Permits)
+    → ((g : Gate S) → BeginsHanded g)
+    → core ≡ unasked rows room limit → j ≡ opened core kept → permits.entries ≡ []
+    → IsSession rules j permits
+begins {S} rules rows room limit core kept j permits handed fresh made empty =
+    let begun : Journal S = opened (unasked rows room limit) kept in
+    let session : IsSession rules begun permits = record {
+      begins = refl;
+      handed = subst (λ (i : Image S). IsHanded (gate rules begun) i [])
+          (nothing_stands rows room limit) (handed (gate rules begun) limit);
       found = λ n. ap (λ (es : List (ℕ × PermitFacts)). lookup (λ m. nat_eq n m) es) empty;
     } in
-    subst (λ (v : Journal _). IsSession laws v permits) path session
+    let path : j ≡ begun = made ∙ ap (λ (c : Limiter S). opened c kept) fresh in
+    subst (λ (w : Journal S). IsSession rules w permits) (sym path) session

@@ -1,14 +1,11 @@
 -- Faults of the drivers, and their texts.
-use Rattle.std.specs.Prelude.{◌≡◌, ℕ, ◌≤◌, List, [], ◌∷◌, length, codes, Option, Result, Ok, Err}
-use Rattle.std.specs.List.{concat}
-use Rattle.std.specs.Fmt.{decimal}
+use Rattle.std.specs.Prelude.{◌≡◌, ℕ, ◌≤◌, List, length, codes, Option, Result, Ok, Err}
 use Rattle.counted_io.specs.declared.reading.ReadFault.{ReadFault}
 use Rattle.counted_io.specs.declared.reading.ReadFault.TheVariants as reading
-use Rattle.load_driver.specs.declared.script.Why.{Why}
-use Rattle.load_driver.specs.declared.script.Why.TheVariants.{Words, Late, Twice, Value, Class}
+use Rattle.script.specs.declared.line_fault.LineFault.{LineFault}
+use Rattle.script.specs.Faults.{line_fault_text}
 use Rattle.load_driver.specs.declared.driver.DriverFault.{DriverFault}
 use Rattle.load_driver.specs.declared.driver.DriverFault.TheVariants.{Memory, Read, TooLarge, Line, Write}
-use Rattle.load_driver.specs.declared.answers.LineFault.{LineFault}
 use Rattle.load_driver.specs.Limits.{most_script, kept_entries}
 use Rattle.load_driver.specs.Opening.{replay_text}
 
@@ -39,19 +36,10 @@ told_of_read reading.Memory = Memory
 told_of_read reading.Read = Read
 told_of_read reading.TooLarge = TooLarge
 
--- the word for what is wrong with a line
-abbrev pub why_text : Why → List ℕ
-why_text Words = codes "words"
-why_text Late = codes "late"
-why_text Twice = codes "twice"
-why_text Value = codes "value"
-why_text Class = codes "class"
-
 -- the text of a fault
 abbrev pub fault_text : DriverFault → List ℕ
 fault_text Memory = codes "memory"
 fault_text Read = codes "read"
 fault_text TooLarge = codes "too large"
-fault_text (Line fault) =
-    concat (codes "line " ∷ decimal fault.line ∷ codes ": " ∷ why_text fault.why ∷ [])
+fault_text (Line fault) = line_fault_text fault
 fault_text Write = codes "write"

@@ -9,10 +9,6 @@ most_script = 16777216
 abbrev pub most_reads : ℕ
 most_reads = 33554432
 
--- how many entries of a script's history are kept
+-- how many entries of a script's history are kept where no line says it
 abbrev pub kept_entries : ℕ
 kept_entries = 100000
-
--- the most entries that a history may be asked to keep
-abbrev pub most_kept : ℕ
-most_kept = 1000000

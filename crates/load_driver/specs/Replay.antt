@@ -1,19 +1,28 @@
 -- The text of a script once its settings are over: line by line, each answered after all entries so
 -- far.
-use Rattle.std.specs.Prelude.{ℕ, ◌+◌, List, [], ◌∷◌, ◌++◌, length, codes, Option, None, Some, option_map, Ok, Err, is_ok, if◌then◌else◌}
+use Rattle.std.specs.Prelude.{ℕ, ◌+◌, true, false, List, [], ◌∷◌, ◌++◌, bytes_eq, codes, Option, None, Some, ok_or, Result, Ok, Err, if◌then◌else◌}
 use Rattle.limit_laws.specs.Algorithm.{Algorithm}
-use Rattle.partitions.specs.Table.{Row}
+use Rattle.partitions.specs.declared.part.Part.{Part}
+use Rattle.partitions.specs.declared.part.Part.TheVariants.{Unknown}
+use Rattle.partitions.specs.Table.{Row, find_part}
+use Rattle.limiter_core.specs.declared.event.Outcome.{Outcome}
+use Rattle.limiter_core.specs.declared.event.PermitFacts.{PermitFacts}
 use Rattle.limiter_core.specs.declared.event.Event.{Event}
 use Rattle.limiter_core.specs.declared.event.Event.TheVariants as event
 use Rattle.limiter_core.specs.declared.event.Entry.{Entry}
 use Rattle.limiter_core.specs.Open.{open_permit}
-use Rattle.load_driver.specs.declared.script.Request.{Request}
-use Rattle.load_driver.specs.declared.script.Request.TheVariants.{Acquire, End, Claim, GiveUp, SetLimit, Reset, Look}
-use Rattle.load_driver.specs.declared.answers.LineFault.{LineFault}
-use Rattle.load_driver.specs.Words.{words}
-use Rattle.load_driver.specs.Script.{Asked, request_of}
+use Rattle.gate_journal.specs.Journal.{Journal, next_number, is_over, answered}
+use Rattle.script.specs.declared.why.Why.{Why}
+use Rattle.script.specs.declared.why.Why.TheVariants.{Late, Class}
+use Rattle.script.specs.declared.line_fault.LineFault.{LineFault}
+use Rattle.script.specs.declared.line.Line.TheVariants as line
+use Rattle.script.specs.declared.request.Request.{Request}
+use Rattle.script.specs.declared.request.Request.TheVariants.{Acquire, Bypass, End, Claim, GiveUp, SetLimit, Reset, Look}
+use Rattle.script.specs.Words.{words, result_map}
+use Rattle.script.specs.Line.{Said, line_of}
+use Rattle.load_driver.specs.declared.asked.Asked.{Asked}
+use Rattle.load_driver.specs.declared.asked.Asked.TheVariants as asked
 use Rattle.load_driver.specs.Text.{entry_text}
-use Rattle.load_driver.specs.Journal.{Journal, is_over, answered}
 
 -- what a script is answered: a text, and the line at fault that ended it, if one did
 pub record Told : Type 0 where
@@ -29,54 +38,79 @@ abbrev pub entries_text : List Row → ℕ → List Entry → List ℕ
 entries_text rows number [] = []
 entries_text rows number (e ∷ es) = entry_text rows number e ++ entries_text rows (number + 1) es
 
--- the event of a request: an ending is one only where its number names an open permit
-abbrev pub event_of : List Entry → Request → Option Event
-event_of entries (Acquire part bypass wait now) = Some (event.Acquire part bypass wait now)
-event_of entries (End number outcome now) =
-    option_map (λ permit. event.End permit outcome now) (open_permit 0 entries number)
-event_of entries (Claim number) = Some (event.Claim number)
-event_of entries (GiveUp number) = Some (event.GiveUp number)
-event_of entries (SetLimit n now) = Some (event.SetLimit n now)
-event_of entries (Reset now) = Some (event.Reset now)
-event_of entries (Look part) = Some (event.Look part)
+-- the part of a class: `unknown`, or a name of the table
+abbrev pub part_of : List Row → List ℕ → Option Part
+part_of rows class = if bytes_eq class (codes "unknown") then Some Unknown else find_part rows class
+
+-- what a line asks, or why it is at fault
+abbrev pub Asks : Type 0
+Asks = Result Asked Why
+
+-- what is asked about the part of a class
+abbrev pub about : List Row → List ℕ → (Part → Event) → Asks
+about rows class make =
+    result_map (λ part. asked.Event (make part)) (ok_or (part_of rows class) Class)
+
+-- an ending is an event only where its number names an open permit
+abbrev pub ending_of : Option PermitFacts → Outcome → ℕ → Asked
+ending_of None outcome now = asked.NotOpen
+ending_of (Some permit) outcome now = asked.Event (event.End permit outcome now)
+
+-- what a request asks
+abbrev pub request_asks : {S : Type 0} → Journal S → Request (List ℕ) → Asks
+request_asks j (Acquire class wait now) =
+    about j.rows class (λ part. event.Acquire part false wait now)
+request_asks j (Bypass now) =
+    Ok (asked.Event (event.Acquire Unknown true false now))
+request_asks j (End number outcome now) =
+    Ok (ending_of (open_permit j.opening.next j.entries number) outcome now)
+request_asks j (Claim number) = Ok (asked.Event (event.Claim number))
+request_asks j (GiveUp number) = Ok (asked.Event (event.GiveUp number))
+request_asks j (SetLimit n now) = Ok (asked.Event (event.SetLimit n now))
+request_asks j (Reset now) = Ok (asked.Event (event.Reset now))
+request_asks j (Look class) = about j.rows class event.Look
+
+-- what a line asks by what it says: a setting comes too late here
+abbrev pub line_asks : {S : Type 0} → Journal S → Said → Asks
+line_asks j (Ok None) = Ok asked.Nothing
+line_asks j (Ok (Some (line.Setting setting))) = Err Late
+line_asks j (Ok (Some (line.Request request))) = request_asks j request
+line_asks j (Err why) = Err why
+
+-- a fact of the event that is asked, if one is
+abbrev pub IfEvent : Asked → (Event → Type 0) → Type 0
+IfEvent asked.Nothing P = Unit {0}
+IfEvent asked.NotOpen P = Unit {0}
+IfEvent (asked.Event e) P = P e
 
 -- the entries that an event adds to a journal: none where it is exhausted
 abbrev pub added : {S : Type 0} → Algorithm S → Journal S → Event → List Entry
 added rules j e = if is_over rules j e then [] else answered rules j e
 
--- the journal after an event, if there is one
-abbrev pub after_event : {S : Type 0} → Algorithm S → Journal S → Option Event → Journal S
-after_event rules j None = j
-after_event rules j (Some e) = record j { entries = j.entries ++ added rules j e }
+-- the journal after what is asked
+abbrev pub after_asked : {S : Type 0} → Algorithm S → Journal S → Asked → Journal S
+after_asked rules j asked.Nothing = j
+after_asked rules j asked.NotOpen = j
+after_asked rules j (asked.Event e) = record j { entries = j.entries ++ added rules j e }
 
--- what is written of an event, and where there is none
-abbrev pub event_text : {S : Type 0} → Algorithm S → Journal S → Option Event → List ℕ
-event_text rules j None = codes "- not open\n"
-event_text rules j (Some e) =
+-- what is written of it
+abbrev pub asked_text : {S : Type 0} → Algorithm S → Journal S → Asked → List ℕ
+asked_text rules j asked.Nothing = []
+asked_text rules j asked.NotOpen = codes "- not open\n"
+asked_text rules j (asked.Event e) =
     if is_over rules j e then codes "- exhausted\n"
-    else entries_text j.rows (length j.entries) (answered rules j e)
+    else entries_text j.rows (next_number j) (answered rules j e)
 
--- the same of what a line asks
-abbrev pub line_journal : {S : Type 0} → Algorithm S → Journal S → Asked → Journal S
-line_journal rules j (Ok (Some request)) = after_event rules j (event_of j.entries request)
-line_journal rules j (Ok None) = j
-line_journal rules j (Err why) = j
-
-abbrev pub line_text : {S : Type 0} → Algorithm S → Journal S → Asked → List ℕ
-line_text rules j (Ok (Some request)) = event_text rules j (event_of j.entries request)
-line_text rules j (Ok None) = []
-line_text rules j (Err why) = []
-
-abbrev pub line_fault : ℕ → Asked → Option LineFault
-line_fault number (Ok asked) = None
-line_fault number (Err why) = Some (record { line = number; why = why })
+-- by what a line asks: the text of it and of the lines after it, or its fault
+abbrev pub by_asks : {S : Type 0} → Algorithm S → Journal S → ℕ → Asks → (Journal S → Told) → Told
+by_asks rules j number (Ok a) after =
+    after_text (asked_text rules j a) (after (after_asked rules j a))
+by_asks rules j number (Err why) after =
+    record { out = []; fault = Some (record { line = number; why = why }) }
 
 -- THE TEXT of these lines, the first of which has this number: a line at fault ends it
 abbrev pub lines_text : {S : Type 0} → Algorithm S → Journal S → ℕ → List (List ℕ) → Told
 lines_text rules j number [] = record { out = []; fault = None }
 lines_text rules j number (line ∷ rest) =
-    let asked = request_of j.rows (words line) in
-    if is_ok asked then
-    after_text (line_text rules j asked)
-    (lines_text rules (line_journal rules j asked) (number + 1) rest)
-    else record { out = []; fault = line_fault number asked }
+    by_asks rules j number (line_asks j (line_of (words line)))
+    (λ after. lines_text rules after (number + 1) rest)

@@ -5,21 +5,18 @@ use Rattle.std.specs.declared.hash.FoldHasher.{FoldHasher}
 use Rattle.std.specs.declared.hash.BuildHasherDefault.{BuildHasherDefault}
 use Rattle.limit_laws.specs.Algorithm.{Algorithm}
 use Rattle.limiter_core.specs.declared.event.PermitFacts.{PermitFacts}
-use Rattle.limiter_core.specs.Legal.{IsLegal}
 use Rattle.limiter_core.specs.Open.{open_permit}
 use Rattle.limiter_core.specs.Handed.{IsHanded}
-use Rattle.limiter_core.specs.Bound.{IsSound}
-use Rattle.load_driver.specs.Journal.{Journal, gate, opening, image}
+use Rattle.gate_journal.specs.Journal.{Journal, gate, opening}
 
 -- permits by number
 abbrev pub Permits : Type 0
 Permits = HashMap ℕ PermitFacts (BuildHasherDefault FoldHasher)
 
--- what a session keeps: its history is legal, what stands is sound, the open permits with the
--- granted ones are those in flight, and each is found by its number
+-- what a session keeps: its numbers begin at 0, the open permits with the granted ones are those in
+-- flight, and each is found by its number
 pub record IsSession {S : Type 0}
     (rules : Algorithm S) (j : Journal S) (permits : Permits) : Type 0 where
-  pub legal : IsLegal (gate rules j) (opening j) j.entries
-  pub sound : IsSound (gate rules j) (image rules j)
+  pub begins : j.opening.next ≡ 0
   pub handed : IsHanded (gate rules j) (opening j) j.entries
-  pub found : (n : ℕ) → get nat_eq permits n ≡ open_permit 0 j.entries n
+  pub found : (n : ℕ) → get nat_eq permits n ≡ open_permit j.opening.next j.entries n

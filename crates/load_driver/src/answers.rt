@@ -1,27 +1,22 @@
 // The lines of a script once its settings are over, each answered after all entries so far.
-ghost use Rattle.std.specs.Prelude.{◌≡◌, ◌<◌, ◌+◌, ◌^◌, ◌++◌, ◌∷◌, [], drop, length, string_bytes, IfOk, OnOk};
+ghost use Rattle.std.specs.Prelude.{◌≡◌, ◌<◌, ◌+◌, ◌^◌, ◌++◌, ◌∷◌, [], drop, length, string_bytes};
+ghost use Rattle.std.specs.Prelude.{IfOk, OnOk};
 ghost use Rattle.std.specs.Str.Lines.{lines};
-ghost use Rattle.load_driver.specs.Words.{words};
-ghost use Rattle.load_driver.specs.Script.{request_of};
-ghost use Rattle.load_driver.specs.Replay.{after_text, entries_text, event_of, after_event, event_text, line_journal, line_text, lines_text};
+ghost use Rattle.script.specs.Words.{words};
+ghost use Rattle.script.specs.Line.{line_of};
+ghost use Rattle.limiter_core.specs.Handed.{NamesOpen};
+ghost use Rattle.gate_journal.specs.Journal.{opening};
+ghost use Rattle.load_driver.specs.Replay.{after_text, entries_text, IfEvent, line_asks};
+ghost use Rattle.load_driver.specs.Replay.{after_asked, asked_text, lines_text};
 
-use super::lines::next_line;
-use super::script::{Request, Why, read_request};
+use super::asked::{Asked, read_asked};
 use super::session::Session;
 use super::text::push_entry;
 use limit_laws::Limit;
-use limiter_core::{Entry, Event};
+use limiter_core::Entry;
 use partitions::PartitionTable;
+use script::{LineFault, next_line};
 use std::alloc::AllocError;
-
-/// A line at fault.
-#[derive(Clone, Copy, Debug, PartialEq, Eq)]
-pub struct LineFault {
-    /// The number of the line in its text, from 1.
-    pub line: u64,
-    /// What is wrong with it.
-    pub why: Why,
-}
 
 /// Adds the lines of entries, the first of which has this number.
 fn push_entries(
@@ -42,55 +37,21 @@ fn push_entries(
     Ok(())
 }
 
-/// The event of a request; none where it ends a permit that isn't open.
-fn read_event<L: Limit>(session: &Session<L>, request: Request) -> Option<Event>
-    ensures { result ≡ event_of session.now.entries request }
-{
-    match request {
-        Request::Acquire {
-            part,
-            bypass,
-            wait,
-            now,
-        } => Some(Event::Acquire {
-            part,
-            bypass,
-            wait,
-            now,
-        }),
-        Request::End {
-            number,
-            outcome,
-            now,
-        } => {
-            let permit = session.permit(number)?;
-            Some(Event::End {
-                permit,
-                outcome,
-                now,
-            })
-        }
-        Request::Claim { number } => Some(Event::Claim { number }),
-        Request::GiveUp { number } => Some(Event::GiveUp { number }),
-        Request::SetLimit { n, now } => Some(Event::SetLimit { n, now }),
-        Request::Reset { now } => Some(Event::Reset { now }),
-        Request::Look { part } => Some(Event::Look { part }),
-    }
-}
-
-/// Carries a request out, and adds what is written of it.
+/// Answers what a line asks, and adds what is written of it.
 fn serve<L: Limit>(
     session: &mut Session<L>,
     text: &mut String,
-    request: Request,
+    asked: Asked,
 ) -> Result<(), AllocError>
-    ensures session { OnOk result (session.new
-        ≡ after_event L.rules session.old (event_of session.old.entries request)) }
-    ensures text { OnOk result (string_bytes text.new ≡ string_bytes text.old
-        ++ event_text L.rules session.old (event_of session.old.entries request)) }
+    requires { IfEvent asked (NamesOpen (opening session.old) session.old.entries) }
+    ensures session { OnOk result (session.new ≡ after_asked L.rules session.old asked) }
+    ensures text { OnOk result (string_bytes text.new
+        ≡ string_bytes text.old ++ asked_text L.rules session.old asked) }
 {
-    let Some(event) = read_event(session, request) else {
-        return text.push_str("- not open\n");
+    let event = match asked {
+        Asked::Nothing => return Ok(()),
+        Asked::NotOpen => return text.push_str("- not open\n"),
+        Asked::Event(event) => event,
     };
     match session.ask(event)? {
         Some(first) => push_entries(text, session.table(), first, &session.entries()[first..]),
@@ -113,9 +74,8 @@ pub(crate) fn answer_lines<L: Limit>(
     let mut rest = script;
     let mut number = first;
     while let Some((line, after)) = next_line(rest) {
-        match read_request(session.table(), line) {
-            Ok(Some(request)) => serve(session, text, request)?,
-            Ok(None) => {}
+        match read_asked(session, line) {
+            Ok(asked) => serve(session, text, asked)?,
             Err(why) => return Ok(Some(LineFault { line: number, why })),
         }
         rest = after;

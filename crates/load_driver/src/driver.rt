@@ -3,12 +3,13 @@ ghost use Rattle.std.specs.Prelude.{◌≡◌, ◌<◌, ◌≤◌, length, true,
 ghost use Rattle.counted_io.specs.Counted.{failures_of, is_flushed};
 ghost use Rattle.counted_io.specs.Effects.{IfLeft, Wrote};
 ghost use Rattle.counted_io.specs.Causes.{IsReadCause, IsWriteCause, ReadWithin};
+ghost use Rattle.limit_laws.specs.Algorithm.{greatest_limit};
 ghost use Rattle.load_driver.specs.Limits.{most_script, most_reads};
 ghost use Rattle.load_driver.specs.Driver.{IfLine, IsAnswer, OnAnswer};
 
-use super::answers::LineFault;
 use super::opening::answer_script;
 use counted_io::{Counted, ReadFault, WriteFault, read_all, write_and_flush};
+use script::LineFault;
 use std::alloc::{AllocError, Global};
 use std::io::{Read, Write};
 
@@ -18,7 +19,8 @@ pub const MOST_BYTES: usize = 16_777_216;
 /// The most reads that an input may take.
 pub const MOST_READS: u64 = 33_554_432;
 
-/// How many entries of a history are kept; past them only what is owed is answered.
+/// How many entries of a history are kept where no line says it; past them only what is owed is
+/// answered.
 pub const KEPT: usize = 100_000;
 
 /// Why a driver stops.
@@ -81,7 +83,7 @@ pub fn replay<R: Read, W: Write>(
     n: u32,
 ) -> Result<(), DriverFault>
     requires least { 1 ≤ n }
-    requires most { n ≤ 10000 }
+    requires most { n ≤ greatest_limit }
 
     // The script's whole text is written, or the text of the lines before the one at fault.
     ensures ok { OnOk result (IfLeft R.remaining reader.old (λ script.

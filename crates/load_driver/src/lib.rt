@@ -6,30 +6,12 @@
 #![tactic(auto)]
 
 mod answers;
+mod asked;
 mod driver;
-#[cfg(test)]
-mod edge_tests;
 mod faults;
-mod formats;
-mod journal;
-mod lines;
-mod makers;
-mod numbers;
 mod opening;
-#[cfg(test)]
-mod replay_tests;
-mod script;
-#[cfg(test)]
-mod script_tests;
 mod session;
-mod settings;
-#[cfg(test)]
-mod settings_tests;
-#[cfg(test)]
-mod tests;
 mod text;
-mod words;
 
-pub use answers::LineFault;
 pub use driver::{DriverFault, KEPT, MOST_BYTES, MOST_READS, replay};
-pub use script::Why;
+pub use script::{LineFault, Why};

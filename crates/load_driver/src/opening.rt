@@ -1,16 +1,17 @@
 // The setting lines of a script, and where they end.
 ghost use Rattle.std.specs.Prelude.{◌≡◌, ◌≤◌, ◌+◌, ℕ, length, string_bytes, IfOk};
 ghost use Rattle.std.specs.Str.Lines.{lines};
-ghost use Rattle.load_driver.specs.Limits.{most_script, most_kept};
-ghost use Rattle.load_driver.specs.Words.{words};
-ghost use Rattle.load_driver.specs.Settings.{no_settings};
-ghost use Rattle.load_driver.specs.Opening.{is_skipped, script_text, replay_text, text_after};
+ghost use Rattle.limit_laws.specs.Algorithm.{greatest_limit};
+ghost use Rattle.gate_journal.specs.Journal.{most_kept};
+ghost use Rattle.load_driver.specs.Limits.{most_script};
+ghost use Rattle.script.specs.Words.{words};
+ghost use Rattle.script.specs.Line.{line_of};
+ghost use Rattle.script.specs.Settings.{no_settings, with_setting};
+ghost use Rattle.load_driver.specs.Opening.{script_text, replay_text, text_after};
 
-use super::answers::{LineFault, answer_lines};
-use super::lines::next_line;
+use super::answers::answer_lines;
 use super::session::Session;
-use super::settings::Settings;
-use super::words::next_word;
+use script::{Line, LineFault, Settings, next_line, read_line};
 use std::alloc::{AllocError, Global};
 
 /// The settings of a script, and the lines that are left: the number of the first and their bytes;
@@ -23,17 +24,7 @@ struct Opening<'a> {
     fault: Option<LineFault>,
 }
 
-/// Whether a line is skipped: an empty one, or a comment.
-fn is_skipped(line: &[u8]) -> bool
-    ensures { result ≡ is_skipped (words line.now) }
-{
-    match next_word(line) {
-        Some((first, _)) => first.first() == Some(&b'#'),
-        None => true,
-    }
-}
-
-/// Reads the settings up to the first line that is neither one of them nor skipped.
+/// Reads the settings up to the first line that asks something.
 fn read_settings<'a>(alloc: Global, script: &'a [u8]) -> Result<Opening<'a>, AllocError>
     requires { length script.now ≤ most_script }
     ensures text { IfOk result (λ opening. (n kept : ℕ) →
@@ -44,36 +35,27 @@ fn read_settings<'a>(alloc: Global, script: &'a [u8]) -> Result<Opening<'a>, All
 {
     let mut settings = Settings::new(alloc);
     let mut rest = script;
-    let mut line_number = 1u64;
+    let mut number = 1u64;
+    let mut fault = None;
     while let Some((line, after)) = next_line(rest) {
-        match settings.read(line)? {
-            Some(Ok(())) => {}
-            Some(Err(why)) => {
-                let fault = LineFault {
-                    line: line_number,
-                    why,
-                };
-                return Ok(Opening {
-                    settings,
-                    line: line_number,
-                    rest,
-                    fault: Some(fault),
-                });
-            }
-            None => {
-                if !is_skipped(line) {
-                    break;
-                }
-            }
+        let taken = match read_line(line) {
+            Ok(None) => Ok(()),
+            Ok(Some(Line::Setting(setting))) => settings.take(setting)?,
+            Ok(Some(Line::Request(_))) => break,
+            Err(why) => Err(why),
+        };
+        if let Err(why) = taken {
+            fault = Some(LineFault { line: number, why });
+            break;
         }
         rest = after;
-        line_number += 1;
+        number += 1;
     }
     Ok(Opening {
         settings,
-        line: line_number,
+        line: number,
         rest,
-        fault: None,
+        fault,
     })
 }
 
@@ -85,8 +67,9 @@ pub(crate) fn answer_script(
     script: &[u8],
 ) -> Result<(String, Option<LineFault>), AllocError>
     requires least { 1 ≤ n }
-    requires most { n ≤ 10000 }
-    requires kept { kept ≤ most_kept }
+    requires most { n ≤ greatest_limit }
+    requires some_kept { 1 ≤ kept }
+    requires few_kept { kept ≤ most_kept }
     requires short { length script.now ≤ most_script }
     ensures { IfOk result (λ told.
         record { out = string_bytes told.0; fault = told.1 } ≡ replay_text n kept script.now) }
@@ -103,6 +86,7 @@ pub(crate) fn answer_script(
     }
     let limit = settings.limit(n);
     let room = settings.room();
+    let kept = settings.kept(kept);
     let mut session = Session::new(alloc, limit, settings.into_table(), room, kept)?;
     let fault = answer_lines(&mut session, &mut text, rest, line)?;
     Ok((text, fault))

@@ -1,19 +1,21 @@
 // A journal with the permits that are open in it.
-ghost use Rattle.std.specs.Prelude.{◌≡◌, ◌≤◌, ◌<◌, ◌++◌, ◌∷◌, [], ℕ, length, nat_eq, false, Some, ◌==◌, if◌then◌else◌, IfOk, IfSome, OnSome, IfNone, is_none};
+ghost use Rattle.std.specs.Prelude.{◌≡◌, ◌≤◌, ◌<◌, ℕ, length, nat_eq, Some, ◌==◌, if◌then◌else◌};
+ghost use Rattle.std.specs.Prelude.{IfOk, IfSome, OnSome, IfNone, is_none};
 ghost use Rattle.std.specs.HashMap.{get, spare};
+ghost use Rattle.lifo_backlog.specs.Waiters.{most_waiters};
 ghost use Rattle.limiter_core.specs.declared.event.Entry.TheVariants.{Call};
-ghost use Rattle.limiter_core.specs.Answer.{answer};
-ghost use Rattle.limiter_core.specs.Bound.{is_exhausted};
+ghost use Rattle.lifo_backlog.specs.Waiters.{most_waiters};
+ghost use Rattle.limiter_core.specs.Limiter.{unasked};
 ghost use Rattle.limiter_core.specs.Open.{open_permit};
 ghost use Rattle.limiter_core.specs.Handed.{NamesOpen, open_after};
-ghost use Rattle.load_driver.specs.Limits.{most_kept};
-ghost use Rattle.load_driver.specs.Journal.{opening, begun, is_over, with_answer};
+ghost use Rattle.gate_journal.specs.Journal.{opening, next_number, is_over, with_answer};
+ghost use Rattle.gate_journal.specs.Journal.{opened, most_kept};
 
-use super::journal::Journal;
+use gate_journal::{Journal, JournalFault};
 use limit_laws::{LAST_MOMENT, Limit};
 use limiter_core::{
-    Entry, Event, PermitFacts, Reply, answers_by_image, open_permits_are_in_flight,
-    open_permits_may_end, soundness_is_kept,
+    Core, CoreFault, Entry, Event, PermitFacts, Reply, open_permits_are_in_flight,
+    open_permits_may_end,
 };
 use partitions::PartitionTable;
 use std::alloc::{AllocError, Global};
@@ -29,7 +31,7 @@ pub(crate) struct Session<L: Limit> {
 }
 
 impl<L: Limit> Model for Session<L> {
-    ghost use Rattle.load_driver.specs.Journal.{Journal};
+    ghost use Rattle.gate_journal.specs.Journal.{Journal};
     ghost use Rattle.load_driver.specs.Session.{IsSession};
 
     ghost Value = { Journal L };
@@ -48,13 +50,22 @@ impl<L: Limit> Session<L> {
         room: u32,
         kept: usize,
     ) -> Result<Session<L>, AllocError>
-        requires room { room ≤ 10000 }
-        requires kept { kept ≤ most_kept }
-        ensures { IfOk result (λ session. session ≡ begun table room limit kept) }
+        requires room { room ≤ most_waiters }
+        requires some_kept { 1 ≤ kept }
+        requires few_kept { kept ≤ most_kept }
+        ensures { IfOk result (λ session. session ≡ opened (unasked table room limit) kept) }
     {
-        answers_by_image::<L>();
         open_permits_are_in_flight::<L>();
-        let journal = Journal::new(alloc, limit, table, room, kept)?;
+        let core = match Core::new(alloc, limit, table, room) {
+            Ok(core) => core,
+            Err(CoreFault::Memory) => return Err(AllocError),
+            Err(CoreFault::Room) => unreachable!(),
+        };
+        let journal = match Journal::new(alloc, core, kept) {
+            Ok(journal) => journal,
+            Err(JournalFault::Memory) => return Err(AllocError),
+            Err(JournalFault::Places) => unreachable!(),
+        };
         Ok(Session {
             journal,
             permits: HashMap::new(alloc),
@@ -65,37 +76,40 @@ impl<L: Limit> Session<L> {
     pub(crate) fn table(&self) -> &PartitionTable
         ensures { result.now ≡ self.now.rows }
     {
-        self.journal.table()
+        self.journal.core().table()
     }
 
     /// The open permit of a number.
     pub(crate) fn permit(&self, number: u64) -> Option<PermitFacts>
-        ensures { result ≡ open_permit 0 self.now.entries number }
+        ensures { result ≡ open_permit self.now.opening.next self.now.entries number }
     {
         self.permits.get(&number).copied()
     }
 
-    /// All that was asked and answered, in order; the place of an entry is its number.
+    /// All that was asked and answered, in order.
     pub(crate) fn entries(&self) -> &[Entry]
         ensures { result.now ≡ self.now.entries }
     {
         self.journal.entries()
     }
 
-    /// Answers an event, which adds entries from the number on that it gives; nothing where the
-    /// journal is exhausted. An ending names an open permit.
+    /// Answers an event, and gives the place of the first entry that this adds, which is its number
+    /// too; nothing where the journal is exhausted. An ending names an open permit.
     pub(crate) fn ask(&mut self, event: Event) -> Result<Option<usize>, AllocError>
         requires { NamesOpen (opening self.old) self.old.entries event }
-        ensures exhausted { IfOk result (λ first. is_none first ≡ is_over L.rules self.old event) }
+        ensures exhausted { IfOk result (λ first.
+            is_none first ≡ is_over L.rules self.old event) }
         ensures unchanged { IfOk result (λ first. IfNone first (self.new ≡ self.old)) }
-        ensures first { IfOk result (λ first.
-            IfSome first (λ number. number ≡ length self.old.entries)) }
+        ensures number { IfOk result (λ first.
+            IfSome first (λ number. number ≡ next_number self.old)) }
+        ensures place { IfOk result (λ first.
+            IfSome first (λ place. place ≡ length self.old.entries)) }
         ensures entries { IfOk result (λ first.
             OnSome first (self.new ≡ with_answer L.rules self.old event)) }
     {
         open_permits_may_end::<L>();
         open_permits_are_in_flight::<L>();
-        soundness_is_kept::<L>();
+        self.journal.check();
         self.permits.reserve(1)?;
         let first = self.journal.entries().len();
         match self.journal.apply(event) {

@@ -14,8 +14,13 @@ const BACKEND: &str = "backend = \"127.0.0.1:9000\"\n";
 
 const LIMIT: &str = "[limit]\nkind = \"fixed\"\ninitial = 4\n";
 
-const REST: &str =
-    "[[class]]\nname = \"live\"\npercent = 60\n[[resolver]]\nkind = \"header\"\nheader = \"X-Class\"\n";
+const REST: &str = "[[class]]
+name = \"live\"
+percent = 60
+[[resolver]]
+kind = \"header\"
+header = \"X-Class\"
+";
 
 /// A configuration in pieces, and its line on standard output or on standard error.
 #[derive(Drop)]
@@ -87,7 +92,10 @@ const ROWS: [Row; 9] = [
             BACKEND,
             LIMIT,
             REST,
-            "[[resolver]]\nkind = \"route\"\nroutes = { \"/a/{x}\" = \"live\", \"/a/{y}\" = \"live\" }\n",
+            "[[resolver]]
+kind = \"route\"
+routes = { \"/a/{x}\" = \"live\", \"/a/{y}\" = \"live\" }
+",
         ],
         output: b"",
         fault: b"admission: config: route\n",

@@ -16,9 +16,19 @@ struct Row {
 const ROWS: [Row; 8] = [
     Row {
         limit: 1,
-        script: b"acquire unknown 0\nacquire unknown 1\nend 0 success 5\nacquire unknown 6\nlook unknown\n",
+        script: b"acquire unknown 0
+acquire unknown 1
+end 0 success 5
+acquire unknown 6
+look unknown
+",
         status: 0,
-        output: b"0 admitted unknown inflight 1\n1 refused full\n2 ended promoted 0\n3 admitted unknown inflight 1\n4 seen limit 1 total 1 waiting 0 granted 0 inflight 1 share 0\n",
+        output: b"0 admitted unknown inflight 1
+1 refused full
+2 ended promoted 0
+3 admitted unknown inflight 1
+4 seen limit 1 total 1 waiting 0 granted 0 inflight 1 share 0
+",
         fault: b"",
     },
     Row {

@@ -1,6 +1,9 @@
-use Rattle.std.proofs.Common.{sym, ◌∙◌}
-use Rattle.load_driver.proofs.Named.{may_ask}
+use Rattle.std.proofs.Common.{arith}
+use Rattle.std.proofs.lemmas.Grind.{common_steps}
 use Rattle.load_driver.proofs.answers.serve.Goals as goal
 
-pub ask-requires : goal.ask-requires
-ask-requires g c = may_ask c.args.session.now c.args.request c.in-Some.event (sym c.read_event.ensures ∙ c.in-Some.is)
+pub returns-in-Some-clause-text : goal.returns-in-Some-clause-text
+returns-in-Some-clause-text g c = grind (arith, common_steps)
+
+pub returns-in-None-clause-text : goal.returns-in-None-clause-text
+returns-in-None-clause-text g c = grind (arith, common_steps)

@@ -21,3 +21,12 @@ returns-in_err-script-clause-read g c = search rules
 
 pub returns-in_err-script-clause-too_large : goal.returns-in_err-script-clause-too_large
 returns-in_err-script-clause-too_large g c = search rules
+
+pub returns-clause-ok : goal.returns-clause-ok
+returns-clause-ok g c = search rules
+
+pub answer_script-requires-clause-short : goal.answer_script-requires-clause-short
+answer_script-requires-clause-short g c = search rules
+
+pub returns-in_err-text-clause-memory : goal.returns-in_err-text-clause-memory
+returns-in_err-text-clause-memory g c = search rules

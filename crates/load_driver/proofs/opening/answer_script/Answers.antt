@@ -1,13 +1,18 @@
-use Rattle.std.proofs.Common.{◌≡◌, [], sym, ◌∙◌}
+use Rattle.std.proofs.Common.{◌≡◌, sym, ◌∙◌}
+use Rattle.limiter_core.specs.Limiter.{unasked}
+use Rattle.gate_journal.specs.Journal.{opened}
 use Rattle.load_driver.specs.Opening.{journal_of}
 use Rattle.load_driver.proofs.Openings.{text_of_session}
 use Rattle.load_driver.proofs.opening.answer_script.Goals as goal
 
 pub returns : goal.returns
 returns c =
-    let opening = c.in_ok-settings.field-0 in
-    let begun : c.in_ok-session.session ≡ journal_of c.args.n c.args.kept opening.settings
-    = c.in_ok-session.ensures ∙ (λ k. record { rows = c.into_table.ensures k; room = c.room-room.ensures.value k; first = c.limit-limit.ensures k; entries = []; kept = c.args.kept }) in
+    let read = c.in_ok-settings.field-0 in
+    let opens : c.in_ok-session.session ≡ journal_of c.args.n c.args.kept read.settings =
+    c.in_ok-session.ensures ∙ (λ k. opened (unasked (c.into_table.ensures k)
+    (c.room-room.ensures.value k) (c.limit-limit.ensures k)) (c.kept-kept.ensures.value k)) in
     c.in_ok-fault.ensures
-    ∙ text_of_session c.args.n c.args.kept opening.settings opening.line opening.rest.now opening.fault c.in_ok-session.session _ c.new-text.ensures.bytes begun (sym c.is_some.ensures ∙ c.if-is_some.false)
+    ∙ text_of_session c.args.n c.args.kept read.settings read.line read.rest.now read.fault
+    c.in_ok-session.session _ c.new-text.ensures.bytes opens
+    (sym c.is_some.ensures ∙ c.if-is_some.false)
     ∙ c.in_ok-settings.ensures.text c.args.n c.args.kept

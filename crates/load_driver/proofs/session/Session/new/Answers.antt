@@ -1,8 +1,13 @@
-use Rattle.std.proofs.Common.{ap}
-use Rattle.load_driver.specs.Journal.{Journal}
-use Rattle.load_driver.proofs.Sessions.{session_begins}
+use Rattle.std.proofs.Common.{rules}
+use Rattle.load_driver.proofs.Sessions.{begins}
 use Rattle.load_driver.proofs.session.Session.new.Goals as goal
 
+-- the journal opens with the limiter that was asked nothing
 pub invariant_of-result : goal.invariant_of-result
 invariant_of-result g c =
-    session_begins c.answers_by_image.ensures.still c.open_permits_are_in_flight.ensures.begins g.L.Limit.rules c.in_ok-journal.journal c.new-2.result (ap (λ (j : Journal g.row.L.Denot). j.entries) c.in_ok-journal.ensures.made) c.in_ok-journal.ensures.sound c.new-2.ensures.empty
+    begins g.L.Limit.rules c.args.table c.args.room c.args.limit c.in-Ok.core _
+    c.in-Ok-new.journal c.new-3.result c.open_permits_are_in_flight.ensures.begins
+    c.in-Ok.ensures.made c.in-Ok-new.ensures.made c.new-3.ensures.empty
+
+pub returns : goal.returns
+returns g c = search rules

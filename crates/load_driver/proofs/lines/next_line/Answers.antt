@@ -1,8 +1,0 @@
-use Rattle.std.proofs.Common.{◌+◌, arith}
-use Rattle.std.proofs.lemmas.List.{take_rest}
-use Rattle.load_driver.proofs.Parts.{lines_first}
-use Rattle.load_driver.proofs.lines.next_line.Goals as goal
-
-pub returns-clause-first : goal.returns-clause-first
-returns-clause-first c =
-    rw (c.without_return.ensures, take_rest c.args.text.now (c.place_of-end.result + 1), c.place_of-end.ensures.value) (lines_first c.args.text.now (omega arith))

@@ -1,6 +1,0 @@
-use Rattle.std.proofs.Common.{◌∙◌}
-use Rattle.load_driver.proofs.Digits.{parsed}
-use Rattle.load_driver.proofs.numbers.parse_digits.Goals as goal
-
-pub returns : goal.returns
-returns c = c.ok.ensures.value ∙ parsed c.args.text.now c.parse.result c.parse.ensures.value.0 c.requires

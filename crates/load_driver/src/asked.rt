@@ -1,0 +1,101 @@
+// What a line asks of a session.
+ghost use Rattle.std.specs.Prelude.{◌≡◌, ok_or, IfOk};
+ghost use Rattle.script.specs.declared.why.Why.TheVariants.{Class};
+ghost use Rattle.script.specs.Words.{words};
+ghost use Rattle.script.specs.Request.{request_bytes};
+ghost use Rattle.script.specs.Line.{line_of};
+ghost use Rattle.limiter_core.specs.Open.{open_permit};
+ghost use Rattle.limiter_core.specs.Handed.{NamesOpen};
+ghost use Rattle.gate_journal.specs.Journal.{opening};
+ghost use Rattle.load_driver.specs.Replay.{part_of, ending_of, request_asks, line_asks, IfEvent};
+
+use super::session::Session;
+use limit_laws::Limit;
+use limiter_core::{Event, Outcome};
+use partitions::{Part, PartitionTable};
+use script::{Line, Request, Why, read_line};
+
+/// What a line asks once the settings are over.
+#[derive(Clone, Copy)]
+pub(crate) enum Asked {
+    /// It is skipped.
+    Nothing,
+    /// The end of a permit that isn't open.
+    NotOpen,
+    /// An answer to this event.
+    Event(Event),
+}
+
+/// The part of a class.
+fn read_part(table: &PartitionTable, class: &[u8]) -> Result<Part, Why>
+    ensures { result ≡ ok_or (part_of table.now class.now) Class }
+{
+    if class == b"unknown".as_slice() {
+        return Ok(Part::Unknown);
+    }
+    table.find(class).ok_or(Why::Class)
+}
+
+/// The end of a permit, where it is open.
+fn read_end<L: Limit>(session: &Session<L>, number: u64, outcome: Outcome, now: u64) -> Asked
+    ensures asked { result ≡ ending_of
+        (open_permit session.now.opening.next session.now.entries number) outcome now }
+    ensures named { IfEvent result (NamesOpen (opening session.now) session.now.entries) }
+{
+    match session.permit(number) {
+        Some(permit) => Asked::Event(Event::End {
+            permit,
+            outcome,
+            now,
+        }),
+        None => Asked::NotOpen,
+    }
+}
+
+/// What a request asks, or that the table has no such class.
+fn read_request<L: Limit>(session: &Session<L>, request: Request<&[u8]>) -> Result<Asked, Why>
+    ensures asked { result ≡ request_asks session.now (request_bytes request.entry) }
+    ensures named { IfOk result (λ asked.
+        IfEvent asked (NamesOpen (opening session.now) session.now.entries)) }
+{
+    let event = match request {
+        Request::Acquire { class, wait, now } => Event::Acquire {
+            part: read_part(session.table(), class)?,
+            bypass: false,
+            wait,
+            now,
+        },
+        Request::Bypass { now } => Event::Acquire {
+            part: Part::Unknown,
+            bypass: true,
+            wait: false,
+            now,
+        },
+        Request::End {
+            number,
+            outcome,
+            now,
+        } => return Ok(read_end(session, number, outcome, now)),
+        Request::Claim { number } => Event::Claim { number },
+        Request::GiveUp { number } => Event::GiveUp { number },
+        Request::SetLimit { n, now } => Event::SetLimit { n, now },
+        Request::Reset { now } => Event::Reset { now },
+        Request::Look { class } => Event::Look {
+            part: read_part(session.table(), class)?,
+        },
+    };
+    Ok(Asked::Event(event))
+}
+
+/// What a line asks behind the settings, or why it is at fault.
+pub(crate) fn read_asked<L: Limit>(session: &Session<L>, line: &[u8]) -> Result<Asked, Why>
+    ensures asked { result ≡ line_asks session.now (line_of (words line.now)) }
+    ensures named { IfOk result (λ asked.
+        IfEvent asked (NamesOpen (opening session.now) session.now.entries)) }
+{
+    match read_line(line)? {
+        None => Ok(Asked::Nothing),
+        Some(Line::Setting(_)) => Err(Why::Late),
+        Some(Line::Request(request)) => read_request(session, request),
+    }
+}

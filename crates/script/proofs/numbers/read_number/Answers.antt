@@ -1,0 +1,10 @@
+use Rattle.std.proofs.Common.{◌≡◌, true, rules}
+use Rattle.std.specs.Char.{is_ascii_digit}
+use Rattle.std.specs.List.{list_all}
+use Rattle.script.proofs.Digits.{digits_are_text}
+use Rattle.script.proofs.numbers.read_number.Goals as goal
+
+pub returns-in-Err : goal.returns-in-Err
+returns-in-Err c =
+    let digits : list_all is_ascii_digit c.args.word.now ≡ true = search rules in
+    absurd (c.in-Err.ensures.cases.0 (digits_are_text c.args.word.now digits))

@@ -1,0 +1,9 @@
+pub mod Limits
+pub mod Words
+pub mod LimitLine
+pub mod WindowLine
+pub mod Setting
+pub mod Request
+pub mod Line
+pub mod Settings
+pub mod Faults

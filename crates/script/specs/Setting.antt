@@ -1,0 +1,31 @@
+-- The settings that lines give, by their words.
+use Rattle.std.specs.Prelude.{ℕ, List, Option, None, option_map, bytes_eq, codes, if◌then◌else◌}
+use Rattle.std.specs.Borrow.{Bor}
+use Rattle.script.specs.declared.setting.Setting.{Setting}
+use Rattle.script.specs.declared.setting.Setting.TheVariants.{Limit, Window, Class, Backlog, Keep}
+use Rattle.script.specs.Words.{with_number, with_word, alone, lone_number}
+use Rattle.script.specs.LimitLine.{limit_line}
+use Rattle.script.specs.WindowLine.{window_line}
+
+-- what follows `class`: a name, and a number
+abbrev pub class_line : List (List ℕ) → Option (Setting (List ℕ))
+class_line ws =
+    with_word (λ name. with_number (λ percent. alone (Class name percent))) ws
+
+-- the setting of a line by its first word and the others; nothing where it has no setting's format
+abbrev pub setting_of : List ℕ → List (List ℕ) → Option (Setting (List ℕ))
+setting_of first rest =
+    if bytes_eq first (codes "limit") then option_map Limit (limit_line rest)
+    else (if bytes_eq first (codes "window") then option_map Window (window_line rest)
+    else (if bytes_eq first (codes "class") then class_line rest
+    else (if bytes_eq first (codes "backlog") then option_map Backlog (lone_number rest)
+    else (if bytes_eq first (codes "keep") then option_map Keep (lone_number rest)
+    else None))))
+
+-- a setting with the bytes of its class's name
+abbrev pub setting_bytes : Setting (Bor (List ℕ)) → Setting (List ℕ)
+setting_bytes (Limit line) = Limit line
+setting_bytes (Window line) = Window line
+setting_bytes (Class name percent) = Class name.now percent
+setting_bytes (Backlog room) = Backlog room
+setting_bytes (Keep entries) = Keep entries

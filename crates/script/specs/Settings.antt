@@ -1,0 +1,104 @@
+-- The settings of a script, line by line.
+use Rattle.std.specs.Prelude.{◌≡◌, ℕ, ◌^◌, nat_lt, nat_le, ◌&&◌, List, [], ◌∷◌, ◌++◌, Option, None, Some, is_none, unwrap_or, Result, Ok, Err, MatchResult, if◌then◌else◌}
+use Rattle.partitions.specs.Table.{Row}
+use Rattle.partitions.specs.Faults.{fault_of}
+use Rattle.lifo_backlog.specs.Waiters.{most_waiters}
+use Rattle.windowed.specs.WindowedRules.{WindowNumbers}
+use Rattle.limit_kinds.specs.declared.kinds.BaseLimit.{BaseLimit}
+use Rattle.limit_kinds.specs.declared.kinds.BaseLimit.TheVariants.{Fixed}
+use Rattle.limit_kinds.specs.declared.kinds.AnyLimit.{AnyLimit}
+use Rattle.limit_kinds.specs.AnyKinds.{any_from}
+use Rattle.script.specs.declared.limit_line.LimitLine.{LimitLine}
+use Rattle.script.specs.declared.window_line.WindowLine.{WindowLine}
+use Rattle.script.specs.declared.setting.Setting.{Setting}
+use Rattle.script.specs.declared.setting.Setting.TheVariants.{Limit, Window, Class, Backlog, Keep}
+use Rattle.script.specs.declared.why.Why.{Why}
+use Rattle.script.specs.declared.why.Why.TheVariants.{Twice, Value}
+use Rattle.script.specs.Limits.{usual_backlog, most_kept}
+use Rattle.script.specs.LimitLine.{base_of}
+use Rattle.script.specs.WindowLine.{windows_of}
+
+-- the settings so far: the limit, the windows over it, how many may wait and how many entries are
+-- kept, where a line gave them, and the known partitions
+pub record SettingFacts : Type 0 where
+  pub limit : Option BaseLimit
+  pub window : Option WindowNumbers
+  pub backlog : Option ℕ
+  pub keep : Option ℕ
+  pub rows : List Row
+
+abbrev pub no_settings : SettingFacts
+no_settings = record { limit = None; window = None; backlog = None; keep = None; rows = [] }
+
+-- what a setting leads to: the settings with it, or why it is at fault
+abbrev pub Set : Type 0
+Set = Result SettingFacts Why
+
+-- what a value leads to, and the fault where it is out of its range
+abbrev pub in_range : {A : Type 0} → Option A → (A → SettingFacts) → Set
+in_range None f = Err Value
+in_range (Some a) f = Ok (f a)
+
+-- each is set once, but for the partitions
+abbrev pub once : {A : Type 0} → Option A → Set → Set
+once None set = set
+once (Some before) set = Err Twice
+
+abbrev pub with_limit : SettingFacts → LimitLine → Set
+with_limit s line =
+    once s.limit (in_range (base_of line) (λ limit. record s { limit = Some limit }))
+
+abbrev pub with_window : SettingFacts → WindowLine → Set
+with_window s line =
+    once s.window (in_range (windows_of line) (λ window. record s { window = Some window }))
+
+-- at most 10,000 may wait
+abbrev pub with_backlog : SettingFacts → ℕ → Set
+with_backlog s room =
+    once s.backlog
+    (if nat_le room most_waiters then Ok (record s { backlog = Some room }) else Err Value)
+
+-- 1 to 1,000,000 entries are kept
+abbrev pub with_keep : SettingFacts → ℕ → Set
+with_keep s entries =
+    once s.keep
+    (if nat_le 1 entries && nat_le entries most_kept then Ok (record s { keep = Some entries })
+    else Err Value)
+
+-- one more partition: its percentage fits 32 bits, and the partitions with it make a table
+abbrev pub with_row : SettingFacts → Row → Set
+with_row s row =
+    if nat_lt row.percent (2 ^ 32) && is_none (fault_of (s.rows ++ row ∷ []))
+    then Ok (record s { rows = s.rows ++ row ∷ [] })
+    else Err Value
+
+-- WHAT A SETTING LEADS TO behind these settings
+abbrev pub with_setting : SettingFacts → Setting (List ℕ) → Set
+with_setting s (Limit line) = with_limit s line
+with_setting s (Window line) = with_window s line
+with_setting s (Class name percent) = with_row s (record { name = name; percent = percent })
+with_setting s (Backlog room) = with_backlog s room
+with_setting s (Keep entries) = with_keep s entries
+
+-- the limit of the settings, which is fixed at n where no line gave one
+abbrev pub base_or : ℕ → Option BaseLimit → BaseLimit
+base_or n None = Fixed n
+base_or n (Some limit) = limit
+
+-- under the windows of the settings, where a line gave them: the first one is empty
+abbrev pub limit_of : ℕ → SettingFacts → AnyLimit
+limit_of n s = any_from (base_or n s.limit) s.window
+
+-- how many may wait: 100 where no line says it
+abbrev pub room_of : SettingFacts → ℕ
+room_of s = unwrap_or s.backlog usual_backlog
+
+-- how many entries are kept: the usual number where no line says it
+abbrev pub kept_of : ℕ → SettingFacts → ℕ
+kept_of usual s = unwrap_or s.keep usual
+
+-- what is answered to a setting: that it is taken, or why it is at fault, and then the settings
+-- stay
+abbrev pub Answers : Set → SettingFacts → SettingFacts → Result (Unit {0}) Why → Type 0
+Answers set old new answer =
+    MatchResult answer (λ _. set ≡ Ok new) (λ why. (set ≡ Err why) × (new ≡ old))

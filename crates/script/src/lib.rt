@@ -1,0 +1,34 @@
+//! The lines of scripts: settings first, and then what is asked of a limiter.
+//!
+//! [`next_line`] cuts one line off a text, and [`read_line`] says what it has: nothing, a setting
+//! or a request, or the fault of its words. Its contract is exact, by `specs/Line.antt`.
+//! [`Settings`] are what setting lines add up to, each taken by the rules of
+//! `specs/Settings.antt`.
+//!
+//! Where a setting comes too late, and which class has a name, is for the driver to say, which
+//! knows what was asked before. Other formats of lines are read by the same words and numbers.
+#![tactic(auto)]
+
+mod limit_line;
+mod line;
+mod line_fault;
+mod lines;
+mod numbers;
+mod request;
+mod setting;
+mod settings;
+mod why;
+mod window_line;
+mod words;
+
+pub use limit_line::LimitLine;
+pub use line::{Line, read_line};
+pub use line_fault::LineFault;
+pub use lines::next_line;
+pub use numbers::{next_number, read_lone_number, read_number};
+pub use request::Request;
+pub use setting::Setting;
+pub use settings::Settings;
+pub use why::Why;
+pub use window_line::WindowLine;
+pub use words::next_word;

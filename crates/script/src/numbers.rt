@@ -1,0 +1,62 @@
+// Numbers in decimal digits.
+ghost use Rattle.std.specs.Prelude.{◌≡◌, true, nat_lt, ◌&&◌, ◌^◌, length, if◌then◌else◌, IfSome};
+ghost use Rattle.std.specs.Prelude.{IfNone};
+ghost use Rattle.std.specs.Char.{is_ascii_digit};
+ghost use Rattle.std.specs.List.{list_all};
+ghost use Rattle.std.specs.Str.Parse.{digits_value};
+ghost use Rattle.script.specs.Words.{words, number_of, first_number, lone_number};
+
+use super::words::next_word;
+
+/// Whether each byte is a decimal digit.
+fn all_digits(word: &[u8]) -> bool
+    ensures { result ≡ list_all is_ascii_digit word.now }
+{
+    word.iter().all(|byte| byte.is_ascii_digit())
+}
+
+/// The number that digits spell, where it fits.
+fn parse_digits(text: &str) -> Option<u64>
+    requires { list_all is_ascii_digit text.now ≡ true }
+    ensures { result
+        ≡ (if nat_lt 0 (length text.now) && nat_lt (digits_value 10 text.now) (2 ^ 64)
+        then Some (digits_value 10 text.now) else None) }
+{
+    text.parse().ok()
+}
+
+/// The number that a word spells in 1 to 20 digits, where it fits a `u64`; leading zeros are
+/// allowed.
+pub fn read_number(word: &[u8]) -> Option<u64>
+    ensures { result ≡ number_of word.now }
+{
+    if word.len() > 20 || !all_digits(word) {
+        return None;
+    }
+    match str::from_utf8(word) {
+        Ok(text) => parse_digits(text),
+        Err(_) => None,
+    }
+}
+
+/// The number in front, and what follows it; nothing where no word is left, or the first one spells
+/// no number.
+pub fn next_number(line: &[u8]) -> Option<(u64, &[u8])>
+    ensures none { IfNone result (first_number (words line.now) ≡ None) }
+    ensures first { IfSome result
+        (λ cut. first_number (words line.now) ≡ Some (cut.0, words cut.1.now)) }
+{
+    let (word, line) = next_word(line)?;
+    Some((read_number(word)?, line))
+}
+
+/// The number of a line that has no other word.
+pub fn read_lone_number(line: &[u8]) -> Option<u64>
+    ensures { result ≡ lone_number (words line.now) }
+{
+    let (number, line) = next_number(line)?;
+    if next_word(line).is_some() {
+        return None;
+    }
+    Some(number)
+}

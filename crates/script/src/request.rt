@@ -1,0 +1,178 @@
+// What lines ask of a limiter.
+ghost use Rattle.std.specs.Prelude.{◌≡◌, option_map};
+ghost use Rattle.script.specs.Words.{words, result_map};
+ghost use Rattle.script.specs.Request.{outcome_of, wait_of, acquire_of, end_of, look_of};
+ghost use Rattle.script.specs.Request.{number_pair, set_of, short_of, request_of, request_bytes};
+
+use super::numbers::{next_number, read_lone_number};
+use super::why::Why;
+use super::words::next_word;
+use limiter_core::Outcome;
+
+/// What is asked of a limiter. A class is told by a `C`, as a line is read by its name; moments are
+/// in nanoseconds.
+#[derive(Clone, Copy)]
+pub enum Request<C> {
+    /// A permit, at once or after waiting for it.
+    Acquire {
+        class: C,
+        wait: bool,
+        now: u64,
+    },
+    /// The way past the limit.
+    Bypass {
+        now: u64,
+    },
+    /// The end of the permit with this number, where one is open.
+    End {
+        number: u64,
+        outcome: Outcome,
+        now: u64,
+    },
+    /// The permit of the waiter with this number.
+    Claim {
+        number: u64,
+    },
+    /// The end of this number's waiting.
+    GiveUp {
+        number: u64,
+    },
+    /// Another limit, in permits.
+    SetLimit {
+        n: u32,
+        now: u64,
+    },
+    /// The algorithm's first state.
+    Reset {
+        now: u64,
+    },
+    /// A look at what stands.
+    Look {
+        class: C,
+    },
+}
+
+/// Whether the rest of a line says `wait`; nothing where it says anything else.
+fn read_wait(line: &[u8]) -> Option<bool>
+    ensures { result ≡ wait_of (words line.now) }
+{
+    let Some((word, line)) = next_word(line) else {
+        return Some(false);
+    };
+    if next_word(line).is_some() || word != b"wait".as_slice() {
+        return None;
+    }
+    Some(true)
+}
+
+/// What follows `acquire`.
+fn read_acquire(line: &[u8]) -> Option<Request<&[u8]>>
+    ensures { option_map request_bytes result ≡ acquire_of (words line.now) }
+{
+    let (class, line) = next_word(line)?;
+    let (now, line) = next_number(line)?;
+    let wait = read_wait(line)?;
+    Some(Request::Acquire { class, wait, now })
+}
+
+/// The outcome that a word names.
+fn read_outcome(word: &[u8]) -> Option<Outcome>
+    ensures { result ≡ outcome_of word.now }
+{
+    if word == b"success".as_slice() {
+        Some(Outcome::Success)
+    } else if word == b"ignored".as_slice() {
+        Some(Outcome::Ignored)
+    } else if word == b"dropped".as_slice() {
+        Some(Outcome::Dropped)
+    } else {
+        None
+    }
+}
+
+/// What follows `end`.
+fn read_end(line: &[u8]) -> Option<Request<&[u8]>>
+    ensures { option_map request_bytes result ≡ end_of (words line.now) }
+{
+    let (number, line) = next_number(line)?;
+    let (outcome, line) = next_word(line)?;
+    let outcome = read_outcome(outcome)?;
+    let (now, line) = next_number(line)?;
+    if next_word(line).is_some() {
+        return None;
+    }
+    Some(Request::End {
+        number,
+        outcome,
+        now,
+    })
+}
+
+/// What follows `look`.
+fn read_look(line: &[u8]) -> Option<Request<&[u8]>>
+    ensures { option_map request_bytes result ≡ look_of (words line.now) }
+{
+    let (class, line) = next_word(line)?;
+    if next_word(line).is_some() {
+        return None;
+    }
+    Some(Request::Look { class })
+}
+
+/// The two numbers of a line that has no other word.
+fn read_number_pair(line: &[u8]) -> Option<(u64, u64)>
+    ensures { result ≡ number_pair (words line.now) }
+{
+    let (first, line) = next_number(line)?;
+    let (second, line) = next_number(line)?;
+    if next_word(line).is_some() {
+        return None;
+    }
+    Some((first, second))
+}
+
+/// What follows `set`.
+fn read_set(line: &[u8]) -> Result<Request<&[u8]>, Why>
+    ensures { result_map request_bytes result ≡ set_of (words line.now) }
+{
+    let (limit, now) = read_number_pair(line).ok_or(Why::Words)?;
+    let Ok(n) = u32::try_from(limit) else {
+        return Err(Why::Value);
+    };
+    Ok(Request::SetLimit { n, now })
+}
+
+/// What a line of one number asks, by its first word and the rest.
+fn read_short<'a>(first: &[u8], line: &'a [u8]) -> Option<Request<&'a [u8]>>
+    ensures { option_map request_bytes result ≡ short_of first.now (words line.now) }
+{
+    let number = read_lone_number(line)?;
+    if first == b"bypass".as_slice() {
+        Some(Request::Bypass { now: number })
+    } else if first == b"claim".as_slice() {
+        Some(Request::Claim { number })
+    } else if first == b"giveup".as_slice() {
+        Some(Request::GiveUp { number })
+    } else if first == b"reset".as_slice() {
+        Some(Request::Reset { now: number })
+    } else {
+        None
+    }
+}
+
+/// What a line asks, by its first word and the rest; or the fault of its words or its value.
+pub(crate) fn read_request<'a>(first: &[u8], line: &'a [u8]) -> Result<Request<&'a [u8]>, Why>
+    ensures { result_map request_bytes result ≡ request_of first.now (words line.now) }
+{
+    if first == b"acquire".as_slice() {
+        read_acquire(line).ok_or(Why::Words)
+    } else if first == b"end".as_slice() {
+        read_end(line).ok_or(Why::Words)
+    } else if first == b"set".as_slice() {
+        read_set(line)
+    } else if first == b"look".as_slice() {
+        read_look(line).ok_or(Why::Words)
+    } else {
+        read_short(first, line).ok_or(Why::Words)
+    }
+}

@@ -1,0 +1,58 @@
+// The lines that set.
+ghost use Rattle.std.specs.Prelude.{◌≡◌, option_map};
+ghost use Rattle.script.specs.Words.{words};
+ghost use Rattle.script.specs.Setting.{class_line, setting_of, setting_bytes};
+
+use super::limit_line::{LimitLine, read_limit};
+use super::numbers::{next_number, read_lone_number};
+use super::window_line::{WindowLine, read_window};
+use super::words::next_word;
+
+/// A setting, whose numbers may be out of their ranges. A class is told by a `C`, as a line is read
+/// by its name.
+#[derive(Clone, Copy)]
+pub enum Setting<C> {
+    /// The limit.
+    Limit(LimitLine),
+    /// Windows over it.
+    Window(WindowLine),
+    /// One more class, and its percentage of the limit.
+    Class { name: C, percent: u64 },
+    /// How many may wait.
+    Backlog { room: u64 },
+    /// How many entries of the history are kept.
+    Keep { entries: u64 },
+}
+
+/// What follows `class`: a name, and a percentage.
+fn read_class(line: &[u8]) -> Option<Setting<&[u8]>>
+    ensures { option_map setting_bytes result ≡ class_line (words line.now) }
+{
+    let (name, line) = next_word(line)?;
+    let (percent, line) = next_number(line)?;
+    if next_word(line).is_some() {
+        return None;
+    }
+    Some(Setting::Class { name, percent })
+}
+
+/// The setting of a line by its first word and the rest; nothing where it has no setting's format.
+pub(crate) fn read_setting<'a>(first: &[u8], line: &'a [u8]) -> Option<Setting<&'a [u8]>>
+    ensures { option_map setting_bytes result ≡ setting_of first.now (words line.now) }
+{
+    if first == b"limit".as_slice() {
+        Some(Setting::Limit(read_limit(line)?))
+    } else if first == b"window".as_slice() {
+        Some(Setting::Window(read_window(line)?))
+    } else if first == b"class".as_slice() {
+        read_class(line)
+    } else if first == b"backlog".as_slice() {
+        let room = read_lone_number(line)?;
+        Some(Setting::Backlog { room })
+    } else if first == b"keep".as_slice() {
+        let entries = read_lone_number(line)?;
+        Some(Setting::Keep { entries })
+    } else {
+        None
+    }
+}

@@ -1,0 +1,247 @@
+// The settings of a script.
+ghost use Rattle.std.specs.Prelude.{◌≡◌, ◌≤◌, Some, None, is_none, IfOk, IfErr, OnOk, OnErr};
+ghost use Rattle.std.specs.Prelude.{if◌then◌else◌};
+ghost use Rattle.limit_laws.specs.Algorithm.{greatest_limit};
+ghost use Rattle.partitions.specs.Faults.{given, fault_of};
+
+use super::limit_line::{LimitLine, make_limit};
+use super::setting::Setting;
+use super::why::Why;
+use super::window_line::{WindowLine, make_windows};
+use limit_kinds::{AnyLimit, BaseLimit};
+use partitions::{PartitionTable, TableFault};
+use std::alloc::{AllocError, Global};
+use std::marker::Model;
+use windowed::WindowSettings;
+
+/// The most that may be let wait.
+const MOST_WAITING: u32 = 10_000;
+
+/// The most entries of a history that may be kept.
+const MOST_KEPT: u64 = 1_000_000;
+
+/// How many may wait where no line says it.
+const USUAL_BACKLOG: u32 = 100;
+
+/// The settings that the lines of a script gave so far.
+#[derive(Drop)]
+pub struct Settings<'a> {
+    limit: Option<BaseLimit>,
+    windows: Option<WindowSettings>,
+    backlog: Option<u32>,
+    keep: Option<usize>,
+    rows: Vec<(&'a [u8], u32)>,
+    table: PartitionTable,
+}
+
+impl<'a> Model for Settings<'a> {
+    ghost use Rattle.std.specs.Prelude.{◌≡◌, ◌≤◌, IfSome};
+    ghost use Rattle.partitions.specs.Faults.{given};
+    ghost use Rattle.lifo_backlog.specs.Waiters.{most_waiters};
+    ghost use Rattle.script.specs.Limits.{most_kept};
+    ghost use Rattle.script.specs.Settings.{SettingFacts};
+
+    ghost Value = { SettingFacts };
+
+    ghost view = { λ s. record {
+      limit = s.limit;
+      window = s.windows;
+      backlog = s.backlog;
+      keep = s.keep;
+      rows = given s.rows.items;
+    } };
+
+    ghost invariant = { λ s. (s.table ≡ given s.rows.items)
+        × IfSome s.backlog (λ room. room ≤ most_waiters)
+        × IfSome s.keep (λ entries. (1 ≤ entries) × (entries ≤ most_kept)) };
+}
+
+impl<'a> Settings<'a> {
+    ghost use Rattle.lifo_backlog.specs.Waiters.{most_waiters};
+    ghost use Rattle.script.specs.Limits.{most_kept};
+    ghost use Rattle.script.specs.Setting.{setting_bytes};
+    ghost use Rattle.script.specs.Settings.{no_settings, with_limit, with_window, with_backlog};
+    ghost use Rattle.script.specs.Settings.{with_keep, with_row, with_setting, Answers, limit_of};
+    ghost use Rattle.script.specs.Settings.{room_of, kept_of};
+
+    /// No settings.
+    pub fn new(alloc: Global) -> Settings<'a>
+        ensures { result ≡ no_settings }
+    {
+        Settings {
+            limit: None,
+            windows: None,
+            backlog: None,
+            keep: None,
+            rows: Vec::new(alloc),
+            table: PartitionTable::unknown_only(),
+        }
+    }
+
+    /// Takes a setting, or says why it is at fault; then these settings stay as they are.
+    ///
+    /// [`Why::Twice`] where anything but a class was set before, and [`Why::Value`] where a number
+    /// is out of its range, or the classes with this one make no table.
+    pub fn take(&mut self, setting: Setting<&'a [u8]>) -> Result<Result<(), Why>, AllocError>
+        ensures answer { IfOk result (Answers
+            (with_setting self.old (setting_bytes setting.entry)) self.old self.new) }
+        ensures memory { OnErr result (self.new ≡ self.old) }
+    {
+        match setting {
+            Setting::Limit(line) => Ok(self.take_limit(line)),
+            Setting::Window(line) => Ok(self.take_window(line)),
+            Setting::Class { name, percent } => self.take_class(name, percent),
+            Setting::Backlog { room } => Ok(self.take_backlog(room)),
+            Setting::Keep { entries } => Ok(self.take_keep(entries)),
+        }
+    }
+
+    /// Takes a limit.
+    fn take_limit(&mut self, line: LimitLine) -> Result<(), Why>
+        ensures taken { OnOk result (with_limit self.old line ≡ Ok self.new) }
+        ensures fault { IfErr result (λ why. with_limit self.old line ≡ Err why) }
+        ensures unchanged { OnErr result (self.new ≡ self.old) }
+    {
+        if self.limit.is_some() {
+            return Err(Why::Twice);
+        }
+        self.limit = Some(make_limit(line).ok_or(Why::Value)?);
+        Ok(())
+    }
+
+    /// Takes windows.
+    fn take_window(&mut self, line: WindowLine) -> Result<(), Why>
+        ensures taken { OnOk result (with_window self.old line ≡ Ok self.new) }
+        ensures fault { IfErr result (λ why. with_window self.old line ≡ Err why) }
+        ensures unchanged { OnErr result (self.new ≡ self.old) }
+    {
+        if self.windows.is_some() {
+            return Err(Why::Twice);
+        }
+        self.windows = Some(make_windows(line).ok_or(Why::Value)?);
+        Ok(())
+    }
+
+    /// Takes a backlog.
+    fn take_backlog(&mut self, room: u64) -> Result<(), Why>
+        ensures taken { OnOk result (with_backlog self.old room ≡ Ok self.new) }
+        ensures fault { IfErr result (λ why. with_backlog self.old room ≡ Err why) }
+        ensures unchanged { OnErr result (self.new ≡ self.old) }
+    {
+        if self.backlog.is_some() {
+            return Err(Why::Twice);
+        }
+        if room > MOST_WAITING as u64 {
+            return Err(Why::Value);
+        }
+        self.backlog = Some(room as u32);
+        Ok(())
+    }
+
+    /// Takes how many entries are kept.
+    fn take_keep(&mut self, entries: u64) -> Result<(), Why>
+        ensures taken { OnOk result (with_keep self.old entries ≡ Ok self.new) }
+        ensures fault { IfErr result (λ why. with_keep self.old entries ≡ Err why) }
+        ensures unchanged { OnErr result (self.new ≡ self.old) }
+    {
+        if self.keep.is_some() {
+            return Err(Why::Twice);
+        }
+        if entries < 1 || entries > MOST_KEPT {
+            return Err(Why::Value);
+        }
+        self.keep = Some(entries as usize);
+        Ok(())
+    }
+
+    /// Takes one more class, where those so far and this one make a table.
+    fn take_class(&mut self, name: &'a [u8], percent: u64) -> Result<Result<(), Why>, AllocError>
+        ensures answer { IfOk result (Answers
+            (with_row self.old (record { name = name.now; percent = percent }))
+            self.old self.new) }
+        ensures memory { OnErr result (self.new ≡ self.old) }
+    {
+        let Ok(percent) = u32::try_from(percent) else {
+            return Ok(Err(Why::Value));
+        };
+        let count = self.rows.len();
+        self.rows.push((name, percent))?;
+        match make_table(*self.rows.allocator(), &self.rows) {
+            Ok(Some(table)) => {
+                self.table = table;
+                Ok(Ok(()))
+            }
+            Ok(None) => {
+                self.rows.truncate(count);
+                Ok(Err(Why::Value))
+            }
+            Err(error) => {
+                self.rows.truncate(count);
+                Err(error)
+            }
+        }
+    }
+
+    /// The limit of the settings, which is fixed at `n` permits where no line gave one.
+    pub fn limit(&self, n: u32) -> AnyLimit
+        requires least { 1 ≤ n }
+        requires most { n ≤ greatest_limit }
+        ensures { result ≡ limit_of n self.now }
+    {
+        let base = match self.limit {
+            Some(limit) => limit,
+            None => fixed(n),
+        };
+        AnyLimit::new(base, self.windows)
+    }
+
+    /// How many may wait: 0 to 10,000.
+    pub fn room(&self) -> u32
+        ensures value { result ≡ room_of self.now }
+        ensures most { result ≤ most_waiters }
+    {
+        self.backlog.unwrap_or(USUAL_BACKLOG)
+    }
+
+    /// How many entries of the history are kept, 1 to 1,000,000: `usual` where no line says it.
+    pub fn kept(&self, usual: usize) -> usize
+        requires some { 1 ≤ usual }
+        requires few { usual ≤ most_kept }
+        ensures value { result ≡ kept_of usual self.now }
+        ensures least { 1 ≤ result }
+        ensures most { result ≤ most_kept }
+    {
+        self.keep.unwrap_or(usual)
+    }
+
+    /// The table of the known partitions.
+    pub fn into_table(self) -> PartitionTable
+        ensures { result ≡ self.entry.rows }
+    {
+        self.table
+    }
+}
+
+/// The table of rows that make one.
+fn make_table(alloc: Global, rows: &[(&[u8], u32)]) -> Result<Option<PartitionTable>, AllocError>
+    ensures { IfOk result (λ table. table
+        ≡ (if is_none (fault_of (given rows.now)) then Some (given rows.now) else None)) }
+{
+    match PartitionTable::new(alloc, rows) {
+        Ok(table) => Ok(Some(table)),
+        Err(TableFault::Memory) => Err(AllocError),
+        Err(_) => Ok(None),
+    }
+}
+
+/// The limit that is fixed at this many permits.
+fn fixed(n: u32) -> BaseLimit
+    requires least { 1 ≤ n }
+    requires most { n ≤ greatest_limit }
+    ensures { result ≡ BaseLimit.Fixed n }
+{
+    match BaseLimit::fixed(u64::from(n)) {
+        Ok(limit) => limit,
+        Err(_) => unreachable!(),
+    }
+}
