@@ -6,8 +6,8 @@ use Rattle.limit_kinds.specs.AnyKinds.{any_limit}
 use Rattle.limit_kinds.specs.KindNames.{kind_name}
 use Rattle.commands.specs.FaultLine.{line}
 
--- the kind of the limit and the limit at the start, how many classes, resolvers and bypass rules there
--- are, and how many callers may wait
+-- the kind of the limit and the limit at the start, how many classes, resolvers and bypass rules
+-- there are, and how many callers may wait
 abbrev pub accepted_line : Settings → List ℕ
 accepted_line s = line (concat (
     codes "ok " ∷ kind_name s.limit ∷ codes " " ∷ decimal (any_limit s.limit)

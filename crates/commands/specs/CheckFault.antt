@@ -2,9 +2,9 @@
 use Rattle.std.specs.Prelude.{ℕ, List, ◌++◌, codes}
 use Rattle.counted_io.specs.declared.reading.ReadFault.{ReadFault}
 use Rattle.counted_io.specs.declared.reading.ReadFault.TheVariants as Reading
-use Rattle.gate_config.specs.FaultText.{fault_text}
-use Rattle.gate_config.specs.declared.fault.ConfigFault.{ConfigFault}
-use Rattle.gate_config.specs.declared.fault.ConfigFault.TheVariants as Config
+use Rattle.config_values.specs.Fault.{fault_text}
+use Rattle.config_values.specs.declared.fault.ConfigFault.{ConfigFault}
+use Rattle.config_values.specs.declared.fault.ConfigFault.TheVariants as Config
 use Rattle.commands.specs.declared.check_fault.CheckFault.{CheckFault}
 use Rattle.commands.specs.declared.check_fault.CheckFault.TheVariants as Check
 

@@ -2,6 +2,7 @@
 use Rattle.std.specs.Prelude.{◌≡◌, ◌≤◌, ℕ, List, [], ◌∷◌, Option, Some, None, true, false, codes, pos}
 use Rattle.std.specs.Str.Parse.{IsNumeral, digits_value, without_leading_plus}
 use Rattle.clap.specs.Words.{App, Row, Rule, Text, first_of, new_app, new_rule, one_of, shape_of, with_rule, with_subcommand}
+use Rattle.limit_laws.specs.Algorithm.{greatest_limit}
 use Rattle.clap.specs.declared.builder.command.Command.{Command}
 use Rattle.clap.specs.declared.builder.command.Command.TheViews.{out-Command}
 use Rattle.clap.specs.declared.builder.value_parser.ValueParser.TheVariants as Parser
@@ -21,7 +22,7 @@ number_rule name default low high = record (new_rule name) {
 
 -- `--limit N`, 20 where it isn't given
 abbrev pub limit_rule : Rule
-limit_rule = number_rule (codes "limit") (codes "20") 1 10000
+limit_rule = number_rule (codes "limit") (codes "20") 1 greatest_limit
 
 -- `CONFIG`
 abbrev pub config_rule : Rule
@@ -41,7 +42,8 @@ asking name = record (new_app name) {
 
 -- the whole command line
 abbrev pub admission_app : App
-admission_app = with_subcommand (with_subcommand (asking (codes "admission")) replay_app.top) check_app.top
+admission_app =
+    with_subcommand (with_subcommand (asking (codes "admission")) replay_app.top) check_app.top
 
 -- the command, as a subcommand, is the one of this definition
 abbrev pub IsLeaf : App → Command → Type 0
@@ -56,7 +58,7 @@ HasNumber rows id low high n = (text : Text) × (one_of id rows ≡ Some text)
 -- the task is that of this subcommand, with the numbers that its rows have
 abbrev pub IsTaskOf : Text → List Row → TextTask → Type 0
 IsTaskOf name rows (Replay limit) =
-    (name ≡ codes "replay") × HasNumber rows (codes "limit") 1 10000 limit
+    (name ≡ codes "replay") × HasNumber rows (codes "limit") 1 greatest_limit limit
 
 -- the run is that of this subcommand, with the numbers and the path that its rows have
 abbrev pub IsCommandOf : Text → List Row → Run → Type 0
@@ -79,5 +81,5 @@ limit_of (Replay limit) = limit
 
 -- the limit of a run over a text is 1 to 10,000
 abbrev pub HasLimit : Run → Type 0
-HasLimit (OfText task) = (1 ≤ limit_of task) × (limit_of task ≤ 10000)
+HasLimit (OfText task) = (1 ≤ limit_of task) × (limit_of task ≤ greatest_limit)
 HasLimit (Check path) = Unit {0}

@@ -19,10 +19,12 @@ use std::io::{Read, Write};
 /// The most bytes of a configuration: 1 MiB.
 pub(crate) const MOST_CONFIG: usize = 1_048_576;
 
-/// Checks the configuration in the file of a path, as [`check_reader`] does, and answers the exit status.
+/// Checks the configuration in the file of a path, as [`check_reader`] does, and answers the exit
+/// status.
 ///
 /// A file that can't be opened is told as one that can't be read. Of opening no contract speaks, so
-/// which path was opened, and why that failed, is left open; what is said is said of a file's bytes.
+/// which path was opened, and why that failed, is left open; what is said is said of a file's
+/// bytes.
 pub fn check_file<F: Files, W: Write, E: Write>(
     files: &F,
     alloc: Global,
@@ -48,11 +50,11 @@ pub fn check_file<F: Files, W: Write, E: Write>(
     }
 }
 
-/// Checks the configuration that a reader gives up to its end, at most 1 MiB in at most 2^25 reads, as
-/// [`check_text`] does, and answers the exit status.
+/// Checks the configuration that a reader gives up to its end, at most 1 MiB in at most 2^25 reads,
+/// as [`check_text`] does, and answers the exit status.
 ///
-/// A reader that fails, isn't at its end after so many reads, or has more is told as one that can't be
-/// read.
+/// A reader that fails, isn't at its end after so many reads, or has more is told as one that can't
+/// be read.
 pub fn check_reader<R: Read, W: Write, E: Write>(
     alloc: Global,
     reader: &mut Counted<R>,
@@ -78,11 +80,11 @@ pub fn check_reader<R: Read, W: Write, E: Write>(
     }
 }
 
-/// Checks the bytes of a configuration: writes one line on its settings to `writer`, or the line of its
-/// first fault to `errors`, and answers the exit status.
+/// Checks the bytes of a configuration: writes one line on its settings to `writer`, or the line of
+/// its first fault to `errors`, and answers the exit status.
 ///
-/// Either line is flushed and takes no memory. Where the line of a fault can't be written itself, it is
-/// dropped.
+/// Either line is flushed and takes no memory. Where the line of a fault can't be written itself,
+/// it is dropped.
 pub fn check_text<W: Write, E: Write>(
     alloc: Global,
     bytes: &[u8],

@@ -40,8 +40,8 @@ pub(crate) fn write_line<W: Write>(
     write_and_flush(writer, b"\n")
 }
 
-/// Tells a fault: writes its line, which begins with the program's name, and drops it where it can't
-/// be written.
+/// Tells a fault: writes its line, which begins with the program's name, and drops it where it
+/// can't be written.
 pub(crate) fn tell<E: Write>(errors: &mut Counted<E>, pieces: &[&str])
     ensures { IsTold E.contents errors.old errors.new
         (fault_line (concat (map (λ piece. piece.now) pieces.now))) }

@@ -89,6 +89,8 @@ limit is fixed at the N of --limit.
   class NAME PERCENT           a class and its share of the limit: 1 to 32 of a-z 0-9 - _ and not
                                unknown, at most four; 1 to 100 percent, together at most 100
   backlog N                    how many may wait, 0 to 10000; 100 without this line
+  keep K                       how many entries of the history are kept, 1 to 1000000; 100000
+                               without this line
 
 Then, with every NOW in nanoseconds:
 
@@ -121,7 +123,7 @@ by the lines
   3 promoted 1 inflight 1
   4 granted inflight 1
 
-An ending of no open permit is answered `- not open`, and each event `- exhausted` once 100,000
+An ending of no open permit is answered `- not open`, and each event `- exhausted` once so many
 entries are kept (what waits may still be given up, and what is open ended).
 
 Ends with status 0 once all is written, with 2 where a word of the command line is at fault, and
@@ -130,7 +132,7 @@ else with 1 and one line on standard error, which comes after the answers to the
   admission: line L: words   no line is written so: a word too many, too few or misspelt, a number
                              with a sign, a point or a unit
   admission: line L: late    a setting behind another line
-  admission: line L: twice   a second limit, window or backlog
+  admission: line L: twice   a second limit, window, backlog or keep
   admission: line L: value   a number out of its range, N outside LO to HI, MIN above MAX, a class
                              given twice, a fifth class, or shares above 100 percent together
   admission: line L: class   no class line has this name

@@ -2,6 +2,7 @@
 ghost use Rattle.std.specs.Prelude.{◌≡◌, ◌≤◌, ◌⊎◌, true, None};
 ghost use Rattle.counted_io.specs.Counted.{failures_of, is_flushed};
 ghost use Rattle.counted_io.specs.Effects.{IfLeft, Wrote};
+ghost use Rattle.limit_laws.specs.Algorithm.{greatest_limit};
 ghost use Rattle.load_driver.specs.Driver.{fault_text};
 ghost use Rattle.commands.specs.CommandLine.{limit_of};
 ghost use Rattle.commands.specs.FaultLine.{IsTold, fault_line};
@@ -28,7 +29,7 @@ pub fn run_text<R: Read, W: Write, E: Write>(
     errors: &mut Counted<E>,
 ) -> u8
     requires least { 1 ≤ limit_of task }
-    requires most { limit_of task ≤ 10000 }
+    requires most { limit_of task ≤ greatest_limit }
     ensures status { (result ≡ 0) ⊎ (result ≡ 1) }
 
     // The whole text is written and flushed.
@@ -42,7 +43,8 @@ pub fn run_text<R: Read, W: Write, E: Write>(
 
     // The fault is told.
     ensures stopped { result ≡ 1 → (fault : DriverFault)
-        × IsStop R.remaining W.contents (text_of task) reader.old reader.new writer.old writer.new fault
+        × IsStop R.remaining W.contents (text_of task)
+        reader.old reader.new writer.old writer.new fault
         × IsTold E.contents errors.old errors.new (fault_line (fault_text fault)) }
 {
     let outcome = match task {

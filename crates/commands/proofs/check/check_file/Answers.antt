@@ -1,4 +1,4 @@
-use Rattle.std.proofs.Common.{inr}
+use Rattle.std.proofs.Common.{rules, inr}
 use Rattle.commands.proofs.check.check_file.Goals as goal
 
 -- the file is the one that was opened, before its first read
@@ -12,3 +12,9 @@ pub returns-in-Ok-clause-refused : goal.returns-in-Ok-clause-refused
 returns-in-Ok-clause-refused g c is =
     let why = c.check_reader.ensures.refused is in
     (why.0, why.1, inr (c.new.result, c.check_reader.new.reader, why.2))
+
+pub returns-in-Err-clause-status : goal.returns-in-Err-clause-status
+returns-in-Err-clause-status c = search rules
+
+pub returns-in-Err-clause-refused : goal.returns-in-Err-clause-refused
+returns-in-Err-clause-refused c = search rules

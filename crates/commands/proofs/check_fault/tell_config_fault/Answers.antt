@@ -1,5 +1,5 @@
 use Rattle.std.proofs.Common.{subst, codes}
-use Rattle.gate_config.specs.FaultText.{fault_text}
+use Rattle.config_values.specs.Fault.{fault_text}
 use Rattle.commands.specs.FaultLine.{IsTold, fault_line}
 use Rattle.commands.proofs.Pieces.{word_and_three}
 use Rattle.commands.proofs.check_fault.tell_config_fault.Goals as goal

@@ -25,10 +25,12 @@ pub returns-in_err-path-clause-none : goal.returns-in_err-path-clause-none
 returns-in_err-path-clause-none c none run is =
     no_run c.args.name.now (rows_of (found_of c.args.matches.now)) run
     (λ named n has. search rules)
-    (λ named. sym (first_value-rows (found_of c.args.matches.now) (codes "config")) ∙ sym c.get_str.ensures ∙ search rules) is
+    (λ named. sym (first_value-rows (found_of c.args.matches.now) (codes "config"))
+    ∙ sym c.get_str.ensures ∙ search rules) is
 
 pub returns-in_ok-path-clause-run : goal.returns-in_ok-path-clause-run
 returns-in_ok-path-clause-run c = (
   search rules,
-  sym (first_value-rows (found_of c.args.matches.now) (codes "config")) ∙ sym c.get_str.ensures ∙ search rules,
+  sym (first_value-rows (found_of c.args.matches.now) (codes "config")) ∙ sym c.get_str.ensures
+      ∙ search rules,
 )
