@@ -1,4 +1,5 @@
-//! Tests of the parts of a limiter, of the limiter and of its journal, by their public calls.
+//! Tests of the parts of a limiter, of the limiter, of its journal and of the lines of scripts, by
+//! their public calls.
 #![tactic(auto)]
 
 #[cfg(test)]
@@ -16,11 +17,17 @@ mod limit_laws_tests;
 #[cfg(test)]
 mod limiter_core_tests;
 #[cfg(test)]
+mod lines_tests;
+#[cfg(test)]
 mod make_tests;
 #[cfg(test)]
 mod partitions_tests;
 #[cfg(test)]
 mod sample_window_tests;
+#[cfg(test)]
+mod script_tests;
+#[cfg(test)]
+mod settings_tests;
 #[cfg(test)]
 mod vegas_tests;
 #[cfg(test)]
