@@ -4,7 +4,8 @@ ghost use Rattle.classifier.specs.Class.{is_bypassed_by};
 
 use crate::header::has_value;
 use http::Method;
-use wire::{Bytes, Request};
+use message_parts::Bytes;
+use wire::Request;
 
 /// Which requests bypass the limit.
 #[derive(Drop)]

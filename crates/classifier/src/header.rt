@@ -3,7 +3,7 @@ ghost use Rattle.std.specs.Prelude.{◌≡◌, option_map};
 ghost use Rattle.std.specs.List.{list_any};
 ghost use Rattle.classifier.specs.Class.{header_value, has_line, same_name};
 
-use wire::{Header, Headers};
+use message_parts::{Header, Headers};
 
 /// Whether two header names are the same, read without ASCII case (RFC 9110, section 5.1).
 fn is_same_name(one: &[u8], other: &[u8]) -> bool

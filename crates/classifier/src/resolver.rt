@@ -5,8 +5,9 @@ ghost use Rattle.classifier.specs.Class.{held_part, resolved_part};
 use crate::header::first_value;
 use http::Method;
 use matchit::Router;
+use message_parts::Bytes;
 use partitions::{Part, PartitionTable};
-use wire::{Bytes, Request};
+use wire::Request;
 
 /// Where a request's partition is read from.
 #[derive(Drop)]

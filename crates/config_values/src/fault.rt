@@ -4,10 +4,10 @@ ghost use Rattle.config_values.specs.Fault.{fault_text};
 
 use crate::key::Key;
 use matchit::InsertError;
+use message_parts::Text;
 use std::alloc::AllocError;
 use std::error::Error;
 use std::fmt;
-use wire::Text;
 
 /// Why a configuration was refused. Of several faults the first in this order is told, and of
 /// several keys the first in the order of the keys; of unknown keys the one with the least path in

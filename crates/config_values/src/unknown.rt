@@ -10,9 +10,9 @@ ghost use Rattle.config_values.specs.Unknown.{lesser, stranger_of, stranger_path
 
 use crate::key::{Key, Section};
 use crate::key_text::key_text;
+use message_parts::Text;
 use std::alloc::{AllocError, Global};
 use toml::Table;
-use wire::Text;
 
 /// A key that isn't allowed where it stands.
 #[derive(Clone, Copy, Debug)]

@@ -2,11 +2,12 @@
 use classifier::*;
 use http::Method;
 use matchit::Router;
+use message_parts::{Bytes, Header, Headers, Text};
 use partitions::{Part, PartitionTable};
 use std::alloc::{AllocError, Global};
 use std::process::Abort;
 use std::test::Fail;
-use wire::{Bytes, Header, Headers, Request, Text, Version};
+use wire::{Request, Version};
 
 const LIVE: Part = Part::Known(0);
 

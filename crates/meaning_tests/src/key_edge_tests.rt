@@ -3,11 +3,12 @@ use super::gate_config_tests::{ADDRESSES, FIXED, LIVE, answer};
 use classifier::classify;
 use gate_config::*;
 use http::Method;
+use message_parts::{Bytes, Header, Headers, Text};
 use partitions::Part;
 use std::alloc::{AllocError, Global};
 use std::process::Abort;
 use std::test::Fail;
-use wire::{Bytes, Header, Headers, Request, Text, Version};
+use wire::{Request, Version};
 
 /// A key that holds a number: the lines before it and after it, its name, its path, and its range.
 type RangeRow = (

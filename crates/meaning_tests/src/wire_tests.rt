@@ -1,5 +1,6 @@
 // Messages keep what they are given.
 use http::Method;
+use message_parts::*;
 use std::test::Fail;
 use wire::*;
 

@@ -1,8 +1,6 @@
 // A request.
-use crate::bytes::Bytes;
-use crate::headers::Headers;
-use crate::text::Text;
 use http::Method;
+use message_parts::{Bytes, Headers, Text};
 
 /// The version of HTTP that a request is in.
 #[derive(Clone, Copy, Debug, PartialEq, Eq)]

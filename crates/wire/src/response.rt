@@ -2,8 +2,7 @@
 ghost use Rattle.std.specs.Prelude.{◌≡◌, ◌≤◌, option_map};
 ghost use Rattle.wire.specs.Response.{ResponseValue};
 
-use crate::bytes::Bytes;
-use crate::headers::Headers;
+use message_parts::{Bytes, Headers};
 use std::marker::Model;
 
 /// A final response that was read whole. A contract sees its status, its header lines and its body.

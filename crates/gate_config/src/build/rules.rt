@@ -14,10 +14,10 @@ use config_sections::{BypassKeys, ClassKeys, ResolverKeys};
 use config_values::{ConfigFault, string_of};
 use http::Method;
 use matchit::Router;
+use message_parts::Bytes;
 use partitions::{Part, PartitionTable};
 use std::alloc::{AllocError, Global};
 use toml::Table;
-use wire::Bytes;
 
 /// The partitions that the classes name. Fails where memory is wanting.
 pub fn partitions_of(alloc: Global, classes: &[ClassKeys]) -> Result<PartitionTable, AllocError>

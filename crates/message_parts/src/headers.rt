@@ -19,7 +19,7 @@ pub struct Headers {
 
 impl Model for Headers {
     ghost use Rattle.std.specs.Prelude.{List};
-    ghost use Rattle.wire.specs.declared.headers.Header.{Header};
+    ghost use Rattle.message_parts.specs.declared.headers.Header.{Header};
 
     ghost Value = { List Header };
 
