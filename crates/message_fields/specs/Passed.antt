@@ -6,15 +6,21 @@ use Rattle.message_fields.specs.Names.{same_name}
 use Rattle.message_fields.specs.Lines.{is_named}
 use Rattle.message_fields.specs.Parts.{parts_named}
 
--- the fields of one connection, and the length, which is written anew
-abbrev pub own_names : List (List ℕ)
-own_names =
-    codes "connection" ∷ codes "proxy-connection" ∷ codes "keep-alive" ∷ codes "te"
-    ∷ codes "trailer" ∷ codes "transfer-encoding" ∷ codes "upgrade" ∷ codes "content-length" ∷ []
+-- the field says how one connection is used
+abbrev pub is_of_connection : List ℕ → Bool
+is_of_connection name =
+    list_any (same_name name)
+    (codes "connection" ∷ codes "proxy-connection" ∷ codes "keep-alive" ∷ codes "upgrade" ∷ [])
+
+-- the field says how the body is sent over one connection
+abbrev pub is_of_coding : List ℕ → Bool
+is_of_coding name =
+    list_any (same_name name)
+    (codes "te" ∷ codes "trailer" ∷ codes "transfer-encoding" ∷ codes "content-length" ∷ [])
 
 -- the field is of one connection alone
 abbrev pub is_own : List ℕ → Bool
-is_own name = list_any (same_name name) own_names
+is_own name = is_of_connection name || is_of_coding name
 
 -- a Connection line among the lines names the field
 abbrev pub is_connection_option : List Header → List ℕ → Bool

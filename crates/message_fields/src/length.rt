@@ -63,13 +63,22 @@ fn all_agree(lines: &[Header], part: &[u8]) -> bool
     lines.iter().all(|line| agrees(line, part))
 }
 
+/// Whether the part is digits, and each part of each line of Content-Length is this one.
+fn is_length(lines: &[Header], part: &[u8]) -> bool
+    ensures { result ≡ (is_digits part.now
+        && list_all (bytes_eq part.now) (parts_named (codes "content-length") lines.now)) }
+{
+    is_digits(part) && all_agree(lines, part)
+}
+
 /// The one string of digits that all parts of all lines of Content-Length are, with the blanks
 /// around them left out; nothing where there is no line or its parts are no such string.
+#[tactic(auto, using(crate::proofs::First::digits_none, crate::proofs::First::digits_some))]
 pub fn length_digits(lines: &[Header]) -> Option<&[u8]>
     ensures { option_map (λ digits. digits.now) result ≡ length_digits lines.now }
 {
     let first = first_part(first_value(lines, b"content-length")?);
-    if is_digits(first) && all_agree(lines, first) {
+    if is_length(lines, first) {
         Some(first)
     } else {
         None

@@ -67,6 +67,7 @@ fn first_comma(value: &[u8]) -> Option<usize>
 }
 
 /// Where the first part of the value ends.
+#[tactic(auto, using(crate::proofs::Places::place_is))]
 fn first_end(value: &[u8]) -> usize
     ensures value { result ≡ position_or_len (λ byte. byte == 44) value.now }
     ensures inside { result ≤ length value.now }
@@ -92,7 +93,9 @@ fn is_trimmed(text: &[u8], part: &[u8]) -> bool
 pub(crate) fn is_every_part(value: &[u8], part: &[u8]) -> bool
     ensures { result ≡ list_all (bytes_eq part.now) (parts value.now) }
 {
-    value.split(|byte| *byte == b',').all(|text| is_trimmed(text, part))
+    value
+        .split(|byte| *byte == b',')
+        .all(|text| is_trimmed(text, part))
 }
 
 /// Whether the text, without its blanks, is the name.
@@ -106,5 +109,7 @@ fn is_trimmed_name(text: &[u8], name: &[u8]) -> bool
 pub(crate) fn has_part(value: &[u8], name: &[u8]) -> bool
     ensures { result ≡ list_any (λ part. same_name part name.now) (parts value.now) }
 {
-    value.split(|byte| *byte == b',').any(|text| is_trimmed_name(text, name))
+    value
+        .split(|byte| *byte == b',')
+        .any(|text| is_trimmed_name(text, name))
 }

@@ -4,25 +4,38 @@ ghost use Rattle.std.specs.List.{list_any};
 ghost use Rattle.message_fields.specs.Names.{same_name};
 ghost use Rattle.message_fields.specs.Lines.{is_named};
 ghost use Rattle.message_fields.specs.Parts.{parts};
-ghost use Rattle.message_fields.specs.Passed.{is_own, is_connection_option, is_passed, is_passed_in_request};
+ghost use Rattle.message_fields.specs.Passed.{is_of_connection, is_of_coding, is_own, is_connection_option, is_passed, is_passed_in_request};
 
 use super::lines::is_named;
 use super::names::is_same_name;
 use super::parts::has_part;
 use message_parts::Header;
 
-/// Whether the field is of one connection alone, or is the length, which is written anew.
-fn is_own(name: &[u8]) -> bool
-    ensures { result ≡ is_own name.now }
+/// Whether the field says how one connection is used.
+fn is_of_connection(name: &[u8]) -> bool
+    ensures { result ≡ is_of_connection name.now }
 {
     is_same_name(name, b"connection")
         || is_same_name(name, b"proxy-connection")
         || is_same_name(name, b"keep-alive")
-        || is_same_name(name, b"te")
+        || is_same_name(name, b"upgrade")
+}
+
+/// Whether the field says how the body is sent over one connection.
+fn is_of_coding(name: &[u8]) -> bool
+    ensures { result ≡ is_of_coding name.now }
+{
+    is_same_name(name, b"te")
         || is_same_name(name, b"trailer")
         || is_same_name(name, b"transfer-encoding")
-        || is_same_name(name, b"upgrade")
         || is_same_name(name, b"content-length")
+}
+
+/// Whether the field is of one connection alone.
+fn is_own(name: &[u8]) -> bool
+    ensures { result ≡ is_own name.now }
+{
+    is_of_connection(name) || is_of_coding(name)
 }
 
 /// Whether the line is a Connection line that names the field.

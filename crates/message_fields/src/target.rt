@@ -1,5 +1,5 @@
 // The target of a request.
-ghost use Rattle.std.specs.Prelude.{◌≡◌, ◌≤◌, length, IsTrue, option_map};
+ghost use Rattle.std.specs.Prelude.{◌≡◌, ◌≤◌, length, IsTrue, option_map, unwrap_or, false};
 ghost use Rattle.std.specs.List.{position, position_or_len};
 ghost use Rattle.message_fields.specs.Target.{is_absolute, ends_authority, authority_of, local_part, wants_slash, is_authority, is_target, is_whole_server};
 
@@ -28,6 +28,7 @@ fn first_end(text: &[u8]) -> Option<usize>
 }
 
 /// Where an authority in front ends.
+#[tactic(auto, using(crate::proofs::Places::place_is))]
 fn authority_end(text: &[u8]) -> usize
     ensures value { result ≡ position_or_len ends_authority text.now }
     ensures inside { result ≤ length text.now }
