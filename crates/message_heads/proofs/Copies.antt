@@ -34,7 +34,8 @@ pub same_request : (h : RequestText) (method target : List ℕ) (minor : ℕ) (l
     (record { method = method; target = target; minor = minor; lines = lines }) (request_head h)
 same_request h method target minor lines a b c d = rw (a, b, c, d) refl
 
-pub same_response : (h : ResponseText) (status : ℕ) (lines : List Header)
-    → status ≡ status_code h → lines ≡ map line_of h.fields
-    → ◌≡◌ {A = ResponseHead} (record { status = status; lines = lines }) (response_head h)
-same_response h status lines a b = rw (a, b) refl
+pub same_response : (h : ResponseText) (status minor : ℕ) (lines : List Header)
+    → status ≡ status_code h → minor ≡ h.minor → lines ≡ map line_of h.fields
+    → ◌≡◌ {A = ResponseHead} (record { status = status; minor = minor; lines = lines })
+    (response_head h)
+same_response h status minor lines a b c = rw (a, b, c) refl

@@ -45,7 +45,11 @@ request_head h = record {
 
 -- what a response head says
 abbrev pub response_head : ResponseText → ResponseHead
-response_head h = record { status = status_code h; lines = map line_of h.fields }
+response_head h = record {
+  status = status_code h;
+  minor = h.minor;
+  lines = map line_of h.fields;
+}
 
 -- what a request head's bytes are read as; nothing behind them is read
 pub data IsRequestIn (text : List ℕ) : List ℕ → Reading RequestHead → Type 0 where

@@ -20,6 +20,8 @@ use std::alloc::Global;
 pub struct ResponseHead {
     /// The three digits of its status, from 0 to 999.
     pub status: u16,
+    /// The minor version: 0 for `HTTP/1.0` and 1 for `HTTP/1.1`.
+    pub minor: u8,
     pub lines: Headers,
 }
 
@@ -58,6 +60,7 @@ pub fn parse_response(alloc: Global, text: &[u8]) -> Result<ResponseHead, ReadFa
     let lines = copy_lines(alloc, text, &spans[..found.headers])?;
     Ok(ResponseHead {
         status: found.code,
+        minor: found.version,
         lines,
     })
 }

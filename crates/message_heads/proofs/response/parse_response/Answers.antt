@@ -8,4 +8,4 @@ returns-clause-head c =
     let head = c.in-Some.ensures.head in
     let lines : c.in_ok-lines.lines ≡ map line_of head.0.fields =
     c.in_ok-lines.ensures ∙ same_lines _ _ _ _ head.1.fields in
-    (head.0, head.2, same_response head.0 _ _ head.1.code lines)
+    (head.0, head.2, same_response head.0 _ _ _ head.1.code head.1.version lines)

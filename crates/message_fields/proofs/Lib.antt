@@ -1,0 +1,6 @@
+pub mod SameName
+pub mod Places
+pub mod Digits
+pub mod Lists
+pub mod First
+pub mod Short

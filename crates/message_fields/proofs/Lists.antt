@@ -1,0 +1,63 @@
+-- Tests of all items, or of any, through `map`, `filter` and `flat_map`.
+use Rattle.std.proofs.Common.{◌≡◌, Bool, true, false, not, ◌||◌, ◌&&◌, List, [], ◌∷◌, ◌++◌, map, filter, refl, ap, ◌∙◌, sym, cond}
+use Rattle.std.specs.List.{list_all, list_any, flat_map}
+
+-- each item of a map
+pub list_all-map : {X Y : Type 0} (p : Y → Bool) (f : X → Y) (xs : List X)
+    → list_all (λ x. p (f x)) xs ≡ list_all p (map f xs)
+list_all-map p f [] = refl
+list_all-map p f (x ∷ xs) = ap (λ b. p (f x) && b) (list_all-map p f xs)
+
+-- some item of a map
+pub list_any-map : {X Y : Type 0} (p : Y → Bool) (f : X → Y) (xs : List X)
+    → list_any (λ x. p (f x)) xs ≡ list_any p (map f xs)
+list_any-map p f [] = refl
+list_any-map p f (x ∷ xs) = ap (λ b. p (f x) || b) (list_any-map p f xs)
+
+-- each item of two lists
+list_all-append : {X : Type 0} (p : X → Bool) (xs ys : List X)
+    → list_all p (xs ++ ys) ≡ (list_all p xs && list_all p ys)
+list_all-append p [] ys = refl
+list_all-append p (x ∷ xs) ys =
+    elim (p x) as (λ b. (b && list_all p (xs ++ ys)) ≡ ((b && list_all p xs) && list_all p ys)) [
+      | true ↦ list_all-append p xs ys
+      | false ↦ refl
+    ]
+
+-- some item of two lists
+list_any-append : {X : Type 0} (p : X → Bool) (xs ys : List X)
+    → list_any p (xs ++ ys) ≡ (list_any p xs || list_any p ys)
+list_any-append p [] ys = refl
+list_any-append p (x ∷ xs) ys =
+    elim (p x) as (λ b. (b || list_any p (xs ++ ys)) ≡ ((b || list_any p xs) || list_any p ys)) [
+      | true ↦ refl
+      | false ↦ list_any-append p xs ys
+    ]
+
+-- each item of what the chosen give
+pub list_all-chosen : {X Y : Type 0} (p : Y → Bool) (f : X → List Y) (chosen : X → Bool)
+    (xs : List X) → list_all (λ x. not (chosen x) || list_all p (f x)) xs
+    ≡ list_all p (flat_map f (filter chosen xs))
+list_all-chosen p f chosen [] = refl
+list_all-chosen p f chosen (x ∷ xs) =
+    elim (chosen x) as
+    (λ b. ((not b || list_all p (f x)) && list_all (λ x. not (chosen x) || list_all p (f x)) xs)
+    ≡ list_all p (flat_map f (cond b (x ∷ filter chosen xs) (filter chosen xs)))) [
+      | true ↦ ap (λ b. list_all p (f x) && b) (list_all-chosen p f chosen xs)
+          ∙ sym (list_all-append p (f x) (flat_map f (filter chosen xs)))
+      | false ↦ list_all-chosen p f chosen xs
+    ]
+
+-- some item of what the chosen give
+pub list_any-chosen : {X Y : Type 0} (p : Y → Bool) (f : X → List Y) (chosen : X → Bool)
+    (xs : List X) → list_any (λ x. chosen x && list_any p (f x)) xs
+    ≡ list_any p (flat_map f (filter chosen xs))
+list_any-chosen p f chosen [] = refl
+list_any-chosen p f chosen (x ∷ xs) =
+    elim (chosen x) as
+    (λ b. ((b && list_any p (f x)) || list_any (λ x. chosen x && list_any p (f x)) xs)
+    ≡ list_any p (flat_map f (cond b (x ∷ filter chosen xs) (filter chosen xs)))) [
+      | true ↦ ap (λ b. list_any p (f x) || b) (list_any-chosen p f chosen xs)
+          ∙ sym (list_any-append p (f x) (flat_map f (filter chosen xs)))
+      | false ↦ list_any-chosen p f chosen xs
+    ]

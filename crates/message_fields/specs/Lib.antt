@@ -1,0 +1,6 @@
+pub mod Names
+pub mod Lines
+pub mod Parts
+pub mod Lengths
+pub mod Passed
+pub mod Target

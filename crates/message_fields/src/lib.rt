@@ -1,0 +1,20 @@
+//! The fields and the target of an HTTP message, as its rules ask for them.
+//!
+//! Each call is a pure function of header lines or of bytes, and takes no memory unless it says so.
+//! `specs/` has what each one tells: the lines of a name (`Lines`), the parts of values with commas
+//! (`Parts`), the length that lines give (`Lengths`), the lines that are passed on (`Passed`) and
+//! the target (`Target`).
+#![tactic(auto)]
+
+mod length;
+mod lines;
+mod names;
+mod parts;
+mod passed;
+mod target;
+
+pub use length::{LengthFault, length_digits, length_of};
+pub use lines::{asks_continue, count_named, first_value, is_chunked_alone};
+pub use names::is_same_name;
+pub use passed::{is_passed, is_passed_in_request};
+pub use target::{authority, is_target, is_whole_server, local_part, wants_slash};
