@@ -18,6 +18,7 @@ use message_parts::Header;
 use std::io::Write;
 
 /// What an answer to the client is written from.
+#[derive(Drop)]
 pub struct Answer<'a> {
     /// The method of the request that is answered.
     pub method: &'a [u8],
@@ -82,7 +83,9 @@ impl Answer<'_> {
     /// Writes the length of the body, where there is one.
     #[tactic(auto, using(crate::proofs::Kept::one_line), unfolding(crate::specs::Line::lines_text))]
     fn write_own<W: Write>(&self, writer: &mut Counted<W>) -> Result<(), WriteFault>
-        ensures all { OnOk result (Wrote W.contents writer.old writer.new (lines_text (length_lines (lent self.now.body)))) }
+        ensures all { OnOk result
+            (Wrote W.contents writer.old writer.new
+            (lines_text (length_lines (lent self.now.body)))) }
         ensures unfailing { OnOk result (failures_of writer.new ≡ failures_of writer.old) }
         ensures failed { OnErr result (IsWriteCause writer.old writer.new) }
         ensures flushes { flushes_of writer.new ≡ flushes_of writer.old }
@@ -96,7 +99,8 @@ impl Answer<'_> {
     /// Writes the length that is told.
     #[tactic(auto, using(crate::proofs::Kept::one_line), unfolding(crate::specs::Line::lines_text))]
     fn write_told<W: Write>(&self, writer: &mut Counted<W>) -> Result<(), WriteFault>
-        ensures all { OnOk result (Wrote W.contents writer.old writer.new (lines_text (told_lines (seen self.now)))) }
+        ensures all { OnOk result
+            (Wrote W.contents writer.old writer.new (lines_text (told_lines (seen self.now)))) }
         ensures unfailing { OnOk result (failures_of writer.new ≡ failures_of writer.old) }
         ensures failed { OnErr result (IsWriteCause writer.old writer.new) }
         ensures flushes { flushes_of writer.new ≡ flushes_of writer.old }
@@ -113,7 +117,9 @@ impl Answer<'_> {
 
     /// Writes the lines of the answer, and the empty line behind them.
     fn write_lines<W: Write>(&self, writer: &mut Counted<W>) -> Result<(), WriteFault>
-        ensures all { OnOk result (Wrote W.contents writer.old writer.new (lines_text (answer_lines (seen self.now)) ++ codes "\r\n")) }
+        ensures all { OnOk result
+            (Wrote W.contents writer.old writer.new
+            (lines_text (answer_lines (seen self.now)) ++ codes "\r\n")) }
         ensures unfailing { OnOk result (failures_of writer.new ≡ failures_of writer.old) }
         ensures failed { OnErr result (IsWriteCause writer.old writer.new) }
         ensures flushes { flushes_of writer.new ≡ flushes_of writer.old }
@@ -128,7 +134,8 @@ impl Answer<'_> {
     /// The one fault comes where the writer failed; then nothing is said of how much was written.
     pub fn write<W: Write>(&self, writer: &mut Counted<W>) -> Result<(), WriteFault>
         requires three_digits { (100 ≤ self.now.status) × (self.now.status ≤ 999) }
-        ensures all { OnOk result (Wrote W.contents writer.old writer.new (answer_text (seen self.now))) }
+        ensures all { OnOk result
+            (Wrote W.contents writer.old writer.new (answer_text (seen self.now))) }
         ensures unfailing { OnOk result (failures_of writer.new ≡ failures_of writer.old) }
         ensures flushed { OnOk result (is_flushed writer.new ≡ true) }
         ensures flushes { OnOk result (flushes_of writer.new ≡ raised (flushes_of writer.old)) }

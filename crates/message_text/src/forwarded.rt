@@ -15,6 +15,7 @@ use message_parts::Header;
 use std::io::Write;
 
 /// What a request is forwarded from.
+#[derive(Drop)]
 pub struct Forwarded<'a> {
     pub method: &'a [u8],
     /// The target as it came.
@@ -48,7 +49,8 @@ fn write_target<W: Write>(
     method: &[u8],
     target: &[u8],
 ) -> Result<(), WriteFault>
-    ensures all { OnOk result (Wrote W.contents writer.old writer.new (forwarded_target method.now target.now)) }
+    ensures all { OnOk result
+        (Wrote W.contents writer.old writer.new (forwarded_target method.now target.now)) }
     ensures unfailing { OnOk result (failures_of writer.new ≡ failures_of writer.old) }
     ensures failed { OnErr result (IsWriteCause writer.old writer.new) }
     ensures flushes { flushes_of writer.new ≡ flushes_of writer.old }
@@ -64,7 +66,8 @@ impl Forwarded<'_> {
     /// Writes a Host line, where the request has none.
     #[tactic(auto, using(crate::proofs::Kept::one_line), unfolding(crate::specs::Line::lines_text))]
     fn write_host<W: Write>(&self, writer: &mut Counted<W>) -> Result<(), WriteFault>
-        ensures all { OnOk result (Wrote W.contents writer.old writer.new (lines_text (host_lines (seen self.now)))) }
+        ensures all { OnOk result
+            (Wrote W.contents writer.old writer.new (lines_text (host_lines (seen self.now)))) }
         ensures unfailing { OnOk result (failures_of writer.new ≡ failures_of writer.old) }
         ensures failed { OnErr result (IsWriteCause writer.old writer.new) }
         ensures flushes { flushes_of writer.new ≡ flushes_of writer.old }
@@ -82,7 +85,9 @@ impl Forwarded<'_> {
     /// Writes the length, where there is a body.
     #[tactic(auto, using(crate::proofs::Kept::one_line), unfolding(crate::specs::Line::lines_text))]
     fn write_length<W: Write>(&self, writer: &mut Counted<W>) -> Result<(), WriteFault>
-        ensures all { OnOk result (Wrote W.contents writer.old writer.new (lines_text (length_lines (lent self.now.body)))) }
+        ensures all { OnOk result
+            (Wrote W.contents writer.old writer.new
+            (lines_text (length_lines (lent self.now.body)))) }
         ensures unfailing { OnOk result (failures_of writer.new ≡ failures_of writer.old) }
         ensures failed { OnErr result (IsWriteCause writer.old writer.new) }
         ensures flushes { flushes_of writer.new ≡ flushes_of writer.old }
@@ -96,7 +101,8 @@ impl Forwarded<'_> {
     /// Writes the line that tells of the gateway.
     #[tactic(auto, unfolding(crate::specs::Line::line_text, crate::specs::Forwarded::via_line))]
     fn write_via<W: Write>(&self, writer: &mut Counted<W>) -> Result<(), WriteFault>
-        ensures all { OnOk result (Wrote W.contents writer.old writer.new (line_text (via_line self.now.is_old))) }
+        ensures all { OnOk result
+            (Wrote W.contents writer.old writer.new (line_text (via_line self.now.is_old))) }
         ensures unfailing { OnOk result (failures_of writer.new ≡ failures_of writer.old) }
         ensures failed { OnErr result (IsWriteCause writer.old writer.new) }
         ensures flushes { flushes_of writer.new ≡ flushes_of writer.old }
@@ -110,7 +116,9 @@ impl Forwarded<'_> {
 
     /// Writes the lines that are forwarded, and the empty line behind them.
     fn write_lines<W: Write>(&self, writer: &mut Counted<W>) -> Result<(), WriteFault>
-        ensures all { OnOk result (Wrote W.contents writer.old writer.new (lines_text (forwarded_lines (seen self.now)) ++ codes "\r\n")) }
+        ensures all { OnOk result
+            (Wrote W.contents writer.old writer.new
+            (lines_text (forwarded_lines (seen self.now)) ++ codes "\r\n")) }
         ensures unfailing { OnOk result (failures_of writer.new ≡ failures_of writer.old) }
         ensures failed { OnErr result (IsWriteCause writer.old writer.new) }
         ensures flushes { flushes_of writer.new ≡ flushes_of writer.old }
@@ -126,7 +134,8 @@ impl Forwarded<'_> {
     ///
     /// The one fault comes where the writer failed; then nothing is said of how much was written.
     pub fn write<W: Write>(&self, writer: &mut Counted<W>) -> Result<(), WriteFault>
-        ensures all { OnOk result (Wrote W.contents writer.old writer.new (forwarded_text (seen self.now))) }
+        ensures all { OnOk result
+            (Wrote W.contents writer.old writer.new (forwarded_text (seen self.now))) }
         ensures unfailing { OnOk result (failures_of writer.new ≡ failures_of writer.old) }
         ensures flushed { OnOk result (is_flushed writer.new ≡ true) }
         ensures flushes { OnOk result (flushes_of writer.new ≡ raised (flushes_of writer.old)) }

@@ -29,7 +29,8 @@ pub fn write_line<W: Write>(
     name: &[u8],
     value: &[u8],
 ) -> Result<(), WriteFault>
-    ensures all { OnOk result (Wrote W.contents writer.old writer.new (line_text (line_of name.now value.now))) }
+    ensures all { OnOk result
+        (Wrote W.contents writer.old writer.new (line_text (line_of name.now value.now))) }
     ensures unfailing { OnOk result (failures_of writer.new ≡ failures_of writer.old) }
     ensures failed { OnErr result (IsWriteCause writer.old writer.new) }
     ensures flushes { flushes_of writer.new ≡ flushes_of writer.old }
@@ -43,7 +44,8 @@ pub fn write_line<W: Write>(
 /// Writes the line that tells the length of a body.
 #[tactic(auto, unfolding(crate::specs::Line::line_text))]
 pub fn write_length<W: Write>(writer: &mut Counted<W>, body: &[u8]) -> Result<(), WriteFault>
-    ensures all { OnOk result (Wrote W.contents writer.old writer.new (line_text (length_line body.now))) }
+    ensures all { OnOk result
+        (Wrote W.contents writer.old writer.new (line_text (length_line body.now))) }
     ensures unfailing { OnOk result (failures_of writer.new ≡ failures_of writer.old) }
     ensures failed { OnErr result (IsWriteCause writer.old writer.new) }
     ensures flushes { flushes_of writer.new ≡ flushes_of writer.old }
@@ -135,7 +137,8 @@ pub fn write_response_lines<W: Write>(
     writer: &mut Counted<W>,
     lines: &[Header],
 ) -> Result<(), WriteFault>
-    ensures all { OnOk result (Wrote W.contents writer.old writer.new (lines_text (response_lines lines.now))) }
+    ensures all { OnOk result
+        (Wrote W.contents writer.old writer.new (lines_text (response_lines lines.now))) }
     ensures unfailing { OnOk result (failures_of writer.new ≡ failures_of writer.old) }
     ensures failed { OnErr result (IsWriteCause writer.old writer.new) }
     ensures flushes { flushes_of writer.new ≡ flushes_of writer.old }
