@@ -39,7 +39,8 @@ path_of target = before_first (λ byte. byte == 63) (turned target)
 
 -- an authority is not empty and names no user
 abbrev pub is_authority : List ℕ → Bool
-is_authority authority = nat_lt 0 (length authority) && not (list_any (λ byte. byte == 64) authority)
+is_authority authority =
+    nat_lt 0 (length authority) && not (list_any (λ byte. byte == 64) authority)
 
 -- the target fits the method: a path, `*` for OPTIONS, or an absolute URI with an authority
 abbrev pub is_target : List ℕ → List ℕ → Bool

@@ -2,7 +2,8 @@
 ghost use Rattle.std.specs.Prelude.{◌≡◌};
 ghost use Rattle.message_fields.specs.Names.{same_name};
 
-/// Whether two field names, or other words, are the same without ASCII case (RFC 9110, section 5.1).
+/// Whether two field names, or other words, are the same without ASCII case (RFC 9110,
+/// section 5.1).
 pub fn is_same_name(one: &[u8], other: &[u8]) -> bool
     ensures { result ≡ same_name one.now other.now }
 {

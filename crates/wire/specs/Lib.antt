@@ -1,1 +1,2 @@
 pub mod Response
+pub mod Written

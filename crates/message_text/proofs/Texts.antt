@@ -1,0 +1,101 @@
+-- Texts that are written in pieces.
+use Rattle.std.proofs.Common.{◌≡◌, ℕ, List, [], ◌∷◌, ◌++◌, map, refl, ap, sym, subst, ◌∙◌, Option, Result, Ok, Err, OnOk, append_assoc}
+use Rattle.std.specs.Prelude.{codes, unwrap_or}
+use Rattle.std.specs.Io.KnownBytes.{Appends}
+use Rattle.std.proofs.KnownBytes.{Appends-trans}
+use Rattle.std.proofs.lemmas.List.{append-nil}
+use Rattle.std.proofs.lemmas.Grind.{flat_map-append}
+use Rattle.message_parts.specs.declared.headers.Header.{Header}
+use Rattle.message_fields.specs.Passed.{request_lines, response_lines}
+use Rattle.message_fields.specs.Target.{authority_of, forwarded_target}
+use Rattle.message_text.specs.Line.{line_text, lines_text, close_line}
+use Rattle.message_text.specs.Forwarded.{ForwardedValue, hosted, host_lines, length_lines, via_line, forwarded_lines, forwarded_text}
+use Rattle.message_text.specs.Answer.{AnswerValue, told_lines, answer_lines, answer_text, status_text, written_body, local_text}
+
+-- a front was written, and then the rest
+pub wrote_then : {T E : Type 0} (r : Result T E) (a b c : Option (List ℕ)) (x y text : List ℕ)
+    → text ≡ x ++ y → Appends a b x → OnOk r (Appends b c y) → OnOk r (Appends a c text)
+wrote_then (Ok v) a b c x y text e p q =
+    subst (Appends a c) (sym e) (Appends-trans a b c x y p q)
+wrote_then (Err f) a b c x y text e p q = tt
+
+-- lines of two lists
+lines_text-append : (one other : List Header)
+    → lines_text (one ++ other) ≡ lines_text one ++ lines_text other
+unfolding lines_text
+lines_text-append one other = flat_map-append line_text one other
+
+-- the last line, and the empty line behind it
+closed : lines_text (close_line ∷ []) ++ codes "\r\n" ≡ codes "Connection: close\r\n\r\n"
+unfolding lines_text line_text
+closed = refl
+
+-- a line, the last line, and the empty line behind it
+via_closed : (line : Header) → lines_text (line ∷ close_line ∷ []) ++ codes "\r\n"
+    ≡ line_text line ++ codes "Connection: close\r\n\r\n"
+unfolding lines_text
+via_closed line =
+    append_assoc (line_text line) (lines_text (close_line ∷ [])) (codes "\r\n")
+    ∙ ap (λ (t : List ℕ). line_text line ++ t) closed
+
+-- the lines of an answer and the empty line, in three pieces
+pub answer_pieces : (answer : AnswerValue)
+    → lines_text (answer_lines answer) ++ codes "\r\n"
+    ≡ (lines_text (response_lines answer.headers) ++ lines_text (told_lines answer))
+    ++ codes "Connection: close\r\n\r\n"
+unfolding answer_lines
+answer_pieces answer =
+    let one = response_lines answer.headers in
+    let two = told_lines answer in
+    let last = close_line ∷ [] in
+    let split : lines_text (one ++ two ++ last) ≡ lines_text one ++ lines_text two ++ lines_text last
+    = simp lines_text-append in
+    ap (λ (t : List ℕ). t ++ codes "\r\n") split
+    ∙ append_assoc (lines_text one ++ lines_text two) (lines_text last) (codes "\r\n")
+    ∙ ap (λ (t : List ℕ). (lines_text one ++ lines_text two) ++ t) closed
+
+-- an answer, in three pieces
+pub answer_whole : (answer : AnswerValue)
+    → answer_text answer
+    ≡ (status_text answer.status ++ (lines_text (answer_lines answer) ++ codes "\r\n"))
+    ++ unwrap_or (written_body answer) []
+unfolding answer_text
+answer_whole answer = simp (append_assoc, append-nil)
+
+-- the gateway's own answer, in two pieces
+pub local_whole : (status : ℕ)
+    → local_text status
+    ≡ status_text status ++ codes "Content-Length: 0\r\nConnection: close\r\n\r\n"
+unfolding local_text lines_text line_text
+local_whole status = refl
+
+-- the lines of a forwarded request and the empty line, in five pieces
+pub forwarded_pieces : (request : ForwardedValue)
+    → lines_text (forwarded_lines request) ++ codes "\r\n"
+    ≡ (((lines_text (map (hosted (authority_of request.target)) (request_lines request.headers))
+    ++ lines_text (host_lines request)) ++ lines_text (length_lines request.body))
+    ++ line_text (via_line request.is_old)) ++ codes "Connection: close\r\n\r\n"
+unfolding forwarded_lines
+forwarded_pieces request =
+    let kept = map (hosted (authority_of request.target)) (request_lines request.headers) in
+    let host = host_lines request in
+    let size = length_lines request.body in
+    let via = via_line request.is_old in
+    let front : List ℕ = lines_text kept ++ lines_text host ++ lines_text size in
+    let split : lines_text (kept ++ host ++ size ++ (via ∷ close_line ∷ []))
+    ≡ front ++ lines_text (via ∷ close_line ∷ []) = simp lines_text-append in
+    let pair : lines_text (via ∷ close_line ∷ []) ++ codes "\r\n"
+    ≡ line_text via ++ codes "Connection: close\r\n\r\n" = via_closed via in
+    ap (λ (t : List ℕ). t ++ codes "\r\n") split
+    ∙ append_assoc front (lines_text (via ∷ close_line ∷ [])) (codes "\r\n")
+    ∙ ap (λ (t : List ℕ). front ++ t) pair
+    ∙ sym (append_assoc front (line_text via) (codes "Connection: close\r\n\r\n"))
+
+-- a forwarded request, in six pieces
+pub forwarded_whole : (request : ForwardedValue)
+    → forwarded_text request
+    ≡ ((((request.method ++ codes " ") ++ forwarded_target request.method request.target)
+    ++ codes " HTTP/1.1\r\n") ++ (lines_text (forwarded_lines request) ++ codes "\r\n"))
+    ++ unwrap_or request.body []
+unfolding forwarded_text
+forwarded_whole request = simp (append_assoc, append-nil)

@@ -1,0 +1,20 @@
+use Rattle.std.proofs.Common.{◌≡◌, []}
+use Rattle.std.specs.Prelude.{unwrap_or}
+use Rattle.std.proofs.KnownBytes.{Appends-trans}
+use Rattle.message_text.specs.Forwarded.{seen, lent}
+use Rattle.message_text.proofs.Texts.{wrote_then, forwarded_whole}
+use Rattle.message_text.proofs.forwarded.Forwarded.write.Goals as goal
+
+pub returns-clause-all : goal.returns-clause-all
+returns-clause-all g c =
+    let body : c.bytes_of.result.now ≡ unwrap_or (lent c.args.self.now.body) [] =
+    c.bytes_of.ensures in
+    wrote_then c.write_and_flush.result _ _ _ _ _ _ (forwarded_whole (seen c.args.self.now))
+    (Appends-trans _ _ _ _ _
+    (Appends-trans _ _ _ _ _
+    (Appends-trans _ _ _ _ _
+    (Appends-trans _ _ _ _ _ c.in_ok-write_all.ensures.all c.in_ok-write_all-2.ensures.all)
+    c.in_ok-write_target.ensures.all)
+    c.in_ok-write_all-3.ensures.all)
+    c.in_ok-write_lines.ensures.all)
+    (rw body at c.write_and_flush.ensures.all)

@@ -1,0 +1,19 @@
+use Rattle.std.proofs.Common.{◌≡◌}
+use Rattle.std.proofs.KnownBytes.{Appends-trans}
+use Rattle.message_fields.specs.Target.{authority_of}
+use Rattle.message_text.specs.Forwarded.{seen, lent}
+use Rattle.message_text.proofs.Texts.{wrote_then, forwarded_pieces}
+use Rattle.message_text.proofs.forwarded.Forwarded.write_lines.Goals as goal
+
+pub returns-clause-all : goal.returns-clause-all
+returns-clause-all g c =
+    let told : lent c.authority.result ≡ authority_of c.args.self.now.target.now =
+    c.authority.ensures in
+    wrote_then c.write_all.result _ _ _ _ _ _ (forwarded_pieces (seen c.args.self.now))
+    (Appends-trans _ _ _ _ _
+    (Appends-trans _ _ _ _ _
+    (Appends-trans _ _ _ _ _ (rw told at c.in_ok-write_request_lines.ensures.all)
+    c.in_ok-write_host.ensures.all)
+    c.in_ok-write_length.ensures.all)
+    c.in_ok-write_via.ensures.all)
+    c.write_all.ensures.all

@@ -1,0 +1,163 @@
+// A response as it is written to the client.
+ghost use Rattle.std.specs.Prelude.{◌≡◌, ◌≤◌, true, OnOk, OnErr, codes, option_map, unwrap_or, if◌then◌else◌, [], ◌++◌};
+ghost use Rattle.counted_io.specs.Counted.{failures_of, flushes_of, is_flushed};
+ghost use Rattle.counted_io.specs.Count.{raised};
+ghost use Rattle.counted_io.specs.Effects.{Wrote};
+ghost use Rattle.counted_io.specs.Causes.{IsWriteCause};
+ghost use Rattle.message_text.specs.Line.{lines_text};
+ghost use Rattle.message_fields.specs.Lengths.{length_digits};
+ghost use Rattle.message_text.specs.Forwarded.{lent, length_lines};
+ghost use Rattle.message_text.specs.Answer.{seen, is_bodiless, written_body, received_lines, told_lines, answer_lines, status_text, answer_text, local_text};
+
+use super::lines::{bytes_of, write_length, write_line, write_response_lines};
+use super::number::write_decimal;
+use super::phrase::phrase_of;
+use counted_io::{Counted, WriteFault, write_all, write_and_flush};
+use message_fields::length_digits;
+use message_parts::Header;
+use std::io::Write;
+
+/// What an answer to the client is written from.
+#[derive(Drop)]
+pub struct Answer<'a> {
+    /// The method of the request that is answered.
+    pub method: &'a [u8],
+    /// The status, from 100 to 999.
+    pub status: u16,
+    /// The header lines of the response as they came.
+    pub headers: &'a [Header],
+    /// The body, where the response has one.
+    pub body: Option<&'a [u8]>,
+}
+
+/// Writes the first line of an answer.
+#[tactic(auto, unfolding(crate::specs::Answer::status_text))]
+fn write_status<W: Write>(writer: &mut Counted<W>, status: u16) -> Result<(), WriteFault>
+    requires three_digits { (100 ≤ status) × (status ≤ 999) }
+    ensures all { OnOk result (Wrote W.contents writer.old writer.new (status_text status)) }
+    ensures unfailing { OnOk result (failures_of writer.new ≡ failures_of writer.old) }
+    ensures failed { OnErr result (IsWriteCause writer.old writer.new) }
+    ensures flushes { flushes_of writer.new ≡ flushes_of writer.old }
+{
+    write_all(writer, b"HTTP/1.1 ")?;
+    write_decimal(writer, u64::from(status))?;
+    write_all(writer, b" ")?;
+    write_all(writer, phrase_of(status).as_bytes())?;
+    write_all(writer, b"\r\n")
+}
+
+/// Whether no body is written to this method or with this status.
+fn is_bodiless(method: &[u8], status: u16) -> bool
+    ensures { result ≡ is_bodiless method.now status }
+{
+    method == b"HEAD".as_slice() || status == 204 || status == 304
+}
+
+impl Answer<'_> {
+    /// The body that is written.
+    fn written_body(&self) -> Option<&[u8]>
+        ensures { lent result ≡ written_body (seen self.now) }
+    {
+        if is_bodiless(self.method, self.status) {
+            None
+        } else {
+            self.body
+        }
+    }
+
+    /// Writes the length that came, where its lines give one.
+    #[tactic(auto, using(crate::proofs::Kept::one_line), unfolding(crate::specs::Line::lines_text))]
+    fn write_received<W: Write>(&self, writer: &mut Counted<W>) -> Result<(), WriteFault>
+        ensures all { OnOk result (Wrote W.contents writer.old writer.new
+            (lines_text (received_lines (length_digits self.now.headers.now)))) }
+        ensures unfailing { OnOk result (failures_of writer.new ≡ failures_of writer.old) }
+        ensures failed { OnErr result (IsWriteCause writer.old writer.new) }
+        ensures flushes { flushes_of writer.new ≡ flushes_of writer.old }
+    {
+        match length_digits(self.headers) {
+            Some(digits) => write_line(writer, b"Content-Length", digits),
+            None => Ok(()),
+        }
+    }
+
+    /// Writes the length of the body, where there is one.
+    #[tactic(auto, using(crate::proofs::Kept::one_line), unfolding(crate::specs::Line::lines_text))]
+    fn write_own<W: Write>(&self, writer: &mut Counted<W>) -> Result<(), WriteFault>
+        ensures all { OnOk result
+            (Wrote W.contents writer.old writer.new
+            (lines_text (length_lines (lent self.now.body)))) }
+        ensures unfailing { OnOk result (failures_of writer.new ≡ failures_of writer.old) }
+        ensures failed { OnErr result (IsWriteCause writer.old writer.new) }
+        ensures flushes { flushes_of writer.new ≡ flushes_of writer.old }
+    {
+        match self.body {
+            Some(body) => write_length(writer, body),
+            None => Ok(()),
+        }
+    }
+
+    /// Writes the length that is told.
+    #[tactic(auto, using(crate::proofs::Kept::one_line), unfolding(crate::specs::Line::lines_text))]
+    fn write_told<W: Write>(&self, writer: &mut Counted<W>) -> Result<(), WriteFault>
+        ensures all { OnOk result
+            (Wrote W.contents writer.old writer.new (lines_text (told_lines (seen self.now)))) }
+        ensures unfailing { OnOk result (failures_of writer.new ≡ failures_of writer.old) }
+        ensures failed { OnErr result (IsWriteCause writer.old writer.new) }
+        ensures flushes { flushes_of writer.new ≡ flushes_of writer.old }
+    {
+        if self.status == 204 {
+            return Ok(());
+        }
+        if is_bodiless(self.method, self.status) {
+            self.write_received(writer)
+        } else {
+            self.write_own(writer)
+        }
+    }
+
+    /// Writes the lines of the answer, and the empty line behind them.
+    fn write_lines<W: Write>(&self, writer: &mut Counted<W>) -> Result<(), WriteFault>
+        ensures all { OnOk result
+            (Wrote W.contents writer.old writer.new
+            (lines_text (answer_lines (seen self.now)) ++ codes "\r\n")) }
+        ensures unfailing { OnOk result (failures_of writer.new ≡ failures_of writer.old) }
+        ensures failed { OnErr result (IsWriteCause writer.old writer.new) }
+        ensures flushes { flushes_of writer.new ≡ flushes_of writer.old }
+    {
+        write_response_lines(writer, self.headers)?;
+        self.write_told(writer)?;
+        write_all(writer, b"Connection: close\r\n\r\n")
+    }
+
+    /// Writes the answer, and flushes once.
+    ///
+    /// The one fault comes where the writer failed; then nothing is said of how much was written.
+    pub fn write<W: Write>(&self, writer: &mut Counted<W>) -> Result<(), WriteFault>
+        requires three_digits { (100 ≤ self.now.status) × (self.now.status ≤ 999) }
+        ensures all { OnOk result
+            (Wrote W.contents writer.old writer.new (answer_text (seen self.now))) }
+        ensures unfailing { OnOk result (failures_of writer.new ≡ failures_of writer.old) }
+        ensures flushed { OnOk result (is_flushed writer.new ≡ true) }
+        ensures flushes { OnOk result (flushes_of writer.new ≡ raised (flushes_of writer.old)) }
+        ensures failed { OnErr result (IsWriteCause writer.old writer.new) }
+    {
+        write_status(writer, self.status)?;
+        self.write_lines(writer)?;
+        write_and_flush(writer, bytes_of(self.written_body()))
+    }
+}
+
+/// Writes the gateway's own answer of a status: no body, and the connection ends. It flushes once.
+///
+/// The one fault comes where the writer failed; then nothing is said of how much was written.
+pub fn write_local_answer<W: Write>(writer: &mut Counted<W>, status: u16) -> Result<(), WriteFault>
+    requires three_digits { (100 ≤ status) × (status ≤ 999) }
+    ensures all { OnOk result (Wrote W.contents writer.old writer.new (local_text status)) }
+    ensures unfailing { OnOk result (failures_of writer.new ≡ failures_of writer.old) }
+    ensures flushed { OnOk result (is_flushed writer.new ≡ true) }
+    ensures flushes { OnOk result (flushes_of writer.new ≡ raised (flushes_of writer.old)) }
+    ensures failed { OnErr result (IsWriteCause writer.old writer.new) }
+{
+    write_status(writer, status)?;
+    write_and_flush(writer, b"Content-Length: 0\r\nConnection: close\r\n\r\n")
+}

@@ -1,0 +1,151 @@
+// A request as it is forwarded.
+ghost use Rattle.std.specs.Prelude.{◌≡◌, ◌++◌, true, OnOk, OnErr, codes, option_map, unwrap_or, if◌then◌else◌, []};
+ghost use Rattle.counted_io.specs.Counted.{failures_of, flushes_of, is_flushed};
+ghost use Rattle.counted_io.specs.Count.{raised};
+ghost use Rattle.counted_io.specs.Effects.{Wrote};
+ghost use Rattle.counted_io.specs.Causes.{IsWriteCause};
+ghost use Rattle.message_fields.specs.Target.{turned, forwarded_target};
+ghost use Rattle.message_text.specs.Line.{lines_text, line_text, close_line};
+ghost use Rattle.message_text.specs.Forwarded.{lent, seen, forwarded_lines, forwarded_text, host_lines, length_lines, via_line};
+
+use super::lines::{bytes_of, write_length, write_line, write_request_lines};
+use counted_io::{Counted, WriteFault, write_all, write_and_flush};
+use message_fields::{authority, count_named, is_whole_server, local_part, wants_slash};
+use message_parts::Header;
+use std::io::Write;
+
+/// What a request is forwarded from.
+#[derive(Drop)]
+pub struct Forwarded<'a> {
+    pub method: &'a [u8],
+    /// The target as it came.
+    pub target: &'a [u8],
+    /// Whether it came in HTTP/1.0.
+    pub is_old: bool,
+    /// Its header lines as they came.
+    pub headers: &'a [Header],
+    /// The body, where the request has a length.
+    pub body: Option<&'a [u8]>,
+    /// The backend's address, for a request that names no host.
+    pub backend: &'a [u8],
+}
+
+/// Writes a target without scheme and authority.
+fn write_turned<W: Write>(writer: &mut Counted<W>, target: &[u8]) -> Result<(), WriteFault>
+    ensures all { OnOk result (Wrote W.contents writer.old writer.new (turned target.now)) }
+    ensures unfailing { OnOk result (failures_of writer.new ≡ failures_of writer.old) }
+    ensures failed { OnErr result (IsWriteCause writer.old writer.new) }
+    ensures flushes { flushes_of writer.new ≡ flushes_of writer.old }
+{
+    if wants_slash(target) {
+        write_all(writer, b"/")?;
+    }
+    write_all(writer, local_part(target))
+}
+
+/// Writes the target that is forwarded.
+fn write_target<W: Write>(
+    writer: &mut Counted<W>,
+    method: &[u8],
+    target: &[u8],
+) -> Result<(), WriteFault>
+    ensures all { OnOk result
+        (Wrote W.contents writer.old writer.new (forwarded_target method.now target.now)) }
+    ensures unfailing { OnOk result (failures_of writer.new ≡ failures_of writer.old) }
+    ensures failed { OnErr result (IsWriteCause writer.old writer.new) }
+    ensures flushes { flushes_of writer.new ≡ flushes_of writer.old }
+{
+    if is_whole_server(method, target) {
+        write_all(writer, b"*")
+    } else {
+        write_turned(writer, target)
+    }
+}
+
+impl Forwarded<'_> {
+    /// Writes a Host line, where the request has none.
+    #[tactic(auto, using(crate::proofs::Kept::one_line), unfolding(crate::specs::Line::lines_text))]
+    fn write_host<W: Write>(&self, writer: &mut Counted<W>) -> Result<(), WriteFault>
+        ensures all { OnOk result
+            (Wrote W.contents writer.old writer.new (lines_text (host_lines (seen self.now)))) }
+        ensures unfailing { OnOk result (failures_of writer.new ≡ failures_of writer.old) }
+        ensures failed { OnErr result (IsWriteCause writer.old writer.new) }
+        ensures flushes { flushes_of writer.new ≡ flushes_of writer.old }
+    {
+        if count_named(self.headers, b"host") > 0 {
+            return Ok(());
+        }
+        write_line(
+            writer,
+            b"Host",
+            authority(self.target).unwrap_or(self.backend),
+        )
+    }
+
+    /// Writes the length, where there is a body.
+    #[tactic(auto, using(crate::proofs::Kept::one_line), unfolding(crate::specs::Line::lines_text))]
+    fn write_length<W: Write>(&self, writer: &mut Counted<W>) -> Result<(), WriteFault>
+        ensures all { OnOk result
+            (Wrote W.contents writer.old writer.new
+            (lines_text (length_lines (lent self.now.body)))) }
+        ensures unfailing { OnOk result (failures_of writer.new ≡ failures_of writer.old) }
+        ensures failed { OnErr result (IsWriteCause writer.old writer.new) }
+        ensures flushes { flushes_of writer.new ≡ flushes_of writer.old }
+    {
+        match self.body {
+            Some(body) => write_length(writer, body),
+            None => Ok(()),
+        }
+    }
+
+    /// Writes the line that tells of the gateway.
+    #[tactic(auto, unfolding(crate::specs::Line::line_text, crate::specs::Forwarded::via_line))]
+    fn write_via<W: Write>(&self, writer: &mut Counted<W>) -> Result<(), WriteFault>
+        ensures all { OnOk result
+            (Wrote W.contents writer.old writer.new (line_text (via_line self.now.is_old))) }
+        ensures unfailing { OnOk result (failures_of writer.new ≡ failures_of writer.old) }
+        ensures failed { OnErr result (IsWriteCause writer.old writer.new) }
+        ensures flushes { flushes_of writer.new ≡ flushes_of writer.old }
+    {
+        if self.is_old {
+            write_all(writer, b"Via: 1.0 admission\r\n")
+        } else {
+            write_all(writer, b"Via: 1.1 admission\r\n")
+        }
+    }
+
+    /// Writes the lines that are forwarded, and the empty line behind them.
+    fn write_lines<W: Write>(&self, writer: &mut Counted<W>) -> Result<(), WriteFault>
+        ensures all { OnOk result
+            (Wrote W.contents writer.old writer.new
+            (lines_text (forwarded_lines (seen self.now)) ++ codes "\r\n")) }
+        ensures unfailing { OnOk result (failures_of writer.new ≡ failures_of writer.old) }
+        ensures failed { OnErr result (IsWriteCause writer.old writer.new) }
+        ensures flushes { flushes_of writer.new ≡ flushes_of writer.old }
+    {
+        write_request_lines(writer, self.headers, authority(self.target))?;
+        self.write_host(writer)?;
+        self.write_length(writer)?;
+        self.write_via(writer)?;
+        write_all(writer, b"Connection: close\r\n\r\n")
+    }
+
+    /// Writes the request as it is forwarded, and flushes once.
+    ///
+    /// The one fault comes where the writer failed; then nothing is said of how much was written.
+    pub fn write<W: Write>(&self, writer: &mut Counted<W>) -> Result<(), WriteFault>
+        ensures all { OnOk result
+            (Wrote W.contents writer.old writer.new (forwarded_text (seen self.now))) }
+        ensures unfailing { OnOk result (failures_of writer.new ≡ failures_of writer.old) }
+        ensures flushed { OnOk result (is_flushed writer.new ≡ true) }
+        ensures flushes { OnOk result (flushes_of writer.new ≡ raised (flushes_of writer.old)) }
+        ensures failed { OnErr result (IsWriteCause writer.old writer.new) }
+    {
+        write_all(writer, self.method)?;
+        write_all(writer, b" ")?;
+        write_target(writer, self.method, self.target)?;
+        write_all(writer, b" HTTP/1.1\r\n")?;
+        self.write_lines(writer)?;
+        write_and_flush(writer, bytes_of(self.body))
+    }
+}

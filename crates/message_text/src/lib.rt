@@ -1,0 +1,16 @@
+//! The texts of HTTP messages, and the writing of them.
+//!
+//! A request is forwarded by [`Forwarded::write`], a response is passed on by [`Answer::write`],
+//! and [`write_local_answer`] answers for the gateway itself. On success exactly the text of the
+//! definitions (`specs/Forwarded`, `specs/Answer`) was written behind what the writer held, with
+//! one flush. No call takes memory. Texts go out in pieces, so a buffer lies below the counts.
+#![tactic(auto)]
+
+mod answer;
+mod forwarded;
+mod lines;
+mod number;
+mod phrase;
+
+pub use answer::{Answer, write_local_answer};
+pub use forwarded::Forwarded;

@@ -1,0 +1,150 @@
+// Header lines as they are written.
+ghost use Rattle.std.specs.Prelude.{◌≡◌, OnOk, OnErr, codes, decimal, map, if◌then◌else◌, [], option_map, unwrap_or};
+ghost use Rattle.std.specs.List.{flat_map};
+ghost use Rattle.counted_io.specs.Counted.{failures_of, flushes_of};
+ghost use Rattle.counted_io.specs.Effects.{Wrote};
+ghost use Rattle.counted_io.specs.Causes.{IsWriteCause};
+ghost use Rattle.message_fields.specs.Lines.{is_named};
+ghost use Rattle.message_fields.specs.Passed.{is_passed, is_passed_in_request, request_lines, response_lines};
+ghost use Rattle.message_text.specs.Line.{line_of, line_text, lines_text, length_line};
+ghost use Rattle.message_text.specs.Forwarded.{hosted, lent};
+
+use super::number::write_decimal;
+use counted_io::{Counted, WriteFault, write_all};
+use message_fields::{is_passed, is_passed_in_request, is_same_name};
+use message_parts::Header;
+use std::io::Write;
+
+/// The bytes, or none.
+pub fn bytes_of(bytes: Option<&[u8]>) -> &[u8]
+    ensures { result.now ≡ unwrap_or (lent bytes.entry) [] }
+{
+    bytes.unwrap_or(b"")
+}
+
+/// Writes a line of this name and value.
+#[tactic(auto, unfolding(crate::specs::Line::line_text))]
+pub fn write_line<W: Write>(
+    writer: &mut Counted<W>,
+    name: &[u8],
+    value: &[u8],
+) -> Result<(), WriteFault>
+    ensures all { OnOk result
+        (Wrote W.contents writer.old writer.new (line_text (line_of name.now value.now))) }
+    ensures unfailing { OnOk result (failures_of writer.new ≡ failures_of writer.old) }
+    ensures failed { OnErr result (IsWriteCause writer.old writer.new) }
+    ensures flushes { flushes_of writer.new ≡ flushes_of writer.old }
+{
+    write_all(writer, name)?;
+    write_all(writer, b": ")?;
+    write_all(writer, value)?;
+    write_all(writer, b"\r\n")
+}
+
+/// Writes the line that tells the length of a body.
+#[tactic(auto, unfolding(crate::specs::Line::line_text))]
+pub fn write_length<W: Write>(writer: &mut Counted<W>, body: &[u8]) -> Result<(), WriteFault>
+    ensures all { OnOk result
+        (Wrote W.contents writer.old writer.new (line_text (length_line body.now))) }
+    ensures unfailing { OnOk result (failures_of writer.new ≡ failures_of writer.old) }
+    ensures failed { OnErr result (IsWriteCause writer.old writer.new) }
+    ensures flushes { flushes_of writer.new ≡ flushes_of writer.old }
+{
+    write_all(writer, b"Content-Length: ")?;
+    write_decimal(writer, body.len() as u64)?;
+    write_all(writer, b"\r\n")
+}
+
+/// Writes a line of a request: Host tells the authority, where the target has one.
+fn write_hosted<W: Write>(
+    writer: &mut Counted<W>,
+    line: &Header,
+    authority: Option<&[u8]>,
+) -> Result<(), WriteFault>
+    ensures all { OnOk result (Wrote W.contents writer.old writer.new
+        (line_text (hosted (lent authority.entry) line.now))) }
+    ensures unfailing { OnOk result (failures_of writer.new ≡ failures_of writer.old) }
+    ensures failed { OnErr result (IsWriteCause writer.old writer.new) }
+    ensures flushes { flushes_of writer.new ≡ flushes_of writer.old }
+{
+    let value = match authority {
+        Some(authority) if is_same_name(line.name.as_slice(), b"host") => authority,
+        _ => line.value.as_slice(),
+    };
+    write_line(writer, line.name.as_slice(), value)
+}
+
+/// Writes a line of a request with these lines, where it is passed on.
+fn write_passed_in_request<W: Write>(
+    writer: &mut Counted<W>,
+    lines: &[Header],
+    line: &Header,
+    authority: Option<&[u8]>,
+) -> Result<(), WriteFault>
+    ensures all { OnOk result (Wrote W.contents writer.old writer.new
+        (if is_passed_in_request lines.now line.now
+        then line_text (hosted (lent authority.entry) line.now)
+        else [])) }
+    ensures unfailing { OnOk result (failures_of writer.new ≡ failures_of writer.old) }
+    ensures failed { OnErr result (IsWriteCause writer.old writer.new) }
+    ensures flushes { flushes_of writer.new ≡ flushes_of writer.old }
+{
+    if !is_passed_in_request(lines, line) {
+        return Ok(());
+    }
+    write_hosted(writer, line, authority)
+}
+
+/// Writes the lines of a request that are passed on.
+pub fn write_request_lines<W: Write>(
+    writer: &mut Counted<W>,
+    lines: &[Header],
+    authority: Option<&[u8]>,
+) -> Result<(), WriteFault>
+    ensures all { OnOk result (Wrote W.contents writer.old writer.new
+        (lines_text (map (hosted (lent authority.entry))
+        (request_lines lines.now)))) }
+    ensures unfailing { OnOk result (failures_of writer.new ≡ failures_of writer.old) }
+    ensures failed { OnErr result (IsWriteCause writer.old writer.new) }
+    ensures flushes { flushes_of writer.new ≡ flushes_of writer.old }
+{
+    for line in lines {
+        write_passed_in_request(writer, lines, line, authority)?;
+    }
+    Ok(())
+}
+
+/// Writes a line of a response with these lines, where it is passed on.
+fn write_passed<W: Write>(
+    writer: &mut Counted<W>,
+    lines: &[Header],
+    line: &Header,
+) -> Result<(), WriteFault>
+    ensures all { OnOk result (Wrote W.contents writer.old writer.new
+        (if is_passed lines.now line.now then line_text line.now else [])) }
+    ensures unfailing { OnOk result (failures_of writer.new ≡ failures_of writer.old) }
+    ensures failed { OnErr result (IsWriteCause writer.old writer.new) }
+    ensures flushes { flushes_of writer.new ≡ flushes_of writer.old }
+{
+    if !is_passed(lines, line) {
+        return Ok(());
+    }
+    write_line(writer, line.name.as_slice(), line.value.as_slice())
+}
+
+/// Writes the lines of a response that are passed on.
+pub fn write_response_lines<W: Write>(
+    writer: &mut Counted<W>,
+    lines: &[Header],
+) -> Result<(), WriteFault>
+    ensures all { OnOk result
+        (Wrote W.contents writer.old writer.new (lines_text (response_lines lines.now))) }
+    ensures unfailing { OnOk result (failures_of writer.new ≡ failures_of writer.old) }
+    ensures failed { OnErr result (IsWriteCause writer.old writer.new) }
+    ensures flushes { flushes_of writer.new ≡ flushes_of writer.old }
+{
+    for line in lines {
+        write_passed(writer, lines, line)?;
+    }
+    Ok(())
+}
