@@ -19,6 +19,7 @@ use Rattle.gate_journal.specs.Image.{image_of}
 use Rattle.gate_journal.specs.Journal.{Journal, gate, opening, image, is_over, answered, opened}
 use Rattle.gate_journal.specs.Rolling.{rolls, standing, ready, continued, after_all}
 use Rattle.gate_journal.specs.Rolling.{all_added, MayAllCome, RunsLegally}
+use Rattle.gate_journal.specs.Rolling.{IsLastStretch, StretchesJoin}
 use Rattle.gate_journal.proofs.Ready.{ready_when}
 use Rattle.gate_journal.proofs.Room.{small_place}
 
@@ -100,20 +101,12 @@ module _ {S : Type 0} (rules : Algorithm S) (j : Journal S) (four : length j.row
   stands_alike = λ k. record (image rules j) { inflight = λ p. wide p k }
 
 -- o: the first opening, t: all entries so far, j: the journal after them
-record Goes {S : Type 0} (rules : Algorithm S) (o : Image S) (t : List Entry) (j : Journal S)
-    : Type 0 where
-  four : length j.rows ≤ 4
-  five : length j.opening.counts ≡ 5
-  whole : IsLegal (gate rules j) o t
-  own : IsLegal (gate rules j) (opening j) j.entries
-  leads : image rules j ≡ image_after (gate rules j) o t
-
 module _ {S : Type 0} (rules : Algorithm S) (answers : (g : Gate S) → AnswersByImage g)
     (lead : (g : Gate S) → LeadsByImage g) (still : (g : Gate S) → StandsStill g)
     (o : Image S) where
   -- it goes on so with a roll
-  readied : (t : List Entry) (j : Journal S) → Goes rules o t j → (b : Bool)
-      → Goes rules o t (ready_when rules j b)
+  readied : (t : List Entry) (j : Journal S) → IsLastStretch rules o t j → (b : Bool)
+      → IsLastStretch rules o t (ready_when rules j b)
   readied t j so true = record {
     four = so.four;
     five = refl;
@@ -126,9 +119,9 @@ module _ {S : Type 0} (rules : Algorithm S) (answers : (g : Gate S) → AnswersB
   readied t j so false = so
 
   -- and with an answer
-  answered_on : (t : List Entry) (j : Journal S) (e : Event) → Goes rules o t j
+  answered_on : (t : List Entry) (j : Journal S) (e : Event) → IsLastStretch rules o t j
       → MayCome (gate rules j) (image rules j) e
-      → Goes rules o (t ++ answered rules j e)
+      → IsLastStretch rules o (t ++ answered rules j e)
       (record j { entries = j.entries ++ answered rules j e })
   answered_on t j e so may =
       let g : Gate S = gate rules j in
@@ -150,27 +143,27 @@ module _ {S : Type 0} (rules : Algorithm S) (answers : (g : Gate S) → AnswersB
       }
 
   -- an answer is the same where it rolled before
-  same_told : (t : List Entry) (j : Journal S) (e : Event) → Goes rules o t j → (b : Bool)
+  same_told : (t : List Entry) (j : Journal S) (e : Event) → IsLastStretch rules o t j → (b : Bool)
       → answered rules (ready_when rules j b) e ≡ answered rules j e
   same_told t j e so b =
       let g : Gate S = gate rules j in
-      let then : Goes rules o t (ready_when rules j b) = readied t j so b in
+      let then : IsLastStretch rules o t (ready_when rules j b) = readied t j so b in
       answers g (opening (ready_when rules j b)) (ready_when rules j b).entries e then.own
       ∙ (λ k. answer g ((then.leads ∙ sym so.leads) k) [] e)
       ∙ sym (answers g (opening j) j.entries e so.own)
 
-  may_told : (t : List Entry) (j : Journal S) (e : Event) → Goes rules o t j → (b : Bool)
+  may_told : (t : List Entry) (j : Journal S) (e : Event) → IsLastStretch rules o t j → (b : Bool)
       → MayCome (gate rules j) (image rules j) e
       → MayCome (gate rules j) (image rules (ready_when rules j b)) e
   may_told t j e so b may =
       subst (λ (i : Image S). MayCome (gate rules j) i e)
       (so.leads ∙ sym (readied t j so b).leads) may
 
-  continued_on : (t : List Entry) (j : Journal S) (e : Event) → Goes rules o t j
+  continued_on : (t : List Entry) (j : Journal S) (e : Event) → IsLastStretch rules o t j
       → MayCome (gate rules j) (image rules j) e
-      → Goes rules o (t ++ answered rules j e) (continued rules j e)
+      → IsLastStretch rules o (t ++ answered rules j e) (continued rules j e)
   continued_on t j e so may =
-      subst (λ (es : List Entry). Goes rules o (t ++ es) (continued rules j e))
+      subst (λ (es : List Entry). IsLastStretch rules o (t ++ es) (continued rules j e))
       (same_told t j e so (rolls j))
       (answered_on t (ready rules j) e (readied t j so (rolls j))
       (may_told t j e so (rolls j) may))
@@ -179,7 +172,7 @@ module _ {S : Type 0} (rules : Algorithm S) (answers : (g : Gate S) → AnswersB
   abbrev Ends : Gate S → List Entry → Journal S → Type 0
   Ends g t j = IsLegal g o t × (image rules j ≡ image_after g o t)
 
-  runs : (es : List Event) (t : List Entry) (j : Journal S) → Goes rules o t j
+  runs : (es : List Event) (t : List Entry) (j : Journal S) → IsLastStretch rules o t j
       → MayAllCome rules j es
       → Ends (gate rules j) (t ++ all_added rules j es) (after_all rules j es)
   runs [] t j so may =
@@ -187,7 +180,7 @@ module _ {S : Type 0} (rules : Algorithm S) (answers : (g : Gate S) → AnswersB
       (so.whole, so.leads)
   runs (e ∷ es) t j so may = go (λ u k. runs es u k) (is_over rules j e) may.1
     where
-      go : ((u : List Entry) (k : Journal S) → Goes rules o u k → MayAllCome rules k es
+      go : ((u : List Entry) (k : Journal S) → IsLastStretch rules o u k → MayAllCome rules k es
           → Ends (gate rules k) (u ++ all_added rules k es) (after_all rules k es))
           → (b : Bool) → MayAllCome rules (cond b j (continued rules j e)) es
           → Ends (gate rules j)
@@ -208,3 +201,13 @@ runs_legally {S} rules answers lead still core kept is_rolling es four five may 
     let new : Journal S = opened core kept is_rolling in
     runs rules answers lead still (opening new) es [] new
     (record { four = four; five = five; whole = nothing; own = nothing; leads = refl }) may
+
+pub stretches_join : {S : Type 0} (rules : Algorithm S) → ((g : Gate S) → AnswersByImage g)
+    → ((g : Gate S) → LeadsByImage g) → ((g : Gate S) → StandsStill g) → StretchesJoin rules
+stretches_join {S} rules answers lead still o t j e so may =
+    let g : Gate S = gate rules j in
+    (
+      answers g (opening j) j.entries e so.own ∙ (λ k. answer g (so.leads k) [] e)
+          ∙ sym (answers g o t e so.whole),
+      continued_on rules answers lead still o t j e so may,
+    )

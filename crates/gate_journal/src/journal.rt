@@ -2,6 +2,7 @@
 ghost use Rattle.std.specs.Prelude.{◌≡◌, ◌≤◌, ◌<◌, ◌⊎◌, ◌+◌, ◌↔◌, ◌++◌, ◌∷◌};
 ghost use Rattle.std.specs.Prelude.{map, length, vec_capacity, slice_get, is_none, nat_le};
 ghost use Rattle.std.specs.Prelude.{IfOk, IfSome, OnSome, IfNone, IsErrOf, Some, false};
+ghost use Rattle.limiter_core.specs.declared.event.Event.{Event};
 ghost use Rattle.limiter_core.specs.declared.event.Entry.TheVariants.{Call};
 ghost use Rattle.limiter_core.specs.History.{total};
 ghost use Rattle.limiter_core.specs.Legal.{IsLegal, MayCome};
@@ -182,7 +183,8 @@ impl<L: Limit> Journal<L> {
     }
 
     /// What every journal keeps: its entries are legal, what stands is sound, few are held, few
-    /// permits are out, and a place is kept; and a roll changes nothing of what stands.
+    /// permits are out, and a place is kept; and a roll changes nothing of what stands, nor of what
+    /// is answered.
     pub fn check(&self)
         ensures legal { IsLegal (gate L.rules self.now) (opening self.now) self.now.entries }
         ensures sound { IsSound (gate L.rules self.now) (image L.rules self.now) }
@@ -192,6 +194,8 @@ impl<L: Limit> Journal<L> {
         ensures anew { image L.rules (ready L.rules self.now) ≡ image L.rules self.now }
         ensures ready { IsLegal (gate L.rules self.now) (opening (ready L.rules self.now))
             (ready L.rules self.now).entries }
+        ensures same { (e : Event) → answered L.rules (ready L.rules self.now) e
+            ≡ answered L.rules self.now e }
     {
         soundness_is_kept::<L>();
         reserved_room_suffices::<L>();
@@ -231,7 +235,7 @@ impl<L: Limit> Journal<L> {
     fn rolls(&self) -> bool
         ensures { result ≡ rolls self.now }
     {
-        self.is_rolling && self.is_full()
+        self.is_full() && self.is_rolling
     }
 
     /// Answers an event, and keeps what that adds from the number on that it gives; nothing where

@@ -1,6 +1,7 @@
-use Rattle.std.proofs.Common.{◌≡◌, ◌≤◌, length, ap, sym, ◌∙◌, subst, rules}
+use Rattle.std.proofs.Common.{◌≡◌, ◌≤◌, length, ap, sym, ◌∙◌, refl, subst, rules}
 use Rattle.gate_journal.specs.Journal.{Journal}
-use Rattle.gate_journal.proofs.Ready.{anew, ready_legal}
+use Rattle.gate_journal.specs.Rolling.{ready}
+use Rattle.gate_journal.proofs.Ready.{anew, ready_legal, answers_ready}
 use Rattle.gate_journal.proofs.Grown.{legal, sound_now, few_held, few_out}
 use Rattle.gate_journal.proofs.journal.Journal.check.Goals as goal
 
@@ -37,3 +38,9 @@ returns-clause-anew g c =
 pub returns-clause-ready : goal.returns-clause-ready
 returns-clause-ready g c =
     ready_legal g.L.Limit.rules _ _ c.self.view_is c.self.inside.core _ c.self.invariant.0
+
+pub returns-clause-same : goal.returns-clause-same
+returns-clause-same g c = λ e.
+    answers_ready g.L.Limit.rules c.args.self.now (ready g.L.Limit.rules c.args.self.now) refl
+    (returns-clause-anew g c) e c.answers_by_image.ensures.answers
+    (returns-clause-legal g c) (returns-clause-ready g c)
