@@ -79,7 +79,8 @@ impl Backlog {
         ensures greatest { IfSome result
             (λ newest. All (λ (one : Waiter). one.number ≤ newest.number) self.now.waiting) }
     {
-        Some(self.places.last()?.waiter)
+        let last = self.places.last()?;
+        Some(last.waiter)
     }
 
     /// Takes the waiter with this number out, wherever it stands, and no other.
