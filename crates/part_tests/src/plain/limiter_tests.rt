@@ -85,7 +85,7 @@ fn table(alloc: Global) -> Result<PartitionTable, Fail> {
     Ok(PartitionTable::new(alloc, &rows)?)
 }
 
-fn both(alloc: Global, limit: Aimd, room: u32) -> Result<Both, Fail> {
+fn begin(alloc: Global, limit: Aimd, room: u32) -> Result<Both, Fail> {
     Ok(Both {
         core: Core::new(alloc, limit.copy(), table(alloc)?, room)?,
         plain: PlainLimiter::new(alloc, limit, table(alloc)?, room as usize)?,
@@ -321,7 +321,7 @@ fn agree_at_random(alloc: Global, both: &mut Both) -> Result<bool, Fail> {
 
 #[test]
 fn both_limiters_agree_on_the_script(rt: HostRuntime) -> Result<(), Fail> {
-    let mut both = both(rt.alloc(), Aimd::new(1, 3, 6, 900, 40)?, 3)?;
+    let mut both = begin(rt.alloc(), Aimd::new(1, 3, 6, 900, 40)?, 3)?;
     assert!(rt; agree_on_the_script(rt.alloc(), &mut both)?);
     Ok(())
 }
@@ -329,7 +329,7 @@ fn both_limiters_agree_on_the_script(rt: HostRuntime) -> Result<(), Fail> {
 #[test]
 fn both_limiters_agree_whatever_the_room(rt: HostRuntime) -> Result<(), Fail> {
     for room in [0, 1, 3, 100] {
-        let mut both = both(rt.alloc(), Aimd::new(1, 4, 20, 900, 400)?, room)?;
+        let mut both = begin(rt.alloc(), Aimd::new(1, 4, 20, 900, 400)?, room)?;
         assert!(rt; agree_at_random(rt.alloc(), &mut both)?);
     }
     Ok(())
