@@ -71,13 +71,13 @@ impl PlainLimiter {
 
     /// How many permits there are.
     pub fn total(&self) -> u32 {
-        self.places.len() as u32
+        count_of(self.places.len())
     }
 
     /// How many permits there are of a part.
     pub fn inflight(&self, part: Part) -> u32 {
         let place = self.table.place(part);
-        self.places.iter().filter(|q| **q == place).count() as u32
+        count_of(self.places.iter().filter(|q| **q == place).count())
     }
 
     /// The limit now.
@@ -176,8 +176,8 @@ impl PlainLimiter {
         Reply::Seen {
             limit: self.limit(),
             total: self.total(),
-            waiting: self.backlog.len() as u32,
-            granted: self.granted.len() as u32,
+            waiting: count_of(self.backlog.len()),
+            granted: count_of(self.granted.len()),
             inflight: self.inflight(part),
             share: self.table.share(part, self.limit()),
         }
@@ -218,4 +218,9 @@ impl PlainLimiter {
             let _kept = self.granted.insert(at, permit);
         }
     }
+}
+
+/// A count in 32 bits.
+fn count_of(n: usize) -> u32 {
+    u32::try_from(n).unwrap_or(u32::MAX)
 }
