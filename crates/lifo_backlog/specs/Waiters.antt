@@ -1,5 +1,5 @@
 -- Those who wait in a backlog.
-use Rattle.std.specs.Prelude.{ℕ, ◌-◌, ◌<◌, ◌≤◌, List, length, slice_get, AllPairs, Option}
+use Rattle.std.specs.Prelude.{ℕ, ◌-◌, ◌<◌, List, length, slice_get, AllPairs, Option}
 use Rattle.lifo_backlog.specs.declared.waiter.Waiter.{Waiter}
 
 -- the most that may be let wait
@@ -18,11 +18,3 @@ newest_of waiting = slice_get waiting (length waiting - 1)
 -- each waiter's number is below those of all who came after it
 abbrev pub IsRising : List Waiter → Type 0
 IsRising waiting = AllPairs (λ (one later : Waiter). one.number < later.number) waiting
-
--- what every backlog keeps: at most room wait, in rising order, and places are reserved for all of
--- them
-pub record IsBacklog (waiting : List Waiter) (room reserved : ℕ) : Type 0 where
-  pub within_room : length waiting ≤ room
-  pub most_room : room ≤ most_waiters
-  pub rising : IsRising waiting
-  pub reserved_all : room ≤ reserved

@@ -1,10 +1,14 @@
 // The stack of waiters.
-ghost use Rattle.std.specs.Prelude.{◌≡◌, ℕ, ◌+◌, ◌<◌, ◌≤◌, ◌==◌, ◌↔◌, not, [], ◌∷◌, ◌++◌, length, filter};
-ghost use Rattle.std.specs.Prelude.{find, All, vec_capacity, IfOk, IfSome, OnOk, OnErr, IsErr, IsErrOf, IsTrue};
+ghost use Rattle.std.specs.Prelude.{◌≡◌, ℕ, ◌+◌, ◌<◌, ◌≤◌, ◌==◌, ◌↔◌, not, [], ◌∷◌, ◌++◌};
+ghost use Rattle.std.specs.Prelude.{length, filter};
+ghost use Rattle.std.specs.Prelude.{find, All, vec_capacity, IfOk, IfSome, OnOk, OnErr};
+ghost use Rattle.std.specs.Prelude.{IsErr, IsErrOf, IsTrue};
 ghost use Rattle.std.specs.List.{list_any};
 ghost use Rattle.lifo_backlog.specs.Waiters.{most_waiters, newest_of};
 
 use crate::fault::{BacklogFault, Full};
+use crate::place::Place;
+use crate::places::{copy_waiting, place_of, push_onto, take_from};
 use crate::waiter::Waiter;
 use std::alloc::Global;
 use std::marker::Model;
@@ -15,20 +19,23 @@ const MOST_ROOM: u32 = 10_000;
 /// Those who wait, the newest last, and how many may.
 #[derive(Debug, Drop)]
 pub struct Backlog {
-    waiters: Vec<Waiter>,
+    places: Vec<Place>,
+    count: usize,
     room: usize,
 }
 
 impl Model for Backlog {
     ghost use Rattle.std.specs.Prelude.{vec_capacity};
-    ghost use Rattle.lifo_backlog.specs.Waiters.{Waiters, IsBacklog};
+    ghost use Rattle.lifo_backlog.specs.Places.{waiting_in, IsBacklog};
+    ghost use Rattle.lifo_backlog.specs.Waiters.{Waiters};
 
     ghost Value = { Waiters };
 
-    ghost view = { λ backlog. record { waiting = backlog.waiters.items; room = backlog.room } };
+    ghost view = { λ backlog.
+        record { waiting = waiting_in backlog.places.items; room = backlog.room } };
 
     ghost invariant = { λ backlog.
-        IsBacklog backlog.waiters.items backlog.room (vec_capacity backlog.waiters) };
+        IsBacklog backlog.places.items backlog.count backlog.room (vec_capacity backlog.places) };
 }
 
 impl Backlog {
@@ -42,8 +49,12 @@ impl Backlog {
             return Err(BacklogFault::Room);
         }
         let room = room as usize;
-        let waiters = Vec::with_capacity(alloc, room)?;
-        Ok(Backlog { waiters, room })
+        let places = Vec::with_capacity(alloc, 2 * room + 1)?;
+        Ok(Backlog {
+            places,
+            count: 0,
+            room,
+        })
     }
 
     /// Adds the newest waiter, whose number is above those of all who wait.
@@ -54,10 +65,11 @@ impl Backlog {
         ensures full { IsErr result ↔ (length self.old.waiting ≡ self.old.room) }
         ensures unchanged { OnErr result (self.new ≡ self.old) }
     {
-        if self.len() == self.room {
+        if self.count == self.room {
             return Err(Full);
         }
-        self.waiters.push_reserved(waiter);
+        push_onto(&mut self.places, waiter);
+        self.count += 1;
         Ok(())
     }
 
@@ -67,7 +79,8 @@ impl Backlog {
         ensures greatest { IfSome result
             (λ newest. All (λ (one : Waiter). one.number ≤ newest.number) self.now.waiting) }
     {
-        self.waiters.last().copied()
+        let last = self.places.last()?;
+        Some(last.waiter)
     }
 
     /// Takes the waiter with this number out, wherever it stands, and no other.
@@ -77,19 +90,9 @@ impl Backlog {
           waiting = filter (λ one. not (one.number == number)) self.old.waiting;
         } }
     {
-        let taken = self.find(number);
-        self.waiters.retain(|waiter| waiter.number != number);
-        taken
-    }
-
-    /// The waiter with this number.
-    fn find(&self, number: u64) -> Option<Waiter>
-        ensures { result ≡ find (λ one. one.number == number) self.now.waiting }
-    {
-        self.waiters
-            .iter()
-            .find(|waiter| waiter.number == number)
-            .copied()
+        let taken = take_from(&mut self.places, number)?;
+        self.count -= 1;
+        Some(taken)
     }
 
     /// Copies those who wait, in rising order of number, behind what this list holds, into room
@@ -99,14 +102,14 @@ impl Backlog {
         ensures items { into.new.items ≡ into.old.items ++ self.now.waiting }
         ensures room { vec_capacity into.new ≡ vec_capacity into.old }
     {
-        copy_all(&self.waiters, into);
+        copy_waiting(&self.places, into);
     }
 
     /// Whether the waiter with this number waits.
     pub fn waits(&self, number: u64) -> bool
         ensures { result ≡ list_any (λ one. one.number == number) self.now.waiting }
     {
-        self.waiters.iter().any(|waiter| waiter.number == number)
+        place_of(&self.places, number).is_some()
     }
 
     /// How many wait.
@@ -114,14 +117,14 @@ impl Backlog {
         ensures waiters { result ≡ length self.now.waiting }
         ensures within_room { result ≤ self.now.room }
     {
-        self.waiters.len()
+        self.count
     }
 
     /// Whether nobody waits.
     pub fn is_empty(&self) -> bool
         ensures { IsTrue result ↔ (self.now.waiting ≡ []) }
     {
-        self.waiters.is_empty()
+        self.count == 0
     }
 
     /// How many may wait, 0 to 10,000.
@@ -130,16 +133,5 @@ impl Backlog {
         ensures at_most { result ≤ most_waiters }
     {
         self.room as u32
-    }
-}
-
-/// Copies these waiters behind what the list holds.
-fn copy_all(waiters: &[Waiter], into: &mut Vec<Waiter>)
-    requires { length into.old.items + length waiters.now ≤ vec_capacity into.old }
-    ensures items { into.new.items ≡ into.old.items ++ waiters.now }
-    ensures room { vec_capacity into.new ≡ vec_capacity into.old }
-{
-    for waiter in waiters {
-        into.push_reserved(*waiter);
     }
 }

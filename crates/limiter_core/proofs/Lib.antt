@@ -9,7 +9,6 @@ pub mod WithinBound
 pub mod OwedPlaces
 pub mod TurnedAway
 pub mod AdmittedBelowShare
-pub mod PlaceCounts
 pub mod ImageAfterChange
 pub mod HeldByChange
 pub mod EventWithPromotion
@@ -17,6 +16,7 @@ pub mod CountersAfterCall
 pub mod FoundAndKept
 pub mod BroughtByOne
 pub mod InsertedPermit
+pub mod PermitInOrder
 pub mod PermitsAgree
 pub mod OpenPermits
 pub mod OpenPermitFound

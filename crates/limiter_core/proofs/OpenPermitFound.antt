@@ -25,7 +25,8 @@ module _ {S : Type 0} (g : Gate S) (o : Image S) (h : List Entry) (handed : IsHa
     -- the open permit after one entry more is the one that the entry makes it
     abbrev OpensBy : Entry → Type 0
     OpensBy e =
-        open_permit o.next (h ++ e ∷ []) n ≡ open_after (open_permit o.next h) (o.next + length h) e n
+        open_permit o.next (h ++ e ∷ []) n
+        ≡ open_after (open_permit o.next h) (o.next + length h) e n
 
     found-in : (e : Entry) (xs : List PermitFacts) → open_then o h e ≡ xs
         → open_permit o.next (h ++ e ∷ []) n ≡ find (λ permit. permit.number == n) xs
@@ -66,7 +67,8 @@ module _ {S : Type 0} (g : Gate S) (o : Image S) (h : List Entry) (handed : IsHa
         found-before (Call (Acquire part false false now) Full) (all-stay (open_permits o.next h))
     opens-queued part true now =
         elim (nat_lt (length (image_after g o h).waiters) g.room) as
-        (λ b. OpensBy (Call (Acquire part false true now) (counting 0 (cond b Waiting BacklogFull)))) [
+        (λ b. OpensBy
+        (Call (Acquire part false true now) (counting 0 (cond b Waiting BacklogFull)))) [
           | true ↦ found-before (Call (Acquire part false true now) Waiting)
               (all-stay (open_permits o.next h))
           | false ↦ found-before (Call (Acquire part false true now) BacklogFull)
@@ -85,8 +87,8 @@ module _ {S : Type 0} (g : Gate S) (o : Image S) (h : List Entry) (handed : IsHa
         → granted_of (image_after g o h) number ≡ Some permit → open_with o h number ≡ 0
     none-open number permit found =
         not_open g (image_after g o h) (open_permits o.next h)
-        (record { counted = handed.counted; distinct = handed.distinct; below = handed.below }) number
-        permit found
+        (record { counted = handed.counted; distinct = handed.distinct; below = handed.below })
+        number permit found
 
     opens-claim : (number : ℕ) (p : Option PermitFacts) (b : Bool)
         → granted_of (image_after g o h) number ≡ p

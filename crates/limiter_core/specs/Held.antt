@@ -1,5 +1,5 @@
 -- What the parts of a limiter show: permits by place, and granted permits, each with reserved room.
-use Rattle.std.specs.Prelude.{ℕ, List, [], ◌∷◌, count_by, ◌==◌}
+use Rattle.std.specs.Prelude.{◌≡◌, ◌≢◌, ℕ, ◌<◌, ◌≤◌, List, All, length, slice_index_or}
 use Rattle.limiter_core.specs.Events.{PermitFacts}
 
 -- how many permits are of each of the five places, and for how many there is room
@@ -7,13 +7,23 @@ pub record Counted : Type 0 where
   pub counts : List ℕ
   pub room : ℕ
 
--- how many of a list of places are of each
-abbrev pub counts_of : List ℕ → List ℕ
-counts_of xs =
-    count_by (λ q. q == 0) xs ∷ count_by (λ q. q == 1) xs ∷ count_by (λ q. q == 2) xs
-    ∷ count_by (λ q. q == 3) xs ∷ count_by (λ q. q == 4) xs ∷ []
-
 -- permits in rising order of number, and for how many there is room
 pub record Kept : Type 0 where
   pub permits : List PermitFacts
   pub room : ℕ
+
+-- no permit has this number
+abbrev pub NoneHas : List PermitFacts → ℕ → Type 0
+NoneHas permits number = All (λ (one : PermitFacts). one.number ≢ number) permits
+
+-- the first permit from this number on: those before it have lower numbers, and no other has
+pub record IsFirstFrom (permits : List PermitFacts) (number at : ℕ) : Type 0 where
+  pub within : at ≤ length permits
+  pub below : (k : ℕ) (d : PermitFacts) → k < at → (slice_index_or permits k d).number < number
+  pub others : (k : ℕ) (d : PermitFacts) → at ≤ k → k < length permits
+      → number ≤ (slice_index_or permits k d).number
+
+-- the permit of this number is at this place
+pub record IsPermitAt (permits : List PermitFacts) (at number : ℕ) : Type 0 where
+  pub within : at < length permits
+  pub numbered : (d : PermitFacts) → (slice_index_or permits at d).number ≡ number

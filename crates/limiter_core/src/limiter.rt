@@ -74,7 +74,7 @@ impl<L: Limit> Core<L> {
         let backlog = Backlog::new(alloc, room)?;
         prove!(table.len() <= 4);
         let most = table.most(limit.hi()) as u32;
-        let permits = Permits::new(alloc, most)?;
+        let permits = Permits::new(most);
         let granted = GrantedPermits::new(alloc, most)?;
         let promoted = Vec::with_capacity(alloc, 1)?;
         Ok(Core {

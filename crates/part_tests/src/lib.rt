@@ -23,6 +23,8 @@ mod make_tests;
 #[cfg(test)]
 mod partitions_tests;
 #[cfg(test)]
+mod plain;
+#[cfg(test)]
 mod sample_window_tests;
 #[cfg(test)]
 mod script_tests;

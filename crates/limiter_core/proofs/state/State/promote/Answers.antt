@@ -1,4 +1,4 @@
-use Rattle.std.proofs.Common.{rules, ℕ, ◌<◌, ◌∙◌, refl, sym, ap, subst}
+use Rattle.std.proofs.Common.{rules, arith, ℕ, ◌<◌, ◌∙◌, refl, sym, ap, subst}
 use Rattle.partitions.specs.Table.{place_of}
 use Rattle.lifo_backlog.specs.Waiters.{Waiters}
 use Rattle.limiter_core.specs.Held.{Kept}
@@ -6,6 +6,8 @@ use Rattle.limiter_core.specs.Standing.{gate_in, stands_in}
 use Rattle.limiter_core.proofs.ImageJoins.{image_nil}
 use Rattle.limiter_core.proofs.ImageAfterChange.{stands_promoted, place_left, granted_left}
 use Rattle.limiter_core.proofs.HeldByChange.{held_promoted}
+use Rattle.limiter_core.proofs.InsertedPermit.{none_counted}
+use Rattle.limiter_core.proofs.LegalStaysSound.{last-in}
 use Rattle.limiter_core.proofs.state.State.promote.Goals as goal
 
 pub returns-in_default-clause-stands : goal.returns-in_default-clause-stands
@@ -26,8 +28,16 @@ enter-requires-clause-room g c =
     (subst (λ (k : ℕ). k < 5) c.place.ensures.place c.place.ensures.among_five) c.requires
     (sym c.has_room.ensures ∙ c.if-not-has_room.false)
 
-pub push-requires : goal.push-requires
-push-requires g c =
+pub push-requires-clause-new : goal.push-requires-clause-new
+push-requires-clause-new g c =
+    let waiter = c.in-Some.waiter in
+    let waits = last-in waiter c.args.self.now.backlog.waiting
+    (sym c.newest.ensures.last ∙ c.in-Some.is) in
+    none_counted c.args.self.now.granted.permits waiter.number
+    (omega (arith, waits, c.requires.sound.distinct waiter.number))
+
+pub push-requires-clause-room : goal.push-requires-clause-room
+push-requires-clause-room g c =
     granted_left g.L.Limit.rules c.args.self.now
     (place_of c.args.self.now.table c.in-Some.waiter.part)
     (subst (λ (k : ℕ). k < 5) c.place.ensures.place c.place.ensures.among_five) c.requires
