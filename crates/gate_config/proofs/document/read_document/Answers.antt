@@ -46,3 +46,57 @@ returns-in_err-bypasses-clause-fault c = λ fault said.
     c.in_err-bypasses.field-0.0 read fine bypasses in
     one_fault (document_of (table_view c.args.table.now)) c.from_residual-in_err-bypasses.result
     c.in_err-bypasses.field-0.0 fault (search rules) told said
+
+pub returns-in_err-top-clause-said : goal.returns-in_err-top-clause-said
+returns-in_err-top-clause-said c = search rules
+
+pub returns-in_err-top-clause-fault : goal.returns-in_err-top-clause-fault
+returns-in_err-top-clause-fault c = search rules
+
+pub returns-in_err-limit-clause-said : goal.returns-in_err-limit-clause-said
+returns-in_err-limit-clause-said c = search rules
+
+pub returns-in_err-limit-clause-fault : goal.returns-in_err-limit-clause-fault
+returns-in_err-limit-clause-fault c = search rules
+
+pub returns-in_err-window-clause-said : goal.returns-in_err-window-clause-said
+returns-in_err-window-clause-said c = search rules
+
+pub returns-in_err-window-clause-fault : goal.returns-in_err-window-clause-fault
+returns-in_err-window-clause-fault c = search rules
+
+pub returns-in_err-classes-clause-said : goal.returns-in_err-classes-clause-said
+returns-in_err-classes-clause-said c = search rules
+
+pub returns-in_err-classes-clause-fault : goal.returns-in_err-classes-clause-fault
+returns-in_err-classes-clause-fault c = search rules
+
+pub returns-in_err-bypasses-clause-said : goal.returns-in_err-bypasses-clause-said
+returns-in_err-bypasses-clause-said c = search rules
+
+pub returns-in_err-resolvers-2-clause-said : goal.returns-in_err-resolvers-2-clause-said
+returns-in_err-resolvers-2-clause-said c = search rules
+
+pub returns-in_err-resolvers-2-clause-fault : goal.returns-in_err-resolvers-2-clause-fault
+returns-in_err-resolvers-2-clause-fault c = search rules
+
+pub returns-in_err-bypasses-2-clause-said : goal.returns-in_err-bypasses-2-clause-said
+returns-in_err-bypasses-2-clause-said c = search rules
+
+pub returns-in_err-bypasses-2-clause-fault : goal.returns-in_err-bypasses-2-clause-fault
+returns-in_err-bypasses-2-clause-fault c = search rules
+
+pub returns-clause-top : goal.returns-clause-top
+returns-clause-top c = search rules
+
+pub returns-clause-limit : goal.returns-clause-limit
+returns-clause-limit c = search rules
+
+pub returns-clause-window : goal.returns-clause-window
+returns-clause-window c = search rules
+
+pub returns-clause-said : goal.returns-clause-said
+returns-clause-said c = search rules
+
+pub returns-clause-fault : goal.returns-clause-fault
+returns-clause-fault c = search rules

@@ -6,3 +6,12 @@ returns-clause-sound c = search rules
 
 pub returns-clause-said : goal.returns-clause-said
 returns-clause-said c = search rules
+
+pub returns-in_err-table-clause-said : goal.returns-in_err-table-clause-said
+returns-in_err-table-clause-said c = search rules
+
+pub returns-in_err-resolvers-clause-said : goal.returns-in_err-resolvers-clause-said
+returns-in_err-resolvers-clause-said c = search rules
+
+pub returns-in_err-bypass-clause-said : goal.returns-in_err-bypass-clause-said
+returns-in_err-bypass-clause-said c = search rules

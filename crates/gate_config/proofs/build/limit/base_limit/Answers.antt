@@ -3,3 +3,12 @@ use Rattle.gate_config.proofs.build.limit.base_limit.Goals as goal
 
 pub returns-in-Aimd : goal.returns-in-Aimd
 returns-in-Aimd c = search rules
+
+pub returns-in-Fixed : goal.returns-in-Fixed
+returns-in-Fixed c = search rules
+
+pub returns-in-Settable : goal.returns-in-Settable
+returns-in-Settable c = search rules
+
+pub returns-in-Vegas : goal.returns-in-Vegas
+returns-in-Vegas c = search rules
