@@ -1,0 +1,265 @@
+//! A plain gate that threads share, with running counts and no history: the peer of the gate's
+//! benchmark. It admits by the same rule as the product, keeps the same shares, limit, numbers and
+//! counters, and promotes the newest waiter at an ending.
+//!
+//! Its words: how many threads, how many permits stay out meanwhile, how many pairs of acquire and
+//! end the threads make in all, and 1 where moments come from the clock, 0 where they stand still. It
+//! writes the nanoseconds that the pairs took, then what they did.
+use std::env;
+use std::sync::{Condvar, Mutex};
+use std::thread;
+use std::time::Instant;
+
+const LAST_MOMENT: u64 = 1 << 62;
+const UNKNOWN_PLACE: usize = 4;
+const ROOM: usize = 100;
+
+#[derive(Clone, Copy)]
+enum Part {
+    Known(u8),
+    Unknown,
+}
+
+/// The known classes, as the percentage of the limit that each is promised.
+struct Table(Vec<u32>);
+
+impl Table {
+    fn place(&self, part: Part) -> usize {
+        match part {
+            Part::Known(row) if usize::from(row) < self.0.len() => usize::from(row),
+            _ => UNKNOWN_PLACE,
+        }
+    }
+
+    fn share(&self, place: usize, limit: u32) -> u32 {
+        self.0.get(place).map_or(0, |percent| (limit * percent).div_ceil(100).max(1))
+    }
+}
+
+/// A limit that rises by one while half of it is in use, and falls by a ratio.
+struct Aimd {
+    lo: u32,
+    limit: u32,
+    hi: u32,
+    ratio: u32,
+    timeout: u64,
+}
+
+impl Aimd {
+    fn on_sample(&mut self, start: u64, now: u64, inflight: u32, dropped: bool) {
+        let round_trip = now.saturating_sub(start).max(1);
+        let next = if dropped || self.timeout < round_trip {
+            self.limit * self.ratio / 1000
+        } else if u64::from(self.limit) <= 2 * u64::from(inflight) {
+            self.limit + 1
+        } else {
+            self.limit
+        };
+        self.limit = next.clamp(self.lo, self.hi);
+    }
+}
+
+#[derive(Clone, Copy)]
+#[allow(dead_code)]
+enum Outcome {
+    Success,
+    Ignored,
+    Dropped,
+}
+
+struct Waiter {
+    number: u64,
+    part: Part,
+}
+
+/// A permit that is in flight, or lies granted.
+#[allow(dead_code)]
+struct Permit {
+    number: u64,
+    part: Part,
+    start: u64,
+    inflight: u32,
+}
+
+enum Reply {
+    Admitted(Permit),
+    Full,
+    BacklogFull,
+    Waiting(u64),
+}
+
+#[derive(Clone, Copy, Default)]
+struct Counters {
+    admitted: u64,
+    full: u64,
+    backlog_full: u64,
+    waiting: u64,
+    promoted: u64,
+    success: u64,
+    ignored: u64,
+    dropped: u64,
+}
+
+struct Limiter {
+    table: Table,
+    aimd: Aimd,
+    inflight: [u32; 5],
+    total: u32,
+    waiters: Vec<Waiter>,
+    granted: Vec<Permit>,
+    next: u64,
+    counters: Counters,
+}
+
+impl Limiter {
+    fn has_room(&self, place: usize) -> bool {
+        let limit = self.aimd.limit;
+        self.total < limit || self.inflight[place] < self.table.share(place, limit)
+    }
+
+    /// One more in flight at a place, and the total with it.
+    fn enter(&mut self, place: usize) -> u32 {
+        self.inflight[place] += 1;
+        self.total += 1;
+        self.total
+    }
+
+    /// The number of the next entry.
+    fn number(&mut self) -> u64 {
+        self.next += 1;
+        self.next - 1
+    }
+
+    fn acquire(&mut self, part: Part, wait: bool, now: u64) -> Reply {
+        let number = self.number();
+        let place = self.table.place(part);
+        if self.has_room(place) {
+            self.counters.admitted += 1;
+            let inflight = self.enter(place);
+            let start = now.min(LAST_MOMENT);
+            return Reply::Admitted(Permit { number, part, start, inflight });
+        }
+        if !wait {
+            self.counters.full += 1;
+            return Reply::Full;
+        }
+        if self.waiters.len() == ROOM {
+            self.counters.backlog_full += 1;
+            return Reply::BacklogFull;
+        }
+        self.counters.waiting += 1;
+        self.waiters.push(Waiter { number, part });
+        Reply::Waiting(number)
+    }
+
+    /// Ends a permit, and says how many waiters were promoted by it.
+    fn end(&mut self, permit: Permit, outcome: Outcome, now: u64) -> u32 {
+        self.number();
+        self.inflight[self.table.place(permit.part)] -= 1;
+        self.total -= 1;
+        match outcome {
+            Outcome::Success => self.counters.success += 1,
+            Outcome::Ignored => self.counters.ignored += 1,
+            Outcome::Dropped => self.counters.dropped += 1,
+        }
+        if !matches!(outcome, Outcome::Ignored) {
+            let dropped = matches!(outcome, Outcome::Dropped);
+            self.aimd.on_sample(permit.start, now, permit.inflight, dropped);
+        }
+        self.promote(now.min(LAST_MOMENT))
+    }
+
+    /// Promotes the newest waiter, where it has room.
+    fn promote(&mut self, start: u64) -> u32 {
+        let Some(newest) = self.waiters.last() else { return 0 };
+        let place = self.table.place(newest.part);
+        if !self.has_room(place) {
+            return 0;
+        }
+        self.number();
+        let inflight = self.enter(place);
+        if let Some(Waiter { number, part }) = self.waiters.pop() {
+            self.granted.push(Permit { number, part, start, inflight });
+            self.counters.promoted += 1;
+        }
+        1
+    }
+}
+
+struct Gate {
+    limiter: Mutex<Limiter>,
+    freed: Condvar,
+}
+
+impl Gate {
+    fn new() -> Gate {
+        let aimd = Aimd { lo: 1, limit: 10_000, hi: 10_000, ratio: 900, timeout: 3_600_000_000_000 };
+        let limiter = Limiter {
+            table: Table(vec![60, 30]),
+            aimd,
+            inflight: [0; 5],
+            total: 0,
+            waiters: Vec::with_capacity(ROOM),
+            granted: Vec::with_capacity(20_000),
+            next: 0,
+            counters: Counters::default(),
+        };
+        Gate { limiter: Mutex::new(limiter), freed: Condvar::new() }
+    }
+
+    fn acquire(&self, part: Part, wait: bool, now: u64) -> Reply {
+        self.limiter.lock().unwrap().acquire(part, wait, now)
+    }
+
+    /// Wakes those who wait only where one was promoted: std's condition variable calls the system
+    /// even where nobody waits.
+    fn end(&self, permit: Permit, outcome: Outcome, now: u64) -> u32 {
+        let promoted = self.limiter.lock().unwrap().end(permit, outcome, now);
+        if promoted > 0 {
+            self.freed.notify_all();
+        }
+        promoted
+    }
+}
+
+fn admitted(reply: Reply) -> Permit {
+    match reply {
+        Reply::Admitted(permit) => permit,
+        Reply::Waiting(number) => panic!("{number} waits"),
+        Reply::Full | Reply::BacklogFull => panic!("refused"),
+    }
+}
+
+/// Pairs of acquire and end, by one thread; moments stand still where there is no clock.
+fn pairs(gate: &Gate, clock: Option<Instant>, part: Part, times: u32) {
+    let now = || clock.map_or(0, |start| start.elapsed().as_nanos() as u64);
+    for _ in 0..times {
+        let permit = admitted(gate.acquire(part, false, now()));
+        gate.end(permit, Outcome::Success, now());
+    }
+}
+
+fn main() {
+    let words: Vec<u32> = env::args().skip(1).map(|word| word.parse().unwrap()).collect();
+    let [threads, held, times, clock] = words[..] else { panic!("words: threads held pairs clock") };
+    let gate = Gate::new();
+    let out: Vec<Permit> =
+        (0..held).map(|_| admitted(gate.acquire(Part::Unknown, false, 0))).collect();
+    let began = Instant::now();
+    let clock = (clock == 1).then_some(began);
+    if threads == 1 {
+        pairs(&gate, clock, Part::Known(0), times);
+    } else {
+        thread::scope(|scope| {
+            for thread in 0..threads {
+                let part = Part::Known((thread % 2) as u8);
+                let gate = &gate;
+                scope.spawn(move || pairs(gate, clock, part, times / threads));
+            }
+        });
+    }
+    let took = began.elapsed();
+    let Counters { admitted, success, .. } = gate.limiter.lock().unwrap().counters;
+    println!("{} admitted {admitted} success {success}", took.as_nanos());
+    drop(out);
+}
