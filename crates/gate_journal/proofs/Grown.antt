@@ -1,5 +1,5 @@
 -- A journal after one more answer.
-use Rattle.std.proofs.Common.{◌≡◌, ℕ, ◌+◌, ◌^◌, ◌≤◌, List, [], ◌∷◌, ◌++◌, false, length, map}
+use Rattle.std.proofs.Common.{◌≡◌, ℕ, ◌+◌, ◌^◌, ◌≤◌, List, [], ◌∷◌, ◌++◌, Bool, false, length, map}
 use Rattle.std.proofs.Common.{refl, sym, ap, ◌∙◌, subst, arith, length-append, add-zero}
 use Rattle.std.proofs.lemmas.List.{length-map}
 use Rattle.limit_laws.specs.Algorithm.{Algorithm, IsLawful}
@@ -19,11 +19,12 @@ use Rattle.limiter_core.specs.Laws.{AnswersByImage, LeadsByImage, StandsStill, S
 use Rattle.limiter_core.specs.Laws.{StaysBounded, KeepsPlaces, KeepsNumbers, CountersAddUp}
 use Rattle.limiter_core.specs.Limiter.{Limiter, gate_of, stands, entry_of}
 use Rattle.gate_journal.specs.Image.{standing_of}
-use Rattle.gate_journal.specs.Journal.{Journal, IsJournal, gate, opening, image}
+use Rattle.gate_journal.specs.Journal.{Journal, gate, opening, image}
 use Rattle.gate_journal.specs.Journal.{answered, with_answer, journal_in}
+use Rattle.gate_journal.specs.Keeping.{IsJournal}
 
 -- what was served is legal
-legal_served : {S : Type 0} (g : Gate S) (k : ℕ) (o : Image S) (h : List Entry)
+pub legal_served : {S : Type 0} (g : Gate S) (k : ℕ) (o : Image S) (h : List Entry)
     → IsServed g k o h → IsLegal g o h
 legal_served g k o [] none_yet = nothing
 legal_served g k o _ (served h e before may free) =
@@ -126,7 +127,7 @@ module _ {S : Type 0} (rules : Algorithm S) (j v : Journal S) (is : j ≡ v) (co
       module _ (next : Limiter S) (es : List Entry)
           (gated : gate_of rules next ≡ gate_of rules core)
           (pushed : es ≡ j.entries ++ Call e r ∷ map entry_of ps) where
-        grown_in : journal_in next j.opening es j.kept ≡ with_answer rules j e
+        grown_in : journal_in next j.opening es j.kept j.is_rolling ≡ with_answer rules j e
         grown_in =
             let same : gate_of rules next ≡ gate rules j = gated ∙ held.gated in
             let all : es ≡ j.entries ++ answered rules j e =
@@ -137,9 +138,10 @@ module _ {S : Type 0} (rules : Algorithm S) (j v : Journal S) (is : j ≡ v) (co
               opening = j.opening;
               entries = all k;
               kept = j.kept;
+              is_rolling = j.is_rolling;
             }
 
-        pub grown : journal_in next j.opening es j.kept ≡ with_answer rules v e
+        pub grown : journal_in next j.opening es j.kept j.is_rolling ≡ with_answer rules v e
         grown = grown_in ∙ ap (λ (w : Journal S). with_answer rules w e) is
 
         -- THE JOURNAL stays one with what its limiter answered
@@ -148,7 +150,7 @@ module _ {S : Type 0} (rules : Algorithm S) (j v : Journal S) (is : j ≡ v) (co
             ≡ image_after (gate_of rules core) (stands core) (Call e r ∷ map entry_of ps)
             → next.counters ≡ counters_after core.counters (Call e r ∷ map entry_of ps)
             → capacity ≤ wider
-            → IsJournal rules (journal_in next j.opening es j.kept) next wider
+            → IsJournal rules (journal_in next j.opening es j.kept j.is_rolling) next wider
         goes_on wider leads adds led counted wide =
             let more : List Entry = answered rules j e in
             let after : List Entry → Image S = image_after (gate rules j) (image rules j) in
@@ -166,6 +168,7 @@ module _ {S : Type 0} (rules : Algorithm S) (j v : Journal S) (is : j ≡ v) (co
               counted = sum ∙ adds j.opening.counters j.entries more;
               served = one_more;
               sound = held.sound;
+              some = held.some;
               places = omega (arith, held.places, wide);
               modest = held.modest;
             } in
@@ -188,19 +191,20 @@ none_counted c = λ k. record {
 
 -- a journal opens with what stands in its limiter
 pub begins : {S : Type 0} (rules : Algorithm S) (core : Limiter S) (entries : List Entry)
-    (kept capacity : ℕ) → ((g : Gate S) → StandsStill g) → entries ≡ []
-    → IsSound (gate_of rules core) (stands core)
+    (kept : ℕ) (is_rolling : Bool) (capacity : ℕ) → ((g : Gate S) → StandsStill g)
+    → entries ≡ [] → IsSound (gate_of rules core) (stands core) → 1 ≤ kept
     → kept_places (gate_of rules core) (stands core) kept ≤ capacity
     → kept_places (gate_of rules core) (stands core) kept ≤ 2000000
-    → IsJournal rules (journal_in core (standing_of core) entries kept) core capacity
-begins {S} rules core entries kept capacity still none sound places modest =
-    let begun : Journal S = journal_in core (standing_of core) [] kept in
+    → IsJournal rules (journal_in core (standing_of core) entries kept is_rolling) core capacity
+begins {S} rules core entries kept is_rolling capacity still none sound some places modest =
+    let begun : Journal S = journal_in core (standing_of core) [] kept is_rolling in
     let made : IsJournal rules begun core capacity = record {
       gated = refl;
       leads = sym (still (gate rules begun) (opening begun));
       counted = sym (none_counted core.counters);
       served = none_yet;
       sound = sound;
+      some = some;
       places = places;
       modest = modest;
     } in

@@ -1,6 +1,7 @@
 use Rattle.std.proofs.Common.{sym, subst, arith, rules, vec_capacity}
 use Rattle.gate_journal.specs.Image.{Standing}
-use Rattle.gate_journal.specs.Journal.{IsJournal, journal_in}
+use Rattle.gate_journal.specs.Journal.{journal_in}
+use Rattle.gate_journal.specs.Keeping.{IsJournal}
 use Rattle.gate_journal.proofs.Grown.{begins}
 use Rattle.gate_journal.proofs.journal.Journal.new.Goals as goal
 
@@ -8,21 +9,30 @@ use Rattle.gate_journal.proofs.journal.Journal.new.Goals as goal
 pub invariant_of-result : goal.invariant_of-result
 invariant_of-result g c =
     let entries = c.in_ok-entries.entries.items in
-    let capacity = vec_capacity c.in_ok-entries.entries in
-    subst (λ (o : Standing g.row.L.Denot).
-    IsJournal g.L.Limit.rules (journal_in c.args.core o entries c.args.kept) c.args.core capacity)
-    (sym c.in_ok-opening.ensures)
-    (begins g.L.Limit.rules c.args.core entries c.args.kept capacity
-    c.answers_by_image.ensures.still c.in_ok-entries.ensures.items c.check.ensures.sound
-    (omega (arith, c.in_ok-entries.ensures.capacity, c.bound.ensures.value, c.room.ensures.value))
-    (omega (
-      arith,
-      c.bound.ensures.value,
-      c.bound.ensures.at_most,
-      c.room.ensures.value,
-      c.room.ensures.most,
-      c.if-kept-gt-MOST_KEPT.false,
-    )))
+    let capacity = vec_capacity c.in_ok-entries.entries in (
+      subst (λ (o : Standing g.row.L.Denot).
+          IsJournal g.L.Limit.rules
+          (journal_in c.args.core o entries c.args.kept c.args.is_rolling) c.args.core capacity)
+          (sym c.in_ok-opening.ensures.standing)
+          (begins g.L.Limit.rules c.args.core entries c.args.kept c.args.is_rolling capacity
+          c.answers_by_image.ensures.still c.in_ok-entries.ensures.items c.check.ensures.sound
+          (omega (arith, c.if-kept-lt1.false))
+          (omega (
+            arith,
+            c.in_ok-entries.ensures.capacity,
+            c.bound.ensures.value,
+            c.room.ensures.value,
+          ))
+          (omega (
+            arith,
+            c.bound.ensures.value,
+            c.bound.ensures.at_most,
+            c.room.ensures.value,
+            c.room.ensures.most,
+            c.if-kept-gt-MOST_KEPT.false,
+          ))),
+      c.in_ok-opening.ensures.room,
+    )
 
 pub returns-clause-places : goal.returns-clause-places
 returns-clause-places g c = search rules
