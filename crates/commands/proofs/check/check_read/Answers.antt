@@ -9,3 +9,12 @@ returns-clause-refused c = search rules
 
 pub returns-in_err-bytes-clause-refused : goal.returns-in_err-bytes-clause-refused
 returns-in_err-bytes-clause-refused c = search rules
+
+pub returns-clause-unfailing : goal.returns-clause-unfailing
+returns-clause-unfailing c = search rules
+
+pub returns-in_err-bytes-clause-accepted : goal.returns-in_err-bytes-clause-accepted
+returns-in_err-bytes-clause-accepted c = search rules
+
+pub returns-in_err-bytes-clause-unfailing : goal.returns-in_err-bytes-clause-unfailing
+returns-in_err-bytes-clause-unfailing c = search rules

@@ -1,4 +1,4 @@
-use Rattle.std.proofs.Common.{◌≡◌, sym, refl, subst, inr, true, [], map, string_bytes}
+use Rattle.std.proofs.Common.{rules, ◌≡◌, sym, refl, subst, inr, true, [], map, string_bytes}
 use Rattle.clap.specs.Words.{HasMatchesOf, fault_of, is_simple_and_free}
 use Rattle.commands.specs.CommandLine.{IsRunOf}
 use Rattle.commands.proofs.command_line.words.Goals as goal
@@ -18,3 +18,18 @@ returns-in-Some-clause-faultless c =
     subst
     (λ app. is_simple_and_free app ≡ true → fault_of app (map string_bytes c.args.list.now) ≡ [])
     c.in_ok-command.ensures c.in_ok-matches.ensures.kinds refl
+
+pub returns-in-Some-clause-run : goal.returns-in-Some-clause-run
+returns-in-Some-clause-run c = search rules
+
+pub returns-in-Some-clause-limit : goal.returns-in-Some-clause-limit
+returns-in-Some-clause-limit c = search rules
+
+pub returns-in-Some-clause-refused : goal.returns-in-Some-clause-refused
+returns-in-Some-clause-refused c = search rules
+
+pub returns-in_err-matches-clause-refused : goal.returns-in_err-matches-clause-refused
+returns-in_err-matches-clause-refused c = search rules
+
+pub returns-in_err-command-clause-refused : goal.returns-in_err-command-clause-refused
+returns-in_err-command-clause-refused c = search rules

@@ -1,4 +1,4 @@
-use Rattle.std.proofs.Common.{codes, map}
+use Rattle.std.proofs.Common.{rules, codes, map}
 use Rattle.std.specs.List.{concat}
 use Rattle.commands.specs.FaultLine.{line}
 use Rattle.commands.proofs.Pieces.{told_after}
@@ -13,3 +13,6 @@ returns g c = record {
       c.in_ok-write_all.ensures.all c.in_ok-write_all.ensures.unfailing
       c.write_line.ensures.all c.write_line.ensures.flushed c.write_line.ensures.failed;
 }
+
+pub returns-in_err-write_all : goal.returns-in_err-write_all
+returns-in_err-write_all c = search rules

@@ -10,3 +10,12 @@ loop-piece-preserved g c = record {
       (subst (Appends _ _) c.as_bytes.ensures.value c.in_ok-write_all.ensures.all);
   failures = search rules;
 }
+
+pub loop-piece-init : goal.loop-piece-init
+loop-piece-init c = search rules
+
+pub returns-in_err-write_all-clause-failed : goal.returns-in_err-write_all-clause-failed
+returns-in_err-write_all-clause-failed c = search rules
+
+pub returns-clause-unfailing : goal.returns-clause-unfailing
+returns-clause-unfailing c = search rules

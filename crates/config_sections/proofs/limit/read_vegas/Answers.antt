@@ -9,3 +9,12 @@ returns-clause-within c = search rules
 
 pub returns-clause-value : goal.returns-clause-value
 returns-clause-value c = search rules
+
+pub returns-in_err-moving-clause-value : goal.returns-in_err-moving-clause-value
+returns-in_err-moving-clause-value c = search rules
+
+pub returns-in_err-alpha-clause-value : goal.returns-in_err-alpha-clause-value
+returns-in_err-alpha-clause-value c = search rules
+
+pub returns-in_err-beta-clause-value : goal.returns-in_err-beta-clause-value
+returns-in_err-beta-clause-value c = search rules

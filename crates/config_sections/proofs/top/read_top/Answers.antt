@@ -18,3 +18,9 @@ returns-clause-within c = search rules
 
 pub returns-clause-value : goal.returns-clause-value
 returns-clause-value c = search rules
+
+pub returns-in_err-listen-clause-value : goal.returns-in_err-listen-clause-value
+returns-in_err-listen-clause-value c = search rules
+
+pub returns-in_err-backend-clause-value : goal.returns-in_err-backend-clause-value
+returns-in_err-backend-clause-value c = search rules

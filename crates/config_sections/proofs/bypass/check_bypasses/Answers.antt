@@ -1,0 +1,12 @@
+use Rattle.std.proofs.Common.{rules, arith}
+use Rattle.std.proofs.lemmas.Grind.{common_steps}
+use Rattle.config_sections.proofs.bypass.check_bypasses.Goals as goal
+
+pub loop-item-init : goal.loop-item-init
+loop-item-init c = search rules
+
+pub returns-in_err-read_bypass : goal.returns-in_err-read_bypass
+returns-in_err-read_bypass c = grind (arith, common_steps)
+
+pub returns : goal.returns
+returns c = grind (arith, common_steps)
