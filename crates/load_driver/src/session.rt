@@ -1,5 +1,5 @@
 // A journal with the permits that are open in it.
-ghost use Rattle.std.specs.Prelude.{◌≡◌, ◌≤◌, ◌<◌, ℕ, length, nat_eq, Some, ◌==◌, if◌then◌else◌};
+ghost use Rattle.std.specs.Prelude.{◌≡◌, ◌≤◌, ◌<◌, ℕ, false, length, nat_eq, Some, ◌==◌, if◌then◌else◌};
 ghost use Rattle.std.specs.Prelude.{IfOk, IfSome, OnSome, IfNone, is_none};
 ghost use Rattle.std.specs.HashMap.{get, spare};
 ghost use Rattle.lifo_backlog.specs.Waiters.{most_waiters};
@@ -53,7 +53,8 @@ impl<L: Limit> Session<L> {
         requires room { room ≤ most_waiters }
         requires some_kept { 1 ≤ kept }
         requires few_kept { kept ≤ most_kept }
-        ensures { IfOk result (λ session. session ≡ opened (unasked table room limit) kept) }
+        ensures { IfOk result (λ session.
+            session ≡ opened (unasked table room limit) kept false) }
     {
         open_permits_are_in_flight::<L>();
         let core = match Core::new(alloc, limit, table, room) {
@@ -61,7 +62,7 @@ impl<L: Limit> Session<L> {
             Err(CoreFault::Memory) => return Err(AllocError),
             Err(CoreFault::Room) => unreachable!(),
         };
-        let journal = match Journal::new(alloc, core, kept) {
+        let journal = match Journal::new(alloc, core, kept, false) {
             Ok(journal) => journal,
             Err(JournalFault::Memory) => return Err(AllocError),
             Err(JournalFault::Places) => unreachable!(),

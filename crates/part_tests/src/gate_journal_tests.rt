@@ -58,7 +58,7 @@ fn answer<L: Limit, R: Abort>(
 
 #[test]
 fn past_what_it_keeps_only_what_is_owed_is_answered(rt: HostRuntime) -> Result<(), Fail> {
-    let mut journal = Journal::new(rt.alloc(), single(rt.alloc())?, 2)?;
+    let mut journal = Journal::new(rt.alloc(), single(rt.alloc())?, 2, false)?;
     let rows = [
         (
             acquire(false, 0),
@@ -85,7 +85,7 @@ fn past_what_it_keeps_only_what_is_owed_is_answered(rt: HostRuntime) -> Result<(
 
 #[test]
 fn it_opens_with_what_stands_and_numbers_go_on(rt: HostRuntime) -> Result<(), Fail> {
-    let mut before = Journal::new(rt.alloc(), single(rt.alloc())?, 9)?;
+    let mut before = Journal::new(rt.alloc(), single(rt.alloc())?, 9, false)?;
     for event in [
         acquire(false, 0),
         acquire(true, 1),
@@ -96,7 +96,7 @@ fn it_opens_with_what_stands_and_numbers_go_on(rt: HostRuntime) -> Result<(), Fa
         assert!(rt; found.is_some());
     }
     // 0 admitted, 1 and 2 wait, 3 ended, 4 promotes 2, which lies granted.
-    let mut journal = Journal::new(rt.alloc(), before.into_core(), 9)?;
+    let mut journal = Journal::new(rt.alloc(), before.into_core(), 9, false)?;
     assert_eq!(rt; (journal.base(), journal.number()), (5, 5));
     let opening = journal.opening();
     assert!(rt; opening.waiters().iter().all(|waiter| waiter.number == 1));
@@ -137,7 +137,7 @@ fn from_one_to_a_million_entries_are_kept(rt: HostRuntime) -> Result<(), Fail> {
         (1_000_000, None),
         (1_000_001, Some(JournalFault::Places)),
     ] {
-        let made = Journal::new(rt.alloc(), single(rt.alloc())?, kept);
+        let made = Journal::new(rt.alloc(), single(rt.alloc())?, kept, false);
         assert!(rt; made.err() == fault);
     }
     Ok(())

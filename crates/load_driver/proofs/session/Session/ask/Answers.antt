@@ -1,6 +1,6 @@
 use Rattle.std.proofs.Common.{ap, ◌∙◌}
 use Rattle.gate_journal.specs.Journal.{Journal, with_answer}
-use Rattle.load_driver.proofs.Sessions.{may, goes_on, stays}
+use Rattle.load_driver.proofs.Sessions.{may, goes_on, stays, continued_still}
 use Rattle.load_driver.proofs.session.Session.ask.Goals as goal
 
 pub apply-requires : goal.apply-requires
@@ -25,4 +25,5 @@ invariant_of-self-in-None g c =
 pub returns-in-Some-clause-entries : goal.returns-in-Some-clause-entries
 returns-in-Some-clause-entries g c =
     c.in-Some.ensures.entries
+    ∙ continued_still g.L.Limit.rules c.self.inside.journal c.args.event c.self.invariant.stays
     ∙ ap (λ (v : Journal g.row.L.Denot). with_answer g.L.Limit.rules v c.args.event) c.self.view_is
