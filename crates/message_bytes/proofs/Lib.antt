@@ -1,0 +1,5 @@
+mod Gathers
+mod Phases
+mod Progress
+mod Sized
+mod TrailerLines

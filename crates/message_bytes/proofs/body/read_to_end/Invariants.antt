@@ -1,0 +1,15 @@
+use Rattle.std.proofs.Common.{◌≡◌, ◌≤◌, ◌-◌, length}
+use Rattle.counted_io.specs.Counted.{failures_of}
+use Rattle.counted_io.specs.Effects.{Gave}
+use Rattle.message_bytes.proofs.body.read_to_end.Given as goal
+
+-- what was read so far is the body
+abbrev pub invariant-loop-body : goal.invariant-loop-body
+invariant-loop-body g l = record {
+  consumed : Gave g.R.Read.remaining l.fn.reader l.reader l.body.items;
+  fits : length l.body.items ≤ 8388608;
+  failures : failures_of l.reader ≡ failures_of l.fn.reader;
+}
+
+abbrev pub decreases-loop-body : goal.decreases-loop-body
+decreases-loop-body g l = 8388608 - length l.body.items

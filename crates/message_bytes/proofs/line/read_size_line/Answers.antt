@@ -1,0 +1,40 @@
+use Rattle.std.proofs.Common.{rules, refl, ◌≡◌, ◌∙◌, ◌==◌, ◌≤◌, ◌++◌, [], ◌∷◌, length, Vec, Global, ℕ, true, false}
+use Rattle.counted_io.specs.Counted.{inner_of}
+use Rattle.message_bytes.specs.declared.fault.Fault.TheVariants.{Malformed}
+use Rattle.message_bytes.specs.Lines.{ends_line}
+use Rattle.message_bytes.proofs.Gathers.{gathered, gathered_over, goes_on_more}
+use Rattle.message_bytes.proofs.Progress.{ends_line_more}
+use Rattle.message_bytes.proofs.line.read_size_line.Goals as goal
+
+pub returns-then-byte-eq10-clause-line : goal.returns-then-byte-eq10-clause-line
+returns-then-byte-eq10-clause-line g c =
+    let left = g.R.Read.remaining in
+    let items : c.push.new.self.items ≡ c.loop.line.items ++ c.in_ok-byte.byte ∷ [] =
+    search rules in
+    let feed : (c.in_ok-byte.byte == 10) ≡ true = search rules in
+    let ends = ends_line_more c.in_ok-byte.byte c.loop.line.items ∙ feed in
+    gathered ends_line 4096 Malformed (λ (line : Vec ℕ Global). line.items) (λ r. r)
+    (left (inner_of c.args.reader.now)) (left (inner_of c.loop.reader))
+    (left (inner_of c.read_byte.new.reader)) c.loop.line.items c.in_ok-byte.byte c.push.new.self
+    c.loop.invariant.on c.in_ok-byte.ensures.byte (search rules) ends (λ zs. rw items refl)
+
+pub loop-preserved : goal.loop-preserved
+loop-preserved g c =
+    let left = g.R.Read.remaining in
+    let items : c.push.new.self.items ≡ c.loop.line.items ++ c.in_ok-byte.byte ∷ [] =
+    search rules in
+    let feed : (c.in_ok-byte.byte == 10) ≡ false = search rules in
+    let ends = ends_line_more c.in_ok-byte.byte c.loop.line.items ∙ feed in
+    let on = goes_on_more ends_line 4096 Malformed
+    (left (inner_of c.args.reader.now)) (left (inner_of c.loop.reader))
+    (left (inner_of c.read_byte.new.reader)) c.loop.line.items c.in_ok-byte.byte
+    c.loop.invariant.on c.in_ok-byte.ensures.byte (search rules) ends in
+    record { on = rw items on; counted = search rules; failures = search rules }
+
+pub returns-clause-line : goal.returns-clause-line
+returns-clause-line g c =
+    let left = g.R.Read.remaining in
+    let full : 4096 ≤ length c.loop.line.items = search rules in
+    gathered_over ends_line 4096 Malformed (λ (line : Vec ℕ Global). line.items) (λ r. r)
+    (left (inner_of c.args.reader.now)) (left (inner_of c.loop.reader)) c.loop.line.items
+    c.loop.invariant.on full refl

@@ -1,0 +1,16 @@
+use Rattle.std.proofs.Common.{◌≡◌, length}
+use Rattle.counted_io.specs.Counted.{inner_of, failures_of}
+use Rattle.message_bytes.specs.declared.fault.Fault.TheVariants.{Malformed}
+use Rattle.message_bytes.specs.Gather.{GoesOn}
+use Rattle.message_bytes.specs.Lines.{ends_line}
+use Rattle.message_bytes.proofs.line.read_size_line.Given as goal
+
+abbrev pub invariant-loop : goal.invariant-loop
+invariant-loop g l =
+    let left = g.R.Read.remaining in
+    record {
+      on : GoesOn ends_line 4096 Malformed (left (inner_of l.fn.reader))
+          (left (inner_of l.reader)) l.line.items;
+      counted : length l.line.items ≡ l.counter;
+      failures : failures_of l.reader ≡ failures_of l.fn.reader;
+    }

@@ -1,0 +1,13 @@
+use Rattle.std.proofs.Common.{◌≡◌}
+use Rattle.counted_io.specs.Counted.{inner_of, failures_of}
+use Rattle.message_bytes.specs.Lines.{TrailersGoOn}
+use Rattle.message_bytes.proofs.trailers.read_trailers.Given as goal
+
+abbrev pub invariant-loop : goal.invariant-loop
+invariant-loop g l =
+    let left = g.R.Read.remaining in
+    record {
+      on : TrailersGoOn (left (inner_of l.fn.reader)) (left (inner_of l.reader))
+          l.before l.last l.counter;
+      failures : failures_of l.reader ≡ failures_of l.fn.reader;
+    }

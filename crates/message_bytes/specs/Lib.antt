@@ -1,0 +1,6 @@
+pub mod Body
+pub mod Gather
+pub mod Head
+pub mod Laws
+pub mod Lines
+pub mod Reading

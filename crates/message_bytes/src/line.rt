@@ -1,0 +1,41 @@
+// The line of a chunk's size.
+ghost use Rattle.std.specs.Prelude.{◌≡◌, ◌≤◌, IsErrOf, OnOk};
+ghost use Rattle.counted_io.specs.Counted.{inner_of, calls_of, failures_of};
+ghost use Rattle.message_bytes.specs.Lines.{size_line_of};
+ghost use Rattle.message_bytes.specs.Reading.{By, HasFailed, Reads};
+
+use crate::byte::read_byte;
+use crate::fault::{Fault, ReadFault};
+use counted_io::Counted;
+use std::io::Read;
+
+/// The greatest number of bytes of a size line.
+const MOST_SIZE_LINE: usize = 4_096;
+
+/// The bytes through the next LF, in the room of `line`, whose own bytes are dropped.
+///
+/// More than 4,096 of them are `Malformed`.
+#[tactic(auto, using(crate::proofs::Progress::ends_line_more))]
+pub fn read_size_line<R: Read>(
+    reader: &mut Counted<R>,
+    limit: u64,
+    mut line: Vec<u8>,
+) -> Result<Vec<u8>, ReadFault>
+    ensures line { Reads R.remaining reader.old reader.new (λ line. line.items)
+        (By size_line_of) result }
+    ensures read { IsErrOf result ReadFault.Read → HasFailed reader.old reader.new }
+    ensures unfailing { OnOk result (failures_of reader.new ≡ failures_of reader.old) }
+    ensures turns { IsErrOf result ReadFault.TurnLimit → limit ≤ calls_of reader.new }
+{
+    line.clear();
+    for _ in 0..MOST_SIZE_LINE {
+        let byte = read_byte(reader, limit)?;
+        if line.push(byte).is_err() {
+            return Err(ReadFault::Memory);
+        }
+        if byte == b'\n' {
+            return Ok(line);
+        }
+    }
+    Err(ReadFault::Bytes(Fault::Malformed))
+}

@@ -1,0 +1,3 @@
+mod Copies
+mod LineCounts
+mod OneReading

@@ -1,0 +1,79 @@
+// The head of a request.
+ghost use Rattle.std.specs.Prelude.{◌≡◌, ◌≤◌, ◌⊎◌, length, IfSome, IfOk, IfErr, IsNone, IsErrOf, IsUtf8};
+ghost use Rattle.httparse.specs.Grammar.{RequestHead as GrammarHead};
+ghost use Rattle.httparse.specs.Spans.{IsRequestAt, IsRequestWithin};
+ghost use Rattle.message_bytes.specs.Head.{line_ends};
+ghost use Rattle.message_bytes.specs.declared.fault.Fault.TheVariants.{Malformed};
+ghost use Rattle.message_heads.specs.Whole.{HasNoWholeRequest, IsWholeRequest, request_head};
+
+use crate::lines::{MOST_LINES, copy_lines};
+use http::Method;
+use httparse::Status;
+use httparse::spans::{EMPTY_HEADER_SPAN, HeaderSpan, RequestSpans, parse_request as find_request};
+use message_bytes::{Fault, ReadFault};
+use message_parts::{Headers, Text};
+use std::alloc::{AllocError, Global};
+
+/// The head of a request: its first line and the lines behind it.
+#[derive(Drop)]
+pub struct RequestHead {
+    pub method: Method,
+    /// The target as it was sent.
+    pub target: Text,
+    /// The minor version: 0 for `HTTP/1.0` and 1 for `HTTP/1.1`.
+    pub minor: u8,
+    pub lines: Headers,
+}
+
+// A copy of a target, which is text.
+fn copy_text(alloc: Global, bytes: &[u8]) -> Result<Text, AllocError>
+    requires { IsUtf8 bytes.now }
+    ensures { IfOk result (λ text. text ≡ bytes.now) }
+{
+    Text::copy_of(alloc, str::from_utf8(bytes).unwrap())
+}
+
+// The parts of a request head that is all of `text`.
+fn whole_request(text: &[u8], spans: &mut [HeaderSpan]) -> Option<RequestSpans>
+    ensures head { IfSome result (λ r.
+        (h : GrammarHead) × IsRequestAt text.now spans.new r h × IsWholeRequest text.now h) }
+    ensures within { IfSome result (IsRequestWithin text.now spans.new) }
+    ensures none { IsNone result → (h : GrammarHead) → IsWholeRequest text.now h
+        → length h.fields ≤ length spans.old → ⊥ }
+{
+    match find_request(text, spans) {
+        Ok(Status::Complete(found)) if found.len == text.len() => Some(found),
+        _ => None,
+    }
+}
+
+/// The head that the bytes are, which have at most 102 lines, the first and the empty one among
+/// them, but for the empty ones in front.
+///
+/// `Malformed` where they are no head and nothing else, `Memory` where a growth was refused.
+#[tactic(auto, using(crate::proofs::LineCounts::request_lines))]
+pub fn parse_request(alloc: Global, text: &[u8]) -> Result<RequestHead, ReadFault>
+    requires { line_ends text.now ≤ 102 }
+    ensures head { IfOk result (λ head.
+        (h : GrammarHead) × IsWholeRequest text.now h × (head ≡ request_head h)) }
+    ensures malformed { IsErrOf result (ReadFault.Bytes Malformed) → HasNoWholeRequest text.now }
+    ensures faults { IfErr result (λ fault.
+        (fault ≡ ReadFault.Memory) ⊎ (fault ≡ ReadFault.Bytes Malformed)) }
+{
+    let mut spans = [EMPTY_HEADER_SPAN; MOST_LINES];
+    let Some(found) = whole_request(text, &mut spans) else {
+        return Err(ReadFault::Bytes(Fault::Malformed));
+    };
+    // A method is a token, so nothing but memory can be wanting.
+    let Ok(method) = Method::from_bytes(alloc, found.method.of(text)) else {
+        return Err(ReadFault::Memory);
+    };
+    let target = copy_text(alloc, found.path.of(text))?;
+    let lines = copy_lines(alloc, text, &spans[..found.headers])?;
+    Ok(RequestHead {
+        method,
+        target,
+        minor: found.version,
+        lines,
+    })
+}

@@ -1,0 +1,3 @@
+mod Bodies
+mod Finals
+mod Phases

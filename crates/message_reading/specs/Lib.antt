@@ -1,0 +1,4 @@
+pub mod Body
+pub mod Continue
+pub mod Framing
+pub mod Heads

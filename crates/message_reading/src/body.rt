@@ -1,0 +1,46 @@
+// Bodies.
+ghost use Rattle.std.specs.Prelude.{◌≡◌, ◌≤◌, IsErrOf, OnOk};
+ghost use Rattle.counted_io.specs.Counted.{calls_of, failures_of};
+ghost use Rattle.message_bytes.specs.Reading.{HasFailed, Reads};
+ghost use Rattle.message_reading.specs.Body.{IsBody};
+
+use crate::framing::Framing;
+use counted_io::Counted;
+use message_bodies::read_chunked;
+use message_bytes::{ReadFault, read_sized, read_to_end};
+use message_parts::Bytes;
+use std::alloc::Global;
+use std::io::Read;
+
+/// The body that is delimited so, and nothing behind it.
+#[tactic(
+    auto,
+    using(
+        crate::proofs::Bodies::no_body,
+        crate::proofs::Bodies::sized_body,
+        crate::proofs::Bodies::sized_fault,
+        crate::proofs::Bodies::whole_body,
+        crate::proofs::Bodies::whole_fault,
+        crate::proofs::Bodies::chunked_body,
+        crate::proofs::Bodies::chunked_fault,
+    )
+)]
+pub fn read_body<R: Read>(
+    alloc: Global,
+    reader: &mut Counted<R>,
+    limit: u64,
+    framing: Framing,
+) -> Result<Option<Bytes>, ReadFault>
+    ensures body { Reads R.remaining reader.old reader.new (λ body. body) (IsBody framing) result }
+    ensures read { IsErrOf result ReadFault.Read → HasFailed reader.old reader.new }
+    ensures unfailing { OnOk result (failures_of reader.new ≡ failures_of reader.old) }
+    ensures turns { IsErrOf result ReadFault.TurnLimit → limit ≤ calls_of reader.new }
+{
+    let body = match framing {
+        Framing::Bodiless => return Ok(None),
+        Framing::Sized(size) => read_sized(alloc, reader, limit, size)?,
+        Framing::Chunked => read_chunked(alloc, reader, limit)?,
+        Framing::ToEnd => read_to_end(alloc, reader, limit)?,
+    };
+    Ok(Some(Bytes::new(body)))
+}

@@ -1,0 +1,113 @@
+// How the body of a message is delimited, and the checks of a head before that.
+ghost use Rattle.std.specs.Prelude.{◌≡◌};
+ghost use Rattle.message_reading.specs.Framing.{coded, hosts_fit, lengths_of, is_refused, request_framing, response_framing, sized};
+
+use http::Method;
+use message_bytes::Fault;
+use message_fields::{LengthFault, count_named, is_chunked_alone, is_target, length_of};
+use message_heads::{RequestHead, ResponseHead};
+use message_parts::Header;
+
+/// How the body of a message is delimited.
+#[derive(Clone, Copy, Debug, Drop, PartialEq, Eq)]
+pub enum Framing {
+    /// There is no body.
+    Bodiless,
+    /// The body has so many bytes, at most 8,388,608.
+    Sized(usize),
+    /// The body comes in chunks.
+    Chunked,
+    /// The body runs to the end of the connection.
+    ToEnd,
+}
+
+// By a coding: `chunked` alone, in a version that has it.
+fn coded(minor: u8, lines: &[Header]) -> Result<Framing, Fault>
+    ensures { result ≡ coded minor lines.now }
+{
+    if minor == 0 {
+        return Err(Fault::Malformed);
+    }
+    if is_chunked_alone(lines) {
+        Ok(Framing::Chunked)
+    } else {
+        Err(Fault::Coding)
+    }
+}
+
+// By a length.
+fn sized(lines: &[Header]) -> Result<Framing, Fault>
+    ensures { result ≡ sized lines.now }
+{
+    match length_of(lines) {
+        Ok(size) => Ok(Framing::Sized(size)),
+        Err(LengthFault::TooLarge) => Err(Fault::BodyTooLarge),
+        Err(LengthFault::Malformed) => Err(Fault::Malformed),
+    }
+}
+
+// By the lines of a head; `without` where they say nothing.
+fn lengths_of(minor: u8, lines: &[Header], without: Framing) -> Result<Framing, Fault>
+    ensures { result ≡ lengths_of minor lines.now without }
+{
+    let codings = count_named(lines, b"transfer-encoding");
+    let lengths = count_named(lines, b"content-length");
+    if codings > 0 && lengths > 0 {
+        return Err(Fault::BothLengths);
+    }
+    if codings > 0 {
+        return coded(minor, lines);
+    }
+    if lengths > 0 {
+        return sized(lines);
+    }
+    Ok(without)
+}
+
+// The method isn't served.
+fn is_refused(method: &[u8]) -> bool
+    ensures { result ≡ is_refused method.now }
+{
+    method == b"CONNECT".as_slice() || method == b"TRACE".as_slice()
+}
+
+// There are as many lines of Host as the version wants.
+fn hosts_fit(minor: u8, hosts: usize) -> bool
+    ensures { result ≡ hosts_fit minor hosts }
+{
+    hosts == 1 || (hosts == 0 && minor == 0)
+}
+
+/// How the body of a request is delimited, once its head passes the checks.
+///
+/// `Method` for CONNECT and TRACE; then `Malformed` for a target that doesn't fit the method; then
+/// `Malformed` for another number of Host lines than the version wants; then the faults of lengths.
+pub fn frame_request(head: &RequestHead) -> Result<Framing, Fault>
+    ensures { result ≡ request_framing head.now }
+{
+    let method = head.method.as_str().as_bytes();
+    let lines = head.lines.as_slice();
+    if is_refused(method) {
+        return Err(Fault::Method);
+    }
+    if !is_target(method, head.target.as_str().as_bytes()) {
+        return Err(Fault::Malformed);
+    }
+    if !hosts_fit(head.minor, count_named(lines, b"host")) {
+        return Err(Fault::Malformed);
+    }
+    lengths_of(head.minor, lines, Framing::Bodiless)
+}
+
+/// How the body of a response to a request of this method is delimited.
+///
+/// To HEAD, and with the status 204 or 304, there is none, whatever the lines say.
+pub fn frame_response(method: &Method, head: &ResponseHead) -> Result<Framing, Fault>
+    ensures { result ≡ response_framing method.now head.now }
+{
+    let is_head = method.as_str().as_bytes() == b"HEAD".as_slice();
+    if is_head || head.status == 204 || head.status == 304 {
+        return Ok(Framing::Bodiless);
+    }
+    lengths_of(head.minor, head.lines.as_slice(), Framing::ToEnd)
+}
