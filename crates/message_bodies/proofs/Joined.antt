@@ -60,7 +60,8 @@ module _ {X : Type 0} (view : X → List ℕ) where
   chunks_more (Some xs) None next new body longer size x on sized some fits piece is len = absurd on
   chunks_more (Some xs) (Some ys) None new body longer size x on sized some fits piece is len =
       absurd sized
-  chunks_more (Some xs) (Some ys) (Some zs) None body longer size x on sized some fits piece is len =
+  chunks_more (Some xs) (Some ys) (Some zs) None body longer size x on sized some fits piece is len
+      =
       absurd piece
   chunks_more (Some xs) (Some ys) (Some zs) (Some ws) body longer size x on sized some fits piece is
       len = λ r rest.
@@ -106,9 +107,12 @@ module _ {X : Type 0} (view : X → List ℕ) where
   piece_fault None mid next new body size f on sized some fits piece = search rules
   piece_fault (Some xs) None next new body size f on sized some fits piece = absurd on
   piece_fault (Some xs) (Some ys) None new body size f on sized some fits piece = absurd sized
-  piece_fault (Some xs) (Some ys) (Some zs) new body size Memory on sized some fits piece = search rules
-  piece_fault (Some xs) (Some ys) (Some zs) new body size Read on sized some fits piece = search rules
-  piece_fault (Some xs) (Some ys) (Some zs) new body size TurnLimit on sized some fits piece = search rules
+  piece_fault (Some xs) (Some ys) (Some zs) new body size Memory on sized some fits piece = search
+      rules
+  piece_fault (Some xs) (Some ys) (Some zs) new body size Read on sized some fits piece = search
+      rules
+  piece_fault (Some xs) (Some ys) (Some zs) new body size TurnLimit on sized some fits piece =
+      search rules
   piece_fault (Some xs) (Some ys) (Some zs) new body size (Bytes f) on sized some fits piece =
       on (Err f) (IsChunks.piece_fails (length body) size ys zs f sized some fits piece)
 

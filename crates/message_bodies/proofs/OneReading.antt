@@ -141,23 +141,28 @@ chunks_one sum bytes r q (IsChunks.piece_fails _ m _ rest f x some_x fits_x cut_
     (IsChunks.one_chunk _ n _ after part later v _ y some_y fits_y piece_y all_y is_y) =
     let same = same_size bytes rest after m n x y in
     absurd (no_piece f (part, later) (cut_x ∙ same_piece m n rest after same ∙ sym piece_y))
-chunks_one sum bytes r q (IsChunks.one_chunk _ m _ rest piece then u _ x some_x fits_x piece_x all_x is_x)
+chunks_one sum bytes r q (IsChunks.one_chunk _ m _ rest piece then u _ x some_x fits_x piece_x
+    all_x is_x)
     (IsChunks.size_fails _ _ g y) =
     absurd (not_both bytes rest m g y x)
-chunks_one sum bytes r q (IsChunks.one_chunk _ m _ rest piece then u _ x some_x fits_x piece_x all_x is_x)
+chunks_one sum bytes r q (IsChunks.one_chunk _ m _ rest piece then u _ x some_x fits_x piece_x
+    all_x is_x)
     (IsChunks.passes_most _ n _ after y some_y large_y) =
     let same = same_size bytes rest after m n x y in
     absurd (omega (arith, same.0))
-chunks_one sum bytes r q (IsChunks.one_chunk _ m _ rest piece then u _ x some_x fits_x piece_x all_x is_x)
+chunks_one sum bytes r q (IsChunks.one_chunk _ m _ rest piece then u _ x some_x fits_x piece_x
+    all_x is_x)
     (IsChunks.last_chunk _ _ after _ y end_y) =
     let same = same_size bytes rest after m 0 x y in
     absurd (omega (arith, same.0))
-chunks_one sum bytes r q (IsChunks.one_chunk _ m _ rest piece then u _ x some_x fits_x piece_x all_x is_x)
+chunks_one sum bytes r q (IsChunks.one_chunk _ m _ rest piece then u _ x some_x fits_x piece_x
+    all_x is_x)
     (IsChunks.piece_fails _ n _ after g y some_y fits_y cut_y) =
     let same = same_size bytes rest after m n x y in
     absurd (no_piece g (piece, then)
     (cut_y ∙ sym (same_piece m n rest after same) ∙ sym piece_x))
-chunks_one sum bytes r q (IsChunks.one_chunk _ m _ rest piece then u _ x some_x fits_x piece_x all_x is_x)
+chunks_one sum bytes r q (IsChunks.one_chunk _ m _ rest piece then u _ x some_x fits_x piece_x
+    all_x is_x)
     (IsChunks.one_chunk _ n _ after part later v _ y some_y fits_y piece_y all_y is_y) =
     let same = same_size bytes rest after m n x y in
     let both = one_value piece part then later

@@ -32,9 +32,8 @@ finals_more None mid new left head on given last more some = search rules
 finals_more (Some xs) None new left head on given last more some = absurd on
 finals_more (Some xs) (Some ys) None left head on given last more some = absurd given
 finals_more (Some xs) (Some ys) (Some zs) left head on given last more some = λ r rest.
-    let again : (left - 1) + 1 ≡ left = search rules in
-    on r (subst (λ n. IsFinalHead n ys r) again
-    (IsFinalHead.interim (left - 1) ys zs head r given last more rest))
+    let again : left ≡ (left - 1) + 1 = search rules in
+    on r (IsFinalHead.interim left (left - 1) ys zs head r again given last more rest)
 
 pub final_found : (old mid new : Option (List ℕ)) (left : ℕ) (head : ResponseHead)
     → GoOn old mid left → GivesHead mid new (Ok head) → is_final head.status ≡ true

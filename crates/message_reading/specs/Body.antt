@@ -22,6 +22,7 @@ IsBody ToEnd bytes r = r ≡ some_body (all_of bytes)
 pub data IsWithBody {V : Type 0} (make : Option (List ℕ) → V) (framing : Framing)
     : List ℕ → Reading V → Type 0 where
   body_read : (bytes rest : List ℕ) (body : Option (List ℕ))
-      → IsBody framing bytes (Ok (body, rest)) → IsWithBody make framing bytes (Ok (make body, rest))
+      → IsBody framing bytes (Ok (body, rest))
+      → IsWithBody make framing bytes (Ok (make body, rest))
   body_fails : (bytes : List ℕ) (f : Fault) → IsBody framing bytes (Err f)
       → IsWithBody make framing bytes (Err f)

@@ -59,5 +59,5 @@ request_framing head =
 -- lengths say
 abbrev pub response_framing : List ℕ → ResponseHead → Result Framing Fault
 response_framing method head =
-    if bytes_eq method (codes "HEAD") || (head.status == 204) || (head.status == 304) then Ok Bodiless
-    else lengths_of head.minor head.lines ToEnd
+    if bytes_eq method (codes "HEAD") || (head.status == 204) || (head.status == 304)
+    then Ok Bodiless else lengths_of head.minor head.lines ToEnd

@@ -45,7 +45,7 @@ pub data IsFinalHead : ℕ → List ℕ → Reading ResponseHead → Type 0 wher
   refused : (left : ℕ) (bytes rest : List ℕ) (head : ResponseHead)
       → IsResponseHead bytes (Ok (head, rest)) → is_final head.status ≡ false
       → (left ≡ 0) ⊎ (is_interim head.status ≡ false) → IsFinalHead left bytes (Err Malformed)
-  interim : (left : ℕ) (bytes rest : List ℕ) (head : ResponseHead) (r : Reading ResponseHead)
+  interim : (left fewer : ℕ) (bytes rest : List ℕ) (head : ResponseHead)
+      (r : Reading ResponseHead) → left ≡ fewer + 1
       → IsResponseHead bytes (Ok (head, rest)) → is_final head.status ≡ false
-      → is_interim head.status ≡ true → IsFinalHead left rest r
-      → IsFinalHead (left + 1) bytes r
+      → is_interim head.status ≡ true → IsFinalHead fewer rest r → IsFinalHead left bytes r

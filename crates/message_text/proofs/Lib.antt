@@ -1,3 +1,5 @@
 pub mod Digits
 pub mod Kept
 pub mod Texts
+pub mod Apart
+pub mod Unambiguous

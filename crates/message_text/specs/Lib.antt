@@ -1,3 +1,4 @@
 pub mod Line
 pub mod Forwarded
 pub mod Answer
+pub mod Laws

@@ -8,9 +8,11 @@
 
 mod answer;
 mod forwarded;
+mod laws;
 mod lines;
 mod number;
 mod phrase;
 
 pub use answer::{Answer, write_local_answer};
 pub use forwarded::Forwarded;
+pub use laws::{answered_in_one_way, forwarded_in_one_way};

@@ -1,2 +1,4 @@
+pub mod Fault
+pub mod Messages
 pub mod Response
 pub mod Written

@@ -1,16 +1,27 @@
-//! HTTP/1 messages, as the rest of the gateway handles them.
+//! HTTP/1 messages: what they are, and how they are read and written.
 //!
 //! `Request` and `Response` are plain values over the parts of `message_parts`. A contract sees
 //! each text and each body as its list of bytes, and the header lines as a list in their order.
-//! [`write_request`] and [`write_response`] write the texts of `specs/Written`.
+//! [`read_request`] and [`read_response`] give the value that `specs/Messages.antt` has for the
+//! bytes of a reader, or the fault that comes first, and leave what follows the message unread.
+//! [`write_request`] and [`write_response`] write the texts of `specs/Written.antt`.
 #![tactic(auto)]
 
 mod answering;
+mod fault;
 mod forwarding;
+mod laws;
+mod path;
+mod request_reading;
+mod response_reading;
 mod request;
 mod response;
 
 pub use answering::write_response;
+pub use fault::WireFault;
 pub use forwarding::write_request;
+pub use laws::messages_have_one_reading;
+pub use request_reading::read_request;
+pub use response_reading::read_response;
 pub use request::{Request, Version};
 pub use response::Response;

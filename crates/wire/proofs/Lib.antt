@@ -1,0 +1,4 @@
+mod OneReading
+mod Paths
+mod Told
+mod SaidTexts

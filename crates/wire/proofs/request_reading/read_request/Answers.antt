@@ -1,0 +1,42 @@
+use Rattle.std.proofs.Common.{rules, refl, ◌≡◌, Err}
+use Rattle.counted_io.specs.Counted.{inner_of}
+use Rattle.wire.specs.declared.request.Request.{Request}
+use Rattle.wire.specs.Fault.{of_read}
+use Rattle.wire.proofs.Told.{request_body_cut, request_cut, request_whole}
+use Rattle.wire.proofs.SaidTexts.{silent_head}
+use Rattle.wire.proofs.request_reading.read_request.Goals as goal
+
+pub returns-in_err-head-clause-request : goal.returns-in_err-head-clause-request
+returns-in_err-head-clause-request g c =
+    let left = g.R.Read.remaining in
+    let e = c.in_err-head.field-0.0 in
+    let is : c.from_residual.result ≡ Err (of_read e) = search rules in
+    rw is (request_cut (left (inner_of c.args.reader.now))
+    (left (inner_of c.read_checked_head.new.reader)) e (of_read e) refl c.in_err-head.ensures.head)
+
+pub returns-in_err-head-clause-said : goal.returns-in_err-head-clause-said
+returns-in_err-head-clause-said g c = λ other.
+    let left = g.R.Read.remaining in
+    let e = c.in_err-head.field-0.0 in
+    let is : c.from_residual.result ≡ Err (of_read e) = search rules in
+    rw is (silent_head Request (left (inner_of c.args.reader.now))
+    (left (inner_of c.read_checked_head.new.reader))
+    (g.W.Write.contents (inner_of c.args.writer.now)) e (of_read e) refl c.in_err-head.ensures.head)
+
+pub returns-in_err-body-clause-request : goal.returns-in_err-body-clause-request
+returns-in_err-body-clause-request g c =
+    let left = g.R.Read.remaining in
+    let e = c.in_err-body.field-0.0 in
+    let is : c.from_residual-in_err-body.result ≡ Err (of_read e) = search rules in
+    rw is (request_body_cut (left (inner_of c.args.reader.now))
+    (left (inner_of c.read_checked_head.new.reader)) (left (inner_of c.read_body.new.reader))
+    c.in_ok-head.head c.in_ok-head.framing e (of_read e) refl c.in_ok-head.ensures.head
+    c.in_err-body.ensures.body)
+
+pub returns-clause-request : goal.returns-clause-request
+returns-clause-request g c =
+    let left = g.R.Read.remaining in
+    request_whole (left (inner_of c.args.reader.now))
+    (left (inner_of c.read_checked_head.new.reader)) (left (inner_of c.read_body.new.reader))
+    c.in_ok-head.head c.in_ok-head.framing c.in_ok-body.body c.request_of.result
+    c.request_of.ensures c.in_ok-head.ensures.head c.in_ok-body.ensures.body

@@ -1,0 +1,46 @@
+use Rattle.std.proofs.Common.{rules, refl, ◌≡◌, Ok, Err}
+use Rattle.counted_io.specs.Counted.{inner_of}
+use Rattle.message_reading.specs.Framing.{response_framing}
+use Rattle.wire.specs.Fault.{of_bytes, of_read}
+use Rattle.wire.proofs.Told.{response_body_cut, response_cut, response_refused, response_whole}
+use Rattle.wire.proofs.response_reading.read_response.Goals as goal
+
+pub returns-in_err-head-clause-response : goal.returns-in_err-head-clause-response
+returns-in_err-head-clause-response g c =
+    let left = g.R.Read.remaining in
+    let e = c.in_err-head.field-0.0 in
+    let is : c.from_residual.result ≡ Err (of_read e) = search rules in
+    rw is (response_cut c.args.method.now (left (inner_of c.args.reader.now))
+    (left (inner_of c.read_final_head.new.reader)) e (of_read e) refl c.in_err-head.ensures.head)
+
+pub returns-in_err-framing-clause-response : goal.returns-in_err-framing-clause-response
+returns-in_err-framing-clause-response g c =
+    let left = g.R.Read.remaining in
+    let f = c.in_err-framing.field-0.0 in
+    let is : c.from_residual-in_err-framing.result ≡ Err (of_bytes f) = search rules in
+    let framed : response_framing c.args.method.now c.in_ok-head.head ≡ Err f = search rules in
+    rw is (response_refused c.args.method.now (left (inner_of c.args.reader.now))
+    (left (inner_of c.read_final_head.new.reader)) c.in_ok-head.head f (of_bytes f) refl
+    c.in_ok-head.ensures.head framed)
+
+pub returns-in_err-body-clause-response : goal.returns-in_err-body-clause-response
+returns-in_err-body-clause-response g c =
+    let left = g.R.Read.remaining in
+    let e = c.in_err-body.field-0.0 in
+    let is : c.from_residual-in_err-body.result ≡ Err (of_read e) = search rules in
+    let framed : response_framing c.args.method.now c.in_ok-head.head
+    ≡ Ok c.in_ok-framing.framing = search rules in
+    rw is (response_body_cut c.args.method.now (left (inner_of c.args.reader.now))
+    (left (inner_of c.read_final_head.new.reader)) (left (inner_of c.read_body.new.reader))
+    c.in_ok-head.head c.in_ok-framing.framing e (of_read e) refl c.in_ok-head.ensures.head framed
+    c.in_err-body.ensures.body)
+
+pub returns-clause-response : goal.returns-clause-response
+returns-clause-response g c =
+    let left = g.R.Read.remaining in
+    let framed : response_framing c.args.method.now c.in_ok-head.head
+    ≡ Ok c.in_ok-framing.framing = search rules in
+    response_whole c.args.method.now (left (inner_of c.args.reader.now))
+    (left (inner_of c.read_final_head.new.reader)) (left (inner_of c.read_body.new.reader))
+    c.in_ok-head.head c.in_ok-framing.framing c.in_ok-body.body c.new.result c.new.ensures
+    c.in_ok-head.ensures.head framed c.in_ok-body.ensures.body

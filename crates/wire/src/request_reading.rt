@@ -1,0 +1,89 @@
+// Requests that are read.
+ghost use Rattle.std.specs.Prelude.{◌≡◌, IsErrOf};
+ghost use Rattle.counted_io.specs.Causes.{IsWriteCause};
+ghost use Rattle.counted_io.specs.Counted.{inner_of};
+ghost use Rattle.message_bytes.specs.Reading.{HasFailed};
+ghost use Rattle.message_fields.specs.Target.{path_of};
+ghost use Rattle.wire.specs.Fault.{IsUsedUp, Reads};
+ghost use Rattle.wire.specs.Messages.{IsRequest, Said, request_of, version_of};
+
+use crate::fault::WireFault;
+use crate::path::copy_path;
+use crate::request::{Request, Version};
+use counted_io::Counted;
+use message_heads::RequestHead;
+use message_parts::{Bytes, Text};
+use message_reading::{read_body, read_checked_head, say_continue};
+use std::alloc::Global;
+use std::io::{Read, Write};
+
+/// The greatest number of reads for one message.
+pub(crate) const MOST_READS: u64 = 100_000_000;
+
+// The version of this minor number.
+fn version_of(minor: u8) -> Version
+    ensures { result ≡ version_of minor }
+{
+    if minor == 0 {
+        Version::Http10
+    } else {
+        Version::Http11
+    }
+}
+
+// The request with this head, path and body.
+fn request_of(head: RequestHead, path: Text, body: Option<Bytes>) -> Request
+    requires { path ≡ path_of head.target }
+    ensures { result ≡ request_of head body }
+{
+    let RequestHead {
+        method,
+        target,
+        minor,
+        lines,
+    } = head;
+    Request {
+        method,
+        target,
+        path,
+        version: version_of(minor),
+        headers: lines,
+        body,
+    }
+}
+
+/// The request that the reader's bytes begin with; what follows it stays unread.
+///
+/// A client that waits to be asked for the body is asked, once the head passed all checks; nothing
+/// else is written. `Memory`, `Read`, `Write` and `TurnLimit` come where a growth was refused, the
+/// reader or the writer failed, or 100,000,000 reads were made; each other fault where the bytes
+/// have it first: in the head, in its checks, in the lengths or in the body.
+#[tactic(
+    auto,
+    using(
+        crate::proofs::Told::request_no_memory,
+        crate::proofs::Told::request_not_asked,
+        crate::proofs::SaidTexts::silent_memory,
+        crate::proofs::SaidTexts::said,
+    )
+)]
+pub fn read_request<R: Read, W: Write>(
+    alloc: Global,
+    reader: &mut Counted<R>,
+    writer: &mut Counted<W>,
+) -> Result<Request, WireFault>
+    ensures request { Reads R.remaining reader.old reader.new (λ request. request)
+        IsRequest result }
+    ensures said { ¬ (IsErrOf result WireFault.Write) → Said (R.remaining (inner_of reader.old))
+        (W.contents (inner_of writer.old)) (W.contents (inner_of writer.new)) result }
+    ensures read { IsErrOf result WireFault.Read → HasFailed reader.old reader.new }
+    ensures write { IsErrOf result WireFault.Write → IsWriteCause writer.old writer.new }
+    ensures turns { IsErrOf result WireFault.TurnLimit → IsUsedUp reader.old reader.new }
+{
+    let limit = reader.calls().saturating_add(MOST_READS);
+    let (head, framing) = read_checked_head(alloc, reader, limit)?;
+    let path = copy_path(alloc, &head.target)?;
+    say_continue(writer, &head, framing)?;
+    let body = read_body(alloc, reader, limit, framing)?;
+    Ok(request_of(head, path, body))
+}

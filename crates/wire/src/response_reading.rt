@@ -1,0 +1,38 @@
+// Responses that are read.
+ghost use Rattle.std.specs.Prelude.{◌≡◌, IsErrOf};
+ghost use Rattle.message_bytes.specs.Reading.{HasFailed};
+ghost use Rattle.wire.specs.Fault.{IsUsedUp, Reads};
+ghost use Rattle.wire.specs.Messages.{IsResponse};
+
+use crate::fault::WireFault;
+use crate::request_reading::MOST_READS;
+use crate::response::Response;
+use counted_io::Counted;
+use http::Method;
+use message_reading::{frame_response, read_body, read_final_head};
+use std::alloc::Global;
+use std::io::Read;
+
+/// The final response that the reader's bytes begin with, to a request of this method; what follows
+/// it stays unread. A response without lengths runs to the end of the connection.
+///
+/// At most 16 interim responses before it are read and dropped. `Memory`, `Read` and `TurnLimit`
+/// come where a growth was refused, the reader failed, or 100,000,000 reads were made; each other
+/// fault where the bytes have it first: in a head, in its status, in the lengths or in the body.
+pub fn read_response<R: Read>(
+    alloc: Global,
+    reader: &mut Counted<R>,
+    method: &Method,
+) -> Result<Response, WireFault>
+    ensures response { Reads R.remaining reader.old reader.new (λ response. response)
+        (IsResponse method.now) result }
+    ensures read { IsErrOf result WireFault.Read → HasFailed reader.old reader.new }
+    ensures write { ¬ (IsErrOf result WireFault.Write) }
+    ensures turns { IsErrOf result WireFault.TurnLimit → IsUsedUp reader.old reader.new }
+{
+    let limit = reader.calls().saturating_add(MOST_READS);
+    let head = read_final_head(alloc, reader, limit)?;
+    let framing = frame_response(method, &head)?;
+    let body = read_body(alloc, reader, limit, framing)?;
+    Ok(Response::new(head.status, head.lines, body))
+}
