@@ -1,8 +1,9 @@
 -- A book agrees with its journal after one more answer.
-use Rattle.std.proofs.Common.{◌≡◌, ℕ, ◌+◌, Bool, true, false, cond}
+use Rattle.std.proofs.Common.{◌≡◌, ℕ, ◌+◌, ◌≤◌, Bool, true, false, cond, ◌&&◌, nat_le}
 use Rattle.std.proofs.Common.{List, [], ◌∷◌, ◌++◌, length, map, Option, None, Some, option_to_list}
 use Rattle.std.proofs.Common.{count_by, refl, sym, ap, ◌∙◌, subst, arith}
-use Rattle.std.proofs.lemmas.List.Sums.{sum_by-append, sum_by-cons, count_by-le-length}
+use Rattle.std.proofs.Common.{length-append}
+use Rattle.std.proofs.lemmas.List.Sums.{sum_by-append, sum_by-cons}
 use Rattle.limit_laws.specs.Algorithm.{Algorithm}
 use Rattle.limit_laws.specs.Facts.{moment}
 use Rattle.partitions.specs.declared.part.Part.{Part}
@@ -16,12 +17,13 @@ use Rattle.limiter_core.specs.declared.event.Entry.{Entry}
 use Rattle.limiter_core.specs.declared.event.Entry.TheVariants.{Call, Promotion}
 use Rattle.limiter_core.specs.declared.event.PermitFacts.{PermitFacts}
 use Rattle.limiter_core.specs.History.{Gate, Image, image_after, permit_of}
-use Rattle.limiter_core.specs.Answer.{counting, granted_of, granted_or, moment_of}
+use Rattle.limiter_core.specs.Answer.{answer, counting, granted_of, granted_or, moment_of}
 use Rattle.limiter_core.specs.Answer.{next_waiter, promoted, promotion, promotions_at}
 use Rattle.limiter_core.specs.Answer.{reply_to, waits}
 use Rattle.limiter_core.specs.Laws.{AnswersByImage, LeadsByImage}
 use Rattle.limiter_core.specs.Legal.{IsLegal}
-use Rattle.gate_journal.specs.Journal.{Journal, gate, image, opening, answered, with_answer}
+use Rattle.gate_journal.specs.Journal.{Journal, gate, image, opening, answered, next_number}
+use Rattle.gate_journal.specs.Rolling.{continued, ready, rolls, standing}
 use Rattle.gate_ledgers.specs.Places.{Places}
 use Rattle.gate_ledgers.specs.Tally.{Tally}
 use Rattle.gate_history.specs.declared.step.Handed.{Handed}
@@ -168,6 +170,8 @@ module _ {S : Type 0} (rules : Algorithm S)
     (j next : Journal S) (tally counted : Tally) (before after : ℕ) (e : Event) (told : Told)
     (asked : IsAsked rules j next tally counted before after e told)
     (legal : IsLegal (gate rules j) (opening j) j.entries)
+    (anew : image rules (ready rules j) ≡ image rules j)
+    (legally : IsLegal (gate rules j) (opening (ready rules j)) (ready rules j).entries)
     (rows : List Row) (room : ℕ) (old : Places) (is_sealed : Bool)
     (kept : IsBook rules rows room (book_in j tally old is_sealed)) where
   abbrev here : Gate S
@@ -193,23 +197,68 @@ module _ {S : Type 0} (rules : Algorithm S)
   answer_is : answered rules j e ≡ Call e told.reply ∷ follow
   answer_is = ap (λ (entry : Entry). entry ∷ follow) head_is
 
+  -- the journal as it is ready for it, rolled or not, whose answer is the same
+  abbrev fresh : Journal S
+  fresh = ready rules j
+
+  pub same_answer : answered rules fresh e ≡ answered rules j e
+  same_answer =
+      answers here (opening fresh) fresh.entries e legally ∙ (λ k. answer here (anew k) [] e)
+      ∙ sym (answers here (opening j) j.entries e legal)
+
   -- one of its entries is a call
-  calls_grown : calls_of (j.entries ++ answered rules j e) ≡ calls_of j.entries + 1
-  calls_grown = omega (
+  one_call : calls_of (answered rules j e) ≡ 1
+  one_call = omega (
     arith,
-    sum_by-append (λ (x : Entry). cond (is_call x) 1 0) j.entries (answered rules j e),
     sum_by-cons (λ (x : Entry). cond (is_call x) 1 0) (Call e own_reply) follow,
     no_calls here (image_after here (opening j) (j.entries ++ Call e (reply_to here now e) ∷ []))
         (moment_of e),
   )
 
+  -- until a roll the entries have all calls; and the next number stays
+  ready_calls : (b : Bool) → (cond b (standing rules j) j.opening).next ≡ 0
+      → tally.calls ≡ calls_of (cond b [] j.entries)
+  ready_calls true first = omega (arith, kept.agrees.few, first)
+  ready_calls false first = kept.agrees.calls first
+
+  ready_next : (b : Bool)
+      → (cond b (standing rules j) j.opening).next + length (cond b [] j.entries) ≡ next_number j
+  ready_next true = omega arith
+  ready_next false = refl
+
+  calls_grown : fresh.opening.next ≡ 0
+      → tally.calls + 1 ≡ calls_of (fresh.entries ++ answered rules fresh e)
+  calls_grown first = omega (
+    arith,
+    ready_calls (rolls j) first,
+    sum_by-append (λ (x : Entry). cond (is_call x) 1 0) fresh.entries (answered rules fresh e),
+    ap calls_of same_answer,
+    one_call,
+  )
+
+  few_then : tally.calls + 1 ≤ next_number (continued rules j e)
+  few_then = omega (
+    arith,
+    kept.agrees.few,
+    ready_next (rolls j),
+    length-append fresh.entries (answered rules fresh e),
+    ap {B = ℕ} length same_answer,
+  )
+
+  begins_then : j.is_rolling ≡ false → fresh.opening.next ≡ 0
+  begins_then still =
+      ap {B = ℕ} (λ (b : Bool).
+      (cond (b && nat_le j.kept (length j.entries)) (standing rules j) j.opening).next) still
+      ∙ kept.agrees.begins still
+
   -- what stands after it
   abbrev pub then : Image S
   then = image_after here now (Call e told.reply ∷ follow)
 
-  image_grown : image rules (with_answer rules j e) ≡ then
+  image_grown : image rules (continued rules j e) ≡ then
   image_grown =
-      leads here (opening j) j.entries e legal
+      leads here (opening fresh) fresh.entries e legally
+      ∙ (λ k. image_after here (anew k) (answer here (anew k) [] e))
       ∙ ap (image_after here now) (sym (answers here (opening j) j.entries e legal) ∙ answer_is)
 
   agrees_then : (places : Places) → AreAt here then places
@@ -220,8 +269,9 @@ module _ {S : Type 0} (rules : Algorithm S)
       (record {
         inflight = at.inflight ∙ ap inflights (sym image_grown);
         granted = at.granted ∙ ap (granteds here) (sym image_grown);
-        calls = ap (λ (t : Tally). t.calls) asked.calls
-            ∙ ap (λ (n : ℕ). n + 1) kept.agrees.calls ∙ sym calls_grown;
+        calls = λ first. ap (λ (t : Tally). t.calls) asked.calls ∙ calls_grown first;
+        few = omega (arith, ap (λ (t : Tally). t.calls) asked.calls, few_then);
+        begins = begins_then;
       })
 
   -- THE BOOK after it is one, where the ledgers of the places stand at what stands then
@@ -250,13 +300,7 @@ module _ {S : Type 0} (rules : Algorithm S)
         passes = ap (λ (t : Tally). t.passes) asked.calls;
         is_sealed = refl;
         counted = asked.pass;
-        ahead = omega (
-          arith,
-          asked.ahead,
-          asked.number,
-          kept.agrees.calls,
-          count_by-le-length is_call j.entries,
-        );
+        ahead = omega (arith, asked.ahead, asked.number, kept.agrees.few);
         gives = gives;
       })
 

@@ -2,10 +2,10 @@
 use Rattle.std.proofs.Common.{◌≡◌, ℕ, zero, suc, ◌+◌, ◌-◌, ◌<◌, ◌≤◌, ◌==◌, eqb-true}
 use Rattle.std.proofs.Common.{Bool, true, false, cond, List, [], ◌∷◌, ◌++◌, length, map}
 use Rattle.std.proofs.Common.{Option, None, Some, option_to_list, slice_get, get_or}
-use Rattle.std.proofs.Common.{refl, ap, ◌∙◌, subst, arith}
+use Rattle.std.proofs.Common.{refl, ap, subst, arith, length-append}
 use Rattle.lifo_backlog.specs.declared.waiter.Waiter.{Waiter}
+use Rattle.partitions.specs.declared.part.Part.{Part}
 use Rattle.partitions.specs.Table.{place_of}
-use Rattle.limit_laws.specs.Algorithm.{Algorithm}
 use Rattle.limiter_core.specs.declared.event.Event.{Event}
 use Rattle.limiter_core.specs.declared.event.Event.TheVariants.{End}
 use Rattle.limiter_core.specs.declared.event.Outcome.{Outcome}
@@ -14,16 +14,22 @@ use Rattle.limiter_core.specs.declared.event.Reply.{Reply}
 use Rattle.limiter_core.specs.declared.event.Entry.{Entry}
 use Rattle.limiter_core.specs.declared.event.Entry.TheVariants.{Call}
 use Rattle.limiter_core.specs.History.{Gate, Image, image_after, permit_of, total}
-use Rattle.limiter_core.specs.Answer.{counting, granted_at, promoted, promotion, reply_to}
+use Rattle.limiter_core.specs.Answer.{granted_at, promotion}
 use Rattle.limiter_core.specs.Legal.{MayCome}
-use Rattle.gate_journal.specs.Journal.{Journal, gate, image, opening, with_answer}
 use Rattle.gate_ledgers.specs.Places.{Places, lowered}
 use Rattle.gate_history.specs.Book.{by_place}
 use Rattle.gate_history.specs.Handing.{promoted_by}
 use Rattle.gate_history.proofs.Answered.{AreAt, small_place}
 use Rattle.gate_history.proofs.Ledgers.{at_place, lowered_to, put_in, raised_to}
 
--- the entry after the call of an answer
+-- the call of an answer, and the entry after it
+at_call : (h : List Entry) (x : Entry) (rest : List Entry) (n : ℕ) → n ≡ length h
+    → slice_get (h ++ x ∷ rest) n ≡ Some x
+at_call [] x rest zero is = refl
+at_call [] x rest (suc n) is = absurd (omega arith)
+at_call (y ∷ h) x rest zero is = absurd (omega arith)
+at_call (y ∷ h) x rest (suc n) is = at_call h x rest n (omega arith)
+
 after_call : (h : List Entry) (x : Entry) (rest : List Entry) (n : ℕ) → n ≡ length h + 1
     → slice_get (h ++ x ∷ rest) n ≡ slice_get rest 0
 after_call [] x rest zero is = absurd (omega arith)
@@ -31,17 +37,23 @@ after_call [] x rest (suc n) is = ap (slice_get rest) (omega arith)
 after_call (y ∷ h) x rest zero is = absurd (omega arith)
 after_call (y ∷ h) x rest (suc n) is = after_call h x rest n (omega arith)
 
--- and it is the promotion, if any
-pub entry_after : {S : Type 0} (rules : Algorithm S) (j next : Journal S) (e : Event)
-    → next ≡ with_answer rules j e
-    → slice_get next.entries (length j.entries + 1)
-    ≡ slice_get (promoted (gate rules j) (opening j) j.entries e) 0
-entry_after {S} rules j next e is =
-    let told : List Entry = promoted (gate rules j) (opening j) j.entries e in
-    ap (λ (v : Journal S). slice_get v.entries (length j.entries + 1)) is
-    ∙ after_call j.entries
-    (Call e (counting (length told) (reply_to (gate rules j) (image rules j) e)))
-    told (length j.entries + 1) refl
+-- the last entry of an answer to an ending is its promotion, if any; else its call, which does
+-- nothing to the places
+pub last_promotes : {S : Type 0} (place : Part → ℕ) (s : Places) (h : List Entry) (e : Event)
+    (r : Reply) (i : Image S) (start : ℕ) (w : Option Waiter)
+    → let told = map (promotion i start) (option_to_list w) in
+    let all = h ++ Call e r ∷ told in
+    promoted_by place (slice_get all (length all - 1)) s
+    ≡ promoted_by place (slice_get told 0) s
+last_promotes place s h e r i start None =
+    ap (λ (o : Option Entry). promoted_by place o s)
+    (at_call h (Call e r) [] (length (h ++ Call e r ∷ []) - 1)
+    (omega (arith, length-append h (Call e r ∷ []))))
+last_promotes place s h e r i start (Some w) =
+    ap (λ (o : Option Entry). promoted_by place o s)
+    (after_call h (Call e r) (promotion i start w ∷ [])
+    (length (h ++ Call e r ∷ promotion i start w ∷ []) - 1)
+    (omega (arith, length-append h (Call e r ∷ promotion i start w ∷ []))))
 
 module _ {S : Type 0} (g : Gate S) (i : Image S) (s : Places) (is : AreAt g i s)
     (four : length g.rows ≤ 4) (permit : PermitFacts) (outcome : Outcome) (at : ℕ) where

@@ -1,25 +1,21 @@
 -- What becomes of an event that is asked of the journal and counted on a pass.
-use Rattle.std.specs.Prelude.{◌≡◌, ℕ, ◌+◌, ◌≤◌, Bool, true, false, Some, length, slice_get}
+use Rattle.std.specs.Prelude.{◌≡◌, ℕ, ◌+◌, ◌≤◌, true, false, Some, length, slice_get}
 use Rattle.limit_laws.specs.Algorithm.{Algorithm}
 use Rattle.limiter_core.specs.declared.event.Event.{Event}
 use Rattle.limiter_core.specs.declared.event.Entry.TheVariants.{Call}
-use Rattle.limiter_core.specs.Bound.{is_exhausted}
-use Rattle.gate_journal.specs.Journal.{Journal, image, answered, with_answer}
+use Rattle.gate_journal.specs.Journal.{Journal, is_over, answered}
+use Rattle.gate_journal.specs.Rolling.{continued}
 use Rattle.gate_ledgers.specs.Tally.{Tally}
 use Rattle.gate_history.specs.Told.{Told, Refusal}
 
--- the journal is exhausted for an event
-abbrev pub is_spent : {S : Type 0} → Algorithm S → Journal S → Event → Bool
-is_spent rules j e = is_exhausted j.kept false (image rules j) (length j.entries) e
-
--- it is answered: the journal has the answer, and the call is counted on the pass
+-- it is answered: the journal goes on with the answer, and the call is counted on the pass
 pub record IsAsked {S : Type 0} (rules : Algorithm S) (j next : Journal S) (tally counted : Tally)
     (before after : ℕ) (e : Event) (told : Told) : Type 0 where
-  pub served : is_spent rules j e ≡ false
+  pub served : is_over rules j e ≡ false
   pub number : told.number ≡ j.opening.next + length j.entries
   pub event : told.event ≡ e
   pub reply : Some (Call e told.reply) ≡ slice_get (answered rules j e) 0
-  pub journal : next ≡ with_answer rules j e
+  pub journal : next ≡ continued rules j e
   pub calls : counted ≡ record tally { calls = tally.calls + 1 }
   pub pass : after ≡ before + 1
   pub ahead : before ≤ tally.calls
@@ -27,12 +23,12 @@ pub record IsAsked {S : Type 0} (rules : Algorithm S) (j next : Journal S) (tall
 -- it is refused: the refusal says why, and nothing changes
 pub record IsRefused {S : Type 0} (rules : Algorithm S) (j next : Journal S)
     (tally counted : Tally) (before after : ℕ) (e : Event) (refusal : Refusal) : Type 0 where
-  pub exhausted : is_spent rules j e ≡ true
+  pub exhausted : is_over rules j e ≡ true
   pub why : refusal ≡ record {
     event = e;
     held = length j.entries;
     kept = j.kept;
-    is_rolling = false;
+    is_rolling = j.is_rolling;
     next = j.opening.next + length j.entries;
   }
   pub journal : next ≡ j

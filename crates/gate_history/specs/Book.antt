@@ -1,5 +1,5 @@
 -- A book: a journal with the ledgers of its calls and of what is in flight.
-use Rattle.std.specs.Prelude.{◌≡◌, ℕ, Bool, true, false, List, [], ◌∷◌, count_by}
+use Rattle.std.specs.Prelude.{◌≡◌, ℕ, ◌≤◌, Bool, true, false, List, [], ◌∷◌, count_by}
 use Rattle.limit_laws.specs.Algorithm.{Algorithm}
 use Rattle.limiter_core.specs.declared.event.Entry.{Entry}
 use Rattle.limiter_core.specs.declared.event.Entry.TheVariants.{Call}
@@ -7,7 +7,7 @@ use Rattle.limiter_core.specs.History.{Gate, Image}
 use Rattle.limiter_core.specs.Answer.{granted_at}
 use Rattle.partitions.specs.declared.part.Part.{Part}
 use Rattle.partitions.specs.Table.{Row, place_of}
-use Rattle.gate_journal.specs.Journal.{Journal, gate, image}
+use Rattle.gate_journal.specs.Journal.{Journal, gate, image, next_number}
 use Rattle.gate_ledgers.specs.Places.{Places}
 use Rattle.gate_ledgers.specs.Tally.{Tally}
 
@@ -50,11 +50,16 @@ abbrev pub book_in : {S : Type 0} → Journal S → Tally → Places → Bool �
 book_in journal tally places is_sealed =
     record { journal = journal; tally = tally; places = places; is_sealed = is_sealed }
 
--- the ledgers stand at what the entries say
+-- the ledgers stand at what the entries say: those of the places at what is in flight and lies
+-- granted, that of calls at how many entries are calls, until a roll leaves the first of them
+-- behind; a number is as great as the calls before it; and a history that doesn't roll begins with
+-- number 0
 pub record Agrees {S : Type 0} (rules : Algorithm S) (b : Book S) : Type 0 where
   pub inflight : b.places.inflight ≡ inflights (image rules b.journal)
   pub granted : b.places.granted ≡ granteds (gate rules b.journal) (image rules b.journal)
-  pub calls : b.tally.calls ≡ calls_of b.journal.entries
+  pub calls : b.journal.opening.next ≡ 0 → b.tally.calls ≡ calls_of b.journal.entries
+  pub few : b.tally.calls ≤ next_number b.journal
+  pub begins : b.journal.is_rolling ≡ false → b.journal.opening.next ≡ 0
 
 -- what a book keeps: its table and the room for waiters are these, and its ledgers agree
 pub record IsBook {S : Type 0}

@@ -4,8 +4,8 @@ use Rattle.limit_laws.specs.Algorithm.{Algorithm}
 use Rattle.limiter_core.specs.declared.event.Event.{Event}
 use Rattle.limiter_core.specs.declared.event.Event.TheVariants as event
 use Rattle.limiter_core.specs.declared.event.Entry.TheVariants as entry
-use Rattle.gate_journal.specs.Journal.{answered, with_answer}
-use Rattle.gate_history.specs.Asking.{is_spent}
+use Rattle.gate_journal.specs.Journal.{answered, is_over}
+use Rattle.gate_journal.specs.Rolling.{continued}
 use Rattle.gate_history.specs.declared.step.Call.{Call}
 use Rattle.gate_history.specs.declared.step.Call.TheVariants as call
 use Rattle.gate_history.specs.declared.step.Handed.{Handed}
@@ -26,15 +26,16 @@ event_of (call.Reset now) = event.Reset now
 event_of (call.Look part) = event.Look part
 
 -- DONE, where the history isn't exhausted: the receipt tells the number before the step, the call's
--- own event and the reply; the history has the reply rule's answer more; the pass's count, no
--- greater than that number, rises by one; and the caller gets what the reply gives
+-- own event and the reply; the history, which first rolls where it rolls and is full, has the reply
+-- rule's answer more; the pass's count, no greater than that number, rises by one; and the caller
+-- gets what the reply gives
 pub record IsDone {S : Type 0} {N : Type 0} (rules : Algorithm S)
     (old new : Book S) (before after : ℕ) (e : Event) (told : Told) (got : Handed N) : Type 0 where
-  pub served : is_spent rules old.journal e ≡ false
+  pub served : is_over rules old.journal e ≡ false
   pub number : told.number ≡ old.journal.opening.next + length old.journal.entries
   pub event : told.event ≡ e
   pub reply : Some (entry.Call e told.reply) ≡ slice_get (answered rules old.journal e) 0
-  pub journal : new.journal ≡ with_answer rules old.journal e
+  pub journal : new.journal ≡ continued rules old.journal e
   pub agrees : Agrees rules new
   pub passes : new.tally.passes ≡ old.tally.passes
   pub is_sealed : new.is_sealed ≡ old.is_sealed
@@ -46,11 +47,11 @@ pub record IsDone {S : Type 0} {N : Type 0} (rules : Algorithm S)
 pub record IsExhausted {S : Type 0} {N : Type 0} (rules : Algorithm S)
     (old new : Book S) (before after : ℕ) (e : Event) (refusal : Refusal) (got : Handed N)
     : Type 0 where
-  pub exhausted : is_spent rules old.journal e ≡ true
+  pub exhausted : is_over rules old.journal e ≡ true
   pub event : refusal.event ≡ e
   pub held : refusal.held ≡ length old.journal.entries
   pub kept : refusal.kept ≡ old.journal.kept
-  pub is_rolling : refusal.is_rolling ≡ false
+  pub is_rolling : refusal.is_rolling ≡ old.journal.is_rolling
   pub next : refusal.next ≡ old.journal.opening.next + length old.journal.entries
   pub same : new ≡ old
   pub uncounted : after ≡ before

@@ -1,7 +1,7 @@
 // A call, asked of the journal and counted on its pass.
-ghost use Rattle.std.specs.Prelude.{◌^◌, ◌<◌, IfOk, IfErr};
+ghost use Rattle.std.specs.Prelude.{◌≡◌, ◌^◌, ◌<◌, ◌≤◌, IfOk, IfErr};
 ghost use Rattle.limiter_core.specs.Legal.{MayCome};
-ghost use Rattle.gate_journal.specs.Journal.{gate, image};
+ghost use Rattle.gate_journal.specs.Journal.{gate, image, next_number};
 ghost use Rattle.gate_history.specs.Asking.{IsAsked, IsRefused};
 
 use crate::receipt::Receipt;
@@ -19,7 +19,7 @@ pub(crate) fn ask<L: Limit, N: Naming>(
     event: Event,
 ) -> Result<Receipt<N>, Spent<N>>
     requires may { MayCome (gate L.rules journal.old) (image L.rules journal.old) event }
-    requires calls { tally.old.calls < 2 ^ 62 }
+    requires calls { tally.old.calls ≤ next_number journal.old }
     ensures answered { IfOk result (λ told. IsAsked L.rules journal.old journal.new
         tally.old tally.new pass.old pass.new event told) }
     ensures refused { IfErr result (λ refusal. IsRefused L.rules journal.old journal.new
@@ -27,12 +27,23 @@ pub(crate) fn ask<L: Limit, N: Naming>(
 {
     let held = journal.entries().len() as u64;
     let kept = journal.kept() as u64;
-    let next = journal.number();
+    let is_rolling = journal.is_rolling();
+    let next = next_of(journal);
     match journal.apply(event) {
         Some((number, reply)) => {
             tally.count(pass);
             Ok(Receipt::new(number, event, reply))
         }
-        None => Err(Spent::new(event, held, kept, false, next)),
+        None => Err(Spent::new(event, held, kept, is_rolling, next)),
     }
+}
+
+/// The number of the next entry, which leaves room for what is owed and is far from the greatest.
+fn next_of<L: Limit>(journal: &Journal<L>) -> u64
+    ensures next { result ≡ next_number journal.now }
+    ensures small { result < 2 ^ 63 }
+{
+    let core = journal.core();
+    let (_bound, _room) = (core.bound(), core.room());
+    core.next_number()
 }

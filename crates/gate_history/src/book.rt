@@ -1,9 +1,9 @@
 // A journal with the ledgers of who holds what.
-ghost use Rattle.std.specs.Prelude.{◌≡◌, ◌+◌, ◌<◌, ◌≤◌, ◌⊎◌, [], ◌∷◌, length, true, false};
+ghost use Rattle.std.specs.Prelude.{◌≡◌, ◌+◌, ◌<◌, ◌≤◌, ◌⊎◌, [], ◌∷◌, true, false};
 ghost use Rattle.std.specs.Prelude.{IfSome, IfNone};
 ghost use Rattle.limiter_core.specs.Legal.{IsLegal};
 ghost use Rattle.limiter_core.specs.Bound.{IsSound};
-ghost use Rattle.gate_journal.specs.Journal.{gate, opening};
+ghost use Rattle.gate_journal.specs.Journal.{gate, opening, next_number};
 ghost use Rattle.gate_ledgers.specs.Names.{AreNamed, AreWhole};
 ghost use Rattle.gate_ledgers.specs.Places.{no_places};
 ghost use Rattle.gate_history.specs.Book.{Agrees, book_in, granted_now, inflight_now};
@@ -11,7 +11,7 @@ ghost use Rattle.gate_history.specs.Handing.{IsChange};
 ghost use Rattle.gate_history.specs.Steps.{Steps, event_of};
 
 use crate::asking::ask;
-use crate::handing::{entry_at, grant, hand_acquired, hand_granted};
+use crate::handing::{grant, hand_acquired, hand_granted, last_entry};
 use crate::permit::Permit;
 use crate::step::{Call, Handed, Step};
 use crate::ticket::Ticket;
@@ -112,10 +112,10 @@ impl<L: Limit, N: Naming> Book<L, N> {
         journal
     }
 
-    /// How many calls were made: by all passes, and in the history. Each has its number.
+    /// How many calls were made by all passes. Each has its number.
     pub fn calls(&self) -> u64
         ensures calls { result ≡ self.now.tally.calls }
-        ensures few { result ≤ self.now.journal.opening.next + length self.now.journal.entries }
+        ensures few { result ≤ next_number self.now.journal }
     {
         self.tally.calls()
     }
@@ -216,7 +216,6 @@ impl<L: Limit, N: Naming> Book<L, N> {
     {
         self.journal.check();
         answers_by_image::<L>();
-        let promoted = self.journal.entries().len() + 1;
         let (permit, mark) = permit.open();
         self.places.leave(mark);
         let event = Event::End {
@@ -228,7 +227,7 @@ impl<L: Limit, N: Naming> Book<L, N> {
             Ok(receipt) => receipt,
             Err(_spent) => unreachable!(),
         };
-        let entry = entry_at(self.journal.entries(), promoted);
+        let entry = last_entry(self.journal.entries());
         grant(&mut self.places, self.journal.core().table(), entry);
         Step::Done(receipt, Handed::Nothing)
     }

@@ -1,5 +1,5 @@
 // What callers get, and what that does to the ledgers of the places.
-ghost use Rattle.std.specs.Prelude.{◌≡◌, ◌⊎◌, ◌^◌, ◌<◌, All, get_or, slice_get};
+ghost use Rattle.std.specs.Prelude.{◌≡◌, ◌⊎◌, ◌^◌, ◌<◌, ◌-◌, All, get_or, length, slice_get};
 ghost use Rattle.partitions.specs.Table.{place_of};
 ghost use Rattle.gate_history.specs.Handing.{LiesGranted, acquired, given, given_by, handed_out};
 ghost use Rattle.gate_history.specs.Handing.{given_acquired, promoted_by};
@@ -11,11 +11,11 @@ use gate_ledgers::{Naming, Places};
 use limiter_core::{Entry, Event, PermitFacts, Reply};
 use partitions::PartitionTable;
 
-/// The entry at a place.
-pub(crate) fn entry_at(entries: &[Entry], place: usize) -> Option<Entry>
-    ensures { result ≡ slice_get entries.now place }
+/// The last of the entries.
+pub(crate) fn last_entry(entries: &[Entry]) -> Option<Entry>
+    ensures { result ≡ slice_get entries.now (length entries.now - 1) }
 {
-    entries.get(place).copied()
+    entries.last().copied()
 }
 
 /// A promoted permit is in flight, and lies granted.

@@ -65,7 +65,7 @@ impl<N: Naming> Tally<N> {
 
     /// One call more by a pass, which made no more than all did.
     pub fn count(&mut self, pass: &mut Pass<N>)
-        requires { self.old.calls < 2 ^ 62 }
+        requires { self.old.calls < 2 ^ 63 }
         ensures calls { self.new ≡ record self.old { calls = self.old.calls + 1 } }
         ensures pass { pass.new ≡ pass.old + 1 }
         ensures before { pass.old ≤ self.old.calls }

@@ -20,7 +20,7 @@ fn single<N: Naming>(alloc: Global, kept: usize, blanks: Blanks) -> Result<Book<
 {
     let table = PartitionTable::unknown_only();
     let core = Core::new(alloc, Fixed::new(1)?, table, 100)?;
-    Ok(Book::new(Journal::new(alloc, core, kept)?, blanks))
+    Ok(Book::new(Journal::new(alloc, core, kept, false)?, blanks))
 }
 
 fn acquire<N: Naming>(wait: bool, now: u64) -> Call<N> {

@@ -4,4 +4,8 @@
 #[cfg(test)]
 mod book_tests;
 #[cfg(test)]
+mod four_threads_tests;
+#[cfg(test)]
+mod random_calls;
+#[cfg(test)]
 mod shared_gate_tests;

@@ -33,7 +33,7 @@ fn single<M: Naming>(alloc: Global, blanks: Blanks) -> Result<Book<Fixed, M>, Fa
 {
     let table = PartitionTable::unknown_only();
     let core = Core::new(alloc, Fixed::new(1)?, table, 100)?;
-    Ok(Book::new(Journal::new(alloc, core, 1_000_000)?, blanks))
+    Ok(Book::new(Journal::new(alloc, core, 1_000_000, false)?, blanks))
 }
 
 /// The permit of an acquire that is admitted.

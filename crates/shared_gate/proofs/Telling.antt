@@ -24,12 +24,11 @@ use Rattle.limiter_core.specs.History.{Gate, Image, permit_of, total}
 use Rattle.limiter_core.specs.Answer.{counting, granted_of, granted_or, has_room, promoted}
 use Rattle.limiter_core.specs.Answer.{queued, reply_to, set_reply, waits}
 use Rattle.limiter_core.specs.Bound.{IsSound}
-use Rattle.gate_journal.specs.Journal.{Journal, gate, image, opening}
+use Rattle.gate_journal.specs.Journal.{Journal, gate, image, is_over, opening}
 use Rattle.gate_history.specs.declared.step.Handed.{Handed}
 use Rattle.gate_history.specs.declared.step.Handed.TheVariants as handed
 use Rattle.gate_history.specs.declared.step.Step.{Step}
 use Rattle.gate_history.specs.declared.step.Step.TheVariants.{Done, Exhausted}
-use Rattle.gate_history.specs.Asking.{is_spent}
 use Rattle.gate_history.specs.Book.{Book}
 use Rattle.gate_history.specs.Handing.{Given, IsChange, given, given_back, given_by}
 use Rattle.gate_history.specs.Handing.{nothing, permit, ticket}
@@ -201,7 +200,7 @@ reply_of other (Promotion waiter part start inflight) = other
 
 -- what an event that is exhausted hands back
 back : {M : Type 0} {S : Type 0} (rules : Algorithm S) (j : Journal S) (e : Event)
-    → is_spent rules j e ≡ true
+    → is_over rules j e ≡ true
     → (got : Handed M) → given_by got ≡ given_back e → HandsBack e got
 back rules j (Acquire part bypass wait now) spent =
     for_nothing (HandsBack (Acquire part bypass wait now)) tt

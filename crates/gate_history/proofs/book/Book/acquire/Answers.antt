@@ -35,13 +35,14 @@ invariant_of-self-2 g c =
     let leads = c.answers_by_image.ensures.leads in
     let asked = c.in-Ok.ensures.answered in
     kept_then g.L.Limit.rules answers leads _ _ _ _ _ _ _ _ asked c.check.ensures.legal
-    _ _ _ _ c.self.invariant c.hand_acquired-handed.new.places
+    c.check.ensures.anew c.check.ensures.ready _ _ _ _ c.self.invariant
+    c.hand_acquired-handed.new.places
     (subst (AreAt _ _) (sym (places_then g c))
     (at_then g.L.Limit.rules answers leads _ _ _ _ _ _ _ _ asked c.check.ensures.legal
-    _ _ _ _ c.self.invariant refl _
+    c.check.ensures.anew c.check.ensures.ready _ _ _ _ c.self.invariant refl _
     (acquire_at _ _ _
     (at_first g.L.Limit.rules answers leads _ _ _ _ _ _ _ _ asked c.check.ensures.legal
-    _ _ _ _ c.self.invariant)
+    c.check.ensures.anew c.check.ensures.ready _ _ _ _ c.self.invariant)
     c.check.ensures.sound.four c.args.part c.args.bypass c.args.wait c.args.now
     c.in-Ok.receipt.reply)))
 
@@ -52,14 +53,15 @@ returns g c =
     let asked = c.in-Ok.ensures.answered in
     let start : c.min.result ≡ moment c.args.now = search rules in
     done g.L.Limit.rules answers leads _ _ _ _ _ _ _ _ asked c.check.ensures.legal
-    _ _ _ _ c.self.invariant {N = g.row.N.Denot} c.args.self.now c.self.view_is
+    c.check.ensures.anew c.check.ensures.ready _ _ _ _ c.self.invariant
+    {N = g.row.N.Denot} c.args.self.now c.self.view_is
     c.hand_acquired-handed.new.places
     (subst (AreAt _ _) (sym (places_then g c))
     (at_then g.L.Limit.rules answers leads _ _ _ _ _ _ _ _ asked c.check.ensures.legal
-    _ _ _ _ c.self.invariant refl _
+    c.check.ensures.anew c.check.ensures.ready _ _ _ _ c.self.invariant refl _
     (acquire_at _ _ _
     (at_first g.L.Limit.rules answers leads _ _ _ _ _ _ _ _ asked c.check.ensures.legal
-    _ _ _ _ c.self.invariant)
+    c.check.ensures.anew c.check.ensures.ready _ _ _ _ c.self.invariant)
     c.check.ensures.sound.four c.args.part c.args.bypass c.args.wait c.args.now
     c.in-Ok.receipt.reply)))
     c.hand_acquired-handed.result

@@ -1,6 +1,7 @@
-use Rattle.std.proofs.Common.{rules, refl, sym, ap, ◌∙◌, ◌≡◌, ◌+◌, ◌++◌, ◌∷◌, [], List, length}
-use Rattle.std.proofs.Common.{slice_get, subst}
+use Rattle.std.proofs.Common.{refl, sym, ap, ◌∙◌, ◌≡◌, ℕ, ◌-◌, ◌++◌, ◌∷◌, [], List, length}
+use Rattle.std.proofs.Common.{Option, slice_get, subst}
 use Rattle.limit_laws.specs.Facts.{moment}
+use Rattle.partitions.specs.declared.part.Part.{Part}
 use Rattle.partitions.specs.Table.{place_of}
 use Rattle.limiter_core.specs.declared.event.Event.TheVariants.{End}
 use Rattle.limiter_core.specs.declared.event.Reply.TheVariants.{Ended}
@@ -8,17 +9,18 @@ use Rattle.limiter_core.specs.declared.event.Entry.{Entry}
 use Rattle.limiter_core.specs.declared.event.Entry.TheVariants.{Call}
 use Rattle.limiter_core.specs.declared.event.PermitFacts.{PermitFacts}
 use Rattle.limiter_core.specs.History.{Image, image_after}
-use Rattle.limiter_core.specs.Answer.{next_waiter, promoted}
+use Rattle.limiter_core.specs.Answer.{counting, next_waiter, promoted, reply_to}
 use Rattle.limiter_core.specs.Legal.{MayCome}
-use Rattle.gate_journal.specs.Journal.{Journal, gate, image, opening}
-use Rattle.gate_ledgers.specs.Places.{lowered, marked_place}
+use Rattle.gate_journal.specs.Journal.{Journal, answered, gate, image, opening}
+use Rattle.gate_journal.specs.Rolling.{ready}
+use Rattle.gate_ledgers.specs.Places.{Places, lowered, marked_place}
 use Rattle.gate_history.specs.declared.step.Handed.TheVariants.{Nothing}
 use Rattle.gate_history.specs.Book.{book_in}
 use Rattle.gate_history.specs.Handing.{promoted_by}
 use Rattle.gate_history.specs.Steps.{IsDone}
-use Rattle.gate_history.proofs.Agreeing.{done, kept_then}
+use Rattle.gate_history.proofs.Agreeing.{done, kept_then, same_answer}
 use Rattle.gate_history.proofs.Answered.{AreAt}
-use Rattle.gate_history.proofs.Endings.{ended_at, entry_after, may_be_ended}
+use Rattle.gate_history.proofs.Endings.{ended_at, last_promotes, may_be_ended}
 use Rattle.gate_history.proofs.book.Book.end.Given.{Over}
 use Rattle.gate_history.proofs.book.Book.end.Goals as goal
 
@@ -73,13 +75,28 @@ follow g c =
     promoted (gate g.L.Limit.rules c.self.inside.journal) (opening c.self.inside.journal)
     c.self.inside.journal.entries (End c.open-mark.result.0 c.args.outcome c.args.now)
 
--- the entry after the call, if any, is the promotion
-found : (g : Over) (c : goal.After-grant g) → c.entry_at-entry.result ≡ slice_get (follow g c) 0
-found g c =
+-- the last entry promotes whom the answer promotes
+found : (g : Over) (c : goal.After-grant g) (place : Part → ℕ) (s : Places)
+    → promoted_by place c.last_entry-entry.result s
+    ≡ promoted_by place (slice_get (follow g c) 0) s
+found g c place s =
     let j = c.self.inside.journal in
-    let got : c.entry_at-entry.result
-    ≡ slice_get c.ask.new.journal.entries (length j.entries + 1) = search rules in
-    got ∙ entry_after g.L.Limit.rules j c.ask.new.journal _ c.in-Ok.ensures.answered.journal
+    let rules = g.L.Limit.rules in
+    let e = End c.open-mark.result.0 c.args.outcome c.args.now in
+    let own = counting (length (follow g c)) (reply_to (gate rules j) (image rules j) e) in
+    let same : answered rules (ready rules j) e ≡ Call e own ∷ follow g c =
+    same_answer rules c.answers_by_image.ensures.answers c.answers_by_image.ensures.leads
+    _ _ _ _ _ _ _ _ c.in-Ok.ensures.answered c.check.ensures.legal
+    c.check.ensures.anew c.check.ensures.ready _ _ _ _ c.self.invariant in
+    let last : List Entry → Option Entry = λ xs. slice_get xs (length xs - 1) in
+    let got : c.last_entry-entry.result ≡ last c.ask.new.journal.entries =
+    c.last_entry-entry.ensures ∙ ap last c.entries.ensures.entries in
+    (λ k. promoted_by place (got k) s)
+    ∙ ap (λ (v : Journal g.row.L.Denot). promoted_by place (last v.entries) s)
+    c.in-Ok.ensures.answered.journal
+    ∙ ap (λ (xs : List Entry). promoted_by place (last ((ready rules j).entries ++ xs)) s) same
+    ∙ last_promotes place s (ready rules j).entries e own (sought g c) (moment c.args.now)
+    (next_waiter (gate rules j) (sought g c))
 
 -- the places after the ending and its promotion
 places_then : (g : Over) (c : goal.After-grant g)
@@ -97,8 +114,14 @@ places_then g c =
     c.leave.ensures.inflight ∙ ap (λ n. lowered n c.self.inside.places.inflight)
     (place_left g c) in
     c.grant.ensures
-    ∙ (λ k. promoted_by (place_of (rows k)) (found g c k)
+    ∙ (λ k. promoted_by (place_of (rows k)) c.last_entry-entry.result
     (record { inflight = fewer k; granted = c.leave.ensures.granted k }))
+    ∙ found g c (place_of c.self.inside.journal.rows)
+    (record c.self.inside.places {
+      inflight =
+          lowered (place_of c.self.inside.journal.rows c.open-mark.result.0.part)
+          c.self.inside.places.inflight;
+    })
 
 at_last : (g : Over) (c : goal.After-grant g)
     → AreAt (gate g.L.Limit.rules c.self.inside.journal)
@@ -118,7 +141,9 @@ pub invariant_of-self : goal.invariant_of-self
 invariant_of-self g c =
     kept_then g.L.Limit.rules c.answers_by_image.ensures.answers
     c.answers_by_image.ensures.leads _ _ _ _ _ _ _ _ c.in-Ok.ensures.answered
-    c.check.ensures.legal _ _ _ _ c.self.invariant c.grant.new.places (at_last g c)
+    c.check.ensures.legal
+    c.check.ensures.anew c.check.ensures.ready _ _ _ _ c.self.invariant
+    c.grant.new.places (at_last g c)
 
 pub returns : goal.returns
 returns g c =
@@ -129,5 +154,7 @@ returns g c =
     c.open-mark.ensures.facts
     (done g.L.Limit.rules c.answers_by_image.ensures.answers
     c.answers_by_image.ensures.leads _ _ _ _ _ _ _ _ c.in-Ok.ensures.answered
-    c.check.ensures.legal _ _ _ _ c.self.invariant {N = g.row.N.Denot} c.args.self.now
+    c.check.ensures.legal
+    c.check.ensures.anew c.check.ensures.ready _ _ _ _ c.self.invariant
+    {N = g.row.N.Denot} c.args.self.now
     c.self.view_is c.grant.new.places (at_last g c) Nothing refl)

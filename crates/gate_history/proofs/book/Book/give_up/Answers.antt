@@ -21,11 +21,11 @@ hand_granted-handed-requires-clause-some g c =
     let lies =
     give_up_lies _ _ _
     (at_first g.L.Limit.rules answers leads _ _ _ _ _ _ _ _ asked c.check.ensures.legal
-    _ _ _ _ c.self.invariant)
+    c.check.ensures.anew c.check.ensures.ready _ _ _ _ c.self.invariant)
     c.check.ensures.sound.four c.args.number
     (named_once _ _ c.check.ensures.sound c.args.number) c.in-Ok.receipt.reply
     (said_to_give_up g.L.Limit.rules answers leads _ _ _ _ _ _ _ _ asked c.check.ensures.legal
-    _ _ _ _ c.self.invariant refl c.args.number refl) in
+    c.check.ensures.anew c.check.ensures.ready _ _ _ _ c.self.invariant refl c.args.number refl) in
     subst (λ (rows : List Row). LiesGranted rows c.self.inside.places c.reply.result)
     c.self.invariant.rows
     (subst (LiesGranted c.self.inside.journal.rows c.self.inside.places) (sym c.reply.ensures) lies)
@@ -45,17 +45,18 @@ invariant_of-self-2 g c =
     let leads = c.answers_by_image.ensures.leads in
     let asked = c.in-Ok.ensures.answered in
     kept_then g.L.Limit.rules answers leads _ _ _ _ _ _ _ _ asked c.check.ensures.legal
-    _ _ _ _ c.self.invariant c.hand_granted-handed.new.places
+    c.check.ensures.anew c.check.ensures.ready _ _ _ _ c.self.invariant
+    c.hand_granted-handed.new.places
     (subst (AreAt _ _) (sym (places_then g c))
     (at_then g.L.Limit.rules answers leads _ _ _ _ _ _ _ _ asked c.check.ensures.legal
-    _ _ _ _ c.self.invariant refl _
+    c.check.ensures.anew c.check.ensures.ready _ _ _ _ c.self.invariant refl _
     (give_up_at _ _ _
     (at_first g.L.Limit.rules answers leads _ _ _ _ _ _ _ _ asked c.check.ensures.legal
-    _ _ _ _ c.self.invariant)
+    c.check.ensures.anew c.check.ensures.ready _ _ _ _ c.self.invariant)
     c.check.ensures.sound.four c.args.number
     (named_once _ _ c.check.ensures.sound c.args.number) c.in-Ok.receipt.reply
     (said_to_give_up g.L.Limit.rules answers leads _ _ _ _ _ _ _ _ asked c.check.ensures.legal
-    _ _ _ _ c.self.invariant refl c.args.number refl))))
+    c.check.ensures.anew c.check.ensures.ready _ _ _ _ c.self.invariant refl c.args.number refl))))
 
 pub returns : goal.returns
 returns g c =
@@ -63,18 +64,19 @@ returns g c =
     let leads = c.answers_by_image.ensures.leads in
     let asked = c.in-Ok.ensures.answered in
     done g.L.Limit.rules answers leads _ _ _ _ _ _ _ _ asked c.check.ensures.legal
-    _ _ _ _ c.self.invariant {N = g.row.N.Denot} c.args.self.now c.self.view_is
+    c.check.ensures.anew c.check.ensures.ready _ _ _ _ c.self.invariant
+    {N = g.row.N.Denot} c.args.self.now c.self.view_is
     c.hand_granted-handed.new.places
     (subst (AreAt _ _) (sym (places_then g c))
     (at_then g.L.Limit.rules answers leads _ _ _ _ _ _ _ _ asked c.check.ensures.legal
-    _ _ _ _ c.self.invariant refl _
+    c.check.ensures.anew c.check.ensures.ready _ _ _ _ c.self.invariant refl _
     (give_up_at _ _ _
     (at_first g.L.Limit.rules answers leads _ _ _ _ _ _ _ _ asked c.check.ensures.legal
-    _ _ _ _ c.self.invariant)
+    c.check.ensures.anew c.check.ensures.ready _ _ _ _ c.self.invariant)
     c.check.ensures.sound.four c.args.number
     (named_once _ _ c.check.ensures.sound c.args.number) c.in-Ok.receipt.reply
     (said_to_give_up g.L.Limit.rules answers leads _ _ _ _ _ _ _ _ asked c.check.ensures.legal
-    _ _ _ _ c.self.invariant refl c.args.number refl))))
+    c.check.ensures.anew c.check.ensures.ready _ _ _ _ c.self.invariant refl c.args.number refl))))
     c.hand_granted-handed.result
     (c.hand_granted-handed.ensures.gives ∙ ap (given 0 (GiveUp c.args.number)) c.reply.ensures
     ∙ give_up_gives 0 c.in-Ok.receipt.number c.args.number c.in-Ok.receipt.reply)
