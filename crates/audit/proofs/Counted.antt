@@ -39,8 +39,9 @@ module _ (number : ℕ) where
       → 1 ≤ times number receipts
   times-named [] some = absurd (false≢true some)
   times-named (x ∷ xs) some = elim (or_cases (x.number == number) (is_named xs number) some) [
-    | inl here ↦ let one : one_if (x.number == number) ≡ 1 = ap one_if here in
-    omega (arith, times-cons x xs, one)
+    | inl here ↦
+        let one : one_if (x.number == number) ≡ 1 = ap one_if here in
+        omega (arith, times-cons x xs, one)
     | inr rest ↦ omega (arith, times-cons x xs, times-named xs rest)
   ]
 

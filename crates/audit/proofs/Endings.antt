@@ -47,8 +47,9 @@ first_place {X} p xs n x here passes none =
 -- an entry that ends a permit ends its number
 pub ends-own : (entry : Entry) (permit : PermitFacts) → ended entry ≡ Some permit
     → ends permit.number entry ≡ true
-ends-own entry permit own = let same : (permit.number == permit.number) ≡ true =
-    grind (arith, nat_tests) in ap (is_of permit.number) own ∙ same
+ends-own entry permit own =
+    let same : (permit.number == permit.number) ≡ true = grind (arith, nat_tests) in
+    ap (is_of permit.number) own ∙ same
 
 module _ (entries : List Entry) where
   module _ (endings : List ℕ) (first : AreFirstEndings entries endings) where
@@ -56,7 +57,7 @@ module _ (entries : List Entry) where
     pub IsFirstEnding-noted : (permit : PermitFacts) (d : Entry) → permit.number < length entries
         → get_or endings permit.number 0 < length entries
         → ended (get_or entries (get_or endings permit.number 0) d) ≡ Some permit
-            → IsFirstEnding entries (get_or endings permit.number 0) permit
+        → IsFirstEnding entries (get_or endings permit.number 0) permit
     IsFirstEnding-noted permit d named within own = record {
       entry = get_or entries (get_or endings permit.number 0) d;
       here = slice_get-get_or entries (get_or endings permit.number 0) d within;

@@ -85,8 +85,9 @@ found_counted : {X : Type 0} (p : X → Bool) (xs : List X) → is_some (find p 
     → 0 < count_by p xs
 found_counted p [] found = absurd (false≢true found)
 found_counted {X} p (x ∷ xs) found = elim (cases_Bool (p x)) [
-  | inl passes ↦ let one : one_if (p x) ≡ 1 = ap one_if passes in
-  omega (arith, sum_by-cons (λ (y : X). one_if (p y)) x xs, one)
+  | inl passes ↦
+      let one : one_if (p x) ≡ 1 = ap one_if passes in
+      omega (arith, sum_by-cons (λ (y : X). one_if (p y)) x xs, one)
   | inr fails ↦
       let rest : find p (x ∷ xs) ≡ find p xs =
           ap (λ (b : Bool). cond b (Some x) (find p xs)) fails in
@@ -98,7 +99,7 @@ found_counted {X} p (x ∷ xs) found = elim (cases_Bool (p x)) [
 promotions_hand_nothing : {S : Type 0} (i : Image S) (start : ℕ) (w : Option Waiter) (k number : ℕ)
     (entry : Entry)
     → slice_get (map (promotion i start) (option_to_list w)) k ≡ Some entry
-        → handed_out number entry ≡ None
+    → handed_out number entry ≡ None
 promotions_hand_nothing i start None k number entry here = absurd (none-some entry here)
 promotions_hand_nothing i start (Some w) zero number entry here =
     ap (handed_out number) (sym (same_Some (promotion i start w) entry here))

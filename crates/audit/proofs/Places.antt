@@ -77,7 +77,7 @@ pub record IsRead {X : Type 0} (lists : List (Vec X Global)) (n : ℕ) (list : V
 pub ListsBefore-more : {X : Type 0} (P : ℕ → List X → ℕ → X → Type 0) (lists : List (Vec X Global))
     (n : ℕ) (list : Vec X Global) (items : List X)
     → IsRead lists n list items → ListsBefore P lists n → EachHas (P n items) items
-        → ListsBefore P lists (n + 1)
+    → ListsBefore P lists (n + 1)
 ListsBefore-more {X} P lists n list items read before has =
     let own : EachHas (P n list.items) list.items =
         subst (λ (xs : List X). EachHas (P n xs) xs) read.shown has in
@@ -89,7 +89,7 @@ ListsBefore-more {X} P lists n list items read before has =
 pub stops_in : {X : Type 0} (P : ℕ → List X → ℕ → X → Type 0) (lists : List (Vec X Global)) (n : ℕ)
     (list : Vec X Global) (items : List X) (place : ℕ)
     → IsRead lists n list items → ListsBefore P lists n → IsFirstWithout (P n items) items place
-        → IsFirstPlaceWithout P lists n place
+    → IsFirstPlaceWithout P lists n place
 stops_in {X} P lists n list items place read before first = record {
   list = list;
   here =
