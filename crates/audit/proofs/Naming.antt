@@ -15,9 +15,9 @@ pub AreNamed-more : (size : ℕ) (earlier receipts : List Told) (place : ℕ) (d
     → AreNamed size (earlier ++ take (place + 1) receipts) marks
 AreNamed-more size earlier receipts place d marks within named =
     let same : (earlier ++ take place receipts) ++ get_or receipts place d ∷ []
-        ≡ earlier ++ take (place + 1) receipts =
+    ≡ earlier ++ take (place + 1) receipts =
     append_assoc earlier (take place receipts) (get_or receipts place d ∷ [])
-        ∙ ap (λ (rs : List Told). earlier ++ rs) (sym (take_more receipts place d within)) in
+    ∙ ap (λ (rs : List Told). earlier ++ rs) (sym (take_more receipts place d within)) in
     subst (λ (rs : List Told). AreNamed size rs marks) same named
 
 -- one list more
