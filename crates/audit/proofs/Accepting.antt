@@ -26,14 +26,14 @@ IsRising-each receipts ordered place (suc n) one other before here there =
     let within : suc n < length receipts = slice_get_within receipts (suc n) other there in
     let last = item_at receipts n (omega arith) in
     let step : last.0.number < other.number =
-        ordered (suc n) other there n last.0 (omega arith) last.1 in
+    ordered (suc n) other there n last.0 (omega arith) last.1 in
     elim (cases_lt place n) [
       | inl earlier ↦
           omega (arith, step, IsRising-each receipts ordered place n one last.0 earlier here last.1)
       | inr late ↦
           let equal : place ≡ n = omega (arith, late, before) in
           let same : one ≡ last.0 =
-              same_Some one last.0 (sym here ∙ ap (slice_get receipts) equal ∙ last.1) in
+          same_Some one last.0 (sym here ∙ ap (slice_get receipts) equal ∙ last.1) in
           subst (λ (r : Told). r.number < other.number) (sym same) step
     ]
 
@@ -46,13 +46,13 @@ module _ (entries : List Entry) (matched : EachHas (IsMatched entries) entries) 
       let within : later < length entries = slice_get_within entries later other there in
       let long : length (take later entries) ≡ later = length-take-le later entries (omega arith) in
       let none =
-          list_any-false (ends named.number) (take later entries) number one
-          ((matched later other there).right named ends_other).once (omega arith) in
+      list_any-false (ends named.number) (take later entries) number one
+      ((matched later other there).right named ends_other).once (omega arith) in
       let read : get_or (take later entries) number one ≡ one =
-          get_or-take later entries number one before
-          ∙ get_or_from_slice_get entries number one one here in
+      get_or-take later entries number one before
+      ∙ get_or_from_slice_get entries number one one here in
       let own : ends named.number one ≡ true =
-          ap (λ (n : ℕ). ends n one) (sym same) ∙ ends-own one permit ends_one in
+      ap (λ (n : ℕ). ends n one) (sym same) ∙ ends-own one permit ends_one in
       false≢true (sym none ∙ ap (ends named.number) read ∙ own)
 
   pub IsMatchedHistory-each : IsMatchedHistory entries
@@ -61,18 +61,18 @@ module _ (entries : List Entry) (matched : EachHas (IsMatched entries) entries) 
     once =
         λ number later one other permit named here there ends_one ends_other same.
         elim (cases_order number later) [
-      | inl equal ↦ equal
-      | inr apart ↦ elim apart [
-        | inl before ↦
-            absurd
-            (once-before number later one other permit named before here there ends_one ends_other
-            same)
-        | inr after ↦
-            absurd
-            (once-before later number other one named permit after there here ends_other ends_one
-            (sym same))
-      ]
-    ];
+          | inl equal ↦ equal
+          | inr apart ↦ elim apart [
+            | inl before ↦
+                absurd
+                (once-before number later one other permit named before here there ends_one ends_other
+                same)
+            | inr after ↦
+                absurd
+                (once-before later number other one named permit after there here ends_other ends_one
+                (sym same))
+          ]
+        ];
     found = λ number entry here. (matched number entry here).found;
   }
 
@@ -100,10 +100,10 @@ IsHistoryOf-accepted a none = record {
       (λ n list here place receipt there. (none.stand n list here place receipt there).call);
   calls = λ number entry here call.
       let some : 1 ≤ times number (all_kept a.kept) =
-          times-named number (all_kept a.kept) (none.covered number entry here call) in
+      times-named number (all_kept a.kept) (none.covered number entry here call) in
       let few : times number (all_kept a.kept) ≤ 1 =
-          times-lists number [] a.kept (omega arith)
-          (λ n list there place receipt at. (none.stand n list there place receipt at).anew) in
+      times-lists number [] a.kept (omega arith)
+      (λ n list there place receipt at. (none.stand n list there place receipt at).anew) in
       omega (arith, some, few);
   rising = λ n list here. IsRising-each list.items (none.ordered n list here);
   matched = IsMatchedHistory-each a.entries none.matched;

@@ -39,8 +39,9 @@ module _ (number : ℕ) where
       → 1 ≤ times number receipts
   times-named [] some = absurd (false≢true some)
   times-named (x ∷ xs) some = elim (or_cases (x.number == number) (is_named xs number) some) [
-    | inl here ↦ let one : one_if (x.number == number) ≡ 1 = ap one_if here in
-    omega (arith, times-cons x xs, one)
+    | inl here ↦
+        let one : one_if (x.number == number) ≡ 1 = ap one_if here in
+        omega (arith, times-cons x xs, one)
     | inr rest ↦ omega (arith, times-cons x xs, times-named xs rest)
   ]
 
@@ -51,8 +52,8 @@ module _ (number : ℕ) where
     | inl here ↦
         let one : one_if (x.number == number) ≡ 1 = ap one_if here in
         let none : times number earlier ≡ 0 =
-            times-unnamed earlier
-            (ap (is_named earlier) (sym (eqb-true x.number number here)) ∙ anew) in
+        times-unnamed earlier
+        (ap (is_named earlier) (sym (eqb-true x.number number here)) ∙ anew) in
         omega (arith, times-append earlier (x ∷ []), times-cons x [], one, none)
     | inr other ↦
         let zero_here : one_if (x.number == number) ≡ 0 = ap one_if other in
@@ -72,13 +73,13 @@ times-anew number earlier [] few anew =
     subst (λ (rs : List Told). times number rs ≤ 1) (sym (append-nil earlier)) few
 times-anew number earlier (x ∷ xs) few anew =
     let first : is_named earlier x.number ≡ false =
-        ap (λ (rs : List Told). is_named rs x.number) (sym (append-nil earlier)) ∙ anew 0 x refl in
+    ap (λ (rs : List Told). is_named rs x.number) (sym (append-nil earlier)) ∙ anew 0 x refl in
     let rest : EachAnew (earlier ++ x ∷ []) xs =
-        λ place r there.
-        ap (λ (rs : List Told). is_named rs r.number)
-        (append_assoc earlier (x ∷ []) (take place xs)) ∙ anew (suc place) r there in
+    λ place r there.
+    ap (λ (rs : List Told). is_named rs r.number)
+    (append_assoc earlier (x ∷ []) (take place xs)) ∙ anew (suc place) r there in
     subst (λ (rs : List Told). times number rs ≤ 1) (append_assoc earlier (x ∷ []) xs)
-        (times-anew number (earlier ++ x ∷ []) xs (times-more number earlier x few first) rest)
+    (times-anew number (earlier ++ x ∷ []) xs (times-more number earlier x few first) rest)
 
 -- the same over lists
 abbrev pub ListsAnew : List Told → List (Vec Told Global) → Type 0
@@ -93,11 +94,11 @@ times-lists number earlier [] few anew =
     subst (λ (rs : List Told). times number rs ≤ 1) (sym (append-nil earlier)) few
 times-lists number earlier (v ∷ vs) few anew =
     let first : EachAnew earlier v.items =
-        subst (λ (rs : List Told). EachAnew rs v.items) (append-nil earlier) (anew 0 v refl) in
+    subst (λ (rs : List Told). EachAnew rs v.items) (append-nil earlier) (anew 0 v refl) in
     let rest : ListsAnew (earlier ++ v.items) vs =
-        λ n list there.
-        subst (λ (rs : List Told). EachAnew rs list.items)
-        (sym (append_assoc earlier v.items (all_kept (take n vs)))) (anew (suc n) list there) in
+    λ n list there.
+    subst (λ (rs : List Told). EachAnew rs list.items)
+    (sym (append_assoc earlier v.items (all_kept (take n vs)))) (anew (suc n) list there) in
     subst (λ (rs : List Told). times number rs ≤ 1) (append_assoc earlier v.items (all_kept vs))
-        (times-lists number (earlier ++ v.items) vs (times-anew number earlier v.items few first)
-        rest)
+    (times-lists number (earlier ++ v.items) vs (times-anew number earlier v.items few first)
+    rest)

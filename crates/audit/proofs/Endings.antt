@@ -19,7 +19,7 @@ pub list_any-before_first : {X : Type 0} (p : X → Bool) (xs : List X)
     → list_any p (take (position_or_len p xs) xs) ≡ false
 list_any-before_first {X} p xs = list_any_none p (take (position_or_len p xs) xs) (λ k d within.
     let below : k < position_or_len p xs =
-        omega (arith, length-take (position_or_len p xs) xs, within) in
+    omega (arith, length-take (position_or_len p xs) xs, within) in
     ap p (get_or-take (position_or_len p xs) xs k d below) ∙ fails_before_first p xs k d below)
 
 -- where none passes, this one doesn't
@@ -40,15 +40,16 @@ first_place {X} p xs n x here passes none =
     let long : length (take n xs) ≡ n = length-take-le n xs (omega arith) in
     position_or_len_is p xs n x (omega arith)
     (λ k below.
-        ap p (sym (get_or-take n xs k x below))
-        ∙ list_any-false p (take n xs) k x none (omega arith))
+    ap p (sym (get_or-take n xs k x below))
+    ∙ list_any-false p (take n xs) k x none (omega arith))
     (λ _. ap p (get_or_from_slice_get xs n x x here) ∙ passes)
 
 -- an entry that ends a permit ends its number
 pub ends-own : (entry : Entry) (permit : PermitFacts) → ended entry ≡ Some permit
     → ends permit.number entry ≡ true
-ends-own entry permit own = let same : (permit.number == permit.number) ≡ true =
-    grind (arith, nat_tests) in ap (is_of permit.number) own ∙ same
+ends-own entry permit own =
+    let same : (permit.number == permit.number) ≡ true = grind (arith, nat_tests) in
+    ap (is_of permit.number) own ∙ same
 
 module _ (entries : List Entry) where
   module _ (endings : List ℕ) (first : AreFirstEndings entries endings) where
@@ -56,7 +57,7 @@ module _ (entries : List Entry) where
     pub IsFirstEnding-noted : (permit : PermitFacts) (d : Entry) → permit.number < length entries
         → get_or endings permit.number 0 < length entries
         → ended (get_or entries (get_or endings permit.number 0) d) ≡ Some permit
-            → IsFirstEnding entries (get_or endings permit.number 0) permit
+        → IsFirstEnding entries (get_or endings permit.number 0) permit
     IsFirstEnding-noted permit d named within own = record {
       entry = get_or entries (get_or endings permit.number 0) d;
       here = slice_get-get_or entries (get_or endings permit.number 0) d within;
@@ -81,16 +82,16 @@ module _ (entries : List Entry) where
         → ended (get_or entries (get_or endings permit.number 0) d) ≡ Some permit
     ended-noted permit ending d is =
         ap (λ (n : ℕ). ended (get_or entries n d)) (noted-IsFirstEnding permit ending is)
-            ∙ ap ended (get_or_from_slice_get entries ending is.entry d is.here) ∙ is.own
+        ∙ ap ended (get_or_from_slice_get entries ending is.entry d is.here) ∙ is.own
 
   -- a permit has one first ending
   pub same_ending : (permit : PermitFacts) (i j : ℕ) → IsFirstEnding entries i permit
       → IsFirstEnding entries j permit → i ≡ j
   same_ending permit i j one other =
       sym (first_place (ends permit.number) entries i one.entry one.here
-          (ends-own one.entry permit one.own) one.once)
+      (ends-own one.entry permit one.own) one.once)
       ∙ first_place (ends permit.number) entries j other.entry other.here
-          (ends-own other.entry permit other.own) other.once
+      (ends-own other.entry permit other.own) other.once
 
   module _ (number : ℕ) (entry : Entry) (here : slice_get entries number ≡ Some entry) where
     -- what is owed stays owed
@@ -126,8 +127,8 @@ module _ (entries : List Entry) where
     -- and nothing else
     pub IsOwed-cases : (ending : ℕ) → IsOwed entries (number + 1) ending
         → IsOwed entries number ending
-            ⊎ ((permit : PermitFacts) × (handed_out number entry ≡ Some permit)
-            × IsFirstEnding entries ending permit)
+        ⊎ ((permit : PermitFacts) × (handed_out number entry ≡ Some permit)
+        × IsFirstEnding entries ending permit)
     IsOwed-cases ending owed =
         let h = owed.handed in
         elim (cases_lt h.place number) [
@@ -145,10 +146,13 @@ module _ (entries : List Entry) where
           | inr late ↦
               let there : h.place ≡ number = omega (arith, late, h.before) in
               let same : h.entry ≡ entry =
-                  same_Some h.entry entry (sym h.here ∙ ap (slice_get entries) there ∙ here) in
-              inr (owed.permit,
-                  ap (λ (n : ℕ). handed_out n entry) (sym there)
-                  ∙ ap (handed_out h.place) (sym same) ∙ h.hands, owed.first)
+              same_Some h.entry entry (sym h.here ∙ ap (slice_get entries) there ∙ here) in
+              inr (
+                owed.permit,
+                ap (λ (n : ℕ). handed_out n entry) (sym there)
+                    ∙ ap (handed_out h.place) (sym same) ∙ h.hands,
+                owed.first,
+              )
         ]
 
     -- where the entry hands out nothing that has an ending, the same is owed
@@ -174,29 +178,31 @@ module _ (entries : List Entry) where
         → AreOwed entries number owed → AreOwed entries (number + 1) (set owed marked true)
     AreOwed-marked owed permit marked hands first are =
         let within : marked < length owed =
-            omega (arith, are.long, slice_get_within entries marked first.entry first.here) in
+        omega (arith, are.long, slice_get_within entries marked first.entry first.here) in
         record {
           long = length-set owed marked true ∙ are.long;
           at = λ ending. elim (cases_eq ending marked) [
-            | inl there ↦
-                (λ _. subst (IsOwed entries (number + 1)) (sym there)
-                (IsOwed-handed marked permit hands first), λ _.
-                ap (λ (n : ℕ). get_or (set owed marked true) n false) there
-                ∙ get_or-set_same owed marked true false within)
+            | inl there ↦ (
+              λ _. subst (IsOwed entries (number + 1)) (sym there)
+                  (IsOwed-handed marked permit hands first),
+              λ _.
+                  ap (λ (n : ℕ). get_or (set owed marked true) n false) there
+                  ∙ get_or-set_same owed marked true false within,
+            )
             | inr other ↦
                 let kept : get_or (set owed marked true) ending false ≡ get_or owed ending false =
-                    get_or-set_other owed marked ending true false other in (
+                get_or-set_other owed marked ending true false other in (
                   λ is. IsOwed-later ending ((are.at ending).0 (sym kept ∙ is)),
                   λ later. kept ∙
                       elim (IsOwed-cases ending later) [
                         | inl before ↦ (are.at ending).1 before
                         | inr new ↦
                             let same : new.0 ≡ permit =
-                                same_Some new.0 permit (sym new.1 ∙ hands) in
+                            same_Some new.0 permit (sym new.1 ∙ hands) in
                             absurd
-                                (other
-                                (same_ending permit ending marked
-                                (subst (IsFirstEnding entries ending) same new.2) first))
+                            (other
+                            (same_ending permit ending marked
+                            (subst (IsFirstEnding entries ending) same new.2) first))
                       ],
                 )
           ];
@@ -216,7 +222,7 @@ module _ (entries : List Entry) (endings : List ℕ) (number : ℕ) (d : Entry)
       → get_or endings named 0 ≡ number + position_or_len (ends named) (drop number entries)
   passed_over named below other =
       let next : position_or_len (ends named) (drop number entries)
-          ≡ 1 + position_or_len (ends named) (drop (number + 1) entries) =
+      ≡ 1 + position_or_len (ends named) (drop (number + 1) entries) =
       prefix_len-drop_yes (λ e. not (ends named e)) entries number d within (ap not other) in
       omega (arith, noted.at named below, next)
 
@@ -235,15 +241,15 @@ module _ (entries : List Entry) (endings : List ℕ) (number : ℕ) (d : Entry)
           let here : position_or_len (ends named) (drop number entries) ≡ 0 =
           prefix_len-drop_no (λ e. not (ends named e)) entries number d within
           (ap not
-              (ap (λ (n : ℕ). ends n (get_or entries number d)) same
-              ∙ ends-own (get_or entries number d) permit own)) in
+          (ap (λ (n : ℕ). ends n (get_or entries number d)) same
+          ∙ ends-own (get_or entries number d) permit own)) in
           let set_here : get_or (set endings permit.number number) named 0 ≡ number =
           ap (λ (n : ℕ). get_or (set endings permit.number number) n 0) same
-              ∙ get_or-set_same endings permit.number number 0 (omega (arith, noted.long, same)) in
+          ∙ get_or-set_same endings permit.number number 0 (omega (arith, noted.long, same)) in
           omega (arith, here, set_here)
       | inr other ↦
           let differs : (permit.number == named) ≡ false = grind (arith, nat_tests) in
           get_or-set_other endings permit.number named number 0 other
-              ∙ passed_over named below (ap (is_of named) own ∙ differs)
+          ∙ passed_over named below (ap (is_of named) own ∙ differs)
     ];
   }

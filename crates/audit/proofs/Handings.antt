@@ -62,8 +62,8 @@ given_up number named reply permit hands = absurd (none-some permit hands)
 claim_finds : (number named n : ℕ) (lies : Option PermitFacts) (waiting : Bool)
     (permit : PermitFacts)
     → handed_out number
-        (Call (Claim named) (counting n (granted_or lies (cond waiting StillWaiting Lost))))
-        ≡ Some permit → is_some lies ≡ true
+    (Call (Claim named) (counting n (granted_or lies (cond waiting StillWaiting Lost))))
+    ≡ Some permit → is_some lies ≡ true
 claim_finds number named n (Some p) waiting permit hands = refl
 claim_finds number named n None true permit hands = absurd (none-some permit hands)
 claim_finds number named n None false permit hands = absurd (none-some permit hands)
@@ -71,8 +71,8 @@ claim_finds number named n None false permit hands = absurd (none-some permit ha
 give_up_finds : (number named n : ℕ) (lies : Option PermitFacts) (waiting : Bool)
     (permit : PermitFacts)
     → handed_out number
-        (Call (GiveUp named) (counting n (granted_or lies (cond waiting TimedOut Lost))))
-        ≡ Some permit → is_some lies ≡ true
+    (Call (GiveUp named) (counting n (granted_or lies (cond waiting TimedOut Lost))))
+    ≡ Some permit → is_some lies ≡ true
 give_up_finds number named n (Some p) waiting permit hands = refl
 give_up_finds number named n None true permit hands = absurd (none-some permit hands)
 give_up_finds number named n None false permit hands = absurd (none-some permit hands)
@@ -85,20 +85,24 @@ found_counted : {X : Type 0} (p : X → Bool) (xs : List X) → is_some (find p 
     → 0 < count_by p xs
 found_counted p [] found = absurd (false≢true found)
 found_counted {X} p (x ∷ xs) found = elim (cases_Bool (p x)) [
-  | inl passes ↦ let one : one_if (p x) ≡ 1 = ap one_if passes in
-  omega (arith, sum_by-cons (λ (y : X). one_if (p y)) x xs, one)
+  | inl passes ↦
+      let one : one_if (p x) ≡ 1 = ap one_if passes in
+      omega (arith, sum_by-cons (λ (y : X). one_if (p y)) x xs, one)
   | inr fails ↦
       let rest : find p (x ∷ xs) ≡ find p xs =
-          ap (λ (b : Bool). cond b (Some x) (find p xs)) fails in
-      omega (arith, sum_by-cons (λ (y : X). one_if (p y)) x xs,
-          found_counted p xs (sym (ap (λ (o : Option X). is_some o) rest) ∙ found))
+      ap (λ (b : Bool). cond b (Some x) (find p xs)) fails in
+      omega (
+        arith,
+        sum_by-cons (λ (y : X). one_if (p y)) x xs,
+        found_counted p xs (sym (ap (λ (o : Option X). is_some o) rest) ∙ found),
+      )
 ]
 
 -- a promotion hands out nothing
 promotions_hand_nothing : {S : Type 0} (i : Image S) (start : ℕ) (w : Option Waiter) (k number : ℕ)
     (entry : Entry)
     → slice_get (map (promotion i start) (option_to_list w)) k ≡ Some entry
-        → handed_out number entry ≡ None
+    → handed_out number entry ≡ None
 promotions_hand_nothing i start None k number entry here = absurd (none-some entry here)
 promotions_hand_nothing i start (Some w) zero number entry here =
     ap (handed_out number) (sym (same_Some (promotion i start w) entry here))
@@ -119,7 +123,7 @@ module _ {S : Type 0} (g : Gate S) where
     | inl earlier ↦ earlier
     | inr late ↦
         let counted : 0 < count_by (λ permit. permit.number == n) i.granted =
-            found_counted (λ (permit : PermitFacts). permit.number == n) i.granted lies in
+        found_counted (λ (permit : PermitFacts). permit.number == n) i.granted lies in
         absurd (omega (arith, sound.below n late, counted))
   ]
 
@@ -127,19 +131,27 @@ module _ {S : Type 0} (g : Gate S) where
       → handed_out i.next (Call event (counting n (reply_to g i event))) ≡ Some permit
       → permit.number ≤ i.next
   called i n (Acquire part bypass wait now) permit sound hands =
-      omega (arith,
-          acquired i.next part bypass wait now
-          (counting n (reply_to g i (Acquire part bypass wait now))) permit hands)
+      omega (
+        arith,
+        acquired i.next part bypass wait now
+            (counting n (reply_to g i (Acquire part bypass wait now))) permit hands,
+      )
   called i n (Claim number) permit sound hands =
       let lies : is_some (granted_of i number) ≡ true =
-          claim_finds i.next number n (granted_of i number) (waits i number) permit hands in
-      omega (arith, claimed i.next number (counting n (reply_to g i (Claim number))) permit hands,
-          granted_before i number sound lies)
+      claim_finds i.next number n (granted_of i number) (waits i number) permit hands in
+      omega (
+        arith,
+        claimed i.next number (counting n (reply_to g i (Claim number))) permit hands,
+        granted_before i number sound lies,
+      )
   called i n (GiveUp number) permit sound hands =
       let lies : is_some (granted_of i number) ≡ true =
-          give_up_finds i.next number n (granted_of i number) (waits i number) permit hands in
-      omega (arith, given_up i.next number (counting n (reply_to g i (GiveUp number))) permit hands,
-          granted_before i number sound lies)
+      give_up_finds i.next number n (granted_of i number) (waits i number) permit hands in
+      omega (
+        arith,
+        given_up i.next number (counting n (reply_to g i (GiveUp number))) permit hands,
+        granted_before i number sound lies,
+      )
   called i n event permit sound hands = absurd (none-some permit hands)
 
   module _ (stays : StaysSound g) (o : Image S)
@@ -154,13 +166,13 @@ module _ {S : Type 0} (g : Gate S) where
         let same : call ≡ entry = same_Some call entry here in
         let at : i.next ≡ length h + 0 = omega (arith, start) in
         let own : handed_out i.next call ≡ Some permit =
-            ap (λ (m : ℕ). handed_out m call) at ∙ ap (handed_out (length h + 0)) same ∙ hands in
+        ap (λ (m : ℕ). handed_out m call) at ∙ ap (handed_out (length h + 0)) same ∙ hands in
         omega (arith, at, called i n e permit (stays o h lawful sound legal) own)
     answered h e legal (suc k) entry permit here hands =
         let called_before = h ++ Call e (reply_to g (image_after g o h) e) ∷ [] in
         let nothing_given : handed_out (length h + suc k) entry ≡ None =
-            promoted_hand_nothing g (image_after g o called_before) (moment_of e) k
-            (length h + suc k) entry here in
+        promoted_hand_nothing g (image_after g o called_before) (moment_of e) k
+        (length h + suc k) entry here in
         absurd (none-some permit (sym nothing_given ∙ hands))
 
     legal : (h : List Entry) → IsLegal g o h → HandsOutNamed h
@@ -170,7 +182,7 @@ module _ {S : Type 0} (g : Gate S) where
           | inl earlier ↦ legal h before number entry permit earlier hands
           | inr after ↦
               let there : handed_out (length h + after.0) entry ≡ Some permit =
-                  ap (λ (n : ℕ). handed_out n entry) (sym after.1) ∙ hands in
+              ap (λ (n : ℕ). handed_out n entry) (sym after.1) ∙ hands in
               omega (arith, after.1, answered h e before after.0 entry permit after.2 there)
         ]
 

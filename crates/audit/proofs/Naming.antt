@@ -12,19 +12,19 @@ use Rattle.audit.proofs.Places.{IsRead}
 pub AreNamed-more : (size : ℕ) (earlier receipts : List Told) (place : ℕ) (d : Told)
     (marks : List Bool) → place < length receipts
     → AreNamed size ((earlier ++ take place receipts) ++ get_or receipts place d ∷ []) marks
-        → AreNamed size (earlier ++ take (place + 1) receipts) marks
+    → AreNamed size (earlier ++ take (place + 1) receipts) marks
 AreNamed-more size earlier receipts place d marks within named =
     let same : (earlier ++ take place receipts) ++ get_or receipts place d ∷ []
-        ≡ earlier ++ take (place + 1) receipts =
+    ≡ earlier ++ take (place + 1) receipts =
     append_assoc earlier (take place receipts) (get_or receipts place d ∷ [])
-        ∙ ap (λ (rs : List Told). earlier ++ rs) (sym (take_more receipts place d within)) in
+    ∙ ap (λ (rs : List Told). earlier ++ rs) (sym (take_more receipts place d within)) in
     subst (λ (rs : List Told). AreNamed size rs marks) same named
 
 -- one list more
 pub AreNamed-list : (size : ℕ) (kept : List (Vec Told Global)) (n : ℕ) (list : Vec Told Global)
     (receipts : List Told) (marks : List Bool)
     → IsRead kept n list receipts → AreNamed size (all_kept (take n kept) ++ receipts) marks
-        → AreNamed size (all_kept (take (n + 1) kept)) marks
+    → AreNamed size (all_kept (take (n + 1) kept)) marks
 AreNamed-list size kept n list receipts marks read named =
     let items : Vec Told Global → List Told = λ v. v.items in
     let same : all_kept (take n kept) ++ receipts ≡ all_kept (take (n + 1) kept) =

@@ -15,7 +15,7 @@ pub EachBefore-there : {X : Type 0} (P : ℕ → X → Type 0) (xs : List X) (n 
 EachBefore-there {X} P xs n before has =
     let Q : ℕ → Type 0 = λ m. (x : X) → slice_get xs m ≡ Some x → P m x in
     let more : (m : ℕ) → m < n + 1 → Q m =
-        below_more Q n (λ m lt x there. before m x lt there) has in
+    below_more Q n (λ m lt x there. before m x lt there) has in
     λ m x lt there. more m lt x there
 
 -- the same by the item that was read
@@ -23,9 +23,9 @@ pub EachBefore-more : {X : Type 0} (P : ℕ → X → Type 0) (xs : List X) (n :
     → n < length xs → EachBefore P xs n → P n (get_or xs n d) → EachBefore P xs (n + 1)
 EachBefore-more P xs n d within before has =
     EachBefore-there P xs n before
-        (λ x there.
-        subst (P n) (same_Some (get_or xs n d) x (sym (slice_get-get_or xs n d within) ∙ there))
-        has)
+    (λ x there.
+    subst (P n) (same_Some (get_or xs n d) x (sym (slice_get-get_or xs n d within) ∙ there))
+    has)
 
 -- to the end of the list
 pub EachBefore-all : {X : Type 0} (P : ℕ → X → Type 0) (xs : List X) (n : ℕ) → length xs ≤ n
@@ -77,19 +77,19 @@ pub record IsRead {X : Type 0} (lists : List (Vec X Global)) (n : ℕ) (list : V
 pub ListsBefore-more : {X : Type 0} (P : ℕ → List X → ℕ → X → Type 0) (lists : List (Vec X Global))
     (n : ℕ) (list : Vec X Global) (items : List X)
     → IsRead lists n list items → ListsBefore P lists n → EachHas (P n items) items
-        → ListsBefore P lists (n + 1)
+    → ListsBefore P lists (n + 1)
 ListsBefore-more {X} P lists n list items read before has =
     let own : EachHas (P n list.items) list.items =
-        subst (λ (xs : List X). EachHas (P n xs) xs) read.shown has in
+    subst (λ (xs : List X). EachHas (P n xs) xs) read.shown has in
     EachBefore-more (λ number list. EachHas (P number list.items) list.items) lists n list
-        read.within before
+    read.within before
     (subst (λ (v : Vec X Global). EachHas (P n v.items) v.items) read.here own)
 
 -- or the walk stops in it
 pub stops_in : {X : Type 0} (P : ℕ → List X → ℕ → X → Type 0) (lists : List (Vec X Global)) (n : ℕ)
     (list : Vec X Global) (items : List X) (place : ℕ)
     → IsRead lists n list items → ListsBefore P lists n → IsFirstWithout (P n items) items place
-        → IsFirstPlaceWithout P lists n place
+    → IsFirstPlaceWithout P lists n place
 stops_in {X} P lists n list items place read before first = record {
   list = list;
   here =

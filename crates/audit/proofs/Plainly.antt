@@ -26,20 +26,20 @@ module _ (entries : List Entry) (plain : IsMatchedHistory entries) where
       → list_any (ends permit.number) (take number entries) ≡ false
   none_before number entry permit here own =
       list_any_none (ends permit.number) (take number entries) (λ k d within.
-        let inside : number < length entries = slice_get_within entries number entry here in
-        let early : k < number = omega (arith, length-take number entries, within) in
-        let one = item_at entries k (omega (arith, inside, early)) in
-        let read : get_or (take number entries) k d ≡ one.0 =
-            get_or-take number entries k d early
-            ∙ get_or_from_slice_get entries k one.0 d one.1 in
-        elim (cases_Bool (ends permit.number one.0)) [
-          | inl named ↦
-              let other = is_of-some permit.number (ended one.0) named in
-              let same : k ≡ number =
-                  plain.once k number one.0 entry other.0 permit one.1 here other.1 own other.2 in
-              absurd (omega (arith, same, early))
-          | inr fails ↦ ap (ends permit.number) read ∙ fails
-        ])
+      let inside : number < length entries = slice_get_within entries number entry here in
+      let early : k < number = omega (arith, length-take number entries, within) in
+      let one = item_at entries k (omega (arith, inside, early)) in
+      let read : get_or (take number entries) k d ≡ one.0 =
+      get_or-take number entries k d early
+      ∙ get_or_from_slice_get entries k one.0 d one.1 in
+      elim (cases_Bool (ends permit.number one.0)) [
+        | inl named ↦
+            let other = is_of-some permit.number (ended one.0) named in
+            let same : k ≡ number =
+            plain.once k number one.0 entry other.0 permit one.1 here other.1 own other.2 in
+            absurd (omega (arith, same, early))
+        | inr fails ↦ ap (ends permit.number) read ∙ fails
+      ])
 
   -- so each entry is matched, where none hands out a permit of a later number
   pub IsMatched-plain : HandsOutNamed entries → EachHas (IsMatched entries) entries
@@ -48,7 +48,7 @@ module _ (entries : List Entry) (plain : IsMatchedHistory entries) where
     right = λ permit own.
         let handed = plain.handed number entry permit here own in
         let early : permit.number ≤ handed.place =
-            named handed.place handed.entry permit handed.here handed.hands in
+        named handed.place handed.entry permit handed.here handed.hands in
         record {
           named = omega (arith, early, handed.before);
           handed = handed;

@@ -53,7 +53,7 @@ one_place : {X : Type 0} (P : ℕ → List X → ℕ → X → Type 0) (lists : 
 one_place {X} P lists m p q one other =
     let same : other.list ≡ one.list = same_Some other.list one.list (sym other.here ∙ one.here) in
     one_first (P m one.list.items) one.list.items p q one.item
-        (subst (λ (v : Vec X Global). IsFirstWithout (P m v.items) v.items q) same other.item)
+    (subst (λ (v : Vec X Global). IsFirstWithout (P m v.items) v.items q) same other.item)
 
 -- the place of a cause in their order
 abbrev rank : Cause → ℕ
@@ -177,21 +177,21 @@ same_rank : (a : Audit) (one other : Cause) → rank one ≡ rank other → IsFi
 same_rank a Memory Memory ranks first second = refl
 same_rank a (PassesMissing b s) (PassesMissing c t) ranks first second =
     ap (λ (n : ℕ). PassesMissing n s) (first.0 ∙ sym second.0)
-        ∙ ap (λ (n : ℕ). PassesMissing c n) (first.1 ∙ sym second.1)
+    ∙ ap (λ (n : ℕ). PassesMissing c n) (first.1 ∙ sym second.1)
 same_rank a (Rolled b) (Rolled c) ranks first second =
     ap (λ (n : ℕ). Rolled n) (first.1 ∙ sym second.1)
 same_rank a (Strange m p) (Strange n q) ranks first second =
     let P = StandsIn a.entries a.kept in
     let list : m ≡ n = one_list P a.kept m p n q first.2 second.2 in
     let place : p ≡ q =
-        one_place P a.kept m p q first.2
-        (subst (λ (k : ℕ). IsFirstPlaceWithout P a.kept k q) (sym list) second.2) in
+    one_place P a.kept m p q first.2
+    (subst (λ (k : ℕ). IsFirstPlaceWithout P a.kept k q) (sym list) second.2) in
     ap (λ (k : ℕ). Strange k p) list ∙ ap (λ (k : ℕ). Strange n k) place
 same_rank a (Order m p) (Order n q) ranks first second =
     let list : m ≡ n = one_list IsInOrderIn a.kept m p n q first.3 second.3 in
     let place : p ≡ q =
-        one_place IsInOrderIn a.kept m p q first.3
-        (subst (λ (k : ℕ). IsFirstPlaceWithout IsInOrderIn a.kept k q) (sym list) second.3) in
+    one_place IsInOrderIn a.kept m p q first.3
+    (subst (λ (k : ℕ). IsFirstPlaceWithout IsInOrderIn a.kept k q) (sym list) second.3) in
     ap (λ (k : ℕ). Order k p) list ∙ ap (λ (k : ℕ). Order n k) place
 same_rank a (Uncovered m) (Uncovered n) ranks first second =
     ap (λ (k : ℕ). Uncovered k)

@@ -44,7 +44,7 @@ fn first_strange_in<N: Naming>(
     ensures first { (earlier : List Told) → AreNamed (length entries.now) earlier named.old
         → MatchOption result (EachHas (StandsAfter entries.now earlier receipts.now) receipts.now)
         (λ place.
-            IsFirstWithout (StandsAfter entries.now earlier receipts.now) receipts.now place) }
+        IsFirstWithout (StandsAfter entries.now earlier receipts.now) receipts.now place) }
     ensures marked { (earlier : List Told) → AreNamed (length entries.now) earlier named.old
         → IfNone result (AreNamed (length entries.now) (earlier ++ receipts.now) named.new) }
 {

@@ -8,19 +8,19 @@ use Rattle.audit.proofs.matching.ending_of.Goals.{else-ending-entries-via-then-e
 pub returns-then-is_ending_of : goal.returns-then-is_ending_of
 returns-then-is_ending_of c =
     IsFirstEnding-noted c.args.entries.now c.args.endings.now c.requires c.args.permit.now _
-        (omega (arith, c.requires.long)) c.if-ending-entries.true (c.if-is_ending_of.ensures.0 refl)
+    (omega (arith, c.requires.long)) c.if-ending-entries.true (c.if-is_ending_of.ensures.0 refl)
 
 pub returns-else-ending-entries : goal.returns-else-ending-entries
 returns-else-ending-entries c = λ ending first.
     let there =
-        noted-IsFirstEnding c.args.entries.now c.args.endings.now c.requires c.args.permit.now
-        ending first in
+    noted-IsFirstEnding c.args.entries.now c.args.endings.now c.requires c.args.permit.now
+    ending first in
     let within = slice_get_within c.args.entries.now ending first.entry first.here in
     elim c.else-ending-entries.branch [
       | else-ending-entries-via-then-ending-entries+else-is_ending_of w ↦
           false≢true
-              (w.if-is_ending_of.ensures.1
-              (ended-noted c.args.entries.now c.args.endings.now c.requires c.args.permit.now ending
-              _ first))
+          (w.if-is_ending_of.ensures.1
+          (ended-noted c.args.entries.now c.args.endings.now c.requires c.args.permit.now ending
+          _ first))
       | else-ending-entries-via-else-ending-entries w ↦ absurd (omega (arith, there, within))
     ]

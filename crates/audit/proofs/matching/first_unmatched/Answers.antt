@@ -7,7 +7,7 @@ use Rattle.audit.proofs.matching.first_unmatched.Goals as goal
 pub returns-then-not-is_matched : goal.returns-then-not-is_matched
 returns-then-not-is_matched c =
     stops_there (IsMatched c.args.entries.now) c.args.entries.now c.loop-number.number
-        c.loop-number-test.true c.loop-number.invariant.matched
+    c.loop-number-test.true c.loop-number.invariant.matched
     (λ entry here matched. false≢true ((c.if-not-is_matched.ensures entry here).1 matched))
 
 pub loop-number-preserved : goal.loop-number-preserved

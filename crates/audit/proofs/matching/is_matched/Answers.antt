@@ -7,10 +7,12 @@ use Rattle.audit.proofs.matching.is_matched.Goals as goal
 pub returns-else-permit-number : goal.returns-else-permit-number
 returns-else-permit-number c = λ entry here.
     let same = get_or_from_slice_get c.args.entries.now c.args.number entry _ here in
-    let own : ended entry ≡ Some c.in-Some.permit = sym (c.in-Some.ensures ∙ ap ended same) in
-    (λ below. absurd (grind (arith, nat_tests, below)), λ matched.
-        let below : c.in-Some.permit.number < c.args.number =
-        (matched.right c.in-Some.permit own).named in absurd (omega arith))
+    let own : ended entry ≡ Some c.in-Some.permit = sym (c.in-Some.ensures ∙ ap ended same) in (
+      λ below. absurd (grind (arith, nat_tests, below)),
+      λ matched.
+          let below : c.in-Some.permit.number < c.args.number =
+          (matched.right c.in-Some.permit own).named in absurd (omega arith),
+    )
 
 pub returns-in-None : goal.returns-in-None
 returns-in-None c = λ entry here.

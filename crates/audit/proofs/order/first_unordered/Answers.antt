@@ -7,18 +7,24 @@ use Rattle.audit.proofs.order.first_unordered.Goals as goal
 pub returns-in-Some : goal.returns-in-Some
 returns-in-Some g c =
     let read : IsRead c.args.kept.now c.loop-list.list c.index-kept-list.result c.deref.result.now =
-        record { within = c.loop-list-test.true; here = c.index-kept-list.is;
-        shown = c.deref.ensures.value } in
+    record {
+      within = c.loop-list-test.true;
+      here = c.index-kept-list.is;
+      shown = c.deref.ensures.value;
+    } in
     stops_in IsInOrderIn c.args.kept.now c.loop-list.list c.index-kept-list.result
-        c.deref.result.now c.in-Some.place read c.loop-list.invariant c.in-Some.ensures
+    c.deref.result.now c.in-Some.place read c.loop-list.invariant c.in-Some.ensures
 
 pub loop-list-preserved : goal.loop-list-preserved
 loop-list-preserved g c =
     let read : IsRead c.args.kept.now c.loop-list.list c.index-kept-list.result c.deref.result.now =
-        record { within = c.loop-list-test.true; here = c.index-kept-list.is;
-        shown = c.deref.ensures.value } in
+    record {
+      within = c.loop-list-test.true;
+      here = c.index-kept-list.is;
+      shown = c.deref.ensures.value;
+    } in
     ListsBefore-more IsInOrderIn c.args.kept.now c.loop-list.list c.index-kept-list.result
-        c.deref.result.now read c.loop-list.invariant c.in_default.ensures
+    c.deref.result.now read c.loop-list.invariant c.in_default.ensures
 
 pub returns : goal.returns
 returns g c =

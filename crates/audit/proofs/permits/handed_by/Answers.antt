@@ -7,8 +7,8 @@ use Rattle.audit.proofs.permits.handed_by.Goals as goal
 pub returns-in-Acquire : goal.returns-in-Acquire
 returns-in-Acquire c =
     c.admitted.ensures c.in-Acquire.bypass c.in-Acquire.wait
-        ∙ ap (λ (e : Event). handed_out c.args.number (Call e c.args.reply.now))
-        (sym c.in-Acquire.is)
+    ∙ ap (λ (e : Event). handed_out c.args.number (Call e c.args.reply.now))
+    (sym c.in-Acquire.is)
 
 pub returns-in-Claim : goal.returns-in-Claim
 returns-in-Claim c =

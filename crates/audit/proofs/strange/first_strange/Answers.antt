@@ -8,18 +8,24 @@ use Rattle.audit.proofs.strange.first_strange.Goals as goal
 pub returns-in-Some-clause-first : goal.returns-in-Some-clause-first
 returns-in-Some-clause-first g c =
     let read : IsRead c.args.kept.now c.loop-list.list c.index-kept-list.result c.deref.result.now =
-        record { within = c.loop-list-test.true; here = c.index-kept-list.is;
-        shown = c.deref.ensures.value } in
+    record {
+      within = c.loop-list-test.true;
+      here = c.index-kept-list.is;
+      shown = c.deref.ensures.value;
+    } in
     stops_in (StandsIn c.args.entries.now c.args.kept.now) c.args.kept.now c.loop-list.list
-        c.index-kept-list.result c.deref.result.now c.in-Some.place read c.loop-list.invariant.stand
+    c.index-kept-list.result c.deref.result.now c.in-Some.place read c.loop-list.invariant.stand
     (c.in-Some.ensures.first (all_kept (take c.loop-list.list c.args.kept.now))
-        c.loop-list.invariant.named)
+    c.loop-list.invariant.named)
 
 pub loop-list-preserved : goal.loop-list-preserved
 loop-list-preserved g c =
     let read : IsRead c.args.kept.now c.loop-list.list c.index-kept-list.result c.deref.result.now =
-        record { within = c.loop-list-test.true; here = c.index-kept-list.is;
-        shown = c.deref.ensures.value } in
+    record {
+      within = c.loop-list-test.true;
+      here = c.index-kept-list.is;
+      shown = c.deref.ensures.value;
+    } in
     let earlier = all_kept (take c.loop-list.list c.args.kept.now) in
     record {
       stand =
@@ -36,6 +42,6 @@ loop-list-preserved g c =
 pub returns-clause-first : goal.returns-clause-first
 returns-clause-first g c =
     EachBefore-all
-        (λ list receipts.
-        EachHas (StandsIn c.args.entries.now c.args.kept.now list receipts.items) receipts.items)
-        c.args.kept.now c.loop-list.list (omega arith) c.loop-list.invariant.stand
+    (λ list receipts.
+    EachHas (StandsIn c.args.entries.now c.args.kept.now list receipts.items) receipts.items)
+    c.args.kept.now c.loop-list.list (omega arith) c.loop-list.invariant.stand

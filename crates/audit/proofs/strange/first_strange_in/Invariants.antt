@@ -9,5 +9,5 @@ use Rattle.audit.proofs.strange.first_strange_in.Given as goal
 abbrev pub invariant-loop-place : goal.invariant-loop-place
 invariant-loop-place g l = (earlier : List Told) → AreNamed (length l.entries) earlier l.fn.named
     → ((place : ℕ) (receipt : Told) → place < l.place → slice_get l.receipts place ≡ Some receipt
-        → StandsAfter l.entries earlier l.receipts place receipt)
+    → StandsAfter l.entries earlier l.receipts place receipt)
     × AreNamed (length l.entries) (earlier ++ take l.place l.receipts) l.named
