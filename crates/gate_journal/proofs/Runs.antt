@@ -205,8 +205,7 @@ runs_legally {S} rules answers lead still core kept is_rolling es four five may 
 pub stretches_join : {S : Type 0} (rules : Algorithm S) → ((g : Gate S) → AnswersByImage g)
     → ((g : Gate S) → LeadsByImage g) → ((g : Gate S) → StandsStill g) → StretchesJoin rules
 stretches_join {S} rules answers lead still o t j e so may =
-    let g : Gate S = gate rules j in
-    (
+    let g : Gate S = gate rules j in (
       answers g (opening j) j.entries e so.own ∙ (λ k. answer g (so.leads k) [] e)
           ∙ sym (answers g o t e so.whole),
       continued_on rules answers lead still o t j e so may,

@@ -25,7 +25,7 @@ cut_before : (p : ℕ → Bool) → ((b : ℕ) → p b ≡ true → b < 128) →
 cut_before p ascii xs = (
   prefix_len-le-length (λ x. not (p x)) xs,
   λ inside. (IsCharBoundary-before_ascii xs (position_or_len p xs) inside
-  (ascii _ (passes_at_first p xs 0 inside))).1 inside,
+      (ascii _ (passes_at_first p xs 0 inside))).1 inside,
 )
 
 query_ascii : (b : ℕ) → is_query b ≡ true → b < 128
