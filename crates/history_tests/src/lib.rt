@@ -8,4 +8,8 @@ mod four_threads_tests;
 #[cfg(test)]
 mod random_calls;
 #[cfg(test)]
+mod rolling_tests;
+#[cfg(test)]
 mod shared_gate_tests;
+#[cfg(test)]
+mod waiting_tests;
