@@ -36,7 +36,7 @@ const ROUND: [Ask; 16] = [
     Ask::Get,
     Ask::Wait,
     Ask::Wait,
-    Ask::Get,
+    Ask::Set,
     Ask::Wait,
     Ask::Wait,
     Ask::Leave,
@@ -286,11 +286,13 @@ fn step_agrees(alloc: Global, both: &mut Both, event: Event) -> Result<bool, Fai
     }
     keep_open(&mut both.open, number, event, wanted);
     let waiters = waiters_of(alloc, &both.core)?;
-    Ok(counts_agree(&both.core, &both.plain)
-        && parts_agree(&both.core, &both.plain)
-        && numbers_agree(&both.core, &both.plain, named(event))
-        && numbers_agree(&both.core, &both.plain, number)
-        && lists_agree(&both.core, &both.plain, &waiters))
+    Ok(
+        counts_agree(&both.core, &both.plain)
+            && parts_agree(&both.core, &both.plain)
+            && numbers_agree(&both.core, &both.plain, named(event))
+            && numbers_agree(&both.core, &both.plain, number)
+            && lists_agree(&both.core, &both.plain, &waiters),
+    )
 }
 
 /// Whether both agree all along 2,000 events of the script.
