@@ -1,12 +1,12 @@
 #!/usr/bin/env python3
 """Times pairs of acquire and end through a shared gate against a plain Rust gate, in one run.
 
-Usage: bench/gate.py [--still]. The product's side is gate/, a program over `shared_gate`, which is
+Usage: bench/gate.py [--still] [--rolling]. The product's side is gate/, a program over `shared_gate`, which is
 proved and built as the product's program is; the peer is plain_gate.rs, built by rustc -O. They run
 in turn, with each number of threads and of permits that stay out meanwhile, and must do the same
 work. Printed are the median time of a pair on either side, the median ratio of the turns, and that of
-the processor time that the programs took. With --still calls tell the moment 0 and read no clock.
-Needs rt and rustc.
+the processor time that the programs took. With --still calls tell the moment 0 and read no clock. With --rolling the product's gate rolls at 4,096
+entries, and runs beside the same gate that keeps all of them. Needs rt and rustc.
 """
 import os
 import pathlib
@@ -68,7 +68,7 @@ def product(log):
         link(crate)
     lines = [f"{crate}: {' '.join(crates[crate])}" for crate in used]
     (TREE / "crates.txt").write_text("\n".join([*lines, f"gate_bench: {' '.join(used)}"]) + "\n")
-    run = ["rt", "run", "--", "1", "10", "10", "1"]
+    run = ["rt", "run", "--", "1", "10", "10", "1", "0"]
     subprocess.run(run, cwd=own, stdout=log, stderr=log, check=True)
     return own / "out/gate_bench"
 
@@ -85,10 +85,10 @@ def processor_time():
     return used.ru_utime + used.ru_stime
 
 
-def run(program, words):
+def run(program, last, words):
     """The nanoseconds of a pair, the processor seconds of the whole run, and what was done."""
     before = processor_time()
-    done = subprocess.run([program, *map(str, words)], capture_output=True, text=True, check=True)
+    done = subprocess.run([program, *map(str, words), *last], capture_output=True, text=True, check=True)
     took, _, did = done.stdout.partition(" ")
     return int(took) / PAIRS, processor_time() - before, did
 
@@ -97,24 +97,28 @@ def row(ours, theirs, words):
     """The medians of the turns: a pair on either side, their ratio, and that of processor times."""
     turns = []
     for _ in range(TURNS):
-        (took, used, did), (plain, needed, same) = run(ours, words), run(theirs, words)
+        (took, used, did), (plain, needed, same) = run(*ours, words), run(*theirs, words)
         assert did == same, f"not the same work: {did}{same}"
         turns.append((took, plain, took / plain, used / needed))
     return [statistics.median(column) for column in zip(*turns)]
 
 
 def main():
-    if sys.argv[1:] not in ([], ["--still"]):
+    flags = set(sys.argv[1:])
+    if not flags <= {"--still", "--rolling"}:
         sys.exit(__doc__)
     TREE.mkdir(parents=True, exist_ok=True)
     with open(TREE / "build.log", "w") as log:
         print(f"building, some minutes at most; {log.name} tells how far it is", file=sys.stderr)
-        ours, theirs = product(log), peer(log)
-    print("| threads | permits out | admission | plain | ratio | of processor time |")
+        program, plain_program = product(log), peer(log)
+    ours, theirs, name = (program, ["0"]), (plain_program, []), "plain"
+    if "--rolling" in flags:
+        ours, theirs, name = (program, ["1"]), (program, ["0"]), "not rolling"
+    print(f"| threads | permits out | admission | {name} | ratio | of processor time |")
     print("|---|---|---|---|---|---|")
     for threads in THREADS:
         for held in HELD:
-            words = (threads, held, PAIRS, 0 if sys.argv[1:] else 1)
+            words = (threads, held, PAIRS, 0 if "--still" in flags else 1)
             took, plain, ratio, used = row(ours, theirs, words)
             print(f"| {threads} | {held:,} | {took:.0f} ns | {plain:.0f} ns | {ratio:.2f} | {used:.2f} |",
                   flush=True)

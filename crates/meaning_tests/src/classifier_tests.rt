@@ -92,7 +92,7 @@ fn the_first_resolver_that_knows_decides(rt: HostRuntime) -> Result<(), Fail> {
     let last = Resolver::Method(Method::GET, LIVE);
     let resolvers = vec![in alloc; by_header(alloc)?, by_route(&rt, alloc), last]?;
     let rules = Rules::new(resolvers, Vec::new(alloc));
-    assert_eq!(rt; rules.resolvers().len(), 3);
+    assert!(rt; rules.resolvers().len() == 3);
     let cases = [
         ("/jobs/7", "live", LIVE),
         ("/jobs/7", "other", BATCH),
@@ -113,7 +113,7 @@ fn any_bypass_rule_bypasses_and_the_part_is_resolved(rt: HostRuntime) -> Result<
     let bypass = vec![in alloc; Bypass::Method(Method::PUT), prefix, equals]?;
     let live = vec![in alloc; Resolver::Method(Method::GET, LIVE)]?;
     let rules = Rules::new(live, bypass);
-    assert_eq!(rt; rules.bypass().len(), 3);
+    assert!(rt; rules.bypass().len() == 3);
     let cases = [
         ("/healthy", "X-Probe", "0", true),
         ("/a", "x-probe", "1", true),

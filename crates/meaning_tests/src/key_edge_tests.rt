@@ -186,13 +186,10 @@ fn an_unknown_key_is_one_line(rt: HostRuntime) {
     ];
     for (lines, expected) in cases {
         let text = format!(in alloc; "{ADDRESSES}{lines}{FIXED}").expect(&rt, "memory");
-        assert_eq!(rt; answer(&rt, alloc, text.as_str()).as_str(), expected);
+        assert!(rt; answer(&rt, alloc, text.as_str()).as_str() == expected);
     }
     let text = format!(in alloc; "{ADDRESSES}{FIXED}\"x y\" = 1\n").expect(&rt, "memory");
-    assert_eq!(rt;
-        answer(&rt, alloc, text.as_str()).as_str(),
-        "unknown limit.\"x y\""
-    );
+    assert!(rt; answer(&rt, alloc, text.as_str()).as_str() == "unknown limit.\"x y\"");
 }
 
 #[test]
@@ -200,10 +197,10 @@ fn a_faults_pieces_are_its_text(rt: HostRuntime) -> Result<(), Fail> {
     let alloc = rt.alloc();
     let text = format!(in alloc; "{ADDRESSES}{FIXED}ratio = 1\n")?;
     let fault = read(alloc, text.as_bytes()).err().expect(&rt, "a fault");
-    assert_eq!(rt; fault.pieces().0, "unknown ");
-    assert_eq!(rt; fault.pieces().1, "limit.ratio");
-    assert_eq!(rt; ConfigFault::Kind(Key::WindowSize).pieces().1, "window.");
-    assert_eq!(rt; ConfigFault::Kind(Key::WindowSize).pieces().2, "size");
+    assert!(rt; fault.pieces().0 == "unknown ");
+    assert!(rt; fault.pieces().1 == "limit.ratio");
+    assert!(rt; ConfigFault::Kind(Key::WindowSize).pieces().1 == "window.");
+    assert!(rt; ConfigFault::Kind(Key::WindowSize).pieces().2 == "size");
     Ok(())
 }
 
@@ -229,13 +226,7 @@ fn the_samples_class_is_compared_byte_for_byte(rt: HostRuntime) -> Result<(), Fa
     let settings = read(alloc, text.as_bytes())?;
     let live = request_of(alloc, b"live")?;
     let other = request_of(alloc, b"Live")?;
-    assert_eq!(rt;
-        classify(&settings.rules, &settings.table, &live).part,
-        Part::Known(0)
-    );
-    assert_eq!(rt;
-        classify(&settings.rules, &settings.table, &other).part,
-        Part::Unknown
-    );
+    assert!(rt; classify(&settings.rules, &settings.table, &live).part == Part::Known(0));
+    assert!(rt; classify(&settings.rules, &settings.table, &other).part == Part::Unknown);
     Ok(())
 }
