@@ -1,3 +1,4 @@
 pub mod Sessions
 pub mod Named
 pub mod Openings
+pub mod Stretches

@@ -10,10 +10,15 @@ found_number : (xs : List PermitFacts) (number : ℕ) (found : PermitFacts)
 found_number [] number found e = cc
 found_number (x ∷ xs) number found e = grind (arith, e, found_number xs number found)
 
--- so it is open under its own number
+-- so an open permit has its number
 pub open_by_number : (first : ℕ) (entries : List Entry) (number : ℕ) (permit : PermitFacts)
+    → open_permit first entries number ≡ Some permit → permit.number ≡ number
+open_by_number first entries number permit e = found_number _ number permit e
+
+-- and is found under its own number
+pub open_own : (first : ℕ) (entries : List Entry) (number : ℕ) (permit : PermitFacts)
     → open_permit first entries number ≡ Some permit
     → open_permit first entries permit.number ≡ Some permit
-open_by_number first entries number permit e =
+open_own first entries number permit e =
     subst (λ (n : ℕ). open_permit first entries n ≡ Some permit)
     (sym (found_number _ number permit e)) e
