@@ -65,12 +65,12 @@ module _ (entries : List Entry) (matched : EachHas (IsMatched entries) entries) 
           | inr apart ↦ elim apart [
             | inl before ↦
                 absurd
-                (once-before number later one other permit named before here there ends_one ends_other
-                same)
+                (once-before number later one other permit named before here there
+                ends_one ends_other same)
             | inr after ↦
                 absurd
-                (once-before later number other one named permit after there here ends_other ends_one
-                (sym same))
+                (once-before later number other one named permit after there here
+                ends_other ends_one (sym same))
           ]
         ];
     found = λ number entry here. (matched number entry here).found;

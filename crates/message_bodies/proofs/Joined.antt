@@ -127,3 +127,9 @@ module _ {X : Type 0} (view : X → List ℕ) where
   end_fault (Some xs) (Some ys) (Some zs) new body TurnLimit on sized last = search rules
   end_fault (Some xs) (Some ys) (Some zs) new body (Bytes f) on sized last =
       on (Err f) (IsChunks.last_chunk (length body) ys zs (Err f) sized last)
+
+-- What a function that reads on can cite, by the name of the set.
+pub ruleset size_steps = (size_found, size_not_found, line_not_found)
+
+pub ruleset chunk_steps =
+    (chunks_start, chunks_more, chunks_end, size_fault, large_fault, piece_fault, end_fault)

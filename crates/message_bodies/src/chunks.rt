@@ -39,7 +39,7 @@ fn read_piece<R: Read>(
 /// A size line over 4,096 bytes, or one that gives no size, is `Malformed`, and so is a chunk that
 /// no CR LF follows; a size with which the sum passes 8,388,608 is `BodyTooLarge`, before the
 /// chunk's bytes are read; more than 65,536 bytes behind the last chunk are `HeadTooLarge`.
-#[tactic(auto, using(crate::proofs::Joined::chunks_start, crate::proofs::Joined::chunks_more, crate::proofs::Joined::chunks_end, crate::proofs::Joined::size_fault, crate::proofs::Joined::large_fault, crate::proofs::Joined::piece_fault, crate::proofs::Joined::end_fault,))]
+#[tactic(auto, using(crate::proofs::Joined::chunk_steps))]
 pub fn read_chunked<R: Read>(
     alloc: Global,
     reader: &mut Counted<R>,

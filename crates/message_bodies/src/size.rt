@@ -23,7 +23,7 @@ fn whole_size(line: &[u8]) -> Option<u64>
 }
 
 // The size of the next chunk, and nothing behind its line.
-#[tactic(auto, using(crate::proofs::Joined::size_found, crate::proofs::Joined::size_not_found, crate::proofs::Joined::line_not_found,))]
+#[tactic(auto, using(crate::proofs::Joined::size_steps))]
 pub(crate) fn read_size<R: Read>(
     alloc: Global,
     reader: &mut Counted<R>,

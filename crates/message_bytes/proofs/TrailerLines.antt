@@ -28,7 +28,8 @@ trailers_more old mid new before last n b on byte short more =
     let count = on.2 in
     let ends = empty_more before last b on.0 on.3 on.4 ∙ more in (
       on.0 ++ b ∷ [],
-      goes_on_more ends_in_empty 65536 HeadTooLarge old mid new on.0 b on.1 byte (search rules) ends,
+      goes_on_more ends_in_empty 65536 HeadTooLarge old mid new on.0 b on.1 byte
+          (search rules) ends,
       search rules,
       ap (λ (t : ℕ × ℕ × ℕ). t.1) three ∙ on.4,
       ap (λ (t : ℕ × ℕ × ℕ). t.2) three,

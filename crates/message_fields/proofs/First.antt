@@ -33,7 +33,8 @@ parts_first value =
 first_of : (part : List ℕ) (xs rest ys : List (List ℕ)) → xs ≡ part ∷ rest
     → slice_get (xs ++ ys) 0 ≡ slice_get xs 0
 first_of part xs rest ys e =
-    ap (λ (zs : List (List ℕ)). slice_get (zs ++ ys) 0) e ∙ sym (ap (λ (zs : List (List ℕ)). slice_get zs 0) e)
+    ap (λ (zs : List (List ℕ)). slice_get (zs ++ ys) 0) e
+    ∙ sym (ap (λ (zs : List (List ℕ)). slice_get zs 0) e)
 
 -- a first value's first part is the first part of all
 pub first_some : (name : List ℕ) (lines : List Header) (value part : List ℕ)

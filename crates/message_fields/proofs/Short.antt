@@ -15,6 +15,7 @@ short_target target short =
     let other : List ℕ = map to_ascii_lowercase (codes "http://") in
     let decides = bytes_eq-Decides one other in
     elim (bytes_eq one other) as (λ b. bytes_eq one other ≡ b → b ≡ false) [
-      | true ↦ λ e. absurd (omega (arith, simp (length-map, length-take) at (ap length (decides.0 e))))
+      | true ↦ λ e.
+          absurd (omega (arith, simp (length-map, length-take) at (ap length (decides.0 e))))
       | false ↦ λ e. refl
     ] refl

@@ -28,3 +28,5 @@ responses_are_one text bytes r q (IsResponseIn.no_response _ none)
 responses_are_one text bytes r q (IsResponseIn.no_response _ none)
     (IsResponseIn.no_response _ also) =
     refl
+
+pub ruleset readings = (requests_are_one, responses_are_one)

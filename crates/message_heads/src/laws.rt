@@ -2,7 +2,7 @@
 ghost use Rattle.message_heads.specs.Laws.{RequestsAreOne, ResponsesAreOne};
 
 /// Bytes are one head at most, or else no head: they have one reading.
-#[tactic(auto, using(crate::proofs::OneReading::requests_are_one, crate::proofs::OneReading::responses_are_one,))]
+#[tactic(auto, using(crate::proofs::OneReading::readings))]
 pub fn heads_have_one_reading()
     ensures requests { RequestsAreOne }
     ensures responses { ResponsesAreOne }

@@ -77,3 +77,6 @@ module _ {X : Type 0} (view : X → List ℕ) where
   chunked_fault (Some xs) new framing Read is given = search rules
   chunked_fault (Some xs) new framing TurnLimit is given = search rules
   chunked_fault (Some xs) new framing (Bytes e) is given = rw is ((Err e, given, refl))
+
+pub ruleset body_steps =
+    (no_body, sized_body, sized_fault, whole_body, whole_fault, chunked_body, chunked_fault)

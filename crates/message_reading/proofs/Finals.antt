@@ -63,3 +63,5 @@ final_fault (Some xs) (Some ys) new left Read on given = search rules
 final_fault (Some xs) (Some ys) new left TurnLimit on given = search rules
 final_fault (Some xs) (Some ys) new left (Bytes e) on given =
     on _ (IsFinalHead.head_fails left ys e given)
+
+pub ruleset final_steps = (finals_start, finals_more, final_found, final_refused, final_fault)

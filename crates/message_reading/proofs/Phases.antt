@@ -42,7 +42,8 @@ module _ {X : Type 0} (view : X → List ℕ) where
   -- the bytes of a head were read, and they are this head
   pub request_found : (old new : Option (List ℕ)) (x : X) (head : RequestHead) (h : RequestText)
       → Gives view (By head_of) old new (Ok x) → IsWholeRequest (view x) h
-      → head ≡ request_head h → Gives {X = RequestHead} (λ head. head) IsRequestHead old new (Ok head)
+      → head ≡ request_head h
+      → Gives {X = RequestHead} (λ head. head) IsRequestHead old new (Ok head)
   request_found None new x head h text whole is = search rules
   request_found (Some xs) None x head h text whole is = absurd text
   request_found (Some xs) (Some ys) x head h text whole is =
@@ -97,3 +98,10 @@ pub check_fails : (old new : Option (List ℕ)) (head : RequestHead) (f : Fault)
 check_fails None new head f given is = search rules
 check_fails (Some xs) None head f given is = absurd given
 check_fails (Some xs) (Some ys) head f given is = Then.goes_on xs ys head _ given (rw is refl)
+
+-- What the functions of each phase can cite, by the name of the set.
+pub ruleset request_steps = (then_fault, request_found, request_not_found)
+
+pub ruleset check_steps = (then_fault, checks_pass, check_fails)
+
+pub ruleset response_steps = (then_fault, response_found, response_not_found)

@@ -13,7 +13,7 @@ use std::alloc::Global;
 use std::io::Read;
 
 /// The body that is delimited so, and nothing behind it.
-#[tactic(auto, using(crate::proofs::Bodies::no_body, crate::proofs::Bodies::sized_body, crate::proofs::Bodies::sized_fault, crate::proofs::Bodies::whole_body, crate::proofs::Bodies::whole_fault, crate::proofs::Bodies::chunked_body, crate::proofs::Bodies::chunked_fault,))]
+#[tactic(auto, using(crate::proofs::Bodies::body_steps))]
 pub fn read_body<R: Read>(
     alloc: Global,
     reader: &mut Counted<R>,

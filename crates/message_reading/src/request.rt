@@ -12,7 +12,7 @@ use std::alloc::Global;
 use std::io::Read;
 
 // The head of a request, and nothing behind it.
-#[tactic(auto, using(crate::proofs::Phases::then_fault, crate::proofs::Phases::request_found, crate::proofs::Phases::request_not_found,))]
+#[tactic(auto, using(crate::proofs::Phases::request_steps))]
 fn read_request_head<R: Read>(
     alloc: Global,
     reader: &mut Counted<R>,
@@ -28,7 +28,7 @@ fn read_request_head<R: Read>(
 }
 
 /// The head of a request, and how its body is delimited, once all checks passed.
-#[tactic(auto, using(crate::proofs::Phases::then_fault, crate::proofs::Phases::checks_pass, crate::proofs::Phases::check_fails,))]
+#[tactic(auto, using(crate::proofs::Phases::check_steps))]
 pub fn read_checked_head<R: Read>(
     alloc: Global,
     reader: &mut Counted<R>,

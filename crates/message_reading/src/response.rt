@@ -14,7 +14,7 @@ use std::io::Read;
 const MOST_INTERIM: u8 = 16;
 
 // The head of a response, be it interim or final, and nothing behind it.
-#[tactic(auto, using(crate::proofs::Phases::then_fault, crate::proofs::Phases::response_found, crate::proofs::Phases::response_not_found,))]
+#[tactic(auto, using(crate::proofs::Phases::response_steps))]
 fn read_response_head<R: Read>(
     alloc: Global,
     reader: &mut Counted<R>,
@@ -47,7 +47,7 @@ fn is_final(status: u16) -> bool
 /// The head of the final response, behind at most 16 interim ones, which are dropped.
 ///
 /// The 17th interim head is `Malformed`, and so is one with the status 101 or one below 100.
-#[tactic(auto, using(crate::proofs::Finals::finals_start, crate::proofs::Finals::finals_more, crate::proofs::Finals::final_found, crate::proofs::Finals::final_refused, crate::proofs::Finals::final_fault,))]
+#[tactic(auto, using(crate::proofs::Finals::final_steps))]
 pub fn read_final_head<R: Read>(
     alloc: Global,
     reader: &mut Counted<R>,

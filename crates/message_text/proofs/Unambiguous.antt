@@ -106,24 +106,24 @@ unfolding same_name
 received_tells None = (refl, refl)
 received_tells (Some digits) = (refl, refl)
 
+-- lines that tell a length each, and no coding
+abbrev TellLengths : List Header → Type 0
+TellLengths lines = (filter (is_named (codes "transfer-encoding")) lines ≡ [])
+    × (filter (is_named (codes "content-length")) lines ≡ lines)
+
 -- a line's length told to a client
-told_tell : (answer : AnswerValue)
-    → (filter (is_named (codes "transfer-encoding")) (told_lines answer) ≡ [])
-    × (filter (is_named (codes "content-length")) (told_lines answer) ≡ told_lines answer)
+told_tell : (answer : AnswerValue) → TellLengths (told_lines answer)
 unfolding same_name
 told_tell answer =
-    let digits : Option (List ℕ) = length_digits answer.headers in
+    let received : List Header = received_lines (length_digits answer.headers) in
+    let own : List Header = length_lines answer.body in
     elim (eqb answer.status 204) as
-    (λ b. (filter (is_named (codes "transfer-encoding")) (cond b [] (cond (is_bodiless answer.method answer.status) (received_lines digits) (length_lines answer.body))) ≡ [])
-    × (filter (is_named (codes "content-length")) (cond b [] (cond (is_bodiless answer.method answer.status) (received_lines digits) (length_lines answer.body)))
-    ≡ cond b [] (cond (is_bodiless answer.method answer.status) (received_lines digits) (length_lines answer.body)))) [
+    (λ b. TellLengths (cond b [] (cond (is_bodiless answer.method answer.status) received own))) [
       | true ↦ (refl, refl)
       | false ↦
           elim (is_bodiless answer.method answer.status) as
-          (λ b. (filter (is_named (codes "transfer-encoding")) (cond b (received_lines digits) (length_lines answer.body)) ≡ [])
-          × (filter (is_named (codes "content-length")) (cond b (received_lines digits) (length_lines answer.body))
-          ≡ cond b (received_lines digits) (length_lines answer.body))) [
-            | true ↦ received_tells digits
+          (λ b. TellLengths (cond b received own)) [
+            | true ↦ received_tells (length_digits answer.headers)
             | false ↦ length_tells answer.body
           ]
     ]
@@ -186,6 +186,7 @@ hosts_kept all authority (line ∷ lines) =
     let host : Header → Bool = is_named (codes "host") in
     let f : Header → Header = hosted authority in
     let kept : List Header = filter (is_passed_in_request all) lines in
+    let hosts : List Header = filter host (map f kept) in
     let rest = hosts_kept all authority lines in
     let named : host (f line) ≡ host line = hosted_name authority line (codes "host") in
     elim (host line) as
@@ -198,15 +199,13 @@ hosts_kept all authority (line ∷ lines) =
           let passed : is_passed_in_request all line ≡ true =
           rw (e, expects) refl in
           ap (λ b. length (filter host (map f (cond b (line ∷ kept) kept)))) passed
-          ∙ ap (λ b. length (cond b (f line ∷ filter host (map f kept)) (filter host (map f kept))))
-          (named ∙ e) ∙ ap suc rest
+          ∙ ap (λ b. length (cond b (f line ∷ hosts) hosts)) (named ∙ e) ∙ ap suc rest
       | false ↦ λ e.
           elim (is_passed_in_request all line) as
           (λ b. length (filter host (map f (cond b (line ∷ kept) kept)))
           ≡ length (filter host lines)) [
             | true ↦
-                ap (λ b. length (cond b (f line ∷ filter host (map f kept)) (filter host (map f kept))))
-                (named ∙ e) ∙ rest
+                ap (λ b. length (cond b (f line ∷ hosts) hosts)) (named ∙ e) ∙ rest
             | false ↦ rest
           ]
     ] refl

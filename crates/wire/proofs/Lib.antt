@@ -2,3 +2,4 @@ mod OneReading
 mod Paths
 mod Told
 mod SaidTexts
+mod Unambiguous

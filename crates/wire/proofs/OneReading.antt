@@ -6,7 +6,6 @@ use Rattle.message_bytes.specs.Laws.{IsOne}
 use Rattle.message_bytes.specs.Reading.{By, Reading, Then, checked}
 use Rattle.message_bytes.specs.Head.{head_of}
 use Rattle.message_bodies.specs.Chunks.{IsChunks}
-use Rattle.message_heads.specs.declared.request.RequestHead.{RequestHead}
 use Rattle.message_heads.specs.declared.response.ResponseHead.{ResponseHead}
 use Rattle.message_heads.specs.Laws.{RequestsAreOne, ResponsesAreOne}
 use Rattle.message_heads.specs.Whole.{IsRequestIn, IsResponseIn}

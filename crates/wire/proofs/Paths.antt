@@ -1,13 +1,12 @@
 -- Paths are text.
-use Rattle.std.proofs.Common.{rules, arith, ◌≡◌, ◌≤◌, ◌<◌, ◌∙◌, ◌==◌, ◌++◌, sym, ap, subst, refl, ℕ, Bool, true, false, List, [], ◌∷◌, length, take, drop, IsUtf8}
-use Rattle.std.specs.Prelude.{if◌then◌else◌, Option, Some, None, codes, get_or}
+use Rattle.std.proofs.Common.{rules, arith, ◌≡◌, ◌<◌, ◌==◌, refl, ℕ, Bool, true, false, List, [], ◌∷◌, length, take, drop, IsUtf8}
+use Rattle.std.specs.Prelude.{if◌then◌else◌, codes, get_or}
 use Rattle.std.specs.Str.{IsCharBoundary}
 use Rattle.std.specs.List.{before_first, position, position_or_len}
 use Rattle.std.proofs.lemmas.List.Sums.{passes_at_first}
-use Rattle.std.proofs.lemmas.Str.{IsCharBoundary-after_ascii, IsCharBoundary-before_ascii, IsCharBoundary-end, IsUtf8-drop, IsUtf8-take}
-use Rattle.message_fields.specs.Target.{after_authority, ends_authority, is_absolute, local_part, path_of, turned, wants_slash}
-use Rattle.std.proofs.Common.{map, not, ◌||◌, ◌&&◌, IsTrue}
-use Rattle.std.specs.Prelude.{bytes_eq}
+use Rattle.std.proofs.lemmas.Str.{IsCharBoundary-after_ascii, IsCharBoundary-before_ascii, IsUtf8-drop, IsUtf8-take}
+use Rattle.message_fields.specs.Target.{after_authority, ends_authority, is_absolute, local_part, path_of, wants_slash}
+use Rattle.std.proofs.Common.{map, not, ◌||◌}
 use Rattle.std.specs.Char.{to_ascii_lowercase}
 use Rattle.std.proofs.lemmas.List.Sums.{prefix_len-le-length}
 use Rattle.std.proofs.Math.Seq.{take-append-add}

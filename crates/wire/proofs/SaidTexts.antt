@@ -13,7 +13,7 @@ use Rattle.wire.specs.declared.fault.WireFault.{WireFault}
 use Rattle.wire.specs.declared.fault.WireFault.TheVariants as fault
 use Rattle.wire.specs.Fault.{bytes_fault, of_read}
 use Rattle.wire.specs.Messages.{Said, SaidRight}
-use Rattle.wire.proofs.Told.{GivesChecked}
+use Rattle.wire.proofs.Told.{GivesChecked, request_no_memory, request_not_asked}
 
 if_any : {P : Type 0} (o : Option Fault) → P → IfSome o (λ own. P)
 if_any None p = tt
@@ -50,3 +50,6 @@ module _ (X : Type 0) where
       let right : SaidRight xs held new =
       (continue_of head framing, Says.asks xs ys head framing given, written) in
       (if_any (bytes_fault w) right, inr right)
+
+-- What the reader of a request can cite, by the name of the set.
+pub ruleset request_told = (request_no_memory, request_not_asked, silent_memory, said)

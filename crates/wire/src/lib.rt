@@ -20,7 +20,7 @@ mod response_reading;
 pub use answering::write_response;
 pub use fault::WireFault;
 pub use forwarding::write_request;
-pub use laws::messages_have_one_reading;
+pub use laws::{messages_are_unambiguous, messages_have_one_reading};
 pub use request::{Request, Version};
 pub use request_reading::read_request;
 pub use response::Response;

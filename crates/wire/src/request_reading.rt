@@ -58,7 +58,7 @@ fn request_of(head: RequestHead, path: Text, body: Option<Bytes>) -> Request
 /// else is written. `Memory`, `Read`, `Write` and `TurnLimit` come where a growth was refused, the
 /// reader or the writer failed, or 100,000,000 reads were made; each other fault where the bytes
 /// have it first: in the head, in its checks, in the lengths or in the body.
-#[tactic(auto, using(crate::proofs::Told::request_no_memory, crate::proofs::Told::request_not_asked, crate::proofs::SaidTexts::silent_memory, crate::proofs::SaidTexts::said,))]
+#[tactic(auto, using(crate::proofs::SaidTexts::request_told))]
 pub fn read_request<R: Read, W: Write>(
     alloc: Global,
     reader: &mut Counted<R>,

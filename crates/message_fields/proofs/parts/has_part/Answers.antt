@@ -14,4 +14,5 @@ returns c =
     c.split.ensures.rest c.split.ensures.done c.split.ensures.closure
     (λ x r q k. search (rules, tests)))
     (λ x b q k. search (rules, tests))
-    ∙ list_any-map (λ part. same_name part c.args.name.now) trimmed (slice_split (λ b. eqb b 44) c.args.value.now)
+    ∙ list_any-map (λ part. same_name part c.args.name.now) trimmed
+    (slice_split (λ b. eqb b 44) c.args.value.now)

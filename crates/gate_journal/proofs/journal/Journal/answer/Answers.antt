@@ -31,7 +31,8 @@ push_answer-requires g c = omega (
 pub invariant_of-self : goal.invariant_of-self
 invariant_of-self g c =
     let kept : List Promotion → List Entry =
-    λ ps. c.self.inside.entries.items ++ Call c.args.event c.apply-reply.result ∷ map entry_of ps in (
+    λ ps. c.self.inside.entries.items
+    ++ Call c.args.event c.apply-reply.result ∷ map entry_of ps in (
       goes_on g.L.Limit.rules _ _ c.self.view_is c.self.inside.core _ c.self.invariant.0
           c.args.event c.requires.may c.requires.free
           c.answers_by_image.ensures.answers c.apply-reply.result c.apply-reply.new.self.promoted

@@ -29,4 +29,5 @@ pub returns : goal.returns
 returns g c =
     let five : length c.counts-counts.result ≡ 5 = search rules in
     rolled_now g.L.Limit.rules _ _ c.self.view_is c.self.inside.core _ c.self.invariant.0
-    (ap length (sym c.counts-counts.ensures) ∙ five) _ c.renew.ensures.standing _ c.clear.ensures.items
+    (ap length (sym c.counts-counts.ensures) ∙ five) _ c.renew.ensures.standing _
+    c.clear.ensures.items
