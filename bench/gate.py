@@ -1,12 +1,14 @@
 #!/usr/bin/env python3
-"""Times pairs of acquire and end through a shared gate against a plain Rust gate, in one run.
+"""Times calls through a shared gate against a plain Rust gate, in one run.
 
-Usage: bench/gate.py [--still]. The product's side is gate/, a program over `shared_gate`, which is
-proved and built as the product's program is; the peer is plain_gate.rs, built by rustc -O. They run
-in turn, with each number of threads and of permits that stay out meanwhile, and must do the same
-work. Printed are the median time of a pair on either side, the median ratio of the turns, and that of
-the processor time that the programs took. With --still calls tell the moment 0 and read no clock.
-Needs rt and rustc.
+Usage: bench/gate.py [--still] [--rolling]. The product's side is gate/, a program over `shared_gate`,
+which is proved and built as the product's program is; the peer is plain_gate.rs, built by rustc -O.
+They run in turn and must do the same work: pairs of acquire and end, with each number of threads and
+of permits that stay out meanwhile, and givings up, with each number of callers that wait at a time,
+oldest first and in a drawn order. Printed are the median time of a pair, or of a giving up, on either
+side, the median ratio of the turns, and that of the processor time that the programs took. With --still
+calls tell the moment 0 and read no clock. With --rolling the product's gate rolls at 4,096 entries, and
+runs beside the same gate that keeps all of them; nobody waits then. Needs rt and rustc.
 """
 import os
 import pathlib
@@ -23,8 +25,10 @@ TREE = TOP / "crates/shared_gate/out/bench"
 LIBRARIES = ("aimd", "shared_gate")
 TURNS = 9
 THREADS = (1, 2, 4)
-HELD = (10, 100, 1_000)
-PAIRS = 400_000
+HELD = (10, 1_000, 10_000)
+WAITING = (10, 1_000, 10_000)
+TIMES = 400_000
+LIMIT = 10_000
 
 
 def needs():
@@ -68,7 +72,7 @@ def product(log):
         link(crate)
     lines = [f"{crate}: {' '.join(crates[crate])}" for crate in used]
     (TREE / "crates.txt").write_text("\n".join([*lines, f"gate_bench: {' '.join(used)}"]) + "\n")
-    run = ["rt", "run", "--", "1", "10", "10", "1"]
+    run = ["rt", "run", "--", "1", "10", "10", "1", "0"]
     subprocess.run(run, cwd=own, stdout=log, stderr=log, check=True)
     return own / "out/gate_bench"
 
@@ -86,38 +90,52 @@ def processor_time():
 
 
 def run(program, words):
-    """The nanoseconds of a pair, the processor seconds of the whole run, and what was done."""
+    """The nanoseconds of a call, the processor seconds of the whole run, and what was done."""
     before = processor_time()
     done = subprocess.run([program, *map(str, words)], capture_output=True, text=True, check=True)
     took, _, did = done.stdout.partition(" ")
-    return int(took) / PAIRS, processor_time() - before, did
+    return int(took) / TIMES, processor_time() - before, did
 
 
-def row(ours, theirs, words):
-    """The medians of the turns: a pair on either side, their ratio, and that of processor times."""
+def row(ours, theirs):
+    """The medians of the turns: a call on either side, their ratio, and that of processor times."""
     turns = []
     for _ in range(TURNS):
-        (took, used, did), (plain, needed, same) = run(ours, words), run(theirs, words)
+        (took, used, did), (plain, needed, same) = run(*ours), run(*theirs)
         assert did == same, f"not the same work: {did}{same}"
         turns.append((took, plain, took / plain, used / needed))
     return [statistics.median(column) for column in zip(*turns)]
 
 
+def rows(is_still, is_rolling):
+    """What each row is called, and the words of the program on either side."""
+    for threads in THREADS:
+        for held in HELD:
+            name = f"pairs, threads {threads}, permits out {held:,}"
+            words = (threads, held, TIMES, 0 if is_still else 1)
+            yield name, (*words, 1 if is_rolling else 0), (*words, 0)
+    for waiting in () if is_rolling else WAITING:
+        for is_drawn, order in ((0, "oldest first"), (1, "drawn order")):
+            name = f"givings up, {order}, of {waiting:,} who wait"
+            words = (0, LIMIT, TIMES, waiting, is_drawn)
+            yield name, words, words
+
+
 def main():
-    if sys.argv[1:] not in ([], ["--still"]):
+    flags = set(sys.argv[1:])
+    if not flags <= {"--still", "--rolling"}:
         sys.exit(__doc__)
+    is_rolling = "--rolling" in flags
     TREE.mkdir(parents=True, exist_ok=True)
     with open(TREE / "build.log", "w") as log:
         print(f"building, some minutes at most; {log.name} tells how far it is", file=sys.stderr)
-        ours, theirs = product(log), peer(log)
-    print("| threads | permits out | admission | plain | ratio | of processor time |")
-    print("|---|---|---|---|---|---|")
-    for threads in THREADS:
-        for held in HELD:
-            words = (threads, held, PAIRS, 0 if sys.argv[1:] else 1)
-            took, plain, ratio, used = row(ours, theirs, words)
-            print(f"| {threads} | {held:,} | {took:.0f} ns | {plain:.0f} ns | {ratio:.2f} | {used:.2f} |",
-                  flush=True)
+        program, plain = product(log), peer(log)
+    other, name = (program, "not rolling") if is_rolling else (plain, "plain")
+    print(f"| calls | admission | {name} | ratio | of processor time |")
+    print("|---|---|---|---|---|")
+    for calls, ours, theirs in rows("--still" in flags, is_rolling):
+        took, least, ratio, used = row((program, ours), (other, theirs))
+        print(f"| {calls} | {took:.0f} ns | {least:.0f} ns | {ratio:.2f} | {used:.2f} |", flush=True)
 
 
 main()

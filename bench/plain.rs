@@ -1,18 +1,18 @@
 //! A plain program that answers scripts of one class under a fixed limit, with running counts, a
-//! stack of waiters and maps of permits, and no history: the peer of the replay benchmark.
-use std::collections::HashMap;
+//! set of waiters and maps of permits, and no history: the peer of the replay benchmark.
+use std::collections::{BTreeSet, HashMap};
 use std::env;
 use std::io::{self, Read, Write};
 
 const KEPT: u64 = 100_000;
-const ROOM: usize = 100;
 
 struct Limiter {
     limit: u64,
     total: u64,
     next: u64,
     open: HashMap<u64, u64>,
-    waiters: Vec<u64>,
+    room: usize,
+    waiters: BTreeSet<u64>,
     granted: HashMap<u64, u64>,
     out: Vec<u8>,
 }
@@ -24,7 +24,8 @@ impl Limiter {
             total: 0,
             next: 0,
             open: HashMap::new(),
-            waiters: Vec::with_capacity(ROOM),
+            room: 100,
+            waiters: BTreeSet::new(),
             granted: HashMap::new(),
             out: Vec::new(),
         }
@@ -46,9 +47,9 @@ impl Limiter {
             self.open.insert(number, now);
         } else if !wait {
             self.tell(format_args!("refused full"));
-        } else if self.waiters.len() < ROOM {
+        } else if self.waiters.len() < self.room {
             let number = self.tell(format_args!("waiting"));
-            self.waiters.push(number);
+            self.waiters.insert(number);
         } else {
             self.tell(format_args!("refused backlog"));
         }
@@ -60,7 +61,7 @@ impl Limiter {
             return;
         }
         self.total -= 1;
-        let promoted = if self.total < self.limit { self.waiters.pop() } else { None };
+        let promoted = if self.total < self.limit { self.waiters.pop_last() } else { None };
         self.tell(format_args!("ended promoted {}", u8::from(promoted.is_some())));
         if let Some(waiter) = promoted {
             self.total += 1;
@@ -89,15 +90,8 @@ impl Limiter {
         if self.hand_out(number) {
             return;
         }
-        match self.waiters.iter().rposition(|&waiter| waiter == number) {
-            Some(place) => {
-                self.waiters.remove(place);
-                self.tell(format_args!("timed out"));
-            }
-            None => {
-                self.tell(format_args!("lost"));
-            }
-        }
+        let waited = self.waiters.remove(&number);
+        self.tell(format_args!("{}", if waited { "timed out" } else { "lost" }));
     }
 
     fn look(&mut self) {
@@ -123,6 +117,7 @@ impl Limiter {
     fn answer(&mut self, words: &[&str]) {
         match words {
             _ if self.is_exhausted(words) => self.out.extend_from_slice(b"- exhausted\n"),
+            ["backlog", room] => self.room = room.parse().unwrap(),
             ["acquire", "unknown", now] => self.acquire(now.parse().unwrap(), false),
             ["acquire", "unknown", now, "wait"] => self.acquire(now.parse().unwrap(), true),
             ["end", number, _, _] => self.end(number.parse().unwrap()),

@@ -3,16 +3,20 @@
 //! counters, and promotes the newest waiter at an ending.
 //!
 //! Its words: how many threads, how many permits stay out meanwhile, how many pairs of acquire and
-//! end the threads make in all, and 1 where moments come from the clock, 0 where they stand still. It
-//! writes the nanoseconds that the pairs took, then what they did.
+//! end the threads make in all, and 1 where moments come from the clock, 0 where they stand still.
+//! Where the first word is 0, one thread lets callers wait and gives them up again: the others are how
+//! many permits stay out, how many give up in all, how many of them wait at a time, and 1 where their
+//! order is drawn, 0 where the oldest goes first. It writes the nanoseconds that the pairs, or the
+//! givings up, took, then what was done.
+use std::collections::BTreeMap;
 use std::env;
 use std::sync::{Condvar, Mutex};
 use std::thread;
-use std::time::Instant;
+use std::time::{Duration, Instant};
 
 const LAST_MOMENT: u64 = 1 << 62;
 const UNKNOWN_PLACE: usize = 4;
-const ROOM: usize = 100;
+const ROOM: usize = 10_000;
 
 #[derive(Clone, Copy)]
 enum Part {
@@ -67,11 +71,6 @@ enum Outcome {
     Dropped,
 }
 
-struct Waiter {
-    number: u64,
-    part: Part,
-}
-
 /// A permit that is in flight, or lies granted.
 #[allow(dead_code)]
 struct Permit {
@@ -98,6 +97,7 @@ struct Counters {
     success: u64,
     ignored: u64,
     dropped: u64,
+    timed_out: u64,
 }
 
 struct Limiter {
@@ -105,7 +105,7 @@ struct Limiter {
     aimd: Aimd,
     inflight: [u32; 5],
     total: u32,
-    waiters: Vec<Waiter>,
+    waiters: BTreeMap<u64, Part>,
     granted: Vec<Permit>,
     next: u64,
     counters: Counters,
@@ -148,7 +148,7 @@ impl Limiter {
             return Reply::BacklogFull;
         }
         self.counters.waiting += 1;
-        self.waiters.push(Waiter { number, part });
+        self.waiters.insert(number, part);
         Reply::Waiting(number)
     }
 
@@ -171,18 +171,26 @@ impl Limiter {
 
     /// Promotes the newest waiter, where it has room.
     fn promote(&mut self, start: u64) -> u32 {
-        let Some(newest) = self.waiters.last() else { return 0 };
-        let place = self.table.place(newest.part);
+        let Some(newest) = self.waiters.last_entry() else { return 0 };
+        let (waiter, part) = (*newest.key(), *newest.get());
+        let place = self.table.place(part);
         if !self.has_room(place) {
             return 0;
         }
         self.number();
         let inflight = self.enter(place);
-        if let Some(Waiter { number, part }) = self.waiters.pop() {
-            self.granted.push(Permit { number, part, start, inflight });
-            self.counters.promoted += 1;
-        }
+        self.waiters.remove(&waiter);
+        self.granted.push(Permit { number: waiter, part, start, inflight });
+        self.counters.promoted += 1;
         1
+    }
+
+    /// Whether a waiter gave up that still waited.
+    fn give_up(&mut self, waiter: u64) -> bool {
+        self.number();
+        let waited = self.waiters.remove(&waiter).is_some();
+        self.counters.timed_out += u64::from(waited);
+        waited
     }
 }
 
@@ -199,7 +207,7 @@ impl Gate {
             aimd,
             inflight: [0; 5],
             total: 0,
-            waiters: Vec::with_capacity(ROOM),
+            waiters: BTreeMap::new(),
             granted: Vec::with_capacity(20_000),
             next: 0,
             counters: Counters::default(),
@@ -222,6 +230,41 @@ impl Gate {
     }
 }
 
+/// The number of a caller that waits.
+fn waiting(reply: Reply) -> u64 {
+    match reply {
+        Reply::Waiting(number) => number,
+        Reply::Admitted(_) | Reply::Full | Reply::BacklogFull => panic!("doesn't wait"),
+    }
+}
+
+/// Draws another order.
+fn shuffle(items: &mut [u64]) {
+    let mut drawn: usize = 1;
+    for place in 0..items.len() {
+        drawn = drawn.wrapping_mul(1_103_515_245).wrapping_add(12_345);
+        items.swap(place, (drawn >> 16) % items.len());
+    }
+}
+
+/// How long so many givings up take, so many callers waiting at a time.
+fn givings_up(gate: &Gate, times: u32, at_a_time: u32, drawn: bool) -> Duration {
+    let mut took = Duration::ZERO;
+    for _ in 0..times / at_a_time {
+        let mut waiters: Vec<u64> =
+            (0..at_a_time).map(|_| waiting(gate.acquire(Part::Unknown, true, 0))).collect();
+        if drawn {
+            shuffle(&mut waiters);
+        }
+        let began = Instant::now();
+        for waiter in waiters {
+            assert!(gate.limiter.lock().unwrap().give_up(waiter));
+        }
+        took += began.elapsed();
+    }
+    took
+}
+
 fn admitted(reply: Reply) -> Permit {
     match reply {
         Reply::Admitted(permit) => permit,
@@ -239,27 +282,36 @@ fn pairs(gate: &Gate, clock: Option<Instant>, part: Part, times: u32) {
     }
 }
 
-fn main() {
-    let words: Vec<u32> = env::args().skip(1).map(|word| word.parse().unwrap()).collect();
-    let [threads, held, times, clock] = words[..] else { panic!("words: threads held pairs clock") };
-    let gate = Gate::new();
-    let out: Vec<Permit> =
-        (0..held).map(|_| admitted(gate.acquire(Part::Unknown, false, 0))).collect();
+/// How long so many pairs of acquire and end take.
+fn timed_pairs(gate: &Gate, threads: u32, times: u32, is_clocked: bool) -> Duration {
     let began = Instant::now();
-    let clock = (clock == 1).then_some(began);
+    let clock = is_clocked.then_some(began);
     if threads == 1 {
-        pairs(&gate, clock, Part::Known(0), times);
+        pairs(gate, clock, Part::Known(0), times);
     } else {
         thread::scope(|scope| {
             for thread in 0..threads {
                 let part = Part::Known((thread % 2) as u8);
-                let gate = &gate;
                 scope.spawn(move || pairs(gate, clock, part, times / threads));
             }
         });
     }
-    let took = began.elapsed();
-    let Counters { admitted, success, .. } = gate.limiter.lock().unwrap().counters;
-    println!("{} admitted {admitted} success {success}", took.as_nanos());
+    began.elapsed()
+}
+
+fn main() {
+    let words: Vec<u32> = env::args().skip(1).map(|word| word.parse().unwrap()).collect();
+    let [threads, held, times, fourth, fifth] = words[..] else {
+        panic!("words: threads held times and two more")
+    };
+    let gate = Gate::new();
+    let out: Vec<Permit> =
+        (0..held).map(|_| admitted(gate.acquire(Part::Unknown, false, 0))).collect();
+    let took = match threads {
+        0 => givings_up(&gate, times, fourth, fifth == 1),
+        _ => timed_pairs(&gate, threads, times, fourth == 1),
+    };
+    let Counters { admitted, success, timed_out, .. } = gate.limiter.lock().unwrap().counters;
+    println!("{} admitted {admitted} success {success} timed out {timed_out}", took.as_nanos());
     drop(out);
 }

@@ -6,6 +6,7 @@ time of each counts, and both must write the same text. Needs rustc for the plai
 """
 import itertools
 import pathlib
+import random
 import subprocess
 import sys
 import tempfile
@@ -14,6 +15,7 @@ import time
 HERE = pathlib.Path(__file__).resolve().parent
 TURNS = 5
 IN_FLIGHT = 10
+CROWD = 8_000
 
 
 def looks(number, now):
@@ -39,7 +41,32 @@ def timeouts(number, now):
     return lines, len(lines)
 
 
-def script(turn, most):
+def crowds(most):
+    """A full limit; one of those in flight ends, drawn at random, and another comes in its place."""
+    drawn, out, open_now = random.Random(1), ["acquire unknown 0"] * CROWD, list(range(CROWD))
+    for number in range(CROWD, most - CROWD, 2):
+        place = drawn.randrange(CROWD)
+        out += [f"end {open_now[place]} success {number}", f"acquire unknown {number}"]
+        open_now[place] = number + 1
+    return out
+
+
+def late(most, order):
+    """A full limit, behind which a crowd waits and gives up again in this order."""
+    out, number = [f"backlog {CROWD}"] + ["acquire unknown 0"] * IN_FLIGHT, IN_FLIGHT
+    while number + 2 * CROWD <= most:
+        waiting = list(range(number, number + CROWD))
+        out += ["acquire unknown 0 wait"] * CROWD
+        out += [f"giveup {waiter}" for waiter in order(waiting)]
+        number += 2 * CROWD
+    return out
+
+
+def in_drawn_order(waiting):
+    return random.Random(1).sample(waiting, len(waiting))
+
+
+def repeated(turn, most):
     """Turns of one kind, of so many lines in all at most."""
     out, number = [], 0
     for now in itertools.count(0, 10):
@@ -57,10 +84,13 @@ def run(words, text):
 
 
 SCRIPTS = [
-    ("acquire, look, end; all entries kept", looks, 99_000),
-    ("the same, past the entries that are kept", looks, 600_000),
-    ("waiting, promotions and claims", promotions, 90_000),
-    ("waiting, claims and timeouts", timeouts, 99_000),
+    ("acquire, look, end; all entries kept", IN_FLIGHT, repeated(looks, 99_000)),
+    ("the same, past the entries that are kept", IN_FLIGHT, repeated(looks, 600_000)),
+    ("waiting, promotions and claims", IN_FLIGHT, repeated(promotions, 90_000)),
+    ("waiting, claims and timeouts", IN_FLIGHT, repeated(timeouts, 99_000)),
+    ("thousands in flight, ended in a drawn order", CROWD, crowds(99_000)),
+    ("thousands wait, and give up oldest first", IN_FLIGHT, late(99_000, list)),
+    ("thousands wait, and give up in a drawn order", IN_FLIGHT, late(99_000, in_drawn_order)),
 ]
 
 
@@ -71,14 +101,13 @@ def main():
     with tempfile.TemporaryDirectory() as folder:
         plain = f"{folder}/plain"
         subprocess.run(["rustc", "-O", "--edition", "2021", "-o", plain, HERE / "plain.rs"], check=True)
-        for name, turn, most in SCRIPTS:
-            lines = script(turn, most)
+        for name, limit, lines in SCRIPTS:
             text = ("\n".join(lines) + "\n").encode()
             ours, theirs = [], []
             for _ in range(TURNS):
-                took, wrote = run([program, "replay", "--limit", str(IN_FLIGHT)], text)
+                took, wrote = run([program, "replay", "--limit", str(limit)], text)
                 ours.append(took)
-                took, wanted = run([plain, str(IN_FLIGHT)], text)
+                took, wanted = run([plain, str(limit)], text)
                 theirs.append(took)
                 assert wrote == wanted, f"{name}: the texts differ"
             ratio = min(ours) / min(theirs)
