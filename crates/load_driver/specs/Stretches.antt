@@ -26,7 +26,8 @@ opened_by by_number number (call ∷ told) = open_after by_number number call
 -- and after an event: an exhausted one opens and ends nothing
 abbrev pub open_then : {S : Type 0} → Algorithm S → Journal S → Open → Event → Open
 open_then rules j by_number e =
-    if is_over rules j e then by_number else opened_by by_number (next_number j) (answered rules j e)
+    if is_over rules j e then by_number
+    else opened_by by_number (next_number j) (answered rules j e)
 
 -- the last stretch, and the open permits, after what is asked
 abbrev pub stretch_after : {S : Type 0} → Algorithm S → Journal S → Asked → Journal S

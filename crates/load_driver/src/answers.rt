@@ -92,8 +92,8 @@ fn answer_lines<L: Limit>(
     Ok(None)
 }
 
-/// Answers lines by a session in which nothing was asked yet: each after all entries so far, however
-/// often its journal rolls.
+/// Answers lines by a session in which nothing was asked yet: each after all entries so far,
+/// however often its journal rolls.
 pub(crate) fn answer_all<L: Limit>(
     session: &mut Session<L>,
     text: &mut String,
