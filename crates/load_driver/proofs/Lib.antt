@@ -1,3 +1,5 @@
 pub mod Sessions
 pub mod Named
 pub mod Openings
+pub mod Stretches
+pub mod Unasked

@@ -1,5 +1,5 @@
 -- The text of a whole script: its settings first, and then its other lines.
-use Rattle.std.specs.Prelude.{ℕ, ◌+◌, false, List, [], ◌∷◌, Option, None, Some, Ok, Err}
+use Rattle.std.specs.Prelude.{ℕ, ◌+◌, List, [], ◌∷◌, Option, None, Some, Ok, Err}
 use Rattle.std.specs.Str.Lines.{lines}
 use Rattle.limit_kinds.specs.declared.kinds.AnyLimit.{AnyLimit}
 use Rattle.limit_kinds.specs.AnyKinds.{any_rules}
@@ -13,10 +13,11 @@ use Rattle.script.specs.Line.{Said, line_of}
 use Rattle.script.specs.Settings.{SettingFacts, Set, no_settings, with_setting, limit_of, room_of, kept_of}
 use Rattle.load_driver.specs.Replay.{Told, lines_text}
 
--- the journal of a limiter that the settings make: fixed at n where they give no limit, and with so
--- many entries kept where they don't say how many
+-- the journal of a limiter that the settings make: fixed at n where they give no limit, with so
+-- many entries kept where they don't say how many, and rolling where they say so
 abbrev pub journal_of : ℕ → ℕ → SettingFacts → Journal AnyLimit
-journal_of n kept s = opened (unasked s.rows (room_of s) (limit_of n s)) (kept_of kept s) false
+journal_of n kept s =
+    opened (unasked s.rows (room_of s) (limit_of n s)) (kept_of kept s) s.is_rolling
 
 -- nothing is written, and this line is at fault
 abbrev pub faulty : ℕ → Why → Told

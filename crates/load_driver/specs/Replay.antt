@@ -1,5 +1,5 @@
 -- The text of a script once its settings are over: line by line, each answered after all entries so
--- far.
+-- far, however often the history rolled since.
 use Rattle.std.specs.Prelude.{ℕ, ◌+◌, true, false, List, [], ◌∷◌, ◌++◌, bytes_eq, codes, Option, None, Some, ok_or, Result, Ok, Err, if◌then◌else◌}
 use Rattle.limit_laws.specs.Algorithm.{Algorithm}
 use Rattle.partitions.specs.declared.part.Part.{Part}
@@ -56,26 +56,31 @@ abbrev pub ending_of : Option PermitFacts → Outcome → ℕ → Asked
 ending_of None outcome now = asked.NotOpen
 ending_of (Some permit) outcome now = asked.Event (event.End permit outcome now)
 
+-- the open permit of each number; and those after all entries of a journal
+abbrev pub Open : Type 0
+Open = ℕ → Option PermitFacts
+
+abbrev pub open_of : {S : Type 0} → Journal S → Open
+open_of j = open_permit j.opening.next j.entries
+
 -- what a request asks
-abbrev pub request_asks : {S : Type 0} → Journal S → Request (List ℕ) → Asks
-request_asks j (Acquire class wait now) =
-    about j.rows class (λ part. event.Acquire part false wait now)
-request_asks j (Bypass now) =
-    Ok (asked.Event (event.Acquire Unknown true false now))
-request_asks j (End number outcome now) =
-    Ok (ending_of (open_permit j.opening.next j.entries number) outcome now)
-request_asks j (Claim number) = Ok (asked.Event (event.Claim number))
-request_asks j (GiveUp number) = Ok (asked.Event (event.GiveUp number))
-request_asks j (SetLimit n now) = Ok (asked.Event (event.SetLimit n now))
-request_asks j (Reset now) = Ok (asked.Event (event.Reset now))
-request_asks j (Look class) = about j.rows class event.Look
+abbrev pub request_asks : List Row → Open → Request (List ℕ) → Asks
+request_asks rows by_number (Acquire class wait now) =
+    about rows class (λ part. event.Acquire part false wait now)
+request_asks rows by_number (Bypass now) = Ok (asked.Event (event.Acquire Unknown true false now))
+request_asks rows by_number (End number outcome now) = Ok (ending_of (by_number number) outcome now)
+request_asks rows by_number (Claim number) = Ok (asked.Event (event.Claim number))
+request_asks rows by_number (GiveUp number) = Ok (asked.Event (event.GiveUp number))
+request_asks rows by_number (SetLimit n now) = Ok (asked.Event (event.SetLimit n now))
+request_asks rows by_number (Reset now) = Ok (asked.Event (event.Reset now))
+request_asks rows by_number (Look class) = about rows class event.Look
 
 -- what a line asks by what it says: a setting comes too late here
-abbrev pub line_asks : {S : Type 0} → Journal S → Said → Asks
-line_asks j (Ok None) = Ok asked.Nothing
-line_asks j (Ok (Some (line.Setting setting))) = Err Late
-line_asks j (Ok (Some (line.Request request))) = request_asks j request
-line_asks j (Err why) = Err why
+abbrev pub line_asks : List Row → Open → Said → Asks
+line_asks rows by_number (Ok None) = Ok asked.Nothing
+line_asks rows by_number (Ok (Some (line.Setting setting))) = Err Late
+line_asks rows by_number (Ok (Some (line.Request request))) = request_asks rows by_number request
+line_asks rows by_number (Err why) = Err why
 
 -- a fact of the event that is asked, if one is
 abbrev pub IfEvent : Asked → (Event → Type 0) → Type 0
@@ -102,9 +107,8 @@ asked_text rules j (asked.Event e) =
     else entries_text j.rows (next_number j) (answered rules j e)
 
 -- by what a line asks: the text of it and of the lines after it, or its fault
-abbrev pub by_asks : {S : Type 0} → Algorithm S → Journal S → ℕ → Asks → (Journal S → Told) → Told
-by_asks rules j number (Ok a) after =
-    after_text (asked_text rules j a) (after (after_asked rules j a))
+abbrev pub by_asks : {S : Type 0} → Algorithm S → Journal S → ℕ → Asks → (Asked → Told) → Told
+by_asks rules j number (Ok a) after = after_text (asked_text rules j a) (after a)
 by_asks rules j number (Err why) after =
     record { out = []; fault = Some (record { line = number; why = why }) }
 
@@ -112,5 +116,5 @@ by_asks rules j number (Err why) after =
 abbrev pub lines_text : {S : Type 0} → Algorithm S → Journal S → ℕ → List (List ℕ) → Told
 lines_text rules j number [] = record { out = []; fault = None }
 lines_text rules j number (line ∷ rest) =
-    by_asks rules j number (line_asks j (line_of (words line)))
-    (λ after. lines_text rules after (number + 1) rest)
+    by_asks rules j number (line_asks j.rows (open_of j) (line_of (words line)))
+    (λ a. lines_text rules (after_asked rules j a) (number + 1) rest)

@@ -4,16 +4,17 @@ ghost use Rattle.std.specs.Prelude.{IfOk, OnOk};
 ghost use Rattle.std.specs.Str.Lines.{lines};
 ghost use Rattle.script.specs.Words.{words};
 ghost use Rattle.script.specs.Line.{line_of};
-ghost use Rattle.limiter_core.specs.Handed.{NamesOpen};
-ghost use Rattle.gate_journal.specs.Journal.{opening};
 ghost use Rattle.load_driver.specs.Replay.{after_text, entries_text, IfEvent, line_asks};
-ghost use Rattle.load_driver.specs.Replay.{after_asked, asked_text, lines_text};
+ghost use Rattle.load_driver.specs.Replay.{asked_text, lines_text};
+ghost use Rattle.load_driver.specs.Session.{open_in, IsUnasked};
+ghost use Rattle.load_driver.specs.Stretches.{IsOpen, stretch_after, open_asked, stretch_text};
 
 use super::asked::{Asked, read_asked};
 use super::session::Session;
 use super::text::push_entry;
+use gate_journal::rolling_runs_are_legal;
 use limit_laws::Limit;
-use limiter_core::Entry;
+use limiter_core::{Entry, open_permits_are_in_flight, open_permits_may_end, soundness_is_kept};
 use partitions::PartitionTable;
 use script::{LineFault, next_line};
 use std::alloc::AllocError;
@@ -22,14 +23,14 @@ use std::alloc::AllocError;
 fn push_entries(
     text: &mut String,
     table: &PartitionTable,
-    first: usize,
+    first: u64,
     entries: &[Entry],
 ) -> Result<(), AllocError>
     requires { first + length entries.now < 2 ^ 64 }
     ensures { OnOk result (string_bytes text.new
         ≡ string_bytes text.old ++ entries_text table.now first entries.now) }
 {
-    let mut number = first as u64;
+    let mut number = first;
     for entry in entries {
         push_entry(text, table, number, *entry)?;
         number += 1;
@@ -43,10 +44,13 @@ fn serve<L: Limit>(
     text: &mut String,
     asked: Asked,
 ) -> Result<(), AllocError>
-    requires { IfEvent asked (NamesOpen (opening session.old) session.old.entries) }
-    ensures session { OnOk result (session.new ≡ after_asked L.rules session.old asked) }
+    requires { IfEvent asked (IsOpen (open_in session.old)) }
+    ensures journal { OnOk result
+        (session.new.journal ≡ stretch_after L.rules session.old.journal asked) }
+    ensures opens { OnOk result (open_in session.new
+        ≡ open_asked L.rules session.old.journal (open_in session.old) asked) }
     ensures text { OnOk result (string_bytes text.new
-        ≡ string_bytes text.old ++ asked_text L.rules session.old asked) }
+        ≡ string_bytes text.old ++ asked_text L.rules session.old.journal asked) }
 {
     let event = match asked {
         Asked::Nothing => return Ok(()),
@@ -54,13 +58,16 @@ fn serve<L: Limit>(
         Asked::Event(event) => event,
     };
     match session.ask(event)? {
-        Some(first) => push_entries(text, session.table(), first, &session.entries()[first..]),
+        Some(added) => {
+            let entries = &session.entries()[added.place..];
+            push_entries(text, session.table(), added.number, entries)
+        }
         None => text.push_str("- exhausted\n"),
     }
 }
 
 /// Answers lines, the first of which has this number, up to their end or to the first one at fault.
-pub(crate) fn answer_lines<L: Limit>(
+fn answer_lines<L: Limit>(
     session: &mut Session<L>,
     text: &mut String,
     script: &[u8],
@@ -69,7 +76,8 @@ pub(crate) fn answer_lines<L: Limit>(
     requires { first + length script.now < 2 ^ 64 }
     ensures { IfOk result (λ fault. record { out = string_bytes text.new; fault = fault }
         ≡ after_text (string_bytes text.old)
-        (lines_text L.rules session.old first (lines script.now))) }
+        (stretch_text L.rules session.old.journal (open_in session.old) first
+        (lines script.now))) }
 {
     let mut rest = script;
     let mut number = first;
@@ -82,4 +90,27 @@ pub(crate) fn answer_lines<L: Limit>(
         number += 1;
     }
     Ok(None)
+}
+
+/// Answers lines by a session in which nothing was asked yet: each after all entries so far,
+/// however often its journal rolls.
+pub(crate) fn answer_all<L: Limit>(
+    session: &mut Session<L>,
+    text: &mut String,
+    script: &[u8],
+    first: u64,
+) -> Result<Option<LineFault>, AllocError>
+    requires short { first + length script.now < 2 ^ 64 }
+    requires unasked { IsUnasked session.old.journal }
+    requires none_open { session.old.permits ≡ [] }
+    ensures { IfOk result (λ fault. record { out = string_bytes text.new; fault = fault }
+        ≡ after_text (string_bytes text.old)
+        (lines_text L.rules session.old.journal first (lines script.now))) }
+{
+    rolling_runs_are_legal::<L>();
+    soundness_is_kept::<L>();
+    open_permits_may_end::<L>();
+    open_permits_are_in_flight::<L>();
+    let _entries = session.entries();
+    answer_lines(session, text, script, first)
 }

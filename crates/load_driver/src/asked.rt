@@ -4,10 +4,9 @@ ghost use Rattle.script.specs.declared.why.Why.TheVariants.{Class};
 ghost use Rattle.script.specs.Words.{words};
 ghost use Rattle.script.specs.Request.{request_bytes};
 ghost use Rattle.script.specs.Line.{line_of};
-ghost use Rattle.limiter_core.specs.Open.{open_permit};
-ghost use Rattle.limiter_core.specs.Handed.{NamesOpen};
-ghost use Rattle.gate_journal.specs.Journal.{opening};
 ghost use Rattle.load_driver.specs.Replay.{part_of, ending_of, request_asks, line_asks, IfEvent};
+ghost use Rattle.load_driver.specs.Session.{open_in};
+ghost use Rattle.load_driver.specs.Stretches.{IsOpen};
 
 use super::session::Session;
 use limit_laws::Limit;
@@ -38,9 +37,8 @@ fn read_part(table: &PartitionTable, class: &[u8]) -> Result<Part, Why>
 
 /// The end of a permit, where it is open.
 fn read_end<L: Limit>(session: &Session<L>, number: u64, outcome: Outcome, now: u64) -> Asked
-    ensures asked { result ≡ ending_of
-        (open_permit session.now.opening.next session.now.entries number) outcome now }
-    ensures named { IfEvent result (NamesOpen (opening session.now) session.now.entries) }
+    ensures asked { result ≡ ending_of (open_in session.now number) outcome now }
+    ensures named { IfEvent result (IsOpen (open_in session.now)) }
 {
     match session.permit(number) {
         Some(permit) => Asked::Event(Event::End {
@@ -54,9 +52,10 @@ fn read_end<L: Limit>(session: &Session<L>, number: u64, outcome: Outcome, now: 
 
 /// What a request asks, or that the table has no such class.
 fn read_request<L: Limit>(session: &Session<L>, request: Request<&[u8]>) -> Result<Asked, Why>
-    ensures asked { result ≡ request_asks session.now (request_bytes request.entry) }
-    ensures named { IfOk result (λ asked.
-        IfEvent asked (NamesOpen (opening session.now) session.now.entries)) }
+    ensures asked { result
+        ≡ request_asks session.now.journal.rows (open_in session.now)
+        (request_bytes request.entry) }
+    ensures named { IfOk result (λ asked. IfEvent asked (IsOpen (open_in session.now))) }
 {
     let event = match request {
         Request::Acquire { class, wait, now } => Event::Acquire {
@@ -89,9 +88,9 @@ fn read_request<L: Limit>(session: &Session<L>, request: Request<&[u8]>) -> Resu
 
 /// What a line asks behind the settings, or why it is at fault.
 pub(crate) fn read_asked<L: Limit>(session: &Session<L>, line: &[u8]) -> Result<Asked, Why>
-    ensures asked { result ≡ line_asks session.now (line_of (words line.now)) }
-    ensures named { IfOk result (λ asked.
-        IfEvent asked (NamesOpen (opening session.now) session.now.entries)) }
+    ensures asked { result
+        ≡ line_asks session.now.journal.rows (open_in session.now) (line_of (words line.now)) }
+    ensures named { IfOk result (λ asked. IfEvent asked (IsOpen (open_in session.now))) }
 {
     match read_line(line)? {
         None => Ok(Asked::Nothing),

@@ -9,7 +9,7 @@ ghost use Rattle.script.specs.Line.{line_of};
 ghost use Rattle.script.specs.Settings.{no_settings, with_setting};
 ghost use Rattle.load_driver.specs.Opening.{script_text, replay_text, text_after};
 
-use super::answers::answer_lines;
+use super::answers::answer_all;
 use super::session::Session;
 use script::{Line, LineFault, Settings, next_line, read_line};
 use std::alloc::{AllocError, Global};
@@ -87,7 +87,9 @@ pub(crate) fn answer_script(
     let limit = settings.limit(n);
     let room = settings.room();
     let kept = settings.kept(kept);
-    let mut session = Session::new(alloc, limit, settings.into_table(), room, kept)?;
-    let fault = answer_lines(&mut session, &mut text, rest, line)?;
+    let is_rolling = settings.is_rolling();
+    let table = settings.into_table();
+    let mut session = Session::new(alloc, limit, table, room, kept, is_rolling)?;
+    let fault = answer_all(&mut session, &mut text, rest, line)?;
     Ok((text, fault))
 }

@@ -1,17 +1,19 @@
 // A journal with the permits that are open in it.
-ghost use Rattle.std.specs.Prelude.{◌≡◌, ◌≤◌, ◌<◌, ℕ, false, length, nat_eq, Some, ◌==◌, if◌then◌else◌};
-ghost use Rattle.std.specs.Prelude.{IfOk, IfSome, OnSome, IfNone, is_none};
+ghost use Rattle.std.specs.Prelude.{◌≡◌, ◌≤◌, ◌<◌, ◌+◌, ◌^◌, ℕ, [], drop, length, nat_eq, Some};
+ghost use Rattle.std.specs.Prelude.{◌==◌, if◌then◌else◌, IfOk, IfSome, OnOk, is_none};
 ghost use Rattle.std.specs.HashMap.{get, spare};
-ghost use Rattle.lifo_backlog.specs.Waiters.{most_waiters};
 ghost use Rattle.limiter_core.specs.declared.event.Entry.TheVariants.{Call};
 ghost use Rattle.lifo_backlog.specs.Waiters.{most_waiters};
+ghost use Rattle.limiter_core.specs.Bound.{IsSound};
 ghost use Rattle.limiter_core.specs.Limiter.{unasked};
-ghost use Rattle.limiter_core.specs.Open.{open_permit};
-ghost use Rattle.limiter_core.specs.Handed.{NamesOpen, open_after};
-ghost use Rattle.gate_journal.specs.Journal.{opening, next_number, is_over, with_answer};
+ghost use Rattle.limiter_core.specs.Handed.{open_after};
+ghost use Rattle.gate_journal.specs.Journal.{gate, opening, next_number, is_over, answered};
 ghost use Rattle.gate_journal.specs.Journal.{opened, most_kept};
+ghost use Rattle.gate_journal.specs.Rolling.{after};
+ghost use Rattle.load_driver.specs.Session.{open_in};
+ghost use Rattle.load_driver.specs.Stretches.{IsOpen, open_then};
 
-use gate_journal::{Journal, JournalFault};
+use gate_journal::{Journal, JournalFault, rolling_runs_are_legal};
 use limit_laws::{LAST_MOMENT, Limit};
 use limiter_core::{
     Core, CoreFault, Entry, Event, PermitFacts, Reply, open_permits_are_in_flight,
@@ -23,7 +25,7 @@ use std::collections::HashMap;
 use std::marker::Model;
 
 /// A journal with the permits that are open in it, by the number of their acquire: an ending is
-/// found without a walk over the history.
+/// found without a walk over the history, and however often the journal rolled.
 #[derive(Drop)]
 pub(crate) struct Session<L: Limit> {
     journal: Journal<L>,
@@ -31,30 +33,41 @@ pub(crate) struct Session<L: Limit> {
 }
 
 impl<L: Limit> Model for Session<L> {
-    ghost use Rattle.gate_journal.specs.Journal.{Journal};
-    ghost use Rattle.load_driver.specs.Session.{IsSession};
+    ghost use Rattle.load_driver.specs.Session.{Session, IsSession};
 
-    ghost Value = { Journal L };
+    ghost Value = { Session L };
 
-    ghost view = { λ s. s.journal };
+    ghost view = { λ s. record { journal = s.journal; permits = s.permits.entries } };
 
     ghost invariant = { λ s. IsSession L.rules s.journal s.permits };
 }
 
+/// Where the entries of an answer stand: the number of the first, and its place among those that
+/// are held.
+#[derive(Clone, Copy)]
+pub(crate) struct Added {
+    pub(crate) number: u64,
+    pub(crate) place: usize,
+}
+
 impl<L: Limit> Session<L> {
-    /// Nothing was asked yet; up to `room` may wait.
+    /// Nothing was asked yet; up to `room` may wait, and so many entries are kept of a history
+    /// that rolls or doesn't.
     pub(crate) fn new(
         alloc: Global,
         limit: L,
         table: PartitionTable,
         room: u32,
         kept: usize,
+        is_rolling: bool,
     ) -> Result<Session<L>, AllocError>
         requires room { room ≤ most_waiters }
         requires some_kept { 1 ≤ kept }
         requires few_kept { kept ≤ most_kept }
-        ensures { IfOk result (λ session.
-            session ≡ opened (unasked table room limit) kept false) }
+        ensures { IfOk result (λ session. session ≡ record {
+          journal = opened (unasked table room limit) kept is_rolling;
+          permits = [];
+        }) }
     {
         open_permits_are_in_flight::<L>();
         let core = match Core::new(alloc, limit, table, room) {
@@ -62,11 +75,12 @@ impl<L: Limit> Session<L> {
             Err(CoreFault::Memory) => return Err(AllocError),
             Err(CoreFault::Room) => unreachable!(),
         };
-        let journal = match Journal::new(alloc, core, kept, false) {
+        let journal = match Journal::new(alloc, core, kept, is_rolling) {
             Ok(journal) => journal,
             Err(JournalFault::Memory) => return Err(AllocError),
             Err(JournalFault::Places) => unreachable!(),
         };
+        let _entries = journal.entries();
         Ok(Session {
             journal,
             permits: HashMap::new(alloc),
@@ -75,48 +89,56 @@ impl<L: Limit> Session<L> {
 
     /// The partitions of the limiter.
     pub(crate) fn table(&self) -> &PartitionTable
-        ensures { result.now ≡ self.now.rows }
+        ensures { result.now ≡ self.now.journal.rows }
     {
         self.journal.core().table()
     }
 
-    /// The open permit of a number.
+    /// The open permit of a number, which is its own.
     pub(crate) fn permit(&self, number: u64) -> Option<PermitFacts>
-        ensures { result ≡ open_permit self.now.opening.next self.now.entries number }
+        ensures found { result ≡ open_in self.now number }
+        ensures own { IfSome result (λ permit. permit.number ≡ number) }
     {
         self.permits.get(&number).copied()
     }
 
-    /// All that was asked and answered, in order.
+    /// The entries that are held, in order.
     pub(crate) fn entries(&self) -> &[Entry]
-        ensures { result.now ≡ self.now.entries }
+        ensures entries { result.now ≡ self.now.journal.entries }
+        ensures sound { IsSound (gate L.rules self.now.journal) (opening self.now.journal) }
     {
         self.journal.entries()
     }
 
-    /// Answers an event, and gives the place of the first entry that this adds, which is its number
-    /// too; nothing where the journal is exhausted. An ending names an open permit.
-    pub(crate) fn ask(&mut self, event: Event) -> Result<Option<usize>, AllocError>
-        requires { NamesOpen (opening self.old) self.old.entries event }
-        ensures exhausted { IfOk result (λ first.
-            is_none first ≡ is_over L.rules self.old event) }
-        ensures unchanged { IfOk result (λ first. IfNone first (self.new ≡ self.old)) }
-        ensures number { IfOk result (λ first.
-            IfSome first (λ number. number ≡ next_number self.old)) }
-        ensures place { IfOk result (λ first.
-            IfSome first (λ place. place ≡ length self.old.entries)) }
-        ensures entries { IfOk result (λ first.
-            OnSome first (self.new ≡ with_answer L.rules self.old event)) }
+    /// Answers an event, and says where the entries stand that this adds; nothing where the journal
+    /// is exhausted. An ending names an open permit.
+    pub(crate) fn ask(&mut self, event: Event) -> Result<Option<Added>, AllocError>
+        requires { IsOpen (open_in self.old) event }
+        ensures exhausted { IfOk result (λ added.
+            is_none added ≡ is_over L.rules self.old.journal event) }
+        ensures number { IfOk result (λ added.
+            IfSome added (λ at. at.number ≡ next_number self.old.journal)) }
+        ensures entries { IfOk result (λ added. IfSome added (λ at.
+            drop at.place self.new.journal.entries ≡ answered L.rules self.old.journal event)) }
+        ensures inside { IfOk result (λ added. IfSome added (λ at.
+            at.place ≤ length self.new.journal.entries)) }
+        ensures numbered { IfOk result (λ added. IfSome added (λ at.
+            at.number + length (drop at.place self.new.journal.entries) < 2 ^ 64)) }
+        ensures journal { OnOk result (self.new.journal ≡ after L.rules self.old.journal event) }
+        ensures opens { OnOk result (open_in self.new
+            ≡ open_then L.rules self.old.journal (open_in self.old) event) }
     {
         open_permits_may_end::<L>();
         open_permits_are_in_flight::<L>();
+        rolling_runs_are_legal::<L>();
         self.journal.check();
         self.permits.reserve(1)?;
-        let first = self.journal.entries().len();
         match self.journal.apply(event) {
             Some((number, reply)) => {
                 note(&mut self.permits, number, event, reply);
-                Ok(Some(first))
+                let place = (number - self.journal.base()) as usize;
+                let _next = self.journal.number();
+                Ok(Some(Added { number, place }))
             }
             None => Ok(None),
         }

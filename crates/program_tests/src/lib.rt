@@ -12,6 +12,8 @@ mod line_fault_tests;
 #[cfg(test)]
 mod replay_tests;
 #[cfg(test)]
+mod rolling_tests;
+#[cfg(test)]
 mod run_tests;
 #[cfg(test)]
 mod words_tests;

@@ -25,6 +25,7 @@ backlog 10001
 backlog 5
 keep 0
 keep 5
+keep 5 rolling
 ";
 
 const NO_CLASS: &str = "\

@@ -1,5 +1,5 @@
 -- The settings that lines give, by their words.
-use Rattle.std.specs.Prelude.{ℕ, List, Option, None, option_map, bytes_eq, codes, if◌then◌else◌}
+use Rattle.std.specs.Prelude.{ℕ, Bool, true, false, List, [], ◌∷◌, Option, None, Some, option_map, bytes_eq, codes, if◌then◌else◌}
 use Rattle.std.specs.Borrow.{Bor}
 use Rattle.script.specs.declared.setting.Setting.{Setting}
 use Rattle.script.specs.declared.setting.Setting.TheVariants.{Limit, Window, Class, Backlog, Keep}
@@ -12,6 +12,16 @@ abbrev pub class_line : List (List ℕ) → Option (Setting (List ℕ))
 class_line ws =
     with_word (λ name. with_number (λ percent. alone (Class name percent))) ws
 
+-- whether the rest of a line says `rolling`, where it says nothing else
+abbrev pub rolling_of : List (List ℕ) → Option Bool
+rolling_of [] = Some false
+rolling_of (word ∷ []) = if bytes_eq word (codes "rolling") then Some true else None
+rolling_of _ = None
+
+-- what follows `keep`: a number, with `rolling` or without it
+abbrev pub keep_line : List (List ℕ) → Option (Setting (List ℕ))
+keep_line ws = with_number (λ entries rest. option_map (Keep entries) (rolling_of rest)) ws
+
 -- the setting of a line by its first word and the others; nothing where it has no setting's format
 abbrev pub setting_of : List ℕ → List (List ℕ) → Option (Setting (List ℕ))
 setting_of first rest =
@@ -19,7 +29,7 @@ setting_of first rest =
     else (if bytes_eq first (codes "window") then option_map Window (window_line rest)
     else (if bytes_eq first (codes "class") then class_line rest
     else (if bytes_eq first (codes "backlog") then option_map Backlog (lone_number rest)
-    else (if bytes_eq first (codes "keep") then option_map Keep (lone_number rest)
+    else (if bytes_eq first (codes "keep") then keep_line rest
     else None))))
 
 -- a setting with the bytes of its class's name
@@ -28,4 +38,4 @@ setting_bytes (Limit line) = Limit line
 setting_bytes (Window line) = Window line
 setting_bytes (Class name percent) = Class name.now percent
 setting_bytes (Backlog room) = Backlog room
-setting_bytes (Keep entries) = Keep entries
+setting_bytes (Keep entries is_rolling) = Keep entries is_rolling

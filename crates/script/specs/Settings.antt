@@ -1,5 +1,5 @@
 -- The settings of a script, line by line.
-use Rattle.std.specs.Prelude.{◌≡◌, ℕ, ◌^◌, nat_lt, nat_le, ◌&&◌, List, [], ◌∷◌, ◌++◌, Option, None, Some, is_none, unwrap_or, Result, Ok, Err, MatchResult, if◌then◌else◌}
+use Rattle.std.specs.Prelude.{◌≡◌, ℕ, Bool, false, ◌^◌, nat_lt, nat_le, ◌&&◌, List, [], ◌∷◌, ◌++◌, Option, None, Some, is_none, unwrap_or, Result, Ok, Err, MatchResult, if◌then◌else◌}
 use Rattle.partitions.specs.Table.{Row}
 use Rattle.partitions.specs.Faults.{fault_of}
 use Rattle.lifo_backlog.specs.Waiters.{most_waiters}
@@ -19,16 +19,24 @@ use Rattle.script.specs.LimitLine.{base_of}
 use Rattle.script.specs.WindowLine.{windows_of}
 
 -- the settings so far: the limit, the windows over it, how many may wait and how many entries are
--- kept, where a line gave them, and the known partitions
+-- kept, where a line gave them, whether the history rolls, and the known partitions
 pub record SettingFacts : Type 0 where
   pub limit : Option BaseLimit
   pub window : Option WindowNumbers
   pub backlog : Option ℕ
   pub keep : Option ℕ
+  pub is_rolling : Bool
   pub rows : List Row
 
 abbrev pub no_settings : SettingFacts
-no_settings = record { limit = None; window = None; backlog = None; keep = None; rows = [] }
+no_settings = record {
+  limit = None;
+  window = None;
+  backlog = None;
+  keep = None;
+  is_rolling = false;
+  rows = [];
+}
 
 -- what a setting leads to: the settings with it, or why it is at fault
 abbrev pub Set : Type 0
@@ -58,11 +66,12 @@ with_backlog s room =
     once s.backlog
     (if nat_le room most_waiters then Ok (record s { backlog = Some room }) else Err Value)
 
--- 1 to 1,000,000 entries are kept
-abbrev pub with_keep : SettingFacts → ℕ → Set
-with_keep s entries =
+-- 1 to 1,000,000 entries are kept, of a history that rolls or doesn't
+abbrev pub with_keep : SettingFacts → ℕ → Bool → Set
+with_keep s entries is_rolling =
     once s.keep
-    (if nat_le 1 entries && nat_le entries most_kept then Ok (record s { keep = Some entries })
+    (if nat_le 1 entries && nat_le entries most_kept
+    then Ok (record s { keep = Some entries; is_rolling = is_rolling })
     else Err Value)
 
 -- one more partition: its percentage fits 32 bits, and the partitions with it make a table
@@ -78,7 +87,7 @@ with_setting s (Limit line) = with_limit s line
 with_setting s (Window line) = with_window s line
 with_setting s (Class name percent) = with_row s (record { name = name; percent = percent })
 with_setting s (Backlog room) = with_backlog s room
-with_setting s (Keep entries) = with_keep s entries
+with_setting s (Keep entries is_rolling) = with_keep s entries is_rolling
 
 -- the limit of the settings, which is fixed at n where no line gave one
 abbrev pub base_or : ℕ → Option BaseLimit → BaseLimit

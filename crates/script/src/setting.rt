@@ -1,7 +1,7 @@
 // The lines that set.
 ghost use Rattle.std.specs.Prelude.{◌≡◌, option_map};
 ghost use Rattle.script.specs.Words.{words};
-ghost use Rattle.script.specs.Setting.{class_line, setting_of, setting_bytes};
+ghost use Rattle.script.specs.Setting.{class_line, rolling_of, keep_line, setting_of, setting_bytes};
 
 use super::limit_line::{LimitLine, read_limit};
 use super::numbers::{next_number, read_lone_number};
@@ -20,8 +20,8 @@ pub enum Setting<C> {
     Class { name: C, percent: u64 },
     /// How many may wait.
     Backlog { room: u64 },
-    /// How many entries of the history are kept.
-    Keep { entries: u64 },
+    /// How many entries of the history are kept, and whether it rolls.
+    Keep { entries: u64, is_rolling: bool },
 }
 
 /// What follows `class`: a name, and a percentage.
@@ -34,6 +34,31 @@ fn read_class(line: &[u8]) -> Option<Setting<&[u8]>>
         return None;
     }
     Some(Setting::Class { name, percent })
+}
+
+/// Whether the rest of a line says `rolling`; nothing where it says anything else.
+fn read_rolling(line: &[u8]) -> Option<bool>
+    ensures { result ≡ rolling_of (words line.now) }
+{
+    let Some((word, line)) = next_word(line) else {
+        return Some(false);
+    };
+    if next_word(line).is_some() || word != b"rolling".as_slice() {
+        return None;
+    }
+    Some(true)
+}
+
+/// What follows `keep`: a number, and `rolling` or nothing.
+fn read_keep(line: &[u8]) -> Option<Setting<&[u8]>>
+    ensures { option_map setting_bytes result ≡ keep_line (words line.now) }
+{
+    let (entries, line) = next_number(line)?;
+    let is_rolling = read_rolling(line)?;
+    Some(Setting::Keep {
+        entries,
+        is_rolling,
+    })
 }
 
 /// The setting of a line by its first word and the rest; nothing where it has no setting's format.
@@ -50,8 +75,7 @@ pub(crate) fn read_setting<'a>(first: &[u8], line: &'a [u8]) -> Option<Setting<&
         let room = read_lone_number(line)?;
         Some(Setting::Backlog { room })
     } else if first == b"keep".as_slice() {
-        let entries = read_lone_number(line)?;
-        Some(Setting::Keep { entries })
+        read_keep(line)
     } else {
         None
     }

@@ -30,6 +30,7 @@ pub struct Settings<'a> {
     windows: Option<WindowSettings>,
     backlog: Option<u32>,
     keep: Option<usize>,
+    is_rolling: bool,
     rows: Vec<(&'a [u8], u32)>,
     table: PartitionTable,
 }
@@ -48,6 +49,7 @@ impl<'a> Model for Settings<'a> {
       window = s.windows;
       backlog = s.backlog;
       keep = s.keep;
+      is_rolling = s.is_rolling;
       rows = given s.rows.items;
     } };
 
@@ -73,6 +75,7 @@ impl<'a> Settings<'a> {
             windows: None,
             backlog: None,
             keep: None,
+            is_rolling: false,
             rows: Vec::new(alloc),
             table: PartitionTable::unknown_only(),
         }
@@ -92,7 +95,10 @@ impl<'a> Settings<'a> {
             Setting::Window(line) => Ok(self.take_window(line)),
             Setting::Class { name, percent } => self.take_class(name, percent),
             Setting::Backlog { room } => Ok(self.take_backlog(room)),
-            Setting::Keep { entries } => Ok(self.take_keep(entries)),
+            Setting::Keep {
+                entries,
+                is_rolling,
+            } => Ok(self.take_keep(entries, is_rolling)),
         }
     }
 
@@ -138,10 +144,10 @@ impl<'a> Settings<'a> {
         Ok(())
     }
 
-    /// Takes how many entries are kept.
-    fn take_keep(&mut self, entries: u64) -> Result<(), Why>
-        ensures taken { OnOk result (with_keep self.old entries ≡ Ok self.new) }
-        ensures fault { IfErr result (λ why. with_keep self.old entries ≡ Err why) }
+    /// Takes how many entries are kept, and whether the history rolls.
+    fn take_keep(&mut self, entries: u64, is_rolling: bool) -> Result<(), Why>
+        ensures taken { OnOk result (with_keep self.old entries is_rolling ≡ Ok self.new) }
+        ensures fault { IfErr result (λ why. with_keep self.old entries is_rolling ≡ Err why) }
         ensures unchanged { OnErr result (self.new ≡ self.old) }
     {
         if self.keep.is_some() {
@@ -151,6 +157,7 @@ impl<'a> Settings<'a> {
             return Err(Why::Value);
         }
         self.keep = Some(entries as usize);
+        self.is_rolling = is_rolling;
         Ok(())
     }
 
@@ -212,6 +219,13 @@ impl<'a> Settings<'a> {
         ensures most { result ≤ most_kept }
     {
         self.keep.unwrap_or(usual)
+    }
+
+    /// Whether the history rolls: where a line says so.
+    pub fn is_rolling(&self) -> bool
+        ensures { result ≡ self.now.is_rolling }
+    {
+        self.is_rolling
     }
 
     /// The table of the known partitions.

@@ -1,21 +1,29 @@
-use Rattle.std.proofs.Common.{ap, ◌∙◌}
-use Rattle.gate_journal.specs.Journal.{Journal, with_answer}
-use Rattle.load_driver.proofs.Sessions.{may, goes_on, stays, continued_still}
+use Rattle.std.proofs.Common.{refl, ap, ◌∙◌}
+use Rattle.gate_journal.specs.Journal.{answered}
+use Rattle.load_driver.specs.Session.{Session}
+use Rattle.load_driver.proofs.Sessions.{may, goes_on, stays, journal_then, opens_then, opens_still}
+use Rattle.load_driver.proofs.Sessions.{entries_from}
 use Rattle.load_driver.proofs.session.Session.ask.Goals as goal
+
+pub invariant_of-self : goal.invariant_of-self
+invariant_of-self g c =
+    stays g.L.Limit.rules c.self.inside.journal c.self.inside.permits c.reserve.new.self
+    c.self.inside.journal c.self.invariant refl c.reserve.ensures.entries.2
 
 pub apply-requires : goal.apply-requires
 apply-requires g c =
-    may g.L.Limit.rules _ _ c.self.view_is c.self.inside.permits c.self.invariant c.args.event
-    c.requires c.open_permits_may_end.ensures
+    may g.L.Limit.rules c.self.inside.journal c.self.inside.permits c.args.self.now
+    c.self.view_is c.self.invariant c.args.event c.requires c.open_permits_may_end.ensures
 
 pub invariant_of-self-in-Some : goal.invariant_of-self-in-Some
 invariant_of-self-in-Some g c =
-    goes_on g.L.Limit.rules _ _ c.self.view_is c.self.inside.permits c.self.invariant c.args.event
-    c.requires c.check.ensures.legal c.check.ensures.sound
+    goes_on g.L.Limit.rules c.self.inside.journal c.self.inside.permits c.args.self.now
+    c.self.view_is c.self.invariant c.args.event c.requires c.reserve.new.self c.note.new.permits
+    c.in-Some.number c.in-Some.reply c.in-Some.ensures.number c.in-Some.ensures.reply
+    c.reserve.ensures.entries.2 c.note.ensures (c.rolling_runs_are_legal.ensures.stretches g.L.Limit.rules)
+    c.check.ensures.sound c.open_permits_may_end.ensures
     c.open_permits_are_in_flight.ensures.answer c.open_permits_are_in_flight.ensures.call
-    c.reserve.new.self c.note.new.permits c.in-Some.number c.in-Some.reply c.apply.new.self
-    c.in-Some.ensures.number c.in-Some.ensures.reply c.in-Some.ensures.entries
-    c.reserve.ensures.entries.2 c.note.ensures
+    c.apply.new.self c.in-Some.ensures.entries
 
 pub invariant_of-self-in-None : goal.invariant_of-self-in-None
 invariant_of-self-in-None g c =
@@ -24,6 +32,27 @@ invariant_of-self-in-None g c =
 
 pub returns-in-Some-clause-entries : goal.returns-in-Some-clause-entries
 returns-in-Some-clause-entries g c =
-    c.in-Some.ensures.entries
-    ∙ continued_still g.L.Limit.rules c.self.inside.journal c.args.event c.self.invariant.stays
-    ∙ ap (λ (v : Journal g.row.L.Denot). with_answer g.L.Limit.rules v c.args.event) c.self.view_is
+    entries_from g.L.Limit.rules c.self.inside.journal c.apply.new.self c.args.event
+    c.in-Some.ensures.entries c.check.ensures.anew (c.check.ensures.same c.args.event)
+    c.in-Some.number c.base.result c.in-Some.ensures.number c.base.ensures
+    ∙ ap (λ (v : Session g.row.L.Denot). answered g.L.Limit.rules v.journal c.args.event)
+    c.self.view_is
+
+pub returns-in-Some-clause-journal : goal.returns-in-Some-clause-journal
+returns-in-Some-clause-journal g c =
+    journal_then g.L.Limit.rules c.self.inside.journal c.self.inside.permits c.args.self.now
+    c.self.view_is c.self.invariant c.args.event c.requires c.apply.new.self
+    c.in-Some.ensures.exhausted c.in-Some.ensures.entries
+
+pub returns-in-Some-clause-opens : goal.returns-in-Some-clause-opens
+returns-in-Some-clause-opens g c =
+    opens_then g.L.Limit.rules c.self.inside.journal c.self.inside.permits c.args.self.now
+    c.self.view_is c.self.invariant c.args.event c.requires c.reserve.new.self c.note.new.permits
+    c.in-Some.number c.in-Some.reply c.in-Some.ensures.number c.in-Some.ensures.reply
+    c.reserve.ensures.entries.2 c.note.ensures c.apply.new.self c.in-Some.ensures.exhausted
+
+pub returns-in-None-clause-opens : goal.returns-in-None-clause-opens
+returns-in-None-clause-opens g c =
+    opens_still g.L.Limit.rules c.self.inside.journal c.self.inside.permits c.args.self.now
+    c.self.view_is c.self.invariant c.args.event c.requires c.reserve.new.self c.apply.new.self
+    c.in-None.ensures.exhausted c.reserve.ensures.entries.2

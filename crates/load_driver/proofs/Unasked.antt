@@ -1,0 +1,102 @@
+-- A session in which nothing was asked yet, and the text of its lines.
+use Rattle.std.proofs.Common.{◌≡◌, ℕ, zero, suc, Bool, List, [], ◌∷◌, length}
+use Rattle.std.proofs.Common.{slice_index, nat_eq, refl, sym, ap, ◌∙◌, subst}
+use Rattle.std.specs.Map.{lookup}
+use Rattle.limit_laws.specs.Algorithm.{Algorithm, IsLawful}
+use Rattle.partitions.specs.Table.{Row}
+use Rattle.limiter_core.specs.declared.event.PermitFacts.{PermitFacts}
+use Rattle.limiter_core.specs.declared.event.Entry.{Entry}
+use Rattle.limiter_core.specs.History.{Gate, Image, image_after, empty_image}
+use Rattle.limiter_core.specs.Bound.{IsSound}
+use Rattle.limiter_core.specs.Legal.{IsLegal, nothing}
+use Rattle.limiter_core.specs.Limiter.{Limiter, unasked}
+use Rattle.limiter_core.specs.Handed.{IsHanded}
+use Rattle.limiter_core.specs.Laws.{MayEndOpen, BeginsHanded, AnswersHanded, OpensByItsCall}
+use Rattle.limiter_core.specs.Laws.{StaysSound}
+use Rattle.gate_journal.specs.Journal.{Journal, gate, opening, opened}
+use Rattle.gate_journal.specs.Rolling.{IsLastStretch, StretchesJoin}
+use Rattle.load_driver.specs.Replay.{lines_text}
+use Rattle.load_driver.specs.Session.{Permits, IsSession, IsUnasked}
+use Rattle.load_driver.specs.Stretches.{stretch_text}
+use Rattle.load_driver.proofs.Stretches.{Holds, text_of_all}
+
+zeros : (p : ℕ) → slice_index (0 ∷ 0 ∷ 0 ∷ 0 ∷ 0 ∷ []) p ≡ 0
+zeros zero = refl
+zeros (suc zero) = refl
+zeros (suc (suc zero)) = refl
+zeros (suc (suc (suc zero))) = refl
+zeros (suc (suc (suc (suc zero)))) = refl
+zeros (suc (suc (suc (suc (suc p))))) = refl
+
+-- a journal that opens with a limiter that was asked nothing
+pub opens_unasked : {S : Type 0} (rows : List Row) (room : ℕ) (limit : S) (core : Limiter S)
+    (kept : ℕ) (is_rolling : Bool) (j : Journal S) → core ≡ unasked rows room limit
+    → j ≡ opened core kept is_rolling → IsUnasked j
+opens_unasked {S} rows room limit core kept is_rolling j fresh made =
+    let begun : Journal S = opened (unasked rows room limit) kept is_rolling in
+    let there : IsUnasked begun = record {
+      empty = refl;
+      base = refl;
+      idle = refl;
+      nobody_waits = refl;
+      none_granted = refl;
+    } in
+    subst (λ (w : Journal S). IsUnasked w)
+    (sym (made ∙ ap (λ (c : Limiter S). opened c kept is_rolling) fresh)) there
+
+module _ {S : Type 0} (rules : Algorithm S) (j : Journal S) (fresh : IsUnasked j)
+    (sound : IsSound (gate rules j) (opening j)) (hands : (g : Gate S) → BeginsHanded g) where
+  nothing_stands : empty_image j.opening.state ≡ opening j
+  nothing_stands =
+      λ k. record {
+        state = j.opening.state;
+        inflight = λ p. (sym (zeros p) ∙ (λ i. slice_index (sym fresh.idle i) p)) k;
+        waiters = sym fresh.nobody_waits k;
+        granted = sym fresh.none_granted k;
+        next = sym fresh.base k;
+      }
+
+  handed_now : IsHanded (gate rules j) (opening j) []
+  handed_now =
+      subst (λ (i : Image S). IsHanded (gate rules j) i []) nothing_stands
+      (hands (gate rules j) j.opening.state)
+
+  stretch_now : IsLastStretch rules (opening j) [] j
+  stretch_now = record {
+    four = sound.four;
+    five = ap length fresh.idle;
+    whole = nothing;
+    own = subst (λ (es : List Entry). IsLegal (gate rules j) (opening j) es) (sym fresh.empty)
+        nothing;
+    leads = λ k. image_after (gate rules j) (opening j) (fresh.empty k);
+  }
+
+  holds_now : Holds rules j.opening [] j
+  holds_now = record {
+    stretch = stretch_now;
+    handed = handed_now;
+    sound = sound;
+    short = λ still. ap length (sym fresh.empty);
+  }
+
+  -- a session begins so
+  pub begins : (permits : Permits) → permits.entries ≡ [] → IsSession rules j permits
+  begins permits closed = record {
+    first = opening j;
+    all = [];
+    stretch = stretch_now;
+    handed = handed_now;
+    found = λ n. ap (λ (es : List (ℕ × PermitFacts)). lookup (λ m. nat_eq n m) es) closed;
+  }
+
+  -- its text is that of the whole history
+  pub text_now : IsLawful rules → StretchesJoin rules → ((g : Gate S) → MayEndOpen g)
+      → ((g : Gate S) → AnswersHanded g) → ((g : Gate S) → OpensByItsCall g)
+      → ((g : Gate S) → StaysSound g)
+      → (permits : List (ℕ × PermitFacts)) → permits ≡ [] → (n : ℕ) (ls : List (List ℕ))
+      → stretch_text rules j (λ number. lookup (λ m. nat_eq number m) permits) n ls
+      ≡ lines_text rules j n ls
+  text_now lawful join ends hand opens stays permits closed n ls =
+      text_of_all rules lawful join ends hand opens stays j ls n
+      (λ number. lookup (λ m. nat_eq number m) permits) holds_now fresh.empty
+      (λ k number. lookup (λ m. nat_eq number m) (closed k))
