@@ -1,4 +1,5 @@
 // Readers and writers over memory that cut, and that fail at a chosen call.
+use std::alloc::Global;
 use std::io::{Error, ErrorKind, Read, Result, Write};
 
 /// Gives its bytes, at most `most` in a read, and fails from the call `failing` on.
@@ -24,6 +25,11 @@ impl<'a> Source<'a> {
             call: 0,
             failing,
         }
+    }
+
+    /// How many reads were made.
+    pub fn calls(&self) -> u64 {
+        self.call
     }
 }
 
@@ -53,9 +59,9 @@ pub struct Sink {
 
 impl Sink {
     /// Takes at most `most` bytes of a write, and fails from that call on.
-    pub fn failing(taken: Vec<u8>, most: usize, failing: u64) -> Sink {
+    pub fn new(alloc: Global, most: usize, failing: u64) -> Sink {
         Sink {
-            taken,
+            taken: Vec::new(alloc),
             most,
             call: 0,
             failing,

@@ -11,13 +11,19 @@ mod chunk_tests;
 #[cfg(test)]
 mod continue_tests;
 #[cfg(test)]
+mod cut_tests;
+#[cfg(test)]
 mod devices;
+#[cfg(test)]
+mod failing_tests;
 #[cfg(test)]
 mod length_tests;
 #[cfg(test)]
 mod limit_tests;
 #[cfg(test)]
 mod line_tests;
+#[cfg(test)]
+mod memory_tests;
 #[cfg(test)]
 mod request_tests;
 #[cfg(test)]
