@@ -1,5 +1,4 @@
-//! Tests of the messages' types, of the class of a request and of the configuration, by their
-//! public calls.
+//! Tests of the class of a request and of the configuration, by their public calls.
 #![tactic(auto)]
 
 #[cfg(test)]
@@ -8,5 +7,3 @@ mod classifier_tests;
 mod gate_config_tests;
 #[cfg(test)]
 mod key_edge_tests;
-#[cfg(test)]
-mod wire_tests;

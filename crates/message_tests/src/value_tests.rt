@@ -1,4 +1,4 @@
-// Messages keep what they are given.
+// Values of messages keep what they are given.
 use http::Method;
 use message_parts::*;
 use std::test::Fail;

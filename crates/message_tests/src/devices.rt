@@ -1,0 +1,104 @@
+// Readers and writers over memory that cut, and that fail at a chosen call.
+use std::alloc::Global;
+use std::io::{Error, ErrorKind, Read, Result, Write};
+
+/// Gives its bytes, at most `most` in a read, and fails from the call `failing` on.
+#[derive(Drop)]
+pub struct Source<'a> {
+    pub left: &'a [u8],
+    most: usize,
+    call: u64,
+    failing: u64,
+}
+
+impl<'a> Source<'a> {
+    /// Gives these bytes, at most `most` in a read.
+    pub fn new(bytes: &'a [u8], most: usize) -> Source<'a> {
+        Source::failing(bytes, most, u64::MAX)
+    }
+
+    /// Gives these bytes, at most `most` in a read, and fails from that call on.
+    pub fn failing(bytes: &'a [u8], most: usize, failing: u64) -> Source<'a> {
+        Source {
+            left: bytes,
+            most,
+            call: 0,
+            failing,
+        }
+    }
+
+    /// How many reads were made.
+    pub fn calls(&self) -> u64 {
+        self.call
+    }
+}
+
+impl<'a> Read for Source<'a> {
+    fn read(&mut self, buf: &mut [u8]) -> Result<usize> {
+        let call = self.call;
+        self.call = call.saturating_add(1);
+        if call >= self.failing {
+            return Err(Error::from(ErrorKind::ConnectionReset));
+        }
+        let count = buf.len().min(self.most).min(self.left.len());
+        let (front, rest) = self.left.split_at(count);
+        buf[..count].copy_from_slice(front);
+        self.left = rest;
+        Ok(count)
+    }
+}
+
+/// Takes at most `most` bytes of a write, and fails from the call `failing` on, flushes among them.
+#[derive(Drop)]
+pub struct Sink {
+    taken: Vec<u8>,
+    most: usize,
+    call: u64,
+    failing: u64,
+}
+
+impl Sink {
+    /// Takes at most `most` bytes of a write, and fails from that call on.
+    pub fn new(alloc: Global, most: usize, failing: u64) -> Sink {
+        Sink {
+            taken: Vec::new(alloc),
+            most,
+            call: 0,
+            failing,
+        }
+    }
+
+    /// How many writes and flushes were made.
+    pub fn calls(&self) -> u64 {
+        self.call
+    }
+
+    /// What was taken.
+    pub fn taken(&self) -> &[u8] {
+        self.taken.as_slice()
+    }
+
+    fn next_call(&mut self) -> Result<()> {
+        let call = self.call;
+        self.call = call.saturating_add(1);
+        if call >= self.failing {
+            return Err(Error::from(ErrorKind::BrokenPipe));
+        }
+        Ok(())
+    }
+}
+
+impl Write for Sink {
+    fn write(&mut self, buf: &[u8]) -> Result<usize> {
+        self.next_call()?;
+        let count = buf.len().min(self.most);
+        if self.taken.extend_from_slice(&buf[..count]).is_err() {
+            return Err(Error::from(ErrorKind::OutOfMemory));
+        }
+        Ok(count)
+    }
+
+    fn flush(&mut self) -> Result<()> {
+        self.next_call()
+    }
+}

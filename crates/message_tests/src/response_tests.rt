@@ -1,0 +1,264 @@
+// Responses as they are passed on, and the faults of their parts.
+use super::answers::{Row, check_answer, check_responses, passed_on, repeated};
+use super::devices::Source;
+use http::Method;
+use std::test::Fail;
+use wire::WireFault;
+
+const PASSED_ON: [Row; 16] = [
+    (
+        "HTTP/1.1 503 Busy|Content-Length: 2||no",
+        Ok("HTTP/1.1 503 Service Unavailable|Content-Length: 2|Connection: close||no"),
+    ),
+    (
+        "HTTP/1.1 200 OK||abc",
+        Ok("HTTP/1.1 200 OK|Content-Length: 3|Connection: close||abc"),
+    ),
+    (
+        "HTTP/1.1 200 OK||",
+        Ok("HTTP/1.1 200 OK|Content-Length: 0|Connection: close||"),
+    ),
+    (
+        "HTTP/1.1 200 OK|Transfer-Encoding: chunked||3|abc|0|X: y||",
+        Ok("HTTP/1.1 200 OK|Content-Length: 3|Connection: close||abc"),
+    ),
+    (
+        "HTTP/1.1 200 OK|Content-Length: 3, 3||abcd",
+        Ok("HTTP/1.1 200 OK|Content-Length: 3|Connection: close||abc"),
+    ),
+    (
+        "HTTP/1.0 200 OK||abc",
+        Ok("HTTP/1.1 200 OK|Content-Length: 3|Connection: close||abc"),
+    ),
+    (
+        "HTTP/1.0 404 OK|Content-Length: 3||abc",
+        Ok("HTTP/1.1 404 Not Found|Content-Length: 3|Connection: close||abc"),
+    ),
+    (
+        "||HTTP/1.1 200|Content-Length: 0||",
+        Ok("HTTP/1.1 200 OK|Content-Length: 0|Connection: close||"),
+    ),
+    (
+        "HTTP/1.1 200 |Content-Length: 0||",
+        Ok("HTTP/1.1 200 OK|Content-Length: 0|Connection: close||"),
+    ),
+    (
+        "HTTP/1.1 299 A\tB|Content-Length: 0||",
+        Ok("HTTP/1.1 299 |Content-Length: 0|Connection: close||"),
+    ),
+    (
+        "HTTP/1.1 999 A|Content-Length: 1||a",
+        Ok("HTTP/1.1 999 |Content-Length: 1|Connection: close||a"),
+    ),
+    (
+        "HTTP/1.1 200 \u{e9}\nX: 1\nContent-Length: 1\n\na",
+        Ok("HTTP/1.1 200 OK|X: 1|Content-Length: 1|Connection: close||a"),
+    ),
+    (
+        "HTTP/1.1 200 OK|Connection: x|X: 1|Expect: a|Via: b|Content-Length: 0||",
+        Ok("HTTP/1.1 200 OK|Expect: a|Via: b|Content-Length: 0|Connection: close||"),
+    ),
+    (
+        "HTTP/1.1 200 OK|Upgrade: a|Trailer: b|Keep-Alive: c|Host: h|TE: d|Content-Length: 0||",
+        Ok("HTTP/1.1 200 OK|Host: h|Content-Length: 0|Connection: close||"),
+    ),
+    (
+        "HTTP/1.1 100 Continue||HTTP/1.1 200 OK|Content-Length: 0||",
+        Ok("HTTP/1.1 200 OK|Content-Length: 0|Connection: close||"),
+    ),
+    (
+        "HTTP/1.1 103 A|Content-Length: 3||\n|HTTP/1.1 199 B||HTTP/1.1 200 OK|Content-Length: 0||",
+        Ok("HTTP/1.1 200 OK|Content-Length: 0|Connection: close||"),
+    ),
+];
+
+const WITHOUT_BODY: [Row; 8] = [
+    (
+        "HTTP/1.1 204 No Content|Content-Length: 5||",
+        Ok("HTTP/1.1 204 No Content|Connection: close||"),
+    ),
+    (
+        "HTTP/1.1 204 A|Transfer-Encoding: gzip|Content-Length: a||",
+        Ok("HTTP/1.1 204 No Content|Connection: close||"),
+    ),
+    (
+        "HTTP/1.1 304 A||abc",
+        Ok("HTTP/1.1 304 Not Modified|Connection: close||"),
+    ),
+    (
+        "HTTP/1.1 304 A|Content-Length: 007|X: 1||abc",
+        Ok("HTTP/1.1 304 Not Modified|X: 1|Content-Length: 007|Connection: close||"),
+    ),
+    (
+        "HTTP/1.1 304 A|Content-Length: 5, 5|Connection: content-length||",
+        Ok("HTTP/1.1 304 Not Modified|Content-Length: 5|Connection: close||"),
+    ),
+    (
+        "HTTP/1.1 304 A|Content-Length: 99999999999999999999||",
+        Ok("HTTP/1.1 304 Not Modified|Content-Length: 99999999999999999999|Connection: close||"),
+    ),
+    (
+        "HTTP/1.1 304 A|Content-Length: 5|Content-Length: 6||",
+        Ok("HTTP/1.1 304 Not Modified|Connection: close||"),
+    ),
+    (
+        "HTTP/1.1 304 A|Content-Length: +5||",
+        Ok("HTTP/1.1 304 Not Modified|Connection: close||"),
+    ),
+];
+
+const TO_HEAD: [Row; 9] = [
+    (
+        "HTTP/1.1 200 OK|Content-Length: 5||",
+        Ok("HTTP/1.1 200 OK|Content-Length: 5|Connection: close||"),
+    ),
+    (
+        "HTTP/1.1 200 OK|Content-Length: 8388609||",
+        Ok("HTTP/1.1 200 OK|Content-Length: 8388609|Connection: close||"),
+    ),
+    (
+        "HTTP/1.1 200 OK||abc",
+        Ok("HTTP/1.1 200 OK|Connection: close||"),
+    ),
+    (
+        "HTTP/1.1 200 OK|Transfer-Encoding: chunked||3|abc|0||",
+        Ok("HTTP/1.1 200 OK|Connection: close||"),
+    ),
+    (
+        "HTTP/1.1 200 OK|Transfer-Encoding: gzip||",
+        Ok("HTTP/1.1 200 OK|Connection: close||"),
+    ),
+    (
+        "HTTP/1.1 200 OK|Content-Length: 3|Content-Length: 4||",
+        Ok("HTTP/1.1 200 OK|Connection: close||"),
+    ),
+    (
+        "HTTP/1.1 204 A|Content-Length: 5||",
+        Ok("HTTP/1.1 204 No Content|Connection: close||"),
+    ),
+    ("HTTP/1.1 101 A||", Err(WireFault::Malformed)),
+    ("HTTP/1.1 200 OK|X : a||", Err(WireFault::Malformed)),
+];
+
+const FAULTS: [Row; 40] = [
+    (
+        "HTTP/1.1 101 Switching Protocols||",
+        Err(WireFault::Malformed),
+    ),
+    (
+        "HTTP/1.1 100 Continue||HTTP/1.1 101 A||",
+        Err(WireFault::Malformed),
+    ),
+    ("HTTP/1.1 099 A||", Err(WireFault::Malformed)),
+    ("HTTP/1.1 000 A||", Err(WireFault::Malformed)),
+    ("HTTP/1.1 20 A||", Err(WireFault::Malformed)),
+    ("HTTP/1.1 2000 A||", Err(WireFault::Malformed)),
+    ("HTTP/1.1 +20 A||", Err(WireFault::Malformed)),
+    ("HTTP/1.1 2x0 A||", Err(WireFault::Malformed)),
+    ("HTTP/1.1  200 A||", Err(WireFault::Malformed)),
+    ("HTTP/1.1\t200 A||", Err(WireFault::Malformed)),
+    ("HTTP/1.2 200 A||", Err(WireFault::Malformed)),
+    ("HTTP/2.0 200 A||", Err(WireFault::Malformed)),
+    ("HTTP/2 200 A||", Err(WireFault::Malformed)),
+    ("http/1.1 200 A||", Err(WireFault::Malformed)),
+    ("ICY 200 OK||", Err(WireFault::Malformed)),
+    (" HTTP/1.1 200 A||", Err(WireFault::Malformed)),
+    ("X: a|HTTP/1.1 200 A||", Err(WireFault::Malformed)),
+    ("HTTP/1.1 200 A\0||", Err(WireFault::Malformed)),
+    ("HTTP/1.1 200 A\rB||", Err(WireFault::Malformed)),
+    ("HTTP/1.1 200 A|X : a||", Err(WireFault::Malformed)),
+    ("HTTP/1.1 200 A|X: a| b||", Err(WireFault::Malformed)),
+    ("HTTP/1.1 200 A| X: a||", Err(WireFault::Malformed)),
+    ("HTTP/1.1 200 A|: a||", Err(WireFault::Malformed)),
+    (
+        "HTTP/1.1 200 A|Transfer-Encoding : chunked||0||",
+        Err(WireFault::Malformed),
+    ),
+    (
+        "HTTP/1.1 200 A|Content-Length: 3|Content-Length: 4||abcd",
+        Err(WireFault::Malformed),
+    ),
+    (
+        "HTTP/1.1 200 A|Content-Length: +3||abc",
+        Err(WireFault::Malformed),
+    ),
+    (
+        "HTTP/1.1 200 A|Content-Length:||",
+        Err(WireFault::Malformed),
+    ),
+    (
+        "HTTP/1.0 200 A|Transfer-Encoding: chunked||3|abc|0||",
+        Err(WireFault::Malformed),
+    ),
+    (
+        "HTTP/1.1 200 A|Transfer-Encoding: chunked|Content-Length: 3||3|abc|0||",
+        Err(WireFault::BothLengths),
+    ),
+    (
+        "HTTP/1.0 200 A|Content-Length: 3|Transfer-Encoding: chunked||abc",
+        Err(WireFault::BothLengths),
+    ),
+    (
+        "HTTP/1.1 200 A|Transfer-Encoding: gzip, chunked||0||",
+        Err(WireFault::Coding),
+    ),
+    (
+        "HTTP/1.1 200 A|Transfer-Encoding: chunked|Transfer-Encoding: chunked||0||",
+        Err(WireFault::Coding),
+    ),
+    (
+        "HTTP/1.1 200 A|Content-Length: 8388609||",
+        Err(WireFault::BodyTooLarge),
+    ),
+    (
+        "HTTP/1.1 200 A|Transfer-Encoding: chunked||3|abc|7ffffe|",
+        Err(WireFault::BodyTooLarge),
+    ),
+    (
+        "HTTP/1.1 200 A|Transfer-Encoding: chunked||3|abcd",
+        Err(WireFault::Malformed),
+    ),
+    ("", Err(WireFault::Early)),
+    ("HTTP/1.1 100 Continue||", Err(WireFault::Early)),
+    ("HTTP/1.1 200 A|", Err(WireFault::Early)),
+    (
+        "HTTP/1.1 200 A|Content-Length: 3||ab",
+        Err(WireFault::Early),
+    ),
+    (
+        "HTTP/1.1 200 A|Transfer-Encoding: chunked||3|abc|",
+        Err(WireFault::Early),
+    ),
+];
+
+#[test]
+fn a_response_is_passed_on_in_its_one_form(rt: HostRuntime) {
+    check_responses(&rt, rt.alloc(), &Method::GET, &PASSED_ON);
+    check_responses(&rt, rt.alloc(), &Method::POST, &WITHOUT_BODY);
+    check_responses(&rt, rt.alloc(), &Method::HEAD, &TO_HEAD);
+}
+
+#[test]
+fn a_response_has_its_first_fault(rt: HostRuntime) {
+    check_responses(&rt, rt.alloc(), &Method::GET, &FAULTS);
+}
+
+const AFTER_16: Row = (
+    "16 heads in front",
+    Ok("HTTP/1.1 200 OK|Content-Length: 0|Connection: close||"),
+);
+
+const AFTER_17: Row = ("17 heads in front", Err(WireFault::Malformed));
+
+#[test]
+fn at_most_16_heads_stand_in_front_of_a_response(rt: HostRuntime) -> Result<(), Fail> {
+    let alloc = rt.alloc();
+    for (count, row) in [(16, AFTER_16), (17, AFTER_17)] {
+        let last = "HTTP/1.1 200 OK|Content-Length: 0||";
+        let bytes = repeated(alloc, "", "HTTP/1.1 103 Early Hints||", count, last)?;
+        let mut source = Source::new(bytes.as_slice(), usize::MAX);
+        let answer = passed_on(&rt, alloc, &mut source, &Method::GET);
+        check_answer(&rt, alloc, &row, &answer);
+    }
+    Ok(())
+}

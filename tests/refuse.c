@@ -1,0 +1,38 @@
+// Refuses the allocation of the number in REFUSED; with COUNTED set, tells how many there were.
+#define _GNU_SOURCE
+#include <dlfcn.h>
+#include <stdio.h>
+#include <stdlib.h>
+#include <unistd.h>
+
+static long count, refused;
+static void *(*inner_malloc)(size_t);
+static void *(*inner_realloc)(void *, size_t);
+
+static int is_refused(void)
+{
+    if (!inner_malloc) {
+        const char *number = getenv("REFUSED");
+        refused = number ? atol(number) : 0;
+        inner_realloc = dlsym(RTLD_NEXT, "realloc");
+        inner_malloc = dlsym(RTLD_NEXT, "malloc");
+    }
+    return ++count == refused;
+}
+
+void *malloc(size_t size)
+{
+    return is_refused() ? NULL : inner_malloc(size);
+}
+
+void *realloc(void *old, size_t size)
+{
+    return is_refused() ? NULL : inner_realloc(old, size);
+}
+
+__attribute__((destructor)) static void tell(void)
+{
+    char text[32];
+    if (getenv("COUNTED"))
+        write(2, text, snprintf(text, sizeof text, "allocations %ld\n", count));
+}
