@@ -5,21 +5,16 @@ use Rattle.std.proofs.Common.{count_by, refl, sym, ap, ◌∙◌, subst, arith}
 use Rattle.std.proofs.Common.{length-append}
 use Rattle.std.proofs.lemmas.List.Sums.{sum_by-append, sum_by-cons}
 use Rattle.limit_laws.specs.Algorithm.{Algorithm}
-use Rattle.limit_laws.specs.Facts.{moment}
-use Rattle.partitions.specs.declared.part.Part.{Part}
 use Rattle.partitions.specs.Table.{Row}
 use Rattle.lifo_backlog.specs.declared.waiter.Waiter.{Waiter}
 use Rattle.limiter_core.specs.declared.event.Event.{Event}
 use Rattle.limiter_core.specs.declared.event.Event.TheVariants as event
 use Rattle.limiter_core.specs.declared.event.Reply.{Reply}
-use Rattle.limiter_core.specs.declared.event.Reply.TheVariants as reply
 use Rattle.limiter_core.specs.declared.event.Entry.{Entry}
 use Rattle.limiter_core.specs.declared.event.Entry.TheVariants.{Call, Promotion}
-use Rattle.limiter_core.specs.declared.event.PermitFacts.{PermitFacts}
-use Rattle.limiter_core.specs.History.{Gate, Image, image_after, permit_of}
-use Rattle.limiter_core.specs.Answer.{answer, counting, granted_of, granted_or, moment_of}
-use Rattle.limiter_core.specs.Answer.{next_waiter, promoted, promotion, promotions_at}
-use Rattle.limiter_core.specs.Answer.{reply_to, waits}
+use Rattle.limiter_core.specs.History.{Gate, Image, image_after}
+use Rattle.limiter_core.specs.Answer.{answer, counting, moment_of, next_waiter, promoted, promotion}
+use Rattle.limiter_core.specs.Answer.{promotions_at, reply_to}
 use Rattle.limiter_core.specs.Laws.{AnswersByImage, LeadsByImage}
 use Rattle.limiter_core.specs.Legal.{IsLegal}
 use Rattle.gate_journal.specs.Journal.{Journal, gate, image, opening, answered, next_number}
@@ -30,10 +25,10 @@ use Rattle.gate_history.specs.declared.step.Handed.{Handed}
 use Rattle.gate_history.specs.Asking.{IsAsked, IsRefused}
 use Rattle.gate_history.specs.Book.{Agrees, Book, IsBook, book_in, calls_of, granteds}
 use Rattle.gate_history.specs.Book.{inflights, is_call}
-use Rattle.gate_history.specs.Handing.{IsChange, given, given_acquired, given_by, nothing}
+use Rattle.gate_history.specs.Handing.{IsChange, IsOfTicket, given, given_by, nothing}
 use Rattle.gate_history.specs.Steps.{IsDone}
 use Rattle.gate_history.specs.Told.{Told, Refusal}
-use Rattle.gate_history.proofs.Answered.{AreAt}
+use Rattle.gate_history.proofs.Answered.{AreAt, of_ticket}
 
 -- no promotion is a call
 no_calls : {S : Type 0} (g : Gate S) (i : Image S) (at : Option ℕ)
@@ -73,82 +68,13 @@ change_gives number (event.End permit outcome now) r is = absurd is
 change_gives number (event.Claim claimed) r is = absurd is
 change_gives number (event.GiveUp claimed) r is = absurd is
 
--- an acquire gives what its facts get
-pub acquire_gives : (number : ℕ) (part : Part) (bypass wait : Bool) (now : ℕ) (r : Reply)
-    → given_acquired (permit_of number part (moment now) 0) r
-    ≡ given number (event.Acquire part bypass wait now) r
-acquire_gives number part bypass wait now (reply.Admitted n) = refl
-acquire_gives number part bypass wait now reply.Waiting = refl
-acquire_gives number part bypass wait now reply.Bypassed = refl
-acquire_gives number part bypass wait now reply.Full = refl
-acquire_gives number part bypass wait now reply.BacklogFull = refl
-acquire_gives number part bypass wait now (reply.Ended n) = refl
-acquire_gives number part bypass wait now (reply.Granted a b c) = refl
-acquire_gives number part bypass wait now reply.StillWaiting = refl
-acquire_gives number part bypass wait now reply.TimedOut = refl
-acquire_gives number part bypass wait now reply.Lost = refl
-acquire_gives number part bypass wait now reply.LimitSet = refl
-acquire_gives number part bypass wait now (reply.Refused f) = refl
-acquire_gives number part bypass wait now reply.ResetDone = refl
-acquire_gives number part bypass wait now (reply.Seen a b c d f h) = refl
+-- nor does a claim or a giving up, and what it gives isn't by its own number
+pub ticket_is_alone : (number : ℕ) (e : Event) → IsOfTicket number e → moment_of e ≡ None
+ticket_is_alone number = of_ticket (λ e. moment_of e ≡ None) number refl refl
 
--- what lay granted is given whatever the call's own number
-pub claim_gives : (one other number : ℕ) (r : Reply)
-    → given one (event.Claim number) r ≡ given other (event.Claim number) r
-claim_gives one other number (reply.Admitted n) = refl
-claim_gives one other number reply.Bypassed = refl
-claim_gives one other number reply.Full = refl
-claim_gives one other number reply.BacklogFull = refl
-claim_gives one other number reply.Waiting = refl
-claim_gives one other number (reply.Ended n) = refl
-claim_gives one other number (reply.Granted a b c) = refl
-claim_gives one other number reply.StillWaiting = refl
-claim_gives one other number reply.TimedOut = refl
-claim_gives one other number reply.Lost = refl
-claim_gives one other number reply.LimitSet = refl
-claim_gives one other number (reply.Refused f) = refl
-claim_gives one other number reply.ResetDone = refl
-claim_gives one other number (reply.Seen a b c d f h) = refl
-
-pub give_up_gives : (one other number : ℕ) (r : Reply)
-    → given one (event.GiveUp number) r ≡ given other (event.GiveUp number) r
-give_up_gives one other number (reply.Admitted n) = refl
-give_up_gives one other number reply.Bypassed = refl
-give_up_gives one other number reply.Full = refl
-give_up_gives one other number reply.BacklogFull = refl
-give_up_gives one other number reply.Waiting = refl
-give_up_gives one other number (reply.Ended n) = refl
-give_up_gives one other number (reply.Granted a b c) = refl
-give_up_gives one other number reply.StillWaiting = refl
-give_up_gives one other number reply.TimedOut = refl
-give_up_gives one other number reply.Lost = refl
-give_up_gives one other number reply.LimitSet = refl
-give_up_gives one other number (reply.Refused f) = refl
-give_up_gives one other number reply.ResetDone = refl
-give_up_gives one other number (reply.Seen a b c d f h) = refl
-
--- where nobody is promoted, a claim and a giving up are answered by their replies alone
-stays_claim : {S : Type 0} (i : Image S) (number : ℕ) → (g : Gate S)
-    → counting 0 (reply_to g i (event.Claim number)) ≡ reply_to g i (event.Claim number)
-stays_claim i number g = go (granted_of i number) (waits i number)
-  where
-    go : (o : Option PermitFacts) (b : Bool)
-        → counting 0 (granted_or o (cond b reply.StillWaiting reply.Lost))
-        ≡ granted_or o (cond b reply.StillWaiting reply.Lost)
-    go (Some permit) b = refl
-    go None true = refl
-    go None false = refl
-
-stays_give_up : {S : Type 0} (i : Image S) (number : ℕ) → (g : Gate S)
-    → counting 0 (reply_to g i (event.GiveUp number)) ≡ reply_to g i (event.GiveUp number)
-stays_give_up i number g = go (granted_of i number) (waits i number)
-  where
-    go : (o : Option PermitFacts) (b : Bool)
-        → counting 0 (granted_or o (cond b reply.TimedOut reply.Lost))
-        ≡ granted_or o (cond b reply.TimedOut reply.Lost)
-    go (Some permit) b = refl
-    go None true = refl
-    go None false = refl
+pub ticket_gives : (one other number : ℕ) (r : Reply) (e : Event) → IsOfTicket number e
+    → given one e r ≡ given other e r
+ticket_gives one other number r = of_ticket (λ e. given one e r ≡ given other e r) number refl refl
 
 -- a refused event changes nothing
 pub kept_refused : {S : Type 0} (rules : Algorithm S) (j next : Journal S) (tally counted : Tally)
@@ -297,6 +223,7 @@ module _ {S : Type 0} (rules : Algorithm S)
         reply = asked.reply;
         journal = asked.journal;
         agrees = agrees_then places at;
+        calls = ap (λ (t : Tally). t.calls) asked.calls;
         passes = ap (λ (t : Tally). t.passes) asked.calls;
         is_sealed = refl;
         counted = asked.pass;
@@ -318,18 +245,7 @@ module _ {S : Type 0} (rules : Algorithm S)
         subst (λ (ps : List Entry).
         AreAt here (image_after here now (Call e told.reply ∷ ps)) places) (sym nobody) at
 
-    said : told.reply ≡ counting 0 (reply_to here now e)
+    pub said : told.reply ≡ counting 0 (reply_to here now e)
     said =
         sym (ap (reply_of told.reply) head_is)
         ∙ ap (λ (ps : List Entry). counting (length ps) (reply_to here now e)) nobody
-
-    pub said_to_claim : (number : ℕ) → e ≡ event.Claim number
-        → told.reply ≡ reply_to here now (event.Claim number)
-    said_to_claim number is =
-        said ∙ ap (λ (x : Event). counting 0 (reply_to here now x)) is ∙ stays_claim now number here
-
-    pub said_to_give_up : (number : ℕ) → e ≡ event.GiveUp number
-        → told.reply ≡ reply_to here now (event.GiveUp number)
-    said_to_give_up number is =
-        said ∙ ap (λ (x : Event). counting 0 (reply_to here now x)) is
-        ∙ stays_give_up now number here

@@ -2,7 +2,7 @@
 use Rattle.std.proofs.Common.{◌≡◌, ℕ, ◌+◌, ◌-◌, ◌<◌, ◌≤◌, ◌==◌, ltb, ltb-true}
 use Rattle.std.proofs.Common.{Bool, true, false, cond, List, [], ◌∷◌, length}
 use Rattle.std.proofs.Common.{Option, None, Some, get_or, count_by}
-use Rattle.std.proofs.Common.{refl, sym, ap, ◌∙◌, subst, arith}
+use Rattle.std.proofs.Common.{inl, inr, refl, sym, ap, ◌∙◌, subst, arith}
 use Rattle.partitions.specs.declared.part.Part.{Part}
 use Rattle.partitions.specs.declared.part.Part.TheVariants.{Unknown, Known}
 use Rattle.partitions.specs.Table.{Row, place_of}
@@ -13,11 +13,11 @@ use Rattle.limiter_core.specs.declared.event.Reply.TheVariants as reply
 use Rattle.limiter_core.specs.declared.event.Entry.TheVariants.{Call}
 use Rattle.limiter_core.specs.declared.event.PermitFacts.{PermitFacts}
 use Rattle.limiter_core.specs.History.{Gate, Image, image_after, granted_but}
-use Rattle.limiter_core.specs.Answer.{granted_of, granted_or, reply_to, waits}
+use Rattle.limiter_core.specs.Answer.{counting, granted_of, granted_or, reply_to, waits}
 use Rattle.limiter_core.specs.Bound.{IsSound}
 use Rattle.gate_ledgers.specs.Places.{Places}
 use Rattle.gate_history.specs.Book.{granteds, inflights}
-use Rattle.gate_history.specs.Handing.{IsChange, LiesGranted, acquired, handed_out}
+use Rattle.gate_history.specs.Handing.{IsChange, IsOfTicket, LiesGranted, acquired, handed_out}
 use Rattle.gate_history.proofs.Ledgers.{counted_as, raised_to, taken_out, was_there}
 
 known-place : (rows : List Row) (k : ℕ) (b : Bool) → ltb k (length rows) ≡ b → length rows ≤ 4
@@ -29,6 +29,12 @@ known-place rows k false e four = omega arith
 pub small_place : (rows : List Row) (part : Part) → length rows ≤ 4 → place_of rows part < 5
 small_place rows Unknown four = omega arith
 small_place rows (Known k) four = known-place rows k (ltb k (length rows)) refl four
+
+-- a fact of a claim and of a giving up of a number
+pub of_ticket : (P : Event → Type 0) (number : ℕ) → P (event.Claim number) → P (event.GiveUp number)
+    → (e : Event) → IsOfTicket number e → P e
+of_ticket P number claims gives e (inl is) = subst P (sym is) claims
+of_ticket P number claims gives e (inr is) = subst P (sym is) gives
 
 -- the ledgers of the places stand at an image
 pub record AreAt {S : Type 0} (g : Gate S) (i : Image S) (s : Places) : Type 0 where
@@ -109,73 +115,48 @@ module _ {S : Type 0} (g : Gate S) (i : Image S) (s : Places) (is : AreAt g i s)
                 granteds g (record i { granted = permits })) (sym lying);
           }
 
-      -- what a claim is told, by the permit found and whether the number waits
-      abbrev claimed : Option PermitFacts → Bool → Reply
-      claimed found waiting = granted_or found (cond waiting reply.StillWaiting reply.Lost)
-
-      claim-by : (o : Option PermitFacts) (b : Bool) → granted_of i number ≡ o
-          → AreAt g (after (event.Claim number) (claimed o b))
-          (handed_out (place_of g.rows) (claimed o b) s)
-      claim-by (Some permit) b found =
-          goes_out (after (event.Claim number) (claimed (Some permit) b)) permit found refl refl
-      claim-by None true found = unmoved (after (event.Claim number) reply.StillWaiting) refl refl
-      claim-by None false found = unmoved (after (event.Claim number) reply.Lost) refl refl
-
-      pub claim_at : (r : Reply) → r ≡ reply_to g i (event.Claim number)
-          → AreAt g (after (event.Claim number) r) (handed_out (place_of g.rows) r s)
-      claim_at r said =
-          subst (λ (x : Reply).
-          AreAt g (after (event.Claim number) x) (handed_out (place_of g.rows) x s)) (sym said)
-          (claim-by (granted_of i number) (waits i number) refl)
-
-      -- and a giving up
-      abbrev given_up : Option PermitFacts → Bool → Reply
-      given_up found waiting = granted_or found (cond waiting reply.TimedOut reply.Lost)
-
-      give_up-by : (o : Option PermitFacts) (b : Bool) → granted_of i number ≡ o
-          → AreAt g (after (event.GiveUp number) (given_up o b))
-          (handed_out (place_of g.rows) (given_up o b) s)
-      give_up-by (Some permit) b found =
-          goes_out (after (event.GiveUp number) (given_up (Some permit) b)) permit found refl refl
-      give_up-by None true found = unmoved (after (event.GiveUp number) reply.TimedOut) refl refl
-      give_up-by None false found = unmoved (after (event.GiveUp number) reply.Lost) refl refl
-
-      pub give_up_at : (r : Reply) → r ≡ reply_to g i (event.GiveUp number)
-          → AreAt g (after (event.GiveUp number) r) (handed_out (place_of g.rows) r s)
-      give_up_at r said =
-          subst (λ (x : Reply).
-          AreAt g (after (event.GiveUp number) x) (handed_out (place_of g.rows) x s)) (sym said)
-          (give_up-by (granted_of i number) (waits i number) refl)
-
       -- a permit that is handed out lies granted at its place
-      abbrev Lies : Reply → Type 0
-      Lies r = LiesGranted g.rows s r
-
-      lies-some : (permit : PermitFacts) → granted_of i number ≡ Some permit
+      lies : (permit : PermitFacts) → granted_of i number ≡ Some permit
           → 0 < get_or s.granted (place_of g.rows permit.part) 0
-      lies-some permit found =
+      lies permit found =
           was_there g.rows i.granted s.granted is.granted permit
           (small_place g.rows permit.part four) number once found
 
-      lies-claim : (o : Option PermitFacts) (b : Bool) → granted_of i number ≡ o
-          → Lies (claimed o b)
-      lies-claim (Some permit) b found = lies-some permit found
-      lies-claim None true found = tt
-      lies-claim None false found = tt
+      -- a claim, or a giving up, and what it is told, by the permit found and whether it waits
+      abbrev asked : Bool → Event
+      asked true = event.Claim number
+      asked false = event.GiveUp number
 
-      pub claim_lies : (r : Reply) → r ≡ reply_to g i (event.Claim number) → Lies r
-      claim_lies r said =
-          subst Lies (sym said) (lies-claim (granted_of i number) (waits i number) refl)
+      abbrev told : Bool → Option PermitFacts → Bool → Reply
+      told true found waiting =
+          counting 0 (granted_or found (cond waiting reply.StillWaiting reply.Lost))
+      told false found waiting =
+          counting 0 (granted_or found (cond waiting reply.TimedOut reply.Lost))
 
-      lies-give_up : (o : Option PermitFacts) (b : Bool) → granted_of i number ≡ o
-          → Lies (given_up o b)
-      lies-give_up (Some permit) b found = lies-some permit found
-      lies-give_up None true found = tt
-      lies-give_up None false found = tt
+      -- what is handed out lay granted, and then does so no longer
+      abbrev pub Moves : Event → Reply → Type 0
+      Moves e r =
+          LiesGranted g.rows s r × AreAt g (after e r) (handed_out (place_of g.rows) r s)
 
-      pub give_up_lies : (r : Reply) → r ≡ reply_to g i (event.GiveUp number) → Lies r
-      give_up_lies r said =
-          subst Lies (sym said) (lies-give_up (granted_of i number) (waits i number) refl)
+      moves : (claims : Bool) (o : Option PermitFacts) (b : Bool) → granted_of i number ≡ o
+          → Moves (asked claims) (told claims o b)
+      moves true (Some x) b found =
+          (lies x found, goes_out (after (asked true) (told true (Some x) b)) x found refl refl)
+      moves false (Some x) b found =
+          (lies x found, goes_out (after (asked false) (told false (Some x) b)) x found refl refl)
+      moves true None true found = (tt, unmoved (after (asked true) reply.StillWaiting) refl refl)
+      moves false None true found = (tt, unmoved (after (asked false) reply.TimedOut) refl refl)
+      moves true None false found = (tt, unmoved (after (asked true) reply.Lost) refl refl)
+      moves false None false found = (tt, unmoved (after (asked false) reply.Lost) refl refl)
+
+      pub ticket_moves : (e : Event) → IsOfTicket number e → (r : Reply)
+          → r ≡ counting 0 (reply_to g i e) → Moves e r
+      ticket_moves =
+          let found = granted_of i number in
+          let waiting = waits i number in
+          of_ticket (λ e. (r : Reply) → r ≡ counting 0 (reply_to g i e) → Moves e r) number
+          (λ r said. subst (Moves (asked true)) (sym said) (moves true found waiting refl))
+          (λ r said. subst (Moves (asked false)) (sym said) (moves false found waiting refl))
 
 -- a number is that of one granted permit at most
 pub named_once : {S : Type 0} (g : Gate S) (i : Image S) → IsSound g i → (number : ℕ)

@@ -1,5 +1,5 @@
 -- What callers get and give back, and what that does to the ledgers of the places.
-use Rattle.std.specs.Prelude.{ℕ, ◌<◌, List, Option, Some, get_or}
+use Rattle.std.specs.Prelude.{◌≡◌, ◌⊎◌, ℕ, ◌<◌, List, Option, Some, get_or}
 use Rattle.limit_laws.specs.Facts.{moment}
 use Rattle.partitions.specs.declared.part.Part.{Part}
 use Rattle.partitions.specs.Table.{Row, place_of}
@@ -28,25 +28,31 @@ given_by handed.Nothing = nothing
 given_by (handed.Permit facts) = permit facts
 given_by (handed.Ticket number) = ticket number
 
--- WHAT A REPLY GIVES, to a call of this number: an admitted acquire a permit of that number, its
--- moment and what was in flight; a claim or a giving up the permit that lay granted; who waits gets
--- a ticket, or gets it back
-abbrev pub given : ℕ → Event → Reply → Given
-given number (Acquire part bypass wait now) (Admitted inflight) =
-    permit (permit_of number part (moment now) inflight)
-given number (Acquire part bypass wait now) Waiting = ticket number
-given number (Claim claimed) (Granted part start inflight) =
-    permit (permit_of claimed part start inflight)
-given number (Claim claimed) StillWaiting = ticket claimed
-given number (GiveUp claimed) (Granted part start inflight) =
-    permit (permit_of claimed part start inflight)
-given number _ _ = nothing
-
--- what an acquire of a permit of these facts gets, but for how many are in flight
+-- what an acquire of a permit of these facts gets, but for how many are in flight; and what a claim
+-- and a giving up of a number get
 abbrev pub given_acquired : PermitFacts → Reply → Given
 given_acquired facts (Admitted inflight) = permit (record facts { inflight = inflight })
 given_acquired facts Waiting = ticket facts.number
 given_acquired facts _ = nothing
+
+abbrev pub given_claimed : ℕ → Reply → Given
+given_claimed number (Granted part start inflight) = permit (permit_of number part start inflight)
+given_claimed number StillWaiting = ticket number
+given_claimed number _ = nothing
+
+abbrev pub given_up : ℕ → Reply → Given
+given_up number (Granted part start inflight) = permit (permit_of number part start inflight)
+given_up number _ = nothing
+
+-- WHAT A REPLY GIVES, to a call of this number: an admitted acquire a permit of that number, its
+-- moment and what was in flight; a claim or a giving up the permit that lay granted; who waits gets
+-- a ticket, or gets it back
+abbrev pub given : ℕ → Event → Reply → Given
+given number (Acquire part bypass wait now) r =
+    given_acquired (permit_of number part (moment now) 0) r
+given number (Claim claimed) r = given_claimed claimed r
+given number (GiveUp claimed) r = given_up claimed r
+given number _ r = nothing
 
 -- what a call that isn't answered gives back: a claim its ticket
 abbrev pub given_back : Event → Given
@@ -59,6 +65,10 @@ IsChange (SetLimit n now) = Unit {0}
 IsChange (Reset now) = Unit {0}
 IsChange (Look part) = Unit {0}
 IsChange _ = ⊥
+
+-- a claim of this number, or a giving up of it
+abbrev pub IsOfTicket : ℕ → Event → Type 0
+IsOfTicket number e = (e ≡ Claim number) ⊎ (e ≡ GiveUp number)
 
 -- a fact of the part of a permit that lay granted
 abbrev pub IsGranted : (Part → Type 0) → Reply → Type 0

@@ -27,8 +27,8 @@ event_of (call.Look part) = event.Look part
 
 -- DONE, where the history isn't exhausted: the receipt tells the number before the step, the call's
 -- own event and the reply; the history, which first rolls where it rolls and is full, has the reply
--- rule's answer more; the pass's count, no greater than that number, rises by one; and the caller
--- gets what the reply gives
+-- rule's answer more; the calls by all passes rise by one, and so does the pass's count, which was
+-- no greater than that number; and the caller gets what the reply gives
 pub record IsDone {S : Type 0} {N : Type 0} (rules : Algorithm S)
     (old new : Book S) (before after : ℕ) (e : Event) (told : Told) (got : Handed N) : Type 0 where
   pub served : is_over rules old.journal e ≡ false
@@ -37,6 +37,7 @@ pub record IsDone {S : Type 0} {N : Type 0} (rules : Algorithm S)
   pub reply : Some (entry.Call e told.reply) ≡ slice_get (answered rules old.journal e) 0
   pub journal : new.journal ≡ continued rules old.journal e
   pub agrees : Agrees rules new
+  pub calls : new.tally.calls ≡ old.tally.calls + 1
   pub passes : new.tally.passes ≡ old.tally.passes
   pub is_sealed : new.is_sealed ≡ old.is_sealed
   pub counted : after ≡ before + 1

@@ -7,14 +7,13 @@ ghost use Rattle.gate_journal.specs.Journal.{gate, opening, next_number};
 ghost use Rattle.gate_ledgers.specs.Names.{AreNamed, AreWhole};
 ghost use Rattle.gate_ledgers.specs.Places.{no_places};
 ghost use Rattle.gate_history.specs.Book.{Agrees, book_in, granted_now, inflight_now};
-ghost use Rattle.gate_history.specs.Handing.{IsChange};
+ghost use Rattle.gate_history.specs.Handing.{IsChange, IsOfTicket};
 ghost use Rattle.gate_history.specs.Steps.{Steps, event_of};
 
 use crate::asking::ask;
-use crate::handing::{grant, hand_acquired, hand_granted, last_entry};
+use crate::handing::{grant, hand_acquired, hand_back, hand_granted, last_entry};
 use crate::permit::Permit;
 use crate::step::{Call, Handed, Step};
-use crate::ticket::Ticket;
 use gate_journal::Journal;
 use gate_ledgers::{Blanks, Naming, Pass, Places, Tally, open_ledgers};
 use limit_laws::{LAST_MOMENT, Limit};
@@ -166,8 +165,14 @@ impl<L: Limit, N: Naming> Book<L, N> {
                 outcome,
                 now,
             } => self.end(pass, permit, outcome, now),
-            Call::Claim { ticket } => self.claim(pass, ticket.open()),
-            Call::GiveUp { ticket } => self.give_up(pass, ticket.open()),
+            Call::Claim { ticket } => {
+                let number = ticket.open();
+                self.present(pass, Event::Claim { number }, number)
+            }
+            Call::GiveUp { ticket } => {
+                let number = ticket.open();
+                self.present(pass, Event::GiveUp { number }, number)
+            }
             Call::SetLimit { n, now } => self.change(pass, Event::SetLimit { n, now }),
             Call::Reset { now } => self.change(pass, Event::Reset { now }),
             Call::Look { part } => self.change(pass, Event::Look { part }),
@@ -232,32 +237,17 @@ impl<L: Limit, N: Naming> Book<L, N> {
         Step::Done(receipt, Handed::Nothing)
     }
 
-    /// Asks for the permit of a waiter.
-    fn claim(&mut self, pass: &mut Pass<N>, number: u64) -> Step<N>
-        ensures { Steps L.rules self.old self.new pass.old pass.new (Event.Claim number) result }
+    /// Asks for the permit of a waiter, or ends its wait; either gets the permit that lies granted
+    /// under its number.
+    fn present(&mut self, pass: &mut Pass<N>, event: Event, number: u64) -> Step<N>
+        requires { IsOfTicket number event }
+        ensures { Steps L.rules self.old self.new pass.old pass.new event result }
     {
         self.journal.check();
         answers_by_image::<L>();
-        let event = Event::Claim { number };
         let receipt = match ask(&mut self.journal, &mut self.tally, pass, event) {
             Ok(receipt) => receipt,
-            Err(spent) => return Step::Exhausted(spent, Handed::Ticket(Ticket::new(number))),
-        };
-        let table = self.journal.core().table();
-        let handed = hand_granted(&mut self.places, table, event, number, receipt.reply());
-        Step::Done(receipt, handed)
-    }
-
-    /// Ends the wait of a waiter, which gets the permit that lies granted under its number.
-    fn give_up(&mut self, pass: &mut Pass<N>, number: u64) -> Step<N>
-        ensures { Steps L.rules self.old self.new pass.old pass.new (Event.GiveUp number) result }
-    {
-        self.journal.check();
-        answers_by_image::<L>();
-        let event = Event::GiveUp { number };
-        let receipt = match ask(&mut self.journal, &mut self.tally, pass, event) {
-            Ok(receipt) => receipt,
-            Err(spent) => return Step::Exhausted(spent, Handed::Nothing),
+            Err(spent) => return Step::Exhausted(spent, hand_back(event)),
         };
         let table = self.journal.core().table();
         let handed = hand_granted(&mut self.places, table, event, number, receipt.reply());

@@ -1,8 +1,8 @@
 // What callers get, and what that does to the ledgers of the places.
-ghost use Rattle.std.specs.Prelude.{◌≡◌, ◌⊎◌, ◌^◌, ◌<◌, ◌-◌, All, get_or, length, slice_get};
+ghost use Rattle.std.specs.Prelude.{◌≡◌, ◌^◌, ◌<◌, ◌-◌, All, get_or, length, slice_get};
 ghost use Rattle.partitions.specs.Table.{place_of};
-ghost use Rattle.gate_history.specs.Handing.{LiesGranted, acquired, given, given_by, handed_out};
-ghost use Rattle.gate_history.specs.Handing.{given_acquired, promoted_by};
+ghost use Rattle.gate_history.specs.Handing.{IsOfTicket, LiesGranted, acquired, given, given_by};
+ghost use Rattle.gate_history.specs.Handing.{given_acquired, given_back, handed_out, promoted_by};
 
 use crate::permit::Permit;
 use crate::step::Handed;
@@ -61,7 +61,7 @@ pub(crate) fn hand_granted<N: Naming>(
     number: u64,
     reply: Reply,
 ) -> Handed<N>
-    requires event { (event ≡ Event.Claim number) ⊎ (event ≡ Event.GiveUp number) }
+    requires event { IsOfTicket number event }
     requires rows { table.now ≡ N.rows }
     requires fits { All (λ n. n < 2 ^ 32) places.old.inflight }
     requires some { LiesGranted N.rows places.old reply }
@@ -87,6 +87,16 @@ pub(crate) fn hand_granted<N: Naming>(
             Handed::Permit(Permit::new(facts, mark))
         }
         (Event::Claim { .. }, Reply::StillWaiting) => Handed::Ticket(Ticket::new(number)),
+        _ => Handed::Nothing,
+    }
+}
+
+/// What a call that isn't answered gets back: a claim its ticket.
+pub(crate) fn hand_back<N: Naming>(event: Event) -> Handed<N>
+    ensures { given_by result ≡ given_back event }
+{
+    match event {
+        Event::Claim { number } => Handed::Ticket(Ticket::new(number)),
         _ => Handed::Nothing,
     }
 }

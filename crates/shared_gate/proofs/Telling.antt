@@ -127,7 +127,7 @@ module _ {S : Type 0} (g : Gate S) (i : Image S) (sound : IsSound g i) where
         (cond wait (cond behind reply.Waiting reply.BacklogFull) reply.Full)))
     acquire_fits part wait now true behind =
         for_permit (Answers number (Acquire part false wait now) (reply.Admitted (total i + 1)))
-        (permit_of number part (moment now) (total i + 1)) (refl, refl)
+        (permit_of number part (moment now) (total i + 1)) (refl, refl, refl)
     acquire_fits part true now false true =
         for_ticket (Answers number (Acquire part false true now) reply.Waiting) number
         (refl, refl, refl, refl)

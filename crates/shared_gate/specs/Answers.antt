@@ -19,10 +19,11 @@ IsTurnedAway bypass wait reply.Full = (bypass ≡ false) × (wait ≡ false)
 IsTurnedAway bypass wait reply.BacklogFull = (bypass ≡ false) × (wait ≡ true)
 IsTurnedAway bypass wait _ = ⊥
 
--- an admitted acquire's permit, with its number, part and moment, and what was in flight
+-- an admitted acquire's permit, with its number, part and moment, and what was in flight; one that
+-- asks to be let through gets none
 abbrev pub IsOwn : ℕ → Event → Reply → PermitFacts → Type 0
 IsOwn number (Acquire part bypass wait now) r permit =
-    (r ≡ reply.Admitted permit.inflight)
+    (bypass ≡ false) × (r ≡ reply.Admitted permit.inflight)
     × (permit ≡ permit_of number part (moment now) permit.inflight)
 IsOwn number _ r permit = ⊥
 

@@ -59,13 +59,14 @@ Gets before after part bypass wait now (got.Bypassed receipt) =
     × (receipt.reply ≡ reply.Bypassed) × (bypass ≡ true)
 Gets before after part bypass wait now (got.Full receipt) =
     IsTold before after (Acquire part bypass wait now) receipt
-    × (receipt.reply ≡ reply.Full) × (wait ≡ false)
+    × (receipt.reply ≡ reply.Full) × (bypass ≡ false) × (wait ≡ false)
 Gets before after part bypass wait now (got.BacklogFull receipt) =
     IsTold before after (Acquire part bypass wait now) receipt
-    × (receipt.reply ≡ reply.BacklogFull) × (wait ≡ true)
+    × (receipt.reply ≡ reply.BacklogFull) × (bypass ≡ false) × (wait ≡ true)
 Gets before after part bypass wait now (got.Waiting receipt ticket) =
     IsTold before after (Acquire part bypass wait now) receipt
-    × (receipt.reply ≡ reply.Waiting) × (ticket ≡ receipt.number) × (wait ≡ true)
+    × (receipt.reply ≡ reply.Waiting) × (ticket ≡ receipt.number)
+    × (bypass ≡ false) × (wait ≡ true)
 Gets before after part bypass wait now (got.Exhausted spent) =
     IsUntold before after (Acquire part bypass wait now) spent
 

@@ -23,9 +23,11 @@ impl<R: SystemClock> ProgramClock<R> {
         let start = rt.monotonic().ok();
         ProgramClock { rt, start }
     }
+}
 
+impl<R: SystemClock> Clock for ProgramClock<R> {
     /// The nanoseconds since its start, at most 2^62.
-    fn elapsed(&self) -> u64
+    fn now(&self) -> u64
         ensures { result ≤ 2 ^ 62 }
     {
         match (self.start, self.rt.monotonic()) {
@@ -35,11 +37,5 @@ impl<R: SystemClock> ProgramClock<R> {
             }
             _ => LAST_MOMENT,
         }
-    }
-}
-
-impl<R: SystemClock> Clock for ProgramClock<R> {
-    fn now(&self) -> u64 {
-        self.elapsed()
     }
 }

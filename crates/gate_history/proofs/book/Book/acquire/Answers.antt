@@ -1,11 +1,12 @@
-use Rattle.std.proofs.Common.{rules, refl, sym, ap, ◌∙◌, ◌≡◌, List, subst}
+use Rattle.std.proofs.Common.{rules, sym, ap, ◌∙◌, ◌≡◌, List, [], ◌∷◌, subst}
 use Rattle.limit_laws.specs.Facts.{moment}
 use Rattle.partitions.specs.Table.{Row, place_of}
-use Rattle.limiter_core.specs.History.{permit_of}
-use Rattle.gate_journal.specs.Journal.{Journal}
+use Rattle.limiter_core.specs.declared.event.Event.TheVariants.{Acquire}
+use Rattle.limiter_core.specs.declared.event.Entry.TheVariants.{Call}
+use Rattle.limiter_core.specs.History.{image_after, permit_of}
+use Rattle.gate_journal.specs.Journal.{Journal, gate, image}
 use Rattle.gate_history.specs.Handing.{acquired, given_acquired}
-use Rattle.gate_history.proofs.Agreeing.{acquire_gives, at_first, at_then, done}
-use Rattle.gate_history.proofs.Agreeing.{kept_refused, kept_then}
+use Rattle.gate_history.proofs.Agreeing.{at_first, done, kept_refused, kept_then}
 use Rattle.gate_history.proofs.Answered.{AreAt, acquire_at}
 use Rattle.gate_history.proofs.book.Book.acquire.Given.{Over}
 use Rattle.gate_history.proofs.book.Book.acquire.Goals as goal
@@ -29,44 +30,37 @@ places_then g c =
     c.hand_acquired-handed.ensures.places
     ∙ (λ k. acquired (place k) (c.reply.ensures k) c.self.inside.places)
 
+-- the ledgers stand at what stands then
+at_last : (g : Over) (c : goal.After-hand_acquired-handed g)
+    → AreAt (gate g.L.Limit.rules c.self.inside.journal)
+    (image_after (gate g.L.Limit.rules c.self.inside.journal)
+    (image g.L.Limit.rules c.self.inside.journal)
+    (Call (Acquire c.args.part c.args.bypass c.args.wait c.args.now) c.in-Ok.receipt.reply ∷ []))
+    c.hand_acquired-handed.new.places
+at_last g c =
+    subst (AreAt _ _) (sym (places_then g c))
+    (acquire_at _ _ _
+    (at_first g.L.Limit.rules c.answers_by_image.ensures.answers
+    c.answers_by_image.ensures.leads _ _ _ _ _ _ _ _ c.in-Ok.ensures.answered
+    c.check.ensures.legal c.check.ensures.anew c.check.ensures.ready _ _ _ _ c.self.invariant)
+    c.check.ensures.sound.four c.args.part c.args.bypass c.args.wait c.args.now
+    c.in-Ok.receipt.reply)
+
 pub invariant_of-self-2 : goal.invariant_of-self-2
 invariant_of-self-2 g c =
-    let answers = c.answers_by_image.ensures.answers in
-    let leads = c.answers_by_image.ensures.leads in
-    let asked = c.in-Ok.ensures.answered in
-    kept_then g.L.Limit.rules answers leads _ _ _ _ _ _ _ _ asked c.check.ensures.legal
-    c.check.ensures.anew c.check.ensures.ready _ _ _ _ c.self.invariant
-    c.hand_acquired-handed.new.places
-    (subst (AreAt _ _) (sym (places_then g c))
-    (at_then g.L.Limit.rules answers leads _ _ _ _ _ _ _ _ asked c.check.ensures.legal
-    c.check.ensures.anew c.check.ensures.ready _ _ _ _ c.self.invariant refl _
-    (acquire_at _ _ _
-    (at_first g.L.Limit.rules answers leads _ _ _ _ _ _ _ _ asked c.check.ensures.legal
-    c.check.ensures.anew c.check.ensures.ready _ _ _ _ c.self.invariant)
-    c.check.ensures.sound.four c.args.part c.args.bypass c.args.wait c.args.now
-    c.in-Ok.receipt.reply)))
+    kept_then g.L.Limit.rules c.answers_by_image.ensures.answers
+    c.answers_by_image.ensures.leads _ _ _ _ _ _ _ _ c.in-Ok.ensures.answered
+    c.check.ensures.legal c.check.ensures.anew c.check.ensures.ready _ _ _ _ c.self.invariant
+    c.hand_acquired-handed.new.places (at_last g c)
 
 pub returns : goal.returns
 returns g c =
-    let answers = c.answers_by_image.ensures.answers in
-    let leads = c.answers_by_image.ensures.leads in
-    let asked = c.in-Ok.ensures.answered in
     let start : c.min.result ≡ moment c.args.now = search rules in
-    done g.L.Limit.rules answers leads _ _ _ _ _ _ _ _ asked c.check.ensures.legal
+    done g.L.Limit.rules c.answers_by_image.ensures.answers c.answers_by_image.ensures.leads
+    _ _ _ _ _ _ _ _ c.in-Ok.ensures.answered c.check.ensures.legal
     c.check.ensures.anew c.check.ensures.ready _ _ _ _ c.self.invariant
     {N = g.row.N.Denot} c.args.self.now c.self.view_is
-    c.hand_acquired-handed.new.places
-    (subst (AreAt _ _) (sym (places_then g c))
-    (at_then g.L.Limit.rules answers leads _ _ _ _ _ _ _ _ asked c.check.ensures.legal
-    c.check.ensures.anew c.check.ensures.ready _ _ _ _ c.self.invariant refl _
-    (acquire_at _ _ _
-    (at_first g.L.Limit.rules answers leads _ _ _ _ _ _ _ _ asked c.check.ensures.legal
-    c.check.ensures.anew c.check.ensures.ready _ _ _ _ c.self.invariant)
-    c.check.ensures.sound.four c.args.part c.args.bypass c.args.wait c.args.now
-    c.in-Ok.receipt.reply)))
-    c.hand_acquired-handed.result
+    c.hand_acquired-handed.new.places (at_last g c) c.hand_acquired-handed.result
     (c.hand_acquired-handed.ensures.gives
     ∙ (λ k. given_acquired (permit_of (c.number.ensures k) c.args.part (start k) 0)
-    (c.reply.ensures k))
-    ∙ acquire_gives c.in-Ok.receipt.number c.args.part c.args.bypass c.args.wait c.args.now
-    c.in-Ok.receipt.reply)
+    (c.reply.ensures k)))
