@@ -2,43 +2,14 @@
 ghost use Rattle.std.specs.Prelude.{◌≡◌, []};
 ghost use Rattle.gate_ledgers.specs.Names.{AreNamed, AreWhole};
 
-use gate_history::{Blanks, Book, Call, Handed, Journal, Naming, Permit, Step, Ticket};
-use limit_laws::Fixed;
-use limiter_core::{Core, Outcome, Reply};
-use partitions::{Part, PartitionTable};
+use crate::one_permit::{acquire, end, single};
+use gate_history::{Blanks, Call, Handed, Naming, Permit, Step, Ticket};
+use limiter_core::Reply;
+use partitions::Part;
 use std::alloc::Global;
 use std::marker::Brand;
 use std::process::Abort;
 use std::test::Fail;
-
-/// A book over one permit, without classes.
-fn single<N: Naming>(alloc: Global, kept: usize, blanks: Blanks) -> Result<Book<Fixed, N>, Fail>
-    requires names { AreNamed N.calls N.place blanks }
-    requires parts { AreWhole blanks }
-    requires rows { N.rows ≡ [] }
-    requires room { N.room ≡ 100 }
-{
-    let table = PartitionTable::unknown_only();
-    let core = Core::new(alloc, Fixed::new(1)?, table, 100)?;
-    Ok(Book::new(Journal::new(alloc, core, kept, false)?, blanks))
-}
-
-fn acquire<N: Naming>(wait: bool, now: u64) -> Call<N> {
-    Call::Acquire {
-        part: Part::Unknown,
-        bypass: false,
-        wait,
-        now,
-    }
-}
-
-fn end<N: Naming>(permit: Permit<N>, now: u64) -> Call<N> {
-    Call::End {
-        permit,
-        outcome: Outcome::Success,
-        now,
-    }
-}
 
 /// The permit that a step hands out, which tells this number and reply.
 fn permit_of<N: Naming, R: Abort>(rt: &R, step: Step<N>, number: u64, reply: Reply) -> Permit<N> {
@@ -105,7 +76,7 @@ fn past_what_it_keeps<N: Naming, R: Abort>(
     requires rows { N.rows ≡ [] }
     requires room { N.room ≡ 100 }
 {
-    let mut book = single::<N>(alloc, 2, blanks)?;
+    let mut book = single::<N>(alloc, 2, false, blanks)?;
     let mut pass = book.pass().ok_or("a pass")?;
     let admitted = book.step(&mut pass, acquire(false, 0));
     let permit = permit_of(rt, admitted, 0, Reply::Admitted { inflight: 1 });
@@ -146,7 +117,7 @@ fn one_waits_and_one_is_promoted<N: Naming, R: Abort>(
     requires rows { N.rows ≡ [] }
     requires room { N.room ≡ 100 }
 {
-    let mut book = single::<N>(alloc, 1000, blanks)?;
+    let mut book = single::<N>(alloc, 1000, false, blanks)?;
     let mut pass = book.pass().ok_or("a pass")?;
     let admitted = book.step(&mut pass, acquire(false, 0));
     let permit = permit_of(rt, admitted, 0, Reply::Admitted { inflight: 1 });
@@ -187,7 +158,7 @@ fn a_million_passes<N: Naming, R: Abort>(rt: &R, alloc: Global, blanks: Blanks) 
     requires rows { N.rows ≡ [] }
     requires room { N.room ≡ 100 }
 {
-    let mut book = single::<N>(alloc, 1, blanks)?;
+    let mut book = single::<N>(alloc, 1, false, blanks)?;
     for _ in 0..1_000_000 {
         assert!(rt; book.pass().is_some());
     }
@@ -206,7 +177,7 @@ fn sealed<N: Naming, R: Abort>(rt: &R, alloc: Global, blanks: Blanks) -> Result<
     requires rows { N.rows ≡ [] }
     requires room { N.room ≡ 100 }
 {
-    let mut book = single::<N>(alloc, 1, blanks)?;
+    let mut book = single::<N>(alloc, 1, false, blanks)?;
     assert!(rt; book.pass().is_some());
     book.seal();
     assert!(rt; book.pass().is_none());

@@ -4,8 +4,16 @@
 #[cfg(test)]
 mod book_tests;
 #[cfg(test)]
+mod dice;
+#[cfg(test)]
 mod four_threads_tests;
+#[cfg(test)]
+mod one_permit;
 #[cfg(test)]
 mod random_calls;
 #[cfg(test)]
+mod rolling_tests;
+#[cfg(test)]
 mod shared_gate_tests;
+#[cfg(test)]
+mod waiting_tests;

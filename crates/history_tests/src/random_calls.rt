@@ -1,9 +1,8 @@
 // A caller that makes random calls of a shared gate, and keeps what it is told.
-ghost use Rattle.std.specs.Prelude.{◌<◌};
-
+use crate::dice::Dice;
 use aimd::Aimd;
 use gate_history::{Naming, Permit, Receipt, Spent, Ticket};
-use limiter_core::{Event, Outcome, Reply};
+use limiter_core::{Event, Reply};
 use partitions::Part;
 use shared_gate::{Claimed, GaveUp, Got, Pass, SharedGate};
 use std::alloc::{AllocError, Global};
@@ -21,43 +20,6 @@ pub(crate) struct Told {
     pub(crate) reply: Reply,
 }
 
-/// Numbers that follow from a seed.
-#[derive(Drop)]
-struct Dice {
-    state: u64,
-}
-
-impl Dice {
-    /// A number below `sides`.
-    fn roll(&mut self, sides: u64) -> u64
-        requires { 0 < sides }
-        ensures { result < sides }
-    {
-        self.state = self
-            .state
-            .wrapping_mul(6_364_136_223_846_793_005)
-            .wrapping_add(1_442_695_040_888_963_407);
-        (self.state >> 33) % sides
-    }
-
-    fn part(&mut self) -> Part {
-        match self.roll(5) {
-            0 => Part::Unknown,
-            1 => Part::Known(1),
-            2 => Part::Known(2),
-            _ => Part::Known(0),
-        }
-    }
-
-    fn outcome(&mut self) -> Outcome {
-        match self.roll(8) {
-            0 => Outcome::Dropped,
-            1 => Outcome::Ignored,
-            _ => Outcome::Success,
-        }
-    }
-}
-
 /// Who calls: by its pass, by its dice.
 #[derive(Drop)]
 pub(crate) struct Caller<M: Naming> {
@@ -71,7 +33,7 @@ impl<M: Naming> Caller<M> {
         let told = Vec::with_capacity(alloc, CALLS as usize + 4)?;
         Ok(Caller {
             pass,
-            dice: Dice { state: seed },
+            dice: Dice::new(seed),
             told,
         })
     }

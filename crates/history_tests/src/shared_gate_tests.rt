@@ -2,10 +2,11 @@
 ghost use Rattle.std.specs.Prelude.{◌≡◌, []};
 ghost use Rattle.gate_ledgers.specs.Names.{AreNamed, AreWhole};
 
-use gate_history::{Blanks, Book, Journal, Naming, Permit, Ticket};
+use crate::one_permit::single;
+use gate_history::{Blanks, Naming, Permit, Ticket};
 use limit_laws::Fixed;
-use limiter_core::{Core, Outcome, Reply};
-use partitions::{Part, PartitionTable};
+use limiter_core::{Outcome, Reply};
+use partitions::Part;
 use shared_gate::{Claimed, Clock, GaveUp, Got, Pass, SharedGate, Waited};
 use std::alloc::Global;
 use std::marker::Brand;
@@ -16,7 +17,7 @@ use std::thread::{Threads, join};
 use std::time::Clock as SystemClock;
 
 /// A clock that stands still.
-struct Still {}
+pub(crate) struct Still {}
 
 impl Clock for Still {
     fn now(&self) -> u64 {
@@ -24,20 +25,8 @@ impl Clock for Still {
     }
 }
 
-/// A book over one permit, without classes, that keeps a million entries.
-fn single<M: Naming>(alloc: Global, blanks: Blanks) -> Result<Book<Fixed, M>, Fail>
-    requires names { AreNamed M.calls M.place blanks }
-    requires parts { AreWhole blanks }
-    requires rows { M.rows ≡ [] }
-    requires room { M.room ≡ 100 }
-{
-    let table = PartitionTable::unknown_only();
-    let core = Core::new(alloc, Fixed::new(1)?, table, 100)?;
-    Ok(Book::new(Journal::new(alloc, core, 1_000_000, false)?, blanks))
-}
-
 /// The permit of an acquire that is admitted.
-fn admitted<M: Naming, R: Abort>(rt: &R, got: Got<M>) -> Permit<M> {
+pub(crate) fn admitted<M: Naming, R: Abort>(rt: &R, got: Got<M>) -> Permit<M> {
     match got {
         Got::Admitted(_receipt, permit) => permit,
         Got::Bypassed(_receipt) => rt.abort(),
@@ -49,7 +38,7 @@ fn admitted<M: Naming, R: Abort>(rt: &R, got: Got<M>) -> Permit<M> {
 }
 
 /// The ticket of an acquire that waits.
-fn queued<M: Naming, R: Abort>(rt: &R, got: Got<M>) -> Ticket<M> {
+pub(crate) fn queued<M: Naming, R: Abort>(rt: &R, got: Got<M>) -> Ticket<M> {
     match got {
         Got::Waiting(_receipt, ticket) => ticket,
         Got::Admitted(_receipt, _permit) => rt.abort(),
@@ -62,20 +51,22 @@ fn queued<M: Naming, R: Abort>(rt: &R, got: Got<M>) -> Ticket<M> {
 
 #[test]
 fn one_waits_and_one_is_promoted(rt: HostRuntime) -> Result<(), Fail> {
-    by_one_pass::<Brand, _>(&rt, rt.alloc(), Blanks::new())
+    by_one_pass::<Brand, _>(&rt, rt.alloc(), Blanks::new(), 1_000_000, false)
 }
 
-fn by_one_pass<M: Naming, R: Wait + Abort>(
+pub(crate) fn by_one_pass<M: Naming, R: Wait + Abort>(
     rt: &R,
     alloc: Global,
     blanks: Blanks,
+    kept: usize,
+    is_rolling: bool,
 ) -> Result<(), Fail>
     requires names { AreNamed M.calls M.place blanks }
     requires parts { AreWhole blanks }
     requires rows { M.rows ≡ [] }
     requires room { M.room ≡ 100 }
 {
-    let mut book = single::<M>(alloc, blanks)?;
+    let mut book = single::<M>(alloc, kept, is_rolling, blanks)?;
     let mut pass = Pass::of(book.pass().ok_or("a pass")?);
     book.seal();
     let gate = SharedGate::new(book);
@@ -125,7 +116,7 @@ fn by_two_threads<M: Naming + Send + Sync, R: Threads + Wait + SystemClock + Abo
     requires rows { M.rows ≡ [] }
     requires room { M.room ≡ 100 }
 {
-    let mut book = single::<M>(alloc, blanks)?;
+    let mut book = single::<M>(alloc, 1_000_000, false, blanks)?;
     let one = Pass::of(book.pass().ok_or("a pass")?);
     let two = Pass::of(book.pass().ok_or("a pass")?);
     book.seal();

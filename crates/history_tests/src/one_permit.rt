@@ -1,0 +1,44 @@
+// A book over one permit, and what is asked of it.
+ghost use Rattle.std.specs.Prelude.{◌≡◌, []};
+ghost use Rattle.gate_ledgers.specs.Names.{AreNamed, AreWhole};
+
+use gate_history::{Blanks, Book, Call, Journal, Naming, Permit};
+use limit_laws::Fixed;
+use limiter_core::{Core, Outcome};
+use partitions::{Part, PartitionTable};
+use std::alloc::Global;
+use std::test::Fail;
+
+/// A book over one permit, without classes, whose backlog has room for 100.
+pub(crate) fn single<N: Naming>(
+    alloc: Global,
+    kept: usize,
+    is_rolling: bool,
+    blanks: Blanks,
+) -> Result<Book<Fixed, N>, Fail>
+    requires names { AreNamed N.calls N.place blanks }
+    requires parts { AreWhole blanks }
+    requires rows { N.rows ≡ [] }
+    requires room { N.room ≡ 100 }
+{
+    let table = PartitionTable::unknown_only();
+    let core = Core::new(alloc, Fixed::new(1)?, table, 100)?;
+    Ok(Book::new(Journal::new(alloc, core, kept, is_rolling)?, blanks))
+}
+
+pub(crate) fn acquire<N: Naming>(wait: bool, now: u64) -> Call<N> {
+    Call::Acquire {
+        part: Part::Unknown,
+        bypass: false,
+        wait,
+        now,
+    }
+}
+
+pub(crate) fn end<N: Naming>(permit: Permit<N>, now: u64) -> Call<N> {
+    Call::End {
+        permit,
+        outcome: Outcome::Success,
+        now,
+    }
+}
