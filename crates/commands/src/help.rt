@@ -91,6 +91,7 @@ limit is fixed at the N of --limit.
   backlog N                    how many may wait, 0 to 10000; 100 without this line
   keep K                       how many entries of the history are kept, 1 to 1000000; 100000
                                without this line
+  keep K rolling               the same of a history that rolls: it forgets entries to go on
 
 Then, with every NOW in nanoseconds:
 
@@ -124,7 +125,8 @@ by the lines
   4 granted inflight 1
 
 An ending of no open permit is answered `- not open`, and each event `- exhausted` once so many
-entries are kept (what waits may still be given up, and what is open ended).
+entries are kept (what waits may still be given up, and what is open ended), unless the history
+rolls.
 
 Ends with status 0 once all is written, with 2 where a word of the command line is at fault, and
 else with 1 and one line on standard error, which comes after the answers to the lines before it:

@@ -111,6 +111,15 @@ fn a_setting_keeps_its_numbers_whichever_they_are(rt: HostRuntime) {
     );
     let backlog = setting_of(b"backlog 10001");
     assert!(rt; matches!(backlog, Some(Setting::Backlog { room: 10_001 })));
+    for (line, rolls) in [(b"keep 0".as_slice(), false), (b"keep 0 rolling", true)] {
+        let keep = setting_of(line);
+        assert!(rt;
+            matches!(
+                keep,
+                Some(Setting::Keep { entries: 0, is_rolling }) if is_rolling == rolls
+            )
+        );
+    }
     let class = setting_of(b"class live 101");
     assert!(rt;
         matches!(class, Some(Setting::Class { name, percent: 101 }) if name == b"live".as_slice())

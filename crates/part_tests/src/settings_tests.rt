@@ -41,6 +41,8 @@ backlog 0
 backlog 10000
 keep 1
 keep 1000000
+keep 1 rolling
+  keep  1000000   rolling  
 ";
 
 const NO_FORMAT: &str = "\
@@ -70,6 +72,12 @@ backlog 1 2
 keep
 keep x
 keep 1 2
+keep rolling
+keep rolling 1
+keep 1 Rolling
+keep 1 rollin
+keep 1 rolling 2
+keep 1 rolling rolling
 ";
 
 const OUT_OF_RANGE: &str = "\
@@ -108,6 +116,8 @@ backlog 10001
 backlog 4294967296
 keep 0
 keep 1000001
+keep 0 rolling
+keep 1000001 rolling
 keep 18446744073709551615
 ";
 
@@ -163,6 +173,8 @@ fn a_limit_and_windows_are_set_once_and_classes_while_they_make_a_table(
         ("backlog 5\nlimit fixed 1", taken),
         ("keep 5\nkeep 5", twice),
         ("keep 5\nkeep 0", twice),
+        ("keep 5\nkeep 5 rolling", twice),
+        ("keep 5 rolling\nkeep 0", twice),
         ("keep 5\nbacklog 5", taken),
         ("class a 60\nclass b 40", taken),
         ("class a 60\nclass b 41", value),

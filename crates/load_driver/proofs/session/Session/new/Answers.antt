@@ -6,8 +6,8 @@ use Rattle.load_driver.proofs.session.Session.new.Goals as goal
 pub invariant_of-result : goal.invariant_of-result
 invariant_of-result g c =
     begins g.L.Limit.rules c.in-Ok-new.journal
-    (opens_unasked c.args.table c.args.room c.args.limit c.in-Ok.core c.args.kept
-    c.args.is_rolling c.in-Ok-new.journal c.in-Ok.ensures.made c.in-Ok-new.ensures.made)
+    (opens_unasked c.args.table c.args.room c.args.limit c.in-Ok.core _ _ c.in-Ok-new.journal
+    c.in-Ok.ensures.made c.in-Ok-new.ensures.made)
     c.entries-entries.ensures.sound c.open_permits_are_in_flight.ensures.begins c.new-3.result
     c.new-3.ensures.empty
 
