@@ -23,6 +23,8 @@ mod limit_tests;
 #[cfg(test)]
 mod line_tests;
 #[cfg(test)]
+mod local_answer_tests;
+#[cfg(test)]
 mod memory_tests;
 #[cfg(test)]
 mod request_tests;
