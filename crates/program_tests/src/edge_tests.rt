@@ -60,9 +60,9 @@ fn a_script_of_16_mib_is_answered_and_one_byte_more_is_too_large(rt: HostRuntime
         let mut reader = Counted::new(Comment { left: bytes });
         let mut writer = Counted::new(&mut valve);
         let replayed = replay(rt.alloc(), &mut reader, &mut writer, 20);
-        assert_eq!(rt; replayed, answer, "{bytes} bytes");
-        assert_eq!(rt; writer.calls(), 0, "{bytes} bytes");
-        assert_eq!(rt; valve.flushed, flushed, "{bytes} bytes");
+        assert!(rt; replayed == answer, "{bytes} bytes");
+        assert!(rt; writer.calls() == 0, "{bytes} bytes");
+        assert!(rt; valve.flushed == flushed, "{bytes} bytes");
     }
 }
 
@@ -87,7 +87,7 @@ fn after_100_000_entries_only_what_is_owed_is_answered(
     let mut written = Vec::new(rt.alloc());
     let mut reader = Counted::new(script.as_bytes());
     let answer = replay(rt.alloc(), &mut reader, &mut Counted::new(&mut written), 20);
-    assert_eq!(rt; answer, Ok(()));
+    assert!(rt; answer == Ok(()));
     assert!(rt; written.as_slice().ends_with(LAST_LINES.as_bytes()));
     Ok(())
 }
@@ -99,8 +99,8 @@ fn the_text_is_flushed_and_a_flush_that_fails_is_told(rt: HostRuntime) {
         let mut valve = valve_of(failing);
         let mut reader = Counted::new(script.as_slice());
         let mut writer = Counted::new(&mut valve);
-        assert_eq!(rt; replay(rt.alloc(), &mut reader, &mut writer, 20), answer);
-        assert_eq!(rt; valve.taken, 30);
-        assert_eq!(rt; valve.flushed, 1);
+        assert!(rt; replay(rt.alloc(), &mut reader, &mut writer, 20) == answer);
+        assert!(rt; valve.taken == 30);
+        assert!(rt; valve.flushed == 1);
     }
 }

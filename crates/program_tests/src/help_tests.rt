@@ -1,9 +1,7 @@
 // The help texts: their examples are carried out, and their lines are no wider than a screen.
-use commands::{
-    EXAMPLE_ANSWERS, EXAMPLE_SCRIPT, FULLEST_CONFIG, SMALLEST_CONFIG, TextTask, check_text,
-    run_text, words,
-};
-use counted_io::Counted;
+use super::check_tests::checked;
+use super::run_tests::replayed;
+use commands::{EXAMPLE_ANSWERS, EXAMPLE_SCRIPT, FULLEST_CONFIG, SMALLEST_CONFIG, words};
 use std::test::Fail;
 
 /// The text that these words end with.
@@ -23,23 +21,13 @@ fn the_script_of_the_help_is_answered_as_it_says(rt: HostRuntime) -> Result<(), 
     let help = text_of(&rt, &["admission", "replay", "--help"])?;
     assert!(rt; help.as_str().contains(EXAMPLE_SCRIPT));
     assert!(rt; help.as_str().contains(EXAMPLE_ANSWERS));
-    let mut output = Vec::new(rt.alloc());
-    let mut fault = Vec::new(rt.alloc());
-    let status = run_text(
-        rt.alloc(),
-        TextTask::Replay { limit: 20 },
-        &mut Counted::new(EXAMPLE_SCRIPT.as_bytes()),
-        &mut Counted::new(&mut output),
-        &mut Counted::new(&mut fault),
-    );
-    assert_eq!(rt; status, 0);
-    assert!(rt; fault.is_empty());
+    let left = replayed(&rt, rt.alloc(), 20, EXAMPLE_SCRIPT.as_bytes());
     let mut shown = String::new(rt.alloc());
     for line in EXAMPLE_ANSWERS.lines() {
         shown.push_str(line.trim_start())?;
         shown.push('\n')?;
     }
-    assert!(rt; output.as_slice() == shown.as_bytes());
+    left.check(&rt, 0, shown.as_bytes(), b"");
     Ok(())
 }
 
@@ -58,17 +46,8 @@ fn the_configurations_of_the_help_are_accepted(rt: HostRuntime) -> Result<(), Fa
     ];
     for (text, line) in rows {
         assert!(rt; help.as_str().contains(text));
-        let mut output = Vec::new(rt.alloc());
-        let mut fault = Vec::new(rt.alloc());
-        let status = check_text(
-            rt.alloc(),
-            text.as_bytes(),
-            &mut Counted::new(&mut output),
-            &mut Counted::new(&mut fault),
-        );
-        assert_eq!(rt; status, 0);
-        assert!(rt; output.as_slice() == line);
-        assert!(rt; fault.is_empty());
+        let left = checked(rt.alloc(), text.as_bytes());
+        left.check(&rt, 0, line, b"");
     }
     Ok(())
 }

@@ -1,8 +1,60 @@
 // Commands over texts, with streams in memory.
 use commands::{TextTask, run_text};
 use counted_io::Counted;
+use std::alloc::Global;
 use std::io::{Error, ErrorKind, Read, Result as IoResult, Write};
+use std::process::Abort;
 use std::test::Fail;
+
+/// What a command leaves behind: its status, its output and its fault line.
+#[derive(Drop)]
+pub struct Left {
+    pub status: u8,
+    pub output: Vec<u8>,
+    pub fault: Vec<u8>,
+}
+
+impl Left {
+    /// Whether it left just this.
+    fn is(&self, status: u8, output: &[u8], fault: &[u8]) -> bool {
+        self.status == status && self.output.as_slice() == output && self.fault.as_slice() == fault
+    }
+
+    /// It left just this; else what it left is told.
+    pub fn check(&self, rt: &impl Abort, status: u8, output: &[u8], fault: &[u8]) {
+        assert!(rt;
+            self.is(status, output, fault),
+            "{}\n{}{}",
+            self.status,
+            shown(&self.output),
+            shown(&self.fault)
+        );
+    }
+}
+
+/// The text of these bytes.
+fn shown(bytes: &[u8]) -> &str {
+    str::from_utf8(bytes).unwrap_or("not UTF-8\n")
+}
+
+/// Carries a script out under a fixed limit, 1 to 10,000.
+pub fn replayed(rt: &impl Abort, alloc: Global, limit: u32, script: &[u8]) -> Left {
+    assert!(rt; 1 <= limit && limit <= 10_000);
+    let mut output = Vec::new(alloc);
+    let mut fault = Vec::new(alloc);
+    let status = run_text(
+        alloc,
+        TextTask::Replay { limit },
+        &mut Counted::new(script),
+        &mut Counted::new(&mut output),
+        &mut Counted::new(&mut fault),
+    );
+    Left {
+        status,
+        output,
+        fault,
+    }
+}
 
 /// What a script of a fixed limit is answered: status, output and fault line.
 struct Row {
@@ -85,18 +137,8 @@ look unknown
 #[test]
 fn scripts_are_answered_with_their_text_status_and_fault_line(rt: HostRuntime) -> Result<(), Fail> {
     for row in &ROWS {
-        let mut output = Vec::new(rt.alloc());
-        let mut fault = Vec::new(rt.alloc());
-        let status = run_text(
-            rt.alloc(),
-            TextTask::Replay { limit: row.limit },
-            &mut Counted::new(row.script),
-            &mut Counted::new(&mut output),
-            &mut Counted::new(&mut fault),
-        );
-        assert_eq!(rt; status, row.status);
-        assert!(rt; output.as_slice() == row.output);
-        assert!(rt; fault.as_slice() == row.fault);
+        let left = replayed(&rt, rt.alloc(), row.limit, row.script);
+        left.check(&rt, row.status, row.output, row.fault);
     }
     Ok(())
 }
@@ -122,27 +164,35 @@ impl Write for Broken {
 }
 
 #[test]
-fn a_failing_reader_and_a_failing_writer_are_named(rt: HostRuntime) -> Result<(), Fail> {
-    let task = TextTask::Replay { limit: 1 };
-    let mut fault = Vec::new(rt.alloc());
+fn a_failing_reader_is_named(rt: HostRuntime) {
     let mut output = Vec::new(rt.alloc());
+    let mut fault = Vec::new(rt.alloc());
     let status = run_text(
         rt.alloc(),
-        task,
+        TextTask::Replay { limit: 1 },
         &mut Counted::new(Broken),
         &mut Counted::new(&mut output),
         &mut Counted::new(&mut fault),
     );
-    assert_eq!(rt; status, 1);
-    assert!(rt; output.is_empty());
+    assert!(rt; status == 1 && output.is_empty());
+    assert!(rt; fault.as_slice() == b"admission: read\n".as_slice());
+}
+
+/// What a script of one line leaves, whose output goes nowhere: its status and its fault line.
+pub fn unwritten<W: Write + Drop>(alloc: Global, writer: W) -> (u8, Vec<u8>) {
+    let mut fault = Vec::new(alloc);
     let status = run_text(
-        rt.alloc(),
-        task,
+        alloc,
+        TextTask::Replay { limit: 1 },
         &mut Counted::new(b"look unknown".as_slice()),
-        &mut Counted::new(Broken),
+        &mut Counted::new(writer),
         &mut Counted::new(&mut fault),
     );
-    assert_eq!(rt; status, 1);
-    assert!(rt; fault.as_slice() == b"admission: read\nadmission: write\n".as_slice());
-    Ok(())
+    (status, fault)
+}
+
+#[test]
+fn a_failing_writer_is_named(rt: HostRuntime) {
+    let (status, fault) = unwritten(rt.alloc(), Broken);
+    assert!(rt; status == 1 && fault.as_slice() == b"admission: write\n".as_slice());
 }

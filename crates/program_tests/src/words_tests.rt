@@ -53,8 +53,8 @@ fn words_give_the_run_or_a_status(rt: HostRuntime) -> Result<(), Fail> {
 fn words_that_cannot_be_read_are_told_in_one_line(rt: HostRuntime) {
     let mut errors = Vec::new(rt.alloc());
     let mut counted = Counted::new(&mut errors);
-    assert_eq!(rt; tell_unread_words(ErrorKind::InvalidData, &mut counted), 2);
-    assert_eq!(rt; tell_unread_words(ErrorKind::OutOfMemory, &mut counted), 2);
+    assert!(rt; tell_unread_words(ErrorKind::InvalidData, &mut counted) == 2);
+    assert!(rt; tell_unread_words(ErrorKind::OutOfMemory, &mut counted) == 2);
     assert!(rt;
         errors.as_slice()
             == b"error: a word of the command line isn't UTF-8\nerror: out of memory\n".as_slice()
