@@ -8,6 +8,8 @@ mod dice;
 #[cfg(test)]
 mod four_threads_tests;
 #[cfg(test)]
+mod journal_tests;
+#[cfg(test)]
 mod one_permit;
 #[cfg(test)]
 mod random_calls;
