@@ -22,12 +22,12 @@ use std::thread::{Threads, join};
 const ROOM: u32 = 2;
 
 /// Three classes.
-fn classes(alloc: Global) -> Result<PartitionTable, Fail> {
+pub(crate) fn classes(alloc: Global) -> Result<PartitionTable, Fail> {
     Ok(PartitionTable::new(alloc, &[(b"live", 50), (b"batch", 30), (b"scan", 10)])?)
 }
 
 /// A limiter of 1 to 5.
-fn limiter(alloc: Global, table: PartitionTable) -> Result<Core<Aimd>, Fail>
+pub(crate) fn limiter(alloc: Global, table: PartitionTable) -> Result<Core<Aimd>, Fail>
     ensures rows { IfOk result (λ core. core.rows ≡ table) }
     ensures room { IfOk result (λ core. core.room ≡ 2) }
     ensures idle { IfOk result (λ core. core.counts ≡ 0 ∷ 0 ∷ 0 ∷ 0 ∷ 0 ∷ []) }

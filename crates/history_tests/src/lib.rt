@@ -2,11 +2,15 @@
 #![tactic(auto)]
 
 #[cfg(test)]
+mod audit_tests;
+#[cfg(test)]
 mod book_tests;
 #[cfg(test)]
 mod dice;
 #[cfg(test)]
 mod four_threads_tests;
+#[cfg(test)]
+mod journal_tests;
 #[cfg(test)]
 mod one_permit;
 #[cfg(test)]
