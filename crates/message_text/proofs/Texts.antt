@@ -49,7 +49,7 @@ answer_pieces answer =
     let two = told_lines answer in
     let last = close_line ∷ [] in
     let split : lines_text (one ++ two ++ last)
-        ≡ lines_text one ++ lines_text two ++ lines_text last
+    ≡ lines_text one ++ lines_text two ++ lines_text last
     = simp lines_text-append in
     ap (λ (t : List ℕ). t ++ codes "\r\n") split
     ∙ append_assoc (lines_text one ++ lines_text two) (lines_text last) (codes "\r\n")
