@@ -78,32 +78,37 @@ fn sink_of(most: usize, failing: u64) -> Sink {
 }
 
 #[test]
-fn each_call_and_each_failure_counts(rt: HostRuntime) {
+fn each_read_and_each_failure_counts(rt: HostRuntime) {
     let mut reader = tap_of(5, 2, 2);
     let mut buf = [0u8; 4];
-    assert_eq!(rt; reader.read(&mut buf).unwrap_or(9), 2);
-    assert_eq!(rt; reader.read(&mut buf).unwrap_or(9), 2);
-    assert_eq!(rt; reader.read(&mut buf).unwrap_or(9), 9);
-    assert_eq!(rt; (reader.calls(), reader.failures()), (3, 1));
+    for count in [2, 2, 9] {
+        assert!(rt; reader.read(&mut buf).unwrap_or(9) == count);
+    }
+    assert!(rt; (reader.calls(), reader.failures()) == (3, 1));
+}
+
+#[test]
+fn each_write_and_each_failure_counts(rt: HostRuntime) {
     let mut writer = Counted::new(sink_of(3, 2));
-    assert_eq!(rt; writer.write(b"four").unwrap_or(9), 3);
-    assert_eq!(rt; writer.flush().is_ok(), true);
-    assert_eq!(rt; writer.write(b"four").unwrap_or(9), 9);
-    assert_eq!(rt; writer.flush().is_ok(), false);
-    assert_eq!(rt; (writer.calls(), writer.failures()), (2, 2));
+    for (count, flushes) in [(3, true), (9, false)] {
+        assert!(rt; writer.write(b"four").unwrap_or(9) == count);
+        assert!(rt; writer.flush().is_ok() == flushes);
+    }
+    assert!(rt; (writer.calls(), writer.failures()) == (2, 2));
 }
 
 #[test]
 fn only_a_write_of_some_bytes_may_not_take_none(rt: HostRuntime) {
     let mut writer = Counted::new(sink_of(0, 9));
-    assert_eq!(rt; writer.write(b"").unwrap_or(9), 0);
-    assert_eq!(rt; (writer.calls(), writer.failures()), (1, 0));
+    assert!(rt; writer.write(b"").unwrap_or(9) == 0);
+    assert!(rt; (writer.calls(), writer.failures()) == (1, 0));
     let taken = writer.write(b"x");
-    assert_eq!(rt;
-        taken.map_err(|error| error.kind()),
-        Err(ErrorKind::WriteZero)
+    assert!(rt;
+        taken
+            .err()
+            .is_some_and(|error| error.kind() == ErrorKind::WriteZero)
     );
-    assert_eq!(rt; (writer.calls(), writer.failures()), (2, 1));
+    assert!(rt; (writer.calls(), writer.failures()) == (2, 1));
 }
 
 #[test]
@@ -111,15 +116,10 @@ fn all_is_read_however_it_is_cut(rt: HostRuntime) -> std::result::Result<(), Fai
     for (most, reads) in [(1, 40_001), (7, 5716), (16_384, 4), (40_000, 4)] {
         let mut reader = tap_of(40_000, most, u64::MAX);
         let bytes = read_all(rt.alloc(), &mut reader, 40_000, 100_000).map_err(|_| "unread")?;
-        assert_eq!(rt; bytes.len(), 40_000, "in reads of {most}");
-        assert_eq!(rt;
-            bytes.iter().all(|byte| *byte == 7),
-            true,
-            "in reads of {most}"
-        );
-        assert_eq!(rt;
-            (reader.calls(), reader.failures()),
-            (reads, 0),
+        assert!(rt; bytes.len() == 40_000, "in reads of {most}");
+        assert!(rt; bytes.iter().all(|byte| *byte == 7), "in reads of {most}");
+        assert!(rt;
+            (reader.calls(), reader.failures()) == (reads, 0),
             "in reads of {most}"
         );
     }
@@ -138,7 +138,10 @@ fn reading_all_names_its_fault(rt: HostRuntime) {
     ];
     for (mut reader, most_bytes, most_reads, fault) in rows {
         let read = read_all(rt.alloc(), &mut reader, most_bytes, most_reads);
-        assert_eq!(rt; read.err(), fault, "{most_bytes} bytes, {most_reads} reads");
+        assert!(rt;
+            read.err() == fault,
+            "{most_bytes} bytes, {most_reads} reads"
+        );
     }
 }
 
@@ -154,13 +157,12 @@ fn all_is_written_or_the_writer_failed(rt: HostRuntime) {
     for (most, failing, outcome, taken, calls) in rows {
         let mut sink = sink_of(most, failing);
         let mut writer = Counted::new(&mut sink);
-        assert_eq!(rt;
-            write_all(&mut writer, b"0123456789"),
-            outcome,
+        assert!(rt;
+            write_all(&mut writer, b"0123456789") == outcome,
             "{most} at a time"
         );
-        assert_eq!(rt; writer.calls(), calls, "{most} at a time");
-        assert_eq!(rt; sink.taken, taken, "{most} at a time");
+        assert!(rt; writer.calls() == calls, "{most} at a time");
+        assert!(rt; sink.taken == taken, "{most} at a time");
     }
 }
 
@@ -187,21 +189,30 @@ impl Write for Valve {
     }
 }
 
+/// A valve that answers a flush so.
+fn valve_of(outcome: Option<ErrorKind>) -> Valve {
+    Valve {
+        taken: 0,
+        flushed: 0,
+        outcome,
+    }
+}
+
+/// How often was written and flushed, and whether all that was written is flushed.
+fn seen<W: Write>(writer: &Counted<W>) -> (u64, u64, bool) {
+    (writer.calls(), writer.flushes(), writer.is_flushed())
+}
+
 #[test]
 fn a_flush_reaches_the_writer_inside_and_its_failure_comes_back(rt: HostRuntime) {
     for outcome in [None, Some(ErrorKind::BrokenPipe)] {
-        let mut valve = Valve {
-            taken: 0,
-            flushed: 0,
-            outcome,
-        };
+        let mut valve = valve_of(outcome);
         let mut writer = Counted::new(&mut valve);
-        assert_eq!(rt; writer.is_flushed(), false);
+        assert!(rt; seen(&writer) == (0, 0, false));
         let flushed = writer.flush().map_err(|error| error.kind());
-        assert_eq!(rt; flushed.err(), outcome);
-        assert_eq!(rt; (writer.calls(), writer.flushes()), (0, 1));
-        assert_eq!(rt; writer.is_flushed(), outcome.is_none());
-        assert_eq!(rt; valve.flushed, 1);
+        assert!(rt; flushed.err() == outcome);
+        assert!(rt; seen(&writer) == (0, 1, outcome.is_none()));
+        assert!(rt; valve.flushed == 1);
     }
 }
 
@@ -211,31 +222,22 @@ fn a_text_is_written_and_flushed_or_the_writer_failed(rt: HostRuntime) {
         (None, Ok(())),
         (Some(ErrorKind::BrokenPipe), Err(WriteFault)),
     ] {
-        let mut valve = Valve {
-            taken: 0,
-            flushed: 0,
-            outcome,
-        };
+        let mut valve = valve_of(outcome);
         let mut writer = Counted::new(&mut valve);
-        assert_eq!(rt; write_and_flush(&mut writer, b"0123"), answer);
-        assert_eq!(rt; (writer.calls(), writer.flushes()), (1, 1));
-        assert_eq!(rt; writer.is_flushed(), outcome.is_none());
-        assert_eq!(rt; (valve.taken, valve.flushed), (4, 1));
+        assert!(rt; write_and_flush(&mut writer, b"0123") == answer);
+        assert!(rt; seen(&writer) == (1, 1, outcome.is_none()));
+        assert!(rt; (valve.taken, valve.flushed) == (4, 1));
     }
 }
 
 #[test]
 fn a_write_undoes_a_flush_and_a_failed_flush_does_not(rt: HostRuntime) {
-    let mut valve = Valve {
-        taken: 0,
-        flushed: 0,
-        outcome: None,
-    };
+    let mut valve = valve_of(None);
     let mut writer = Counted::new(&mut valve);
-    assert_eq!(rt; write_and_flush(&mut writer, b"0"), Ok(()));
-    assert_eq!(rt; writer.is_flushed(), true);
-    assert_eq!(rt; write_all(&mut writer, b"1"), Ok(()));
-    assert_eq!(rt; writer.is_flushed(), false);
-    assert_eq!(rt; write_and_flush(&mut writer, b""), Ok(()));
-    assert_eq!(rt; (writer.is_flushed(), writer.flushes()), (true, 2));
+    assert!(rt; write_and_flush(&mut writer, b"0") == Ok(()));
+    assert!(rt; seen(&writer) == (1, 1, true));
+    assert!(rt; write_all(&mut writer, b"1") == Ok(()));
+    assert!(rt; seen(&writer) == (2, 1, false));
+    assert!(rt; write_and_flush(&mut writer, b"") == Ok(()));
+    assert!(rt; seen(&writer) == (2, 2, true));
 }

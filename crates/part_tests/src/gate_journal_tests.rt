@@ -1,5 +1,5 @@
 // The journal by worked rows, and from a limiter that was asked before.
-use gate_journal::{Journal, JournalFault};
+use gate_journal::{Image, Journal, JournalFault};
 use limit_laws::{Fixed, Limit};
 use limiter_core::{Core, Counters, Event, Outcome, PermitFacts, Reply};
 use partitions::{Part, PartitionTable};
@@ -56,6 +56,23 @@ fn answer<L: Limit, R: Abort>(
     journal.apply(event)
 }
 
+/// Asks one event after another, and compares the answers.
+fn check<R: Abort>(rt: &R, journal: &mut Journal<Fixed>, rows: &[(Event, Option<(u64, Reply)>)]) {
+    for (event, wanted) in rows {
+        assert!(rt; answer(rt, journal, *event) == *wanted);
+    }
+}
+
+/// How many entries it holds, the numbers of the first and of the next, and how many it keeps.
+fn held(journal: &Journal<Fixed>) -> (usize, u64, u64, usize) {
+    (
+        journal.entries().len(),
+        journal.base(),
+        journal.number(),
+        journal.kept(),
+    )
+}
+
 #[test]
 fn past_what_it_keeps_only_what_is_owed_is_answered(rt: HostRuntime) -> Result<(), Fail> {
     let mut journal = Journal::new(rt.alloc(), single(rt.alloc())?, 2, false)?;
@@ -71,52 +88,58 @@ fn past_what_it_keeps_only_what_is_owed_is_answered(rt: HostRuntime) -> Result<(
         (Event::GiveUp { number: 1 }, Some((2, Reply::TimedOut))),
         (end(0, 0, 3), Some((3, Reply::Ended { promoted: 0 }))),
     ];
-    for (event, wanted) in rows {
-        let found = answer(&rt, &mut journal, event);
-        assert!(rt; found == wanted);
-    }
-    assert_eq!(rt; journal.entries().len(), 4);
-    assert_eq!(rt;
-        (journal.base(), journal.number(), journal.kept()),
-        (0, 4, 2)
-    );
+    check(&rt, &mut journal, &rows);
+    assert!(rt; held(&journal) == (4, 0, 4, 2));
     Ok(())
+}
+
+const TWO_IS_HANDED_OUT: Reply = Reply::Granted {
+    part: UNKNOWN,
+    start: 5,
+    inflight: 1,
+};
+
+/// What stands where 1 waits and the permit of 2 lies granted.
+fn check_opening<R: Abort>(rt: &R, opening: &Image<Fixed>) {
+    assert!(rt; opening.waiters().iter().all(|waiter| waiter.number == 1));
+    assert!(rt; opening.granted() == [permit(2, 5)].as_slice());
+    assert!(rt; opening.counts() == [0, 0, 0, 0, 1]);
+    assert!(rt; learnt_and_counted(opening) == (1, 1, 2, 1));
+}
+
+/// Its limit, and how many were admitted, waited and were promoted before.
+fn learnt_and_counted(opening: &Image<Fixed>) -> (u32, u64, u64, u64) {
+    let Counters {
+        admitted,
+        waiting,
+        promoted,
+        ..
+    } = opening.counters();
+    (opening.algorithm().limit(), admitted, waiting, promoted)
 }
 
 #[test]
 fn it_opens_with_what_stands_and_numbers_go_on(rt: HostRuntime) -> Result<(), Fail> {
     let mut before = Journal::new(rt.alloc(), single(rt.alloc())?, 9, false)?;
-    for event in [
-        acquire(false, 0),
-        acquire(true, 1),
-        acquire(true, 2),
-        end(0, 0, 5),
-    ] {
-        let found = answer(&rt, &mut before, event);
-        assert!(rt; found.is_some());
-    }
-    // 0 admitted, 1 and 2 wait, 3 ended, 4 promotes 2, which lies granted.
+    // One is in flight and two wait; the ending promotes 2 under the number 4.
+    let rows = [
+        (
+            acquire(false, 0),
+            Some((0, Reply::Admitted { inflight: 1 })),
+        ),
+        (acquire(true, 1), Some((1, Reply::Waiting))),
+        (acquire(true, 2), Some((2, Reply::Waiting))),
+        (end(0, 0, 5), Some((3, Reply::Ended { promoted: 1 }))),
+    ];
+    check(&rt, &mut before, &rows);
     let mut journal = Journal::new(rt.alloc(), before.into_core(), 9, false)?;
-    assert_eq!(rt; (journal.base(), journal.number()), (5, 5));
-    let opening = journal.opening();
-    assert!(rt; opening.waiters().iter().all(|waiter| waiter.number == 1));
-    assert!(rt; opening.granted() == [permit(2, 5)].as_slice());
-    assert!(rt; opening.counts() == [0, 0, 0, 0, 1]);
-    assert_eq!(rt; opening.algorithm().limit(), 1);
-    let counters = opening.counters();
-    assert_eq!(rt;
-        (counters.admitted, counters.waiting, counters.promoted),
-        (1, 2, 1)
-    );
-    let found = answer(&rt, &mut journal, Event::Claim { number: 2 });
-    let granted = Reply::Granted {
-        part: UNKNOWN,
-        start: 5,
-        inflight: 1,
-    };
-    assert!(rt; found == Some((5, granted)));
-    let found = answer(&rt, &mut journal, end(2, 5, 9));
-    assert!(rt; found == Some((6, Reply::Ended { promoted: 1 })));
+    assert!(rt; held(&journal) == (0, 5, 5, 9));
+    check_opening(&rt, journal.opening());
+    let rows = [
+        (Event::Claim { number: 2 }, Some((5, TWO_IS_HANDED_OUT))),
+        (end(2, 5, 9), Some((6, Reply::Ended { promoted: 1 }))),
+    ];
+    check(&rt, &mut journal, &rows);
     let wanted = Counters {
         admitted: 1,
         waiting: 2,
@@ -125,7 +148,7 @@ fn it_opens_with_what_stands_and_numbers_go_on(rt: HostRuntime) -> Result<(), Fa
         ..Counters::default()
     };
     assert!(rt; journal.core().counters() == wanted);
-    assert_eq!(rt; journal.entries().len(), 3);
+    assert!(rt; journal.entries().len() == 3);
     Ok(())
 }
 

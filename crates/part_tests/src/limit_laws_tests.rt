@@ -25,9 +25,9 @@ fn round_trips_are_between_one_nanosecond_and_one_hour(rt: HostRuntime) -> Resul
     ];
     for (start, now, started, rtt) in rows {
         let sample = Sample::of(start, now, 3, true);
-        assert_eq!(rt; sample.start(), started);
-        assert_eq!(rt; sample.rtt(), rtt);
-        assert_eq!(rt; sample.inflight(), 3);
+        assert!(rt; sample.start() == started);
+        assert!(rt; sample.rtt() == rtt);
+        assert!(rt; sample.inflight() == 3);
         assert!(rt; sample.dropped());
     }
     Ok(())
@@ -36,9 +36,9 @@ fn round_trips_are_between_one_nanosecond_and_one_hour(rt: HostRuntime) -> Resul
 #[test]
 fn a_round_trip_that_is_given_is_kept(rt: HostRuntime) -> Result<(), Fail> {
     let sample = Sample::of_rtt(7, ONE_HOUR, 2, false);
-    assert_eq!(rt; sample.start(), 7);
-    assert_eq!(rt; sample.rtt(), ONE_HOUR);
-    assert_eq!(rt; sample.inflight(), 2);
+    assert!(rt; sample.start() == 7);
+    assert!(rt; sample.rtt() == ONE_HOUR);
+    assert!(rt; sample.inflight() == 2);
     assert!(rt; !sample.dropped());
     Ok(())
 }

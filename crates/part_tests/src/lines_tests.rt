@@ -20,10 +20,10 @@ fn a_line_ends_in_a_line_feed_with_or_without_a_carriage_return(
         let mut rest = text;
         for line in wanted.iter() {
             let (first, after) = next_line(rest).ok_or("a line too few")?;
-            assert_eq!(rt; first, *line);
+            assert!(rt; first == *line);
             rest = after;
         }
-        assert_eq!(rt; next_line(rest).is_none(), true);
+        assert!(rt; next_line(rest).is_none());
     }
     Ok(())
 }
@@ -33,10 +33,10 @@ fn assert_words(rt: &impl Abort, line: &[u8], wanted: &[&[u8]]) {
     let mut rest = line;
     for word in wanted {
         let cut = next_word(rest);
-        assert_eq!(rt; cut.map(|cut| cut.0), Some(*word));
+        assert!(rt; cut.map(|cut| cut.0) == Some(*word));
         rest = cut.map_or(rest, |cut| cut.1);
     }
-    assert_eq!(rt; next_word(rest).is_none(), true);
+    assert!(rt; next_word(rest).is_none());
 }
 
 #[test]
@@ -69,7 +69,7 @@ fn a_number_has_1_to_20_digits_and_fits(rt: HostRuntime) {
         ("٣".as_bytes(), None),
     ];
     for (at, (word, number)) in words.iter().enumerate() {
-        assert_eq!(rt; read_number(word), *number, "word {at}");
+        assert!(rt; read_number(word) == *number, "word {at}");
     }
 }
 
@@ -78,7 +78,7 @@ fn a_number_is_cut_off_or_stands_alone(rt: HostRuntime) {
     let (number, rest) = next_number(b" 07  x").unwrap_or((0, b""));
     assert!(rt; number == 7 && next_word(rest) == Some((b"x".as_slice(), b"".as_slice())));
     assert!(rt; next_number(b"x 7").is_none() && next_number(b"  ").is_none());
-    assert_eq!(rt; read_lone_number(b" 7 "), Some(7));
-    assert_eq!(rt; read_lone_number(b"7 8"), None);
-    assert_eq!(rt; read_lone_number(b""), None);
+    assert!(rt; read_lone_number(b" 7 ") == Some(7));
+    assert!(rt; read_lone_number(b"7 8") == None);
+    assert!(rt; read_lone_number(b"") == None);
 }

@@ -6,6 +6,9 @@ use std::test::Fail;
 /// 2^32: no number of a limit is as great, and its lower 32 bits are 0.
 const WIDE: u64 = 1 << 32;
 
+/// One hour in nanoseconds: 60 * 60 * 1,000,000,000.
+const HOUR: u64 = 3_600_000_000_000;
+
 /// What a limit shows, where it is made: its least, present and greatest limit.
 fn limits(made: Result<BaseLimit, MakeFault>) -> Result<(u32, u32, u32), MakeFault> {
     let limit = made?;
@@ -14,18 +17,27 @@ fn limits(made: Result<BaseLimit, MakeFault>) -> Result<(u32, u32, u32), MakeFau
 
 #[test]
 fn numbers_in_their_ranges_make_each_kind(rt: HostRuntime) -> Result<(), Fail> {
-    let fixed = BaseLimit::fixed(10_000)?;
-    assert_eq!(rt; fixed.kind(), "fixed");
-    assert!(rt; limits(Ok(fixed)) == Ok((10_000, 10_000, 10_000)));
-    let settable = BaseLimit::settable(1, 5, 10_000)?;
-    assert_eq!(rt; settable.kind(), "settable");
-    assert!(rt; limits(Ok(settable)) == Ok((1, 5, 10_000)));
-    let aimd = BaseLimit::aimd(1, 20, 100, 999, 3_600_000_000_000)?;
-    assert_eq!(rt; aimd.kind(), "aimd");
-    assert!(rt; limits(Ok(aimd)) == Ok((1, 20, 100)));
-    let vegas = BaseLimit::vegas(1, 20, 100, 3, 100, 1_000_000)?;
-    assert_eq!(rt; vegas.kind(), "vegas");
-    assert!(rt; limits(Ok(vegas)) == Ok((1, 20, 100)));
+    let rows = [
+        (BaseLimit::fixed(10_000)?, "fixed", (10_000, 10_000, 10_000)),
+        (
+            BaseLimit::settable(1, 5, 10_000)?,
+            "settable",
+            (1, 5, 10_000),
+        ),
+        (
+            BaseLimit::aimd(1, 20, 100, 999, HOUR)?,
+            "aimd",
+            (1, 20, 100),
+        ),
+        (
+            BaseLimit::vegas(1, 20, 100, 3, 100, 1_000_000)?,
+            "vegas",
+            (1, 20, 100),
+        ),
+    ];
+    for (limit, kind, ends) in rows {
+        assert!(rt; limit.kind() == kind && limits(Ok(limit)) == Ok(ends));
+    }
     Ok(())
 }
 
@@ -59,11 +71,11 @@ fn after_a_drop(mut limit: AnyLimit) -> u32 {
 #[test]
 fn settings_put_windows_over_a_limit(rt: HostRuntime) -> Result<(), Fail> {
     let plain = AnyLimit::new(BaseLimit::aimd(1, 20, 100, 900, 1_000)?, None);
-    assert_eq!(rt; after_a_drop(plain), 18);
+    assert!(rt; after_a_drop(plain) == 18);
     let settings = window_settings(1_000_000, 1, 1, 0)?;
-    assert_eq!(rt; settings.size(), 1_000_000);
+    assert!(rt; settings.size() == 1_000_000);
     let windowed = AnyLimit::new(BaseLimit::aimd(1, 20, 100, 900, 1_000)?, Some(settings));
-    assert_eq!(rt; windowed.kind(), "aimd");
-    assert_eq!(rt; after_a_drop(windowed), 20);
+    assert!(rt; windowed.kind() == "aimd");
+    assert!(rt; after_a_drop(windowed) == 20);
     Ok(())
 }

@@ -1,6 +1,7 @@
 // Tables, shares and faults by worked numbers.
 use partitions::{Part, PartitionTable, TableFault, is_name};
 use std::alloc::Global;
+use std::process::Abort;
 use std::test::Fail;
 
 const LIVE: &[u8] = b"live";
@@ -12,28 +13,23 @@ fn fault(alloc: Global, rows: &[(&[u8], u32)]) -> Option<TableFault> {
     PartitionTable::new(alloc, rows).err()
 }
 
+/// Rows that make no table, and why.
+const AT_FAULT: [(&[(&[u8], u32)], TableFault); 9] = [
+    (&[], TableFault::Empty),
+    (&[(LIVE, 1); 5], TableFault::TooMany),
+    (&[(b"unknown", 1)], TableFault::Name),
+    (&[(b"", 1)], TableFault::Name),
+    (&[(b"Live", 1)], TableFault::Name),
+    (&[(LIVE, 60), (LIVE, 10)], TableFault::Twice),
+    (&[(LIVE, 0)], TableFault::Percent),
+    (&[(LIVE, 101)], TableFault::Percent),
+    (&[(LIVE, 60), (BATCH, 41)], TableFault::Over100),
+];
+
 #[test]
 fn rows_at_fault_are_refused_with_their_first_fault(rt: HostRuntime) {
-    let five = [(LIVE, 1); 5];
-    let cases = [
-        (fault(rt.alloc(), &[]), TableFault::Empty),
-        (fault(rt.alloc(), &five), TableFault::TooMany),
-        (fault(rt.alloc(), &[(b"unknown", 1)]), TableFault::Name),
-        (fault(rt.alloc(), &[(b"", 1)]), TableFault::Name),
-        (fault(rt.alloc(), &[(b"Live", 1)]), TableFault::Name),
-        (
-            fault(rt.alloc(), &[(LIVE, 60), (LIVE, 10)]),
-            TableFault::Twice,
-        ),
-        (fault(rt.alloc(), &[(LIVE, 0)]), TableFault::Percent),
-        (fault(rt.alloc(), &[(LIVE, 101)]), TableFault::Percent),
-        (
-            fault(rt.alloc(), &[(LIVE, 60), (BATCH, 41)]),
-            TableFault::Over100,
-        ),
-    ];
-    for (answer, wanted) in cases {
-        assert_eq!(rt; answer, Some(wanted));
+    for (rows, wanted) in AT_FAULT {
+        assert!(rt; fault(rt.alloc(), rows) == Some(wanted), "{wanted}");
     }
 }
 
@@ -42,16 +38,17 @@ fn rows_at_the_ends_of_their_ranges_make_a_table(rt: HostRuntime) -> Result<(), 
     let longest = [b'a'; 32];
     let four: [(&[u8], u32); 4] = [(&longest, 97), (b"0", 1), (b"-", 1), (b"_", 1)];
     let table = PartitionTable::new(rt.alloc(), &four)?;
-    assert_eq!(rt; table.len(), 4);
-    assert_eq!(rt; table.find(&longest), Some(Part::Known(0)));
-    assert_eq!(rt; table.place(Part::Known(3)), 3);
+    assert!(rt; table.len() == 4 && table.find(&longest) == Some(Part::Known(0)));
+    assert!(rt; table.place(Part::Known(3)) == 3);
     let whole = PartitionTable::new(rt.alloc(), &[(b"z", 100)])?;
-    assert_eq!(rt; whole.share(Part::Known(0), 7), 7);
-    let longer = [b'a'; 33];
-    assert_eq!(rt; fault(rt.alloc(), &[(&longer, 1)]), Some(TableFault::Name));
-    let over = [(LIVE, 97u32), (BATCH, 4)];
-    assert_eq!(rt; fault(rt.alloc(), &over), Some(TableFault::Over100));
+    assert!(rt; whole.share(Part::Known(0), 7) == 7);
     Ok(())
+}
+
+#[test]
+fn rows_past_the_ends_of_their_ranges_make_none(rt: HostRuntime) {
+    assert!(rt; fault(rt.alloc(), &[(&[b'a'; 33], 1)]) == Some(TableFault::Name));
+    assert!(rt; fault(rt.alloc(), &[(LIVE, 97), (BATCH, 4)]) == Some(TableFault::Over100));
 }
 
 #[test]
@@ -77,14 +74,18 @@ fn a_name_is_one_to_32_bytes_of_its_own(rt: HostRuntime) {
 #[test]
 fn names_lead_to_parts_and_back(rt: HostRuntime) -> Result<(), Fail> {
     let table = PartitionTable::new(rt.alloc(), &[(LIVE, 60), (BATCH, 40)])?;
-    assert_eq!(rt; table.len(), 2);
-    assert_eq!(rt; table.find(BATCH), Some(Part::Known(1)));
-    assert_eq!(rt; table.find(b"batches"), None);
-    assert_eq!(rt; table.find(b"unknown"), None);
-    assert_eq!(rt; table.name(Part::Known(1)), "batch");
-    assert_eq!(rt; table.name(Part::Known(2)), "unknown");
-    assert_eq!(rt; table.place(Part::Known(1)), 1);
-    assert_eq!(rt; table.place(Part::Known(2)), 4);
+    assert!(rt; table.len() == 2);
+    for (name, part) in [
+        (BATCH, Some(Part::Known(1))),
+        (b"batches", None),
+        (b"unknown", None),
+    ] {
+        assert!(rt; table.find(name) == part);
+    }
+    for (row, name, place) in [(1, "batch", 1), (2, "unknown", 4)] {
+        let part = Part::Known(row);
+        assert!(rt; table.name(part) == name && table.place(part) == place);
+    }
     Ok(())
 }
 
@@ -92,22 +93,27 @@ fn names_lead_to_parts_and_back(rt: HostRuntime) -> Result<(), Fail> {
 fn a_copy_gives_the_same_shares(rt: HostRuntime) -> Result<(), Fail> {
     let table = PartitionTable::new(rt.alloc(), &[(LIVE, 30)])?;
     let copy = table.copy()?;
-    for (limit, share) in [(1, 1), (3, 1), (4, 2), (10_000, 3_000)] {
-        assert_eq!(rt; table.share(Part::Known(0), limit), share);
-        assert_eq!(rt; copy.share(Part::Known(0), limit), share);
-    }
-    assert_eq!(rt; copy.name(Part::Known(0)), "live");
-    assert_eq!(rt; copy.most(10_000), 13_000);
+    check_shares(&rt, &table);
+    check_shares(&rt, &copy);
+    assert!(rt; copy.name(Part::Known(0)) == "live" && copy.most(10_000) == 13_000);
     Ok(())
+}
+
+/// A class of 30 percent is promised these shares.
+fn check_shares(rt: &impl Abort, table: &PartitionTable) {
+    for (limit, share) in [(1, 1), (3, 1), (4, 2), (10_000, 3_000)] {
+        assert!(rt;
+            table.share(Part::Known(0), limit) == share,
+            "limit {limit}"
+        );
+    }
 }
 
 #[test]
 fn a_table_without_partitions_promises_nothing(rt: HostRuntime) -> Result<(), Fail> {
     let table = PartitionTable::unknown_only().copy()?;
-    assert!(rt; table.is_empty());
-    assert_eq!(rt; table.find(LIVE), None);
-    assert_eq!(rt; table.name(Part::Unknown), "unknown");
-    assert_eq!(rt; table.share(Part::Unknown, 100), 0);
-    assert_eq!(rt; table.most(100), 100);
+    assert!(rt; table.is_empty() && table.find(LIVE).is_none());
+    assert!(rt; table.name(Part::Unknown) == "unknown");
+    assert!(rt; (table.share(Part::Unknown, 100), table.most(100)) == (0, 100));
     Ok(())
 }

@@ -21,8 +21,8 @@ fn limit_after(inside: u32) -> Result<u32, Fail> {
 
 #[test]
 fn a_window_of_ten_is_handed_on_and_one_of_nine_is_not(rt: HostRuntime) -> Result<(), Fail> {
-    assert_eq!(rt; limit_after(9)?, 21);
-    assert_eq!(rt; limit_after(8)?, 20);
+    assert!(rt; limit_after(9)? == 21);
+    assert!(rt; limit_after(8)? == 20);
     Ok(())
 }
 
@@ -36,8 +36,8 @@ fn limit_of_size(size: u32) -> Result<u32, Fail> {
 
 #[test]
 fn one_sample_moves_the_limit_only_as_a_window_of_one(rt: HostRuntime) -> Result<(), Fail> {
-    assert_eq!(rt; limit_of_size(2)?, 2);
-    assert_eq!(rt; limit_of_size(1)?, 3);
+    assert!(rt; limit_of_size(2)? == 2);
+    assert!(rt; limit_of_size(1)? == 3);
     Ok(())
 }
 
@@ -49,7 +49,7 @@ fn the_mean_of_a_window_is_what_counts_as_slow(rt: HostRuntime) -> Result<(), Fa
         for (start, rtt) in [(0u64, 100u64), (10, 100), (2000, 300)] {
             windowed.on_sample(&Sample::of_rtt(start, rtt, 10, false));
         }
-        assert_eq!(rt; windowed.limit(), limit);
+        assert!(rt; windowed.limit() == limit);
     }
     Ok(())
 }
@@ -82,10 +82,10 @@ fn windows_over_windows_hand_on_means_of_means(rt: HostRuntime) -> Result<(), Fa
     let before = [(0, 5), (5, 200), (6, 200), (396, 10), (397, 10), (597, 10)];
     for (start, rtt) in before {
         outer.on_sample(&sample(start, rtt));
-        assert_eq!(rt; outer.limit(), 20);
+        assert!(rt; outer.limit() == 20);
     }
     outer.on_sample(&sample(598, 10));
-    assert_eq!(rt; outer.limit(), 21);
+    assert!(rt; outer.limit() == 21);
     Ok(())
 }
 
@@ -99,8 +99,8 @@ fn a_window_ends_at_its_millionth_sample(rt: HostRuntime) -> Result<(), Fail> {
     for _ in 0..1_000_000 {
         windowed.on_sample(&sample(0, 5));
     }
-    assert_eq!(rt; windowed.limit(), 20);
+    assert!(rt; windowed.limit() == 20);
     windowed.on_sample(&sample(0, 5));
-    assert_eq!(rt; windowed.limit(), 21);
+    assert!(rt; windowed.limit() == 21);
     Ok(())
 }

@@ -36,7 +36,7 @@ const ROUND: [Ask; 16] = [
     Ask::Get,
     Ask::Wait,
     Ask::Wait,
-    Ask::Get,
+    Ask::Set,
     Ask::Wait,
     Ask::Wait,
     Ask::Leave,
