@@ -2,10 +2,10 @@
 ghost use Rattle.std.specs.Prelude.{◌≡◌, []};
 ghost use Rattle.gate_ledgers.specs.Names.{AreNamed, AreWhole};
 
-use crate::shared_gate_tests::by_one_pass;
-use gate_history::{Blanks, Book, Journal, Naming};
-use limit_laws::Settable;
-use limiter_core::{Core, Reply};
+use crate::shared_gate_tests::{admitted, by_one_pass};
+use gate_history::{Blanks, Book, Journal, Naming, Receipt, Spent};
+use limit_laws::{SetFault, Settable};
+use limiter_core::{Core, Outcome, Reply};
 use partitions::{Part, PartitionTable};
 use shared_gate::{Pass, SharedGate};
 use std::alloc::Global;
@@ -34,46 +34,86 @@ fn set_and_seen<M: Naming, R: Wait + Abort>(
     requires rows { M.rows ≡ [] }
     requires room { M.room ≡ 100 }
 {
-    let mut book = settable::<M>(alloc, blanks)?;
+    let mut book = settable::<M>(alloc, Settable::new(1, 20, 100)?, blanks)?;
     let mut pass = Pass::of(book.pass().ok_or("a pass")?);
     book.seal();
     let gate = SharedGate::new(book);
-    assert!(rt; gate.set_limit(rt, &mut pass, 30, 0).is_ok());
+    tells(rt, gate.set_limit(rt, &mut pass, 30, 0), 0, Reply::LimitSet);
     for number in 1..4 {
-        sees_thirty(rt, &gate, &mut pass, number);
+        let looked = gate.look(rt, &mut pass, Part::Unknown);
+        tells(rt, looked, number, seen(30, 0));
     }
     Ok(())
 }
 
-/// A book over a limit that is set, which keeps two entries and rolls.
-fn settable<M: Naming>(alloc: Global, blanks: Blanks) -> Result<Book<Settable, M>, Fail>
+#[test]
+fn a_limit_that_is_reset_is_the_first_after_rolls(rt: HostRuntime) -> Result<(), Fail> {
+    set_and_reset::<Brand, _>(&rt, rt.alloc(), Blanks::new())
+}
+
+fn set_and_reset<M: Naming, R: Wait + Abort>(
+    rt: &R,
+    alloc: Global,
+    blanks: Blanks,
+) -> Result<(), Fail>
     requires names { AreNamed M.calls M.place blanks }
     requires parts { AreWhole blanks }
     requires rows { M.rows ≡ [] }
     requires room { M.room ≡ 100 }
 {
-    let table = PartitionTable::unknown_only();
-    let core = Core::new(alloc, Settable::new(1, 20, 100)?, table, 100)?;
+    let mut book = settable::<M>(alloc, Settable::new(5, 10, 20)?, blanks)?;
+    let mut pass = Pass::of(book.pass().ok_or("a pass")?);
+    book.seal();
+    let gate = SharedGate::new(book);
+    let refused = Reply::Refused(SetFault::OutOfRange);
+    tells(rt, gate.set_limit(rt, &mut pass, 4, 0), 0, refused);
+    tells(rt, gate.set_limit(rt, &mut pass, 20, 0), 1, Reply::LimitSet);
+    let got = gate.acquire(rt, &mut pass, Part::Unknown, false, false, 0);
+    let permit = admitted(rt, got);
+    tells(rt, gate.reset(rt, &mut pass, 0), 3, Reply::ResetDone);
+    let looked = gate.look(rt, &mut pass, Part::Unknown);
+    tells(rt, looked, 4, seen(10, 1));
+    let ended = gate.end(rt, &mut pass, permit, Outcome::Ignored, 0);
+    assert!(rt; ended.number() == 5);
+    Ok(())
+}
+
+/// A book over this limit, which keeps two entries and rolls.
+fn settable<M: Naming>(
+    alloc: Global,
+    limit: Settable,
+    blanks: Blanks,
+) -> Result<Book<Settable, M>, Fail>
+    requires names { AreNamed M.calls M.place blanks }
+    requires parts { AreWhole blanks }
+    requires rows { M.rows ≡ [] }
+    requires room { M.room ≡ 100 }
+{
+    let core = Core::new(alloc, limit, PartitionTable::unknown_only(), 100)?;
     Ok(Book::new(Journal::new(alloc, core, 2, true)?, blanks))
 }
 
-/// A look of this number sees the limit at 30.
-fn sees_thirty<M: Naming, R: Wait + Abort>(
+/// It is told with this number and reply.
+fn tells<M: Naming, R: Abort>(
     rt: &R,
-    gate: &SharedGate<Settable, M>,
-    pass: &mut Pass<M>,
+    told: Result<Receipt<M>, Spent<M>>,
     number: u64,
+    reply: Reply,
 ) {
-    let seen = Reply::Seen {
-        limit: 30,
-        total: 0,
+    match told {
+        Ok(receipt) => assert!(rt; (receipt.number(), receipt.reply()) == (number, reply)),
+        Err(_spent) => rt.abort(),
+    }
+}
+
+/// What a look shows at this limit, with so many in flight.
+fn seen(limit: u32, inflight: u32) -> Reply {
+    Reply::Seen {
+        limit,
+        total: inflight,
         waiting: 0,
         granted: 0,
-        inflight: 0,
+        inflight,
         share: 0,
-    };
-    match gate.look(rt, pass, Part::Unknown) {
-        Ok(receipt) => assert!(rt; (receipt.number(), receipt.reply()) == (number, seen)),
-        Err(_spent) => rt.abort(),
     }
 }
