@@ -207,8 +207,8 @@ impl<L: Limit> Journal<L> {
     pub fn is_exhausted(&self, event: Event) -> bool
         ensures { result ≡ is_over L.rules self.now event }
     {
-        !self.is_always_served(event)
-            && ((!self.is_rolling && self.is_full()) || self.core.next_number() >= LAST_NUMBER)
+        ((!self.is_rolling && self.is_full()) || self.core.next_number() >= LAST_NUMBER)
+            && !self.is_always_served(event)
     }
 
     /// Whether an event is answered however many entries are held.

@@ -1,7 +1,8 @@
 // The stack of waiters.
 ghost use Rattle.std.specs.Prelude.{◌≡◌, ℕ, ◌+◌, ◌<◌, ◌≤◌, ◌==◌, ◌↔◌, not, [], ◌∷◌, ◌++◌};
 ghost use Rattle.std.specs.Prelude.{length, filter};
-ghost use Rattle.std.specs.Prelude.{find, All, vec_capacity, IfOk, IfSome, OnOk, OnErr};
+ghost use Rattle.std.specs.Prelude.{find, is_some, All, vec_capacity, IfOk, IfSome, IfNone, OnOk};
+ghost use Rattle.std.specs.Prelude.{OnErr};
 ghost use Rattle.std.specs.Prelude.{IsErr, IsErrOf, IsTrue};
 ghost use Rattle.std.specs.List.{list_any};
 ghost use Rattle.lifo_backlog.specs.Waiters.{most_waiters, newest_of};
@@ -89,6 +90,9 @@ impl Backlog {
         ensures others { self.new ≡ record self.old {
           waiting = filter (λ one. not (one.number == number)) self.old.waiting;
         } }
+        ensures found { is_some result
+            ≡ list_any (λ one. one.number == number) self.old.waiting }
+        ensures unchanged { IfNone result (self.new ≡ self.old) }
     {
         let taken = take_from(&mut self.places, number)?;
         self.count -= 1;
