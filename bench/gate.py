@@ -1,14 +1,15 @@
 #!/usr/bin/env python3
 """Times calls through a shared gate against a plain Rust gate, in one run.
 
-Usage: bench/gate.py [--still] [--rolling]. The product's side is gate/, a program over `shared_gate`;
+Usage: bench/gate.py [--still] [--rolling] [--history]. The product's side is gate/, a program over `shared_gate`;
 the peer is plain_gate.rs. They run in turn and must do the same work: pairs of acquire and end, with
 each number of threads and of permits that stay out meanwhile, and givings up, with each number of
 callers that wait at a time, oldest first and in a drawn order. Printed are the median time of a pair, or
 of a giving up, on either side, the median ratio of the turns, and that of the processor time that the
 programs took. With --still calls tell the moment 0 and read no clock. With --rolling the product's gate
-rolls at 4,096 entries, and runs beside the same gate that keeps all of them; nobody waits then. Needs rt
-and rustc.
+rolls at 4,096 entries, and runs beside the same gate that keeps all of them; nobody waits then. With
+--history the peer keeps a history too, of events and replies, and makes receipts; with both flags the
+product's gate rolls and the peer begins its history anew at 4,096 entries. Needs rt and rustc.
 """
 import sys
 
@@ -19,35 +20,44 @@ HELD = (10, 1_000, 10_000)
 WAITING = (10, 1_000, 10_000)
 TIMES = 400_000
 LIMIT = 10_000
+ROLLS_AT = 4_096
+MOST_ENTRIES = 1_000_000
 
 
-def rows(is_still, is_rolling):
+def rows(is_still, is_rolling, has_history):
     """What each row is called, and the words of the program on either side."""
+    kept = (ROLLS_AT if is_rolling else MOST_ENTRIES,) if has_history else ()
     for threads in THREADS:
         for held in HELD:
             name = f"pairs, threads {threads}, permits out {held:,}"
             words = (threads, held, TIMES, 0 if is_still else 1)
-            yield name, (*words, 1 if is_rolling else 0), (*words, 0)
+            yield name, (*words, 1 if is_rolling else 0), (*words, 0, *kept)
     for waiting in () if is_rolling else WAITING:
         for is_drawn, order in ((0, "oldest first"), (1, "drawn order")):
             name = f"givings up, {order}, of {waiting:,} who wait"
             words = (0, LIMIT, TIMES, waiting, is_drawn)
-            yield name, words, words
+            yield name, words, (*words, *kept)
 
 
 def main():
     flags = set(sys.argv[1:])
-    if not flags <= {"--still", "--rolling"}:
+    if not flags <= {"--still", "--rolling", "--history"}:
         sys.exit(__doc__)
-    is_rolling = "--rolling" in flags
+    is_rolling, has_history = "--rolling" in flags, "--history" in flags
     bench = Bench("gate", "shared_gate", ["aimd"])
     with open(bench.tree / "build.log", "w") as log:
         print(f"building, some minutes at most; {log.name} tells how far it is", file=sys.stderr)
         program, plain = bench.product((1, 10, 10, 1, 0), b"", log), bench.peer(log)
-    other, name = (program, "not rolling") if is_rolling else (plain, "plain")
+    peers = {
+        (False, False): (plain, "plain"),
+        (True, False): (program, "not rolling"),
+        (False, True): (plain, "plain with a history"),
+        (True, True): (plain, "plain with a history"),
+    }
+    other, name = peers[is_rolling, has_history]
     print(f"| calls | admission | {name} | ratio | of processor time |")
     print("|---|---|---|---|---|")
-    for calls, ours, theirs in rows("--still" in flags, is_rolling):
+    for calls, ours, theirs in rows("--still" in flags, is_rolling, has_history):
         took, least, ratio, used = row((program, ours), (other, theirs))
         print(f"| {calls} | {took / TIMES:.0f} ns | {least / TIMES:.0f} ns | {ratio:.2f} | {used:.2f} |",
               flush=True)

@@ -6,10 +6,13 @@
 //! end the threads make in all, and 1 where moments come from the clock, 0 where they stand still.
 //! Where the first word is 0, one thread lets callers wait and gives them up again: the others are how
 //! many permits stay out, how many give up in all, how many of them wait at a time, and 1 where their
-//! order is drawn, 0 where the oldest goes first. It writes the nanoseconds that the pairs, or the
-//! givings up, took, then what was done.
+//! order is drawn, 0 where the oldest goes first. With a sixth word above 0 it keeps a history of so many
+//! entries, and begins it anew where they are full: each call's event and reply go into a list whose room is
+//! reserved, and the caller gets a receipt of them. It writes the nanoseconds that the pairs, or the givings
+//! up, took, then what was done.
 use std::collections::BTreeMap;
 use std::env;
+use std::hint::black_box;
 use std::sync::{Condvar, Mutex};
 use std::thread;
 use std::time::{Duration, Instant};
@@ -17,6 +20,43 @@ use std::time::{Duration, Instant};
 const LAST_MOMENT: u64 = 1 << 62;
 const UNKNOWN_PLACE: usize = 4;
 const ROOM: usize = 10_000;
+
+/// What a history keeps of a call: what was asked, and what it was answered.
+#[derive(Clone, Copy)]
+#[allow(dead_code)]
+enum Event {
+    Acquire { part: Part, bypass: bool, wait: bool, now: u64 },
+    End { permit: Permit, outcome: Outcome, now: u64 },
+    GiveUp { number: u64 },
+}
+
+#[derive(Clone, Copy)]
+#[allow(dead_code)]
+enum Told {
+    Admitted { inflight: u32 },
+    Full,
+    BacklogFull,
+    Waiting,
+    Ended { promoted: u32 },
+    TimedOut,
+    Lost,
+    Granted { part: Part, start: u64, inflight: u32 },
+    Seen { limit: u32, total: u32, waiting: u32, granted: u32, inflight: u32, share: u32 },
+}
+
+#[derive(Clone, Copy)]
+#[allow(dead_code)]
+enum Entry {
+    Call { event: Event, told: Told },
+    Promotion { waiter: u64, part: Part, start: u64, inflight: u32 },
+}
+
+#[allow(dead_code)]
+struct Receipt {
+    number: u64,
+    event: Event,
+    told: Told,
+}
 
 #[derive(Clone, Copy)]
 enum Part {
@@ -72,6 +112,7 @@ enum Outcome {
 }
 
 /// A permit that is in flight, or lies granted.
+#[derive(Clone, Copy)]
 #[allow(dead_code)]
 struct Permit {
     number: u64,
@@ -109,9 +150,21 @@ struct Limiter {
     granted: Vec<Permit>,
     next: u64,
     counters: Counters,
+    history: Option<Vec<Entry>>,
+    kept: usize,
 }
 
 impl Limiter {
+    /// Keeps a call in the history, and makes its receipt.
+    fn keep(&mut self, number: u64, event: Event, told: Told) -> Option<Receipt> {
+        let entries = self.history.as_mut()?;
+        if entries.len() >= self.kept {
+            entries.clear();
+        }
+        entries.push(Entry::Call { event, told });
+        Some(Receipt { number, event, told })
+    }
+
     fn has_room(&self, place: usize) -> bool {
         let limit = self.aimd.limit;
         self.total < limit || self.inflight[place] < self.table.share(place, limit)
@@ -181,6 +234,9 @@ impl Limiter {
         let inflight = self.enter(place);
         self.waiters.remove(&waiter);
         self.granted.push(Permit { number: waiter, part, start, inflight });
+        if let Some(entries) = &mut self.history {
+            entries.push(Entry::Promotion { waiter, part, start, inflight });
+        }
         self.counters.promoted += 1;
         1
     }
@@ -200,7 +256,8 @@ struct Gate {
 }
 
 impl Gate {
-    fn new() -> Gate {
+    /// A gate that keeps a history of so many entries, or none.
+    fn new(kept: usize) -> Gate {
         let aimd = Aimd { lo: 1, limit: 10_000, hi: 10_000, ratio: 900, timeout: 3_600_000_000_000 };
         let limiter = Limiter {
             table: Table(vec![60, 30]),
@@ -211,22 +268,47 @@ impl Gate {
             granted: Vec::with_capacity(20_000),
             next: 0,
             counters: Counters::default(),
+            history: (kept > 0).then(|| Vec::with_capacity(kept + 1)),
+            kept,
         };
         Gate { limiter: Mutex::new(limiter), freed: Condvar::new() }
     }
 
-    fn acquire(&self, part: Part, wait: bool, now: u64) -> Reply {
-        self.limiter.lock().unwrap().acquire(part, wait, now)
+    fn acquire(&self, part: Part, wait: bool, now: u64) -> (Reply, Option<Receipt>) {
+        let mut limiter = self.limiter.lock().unwrap();
+        let number = limiter.next;
+        let reply = limiter.acquire(part, wait, now);
+        let told = match &reply {
+            Reply::Admitted(permit) => Told::Admitted { inflight: permit.inflight },
+            Reply::Full => Told::Full,
+            Reply::BacklogFull => Told::BacklogFull,
+            Reply::Waiting(_) => Told::Waiting,
+        };
+        let receipt = limiter.keep(number, Event::Acquire { part, bypass: false, wait, now }, told);
+        (reply, receipt)
     }
 
     /// Wakes those who wait only where one was promoted: std's condition variable calls the system
     /// even where nobody waits.
-    fn end(&self, permit: Permit, outcome: Outcome, now: u64) -> u32 {
-        let promoted = self.limiter.lock().unwrap().end(permit, outcome, now);
+    fn end(&self, permit: Permit, outcome: Outcome, now: u64) -> Option<Receipt> {
+        let mut limiter = self.limiter.lock().unwrap();
+        let number = limiter.next;
+        let promoted = limiter.end(permit, outcome, now);
+        let receipt = limiter.keep(number, Event::End { permit, outcome, now }, Told::Ended { promoted });
+        drop(limiter);
         if promoted > 0 {
             self.freed.notify_all();
         }
-        promoted
+        receipt
+    }
+
+    /// Whether a waiter gave up that still waited.
+    fn give_up(&self, waiter: u64) -> (bool, Option<Receipt>) {
+        let mut limiter = self.limiter.lock().unwrap();
+        let number = limiter.next;
+        let waited = limiter.give_up(waiter);
+        let told = if waited { Told::TimedOut } else { Told::Lost };
+        (waited, limiter.keep(number, Event::GiveUp { number: waiter }, told))
     }
 }
 
@@ -252,13 +334,15 @@ fn givings_up(gate: &Gate, times: u32, at_a_time: u32, drawn: bool) -> Duration 
     let mut took = Duration::ZERO;
     for _ in 0..times / at_a_time {
         let mut waiters: Vec<u64> =
-            (0..at_a_time).map(|_| waiting(gate.acquire(Part::Unknown, true, 0))).collect();
+            (0..at_a_time).map(|_| waiting(gate.acquire(Part::Unknown, true, 0).0)).collect();
         if drawn {
             shuffle(&mut waiters);
         }
         let began = Instant::now();
         for waiter in waiters {
-            assert!(gate.limiter.lock().unwrap().give_up(waiter));
+            let (waited, receipt) = gate.give_up(waiter);
+            assert!(waited);
+            black_box(receipt);
         }
         took += began.elapsed();
     }
@@ -277,8 +361,9 @@ fn admitted(reply: Reply) -> Permit {
 fn pairs(gate: &Gate, clock: Option<Instant>, part: Part, times: u32) {
     let now = || clock.map_or(0, |start| start.elapsed().as_nanos() as u64);
     for _ in 0..times {
-        let permit = admitted(gate.acquire(part, false, now()));
-        gate.end(permit, Outcome::Success, now());
+        let (reply, receipt) = gate.acquire(part, false, now());
+        black_box(receipt);
+        black_box(gate.end(admitted(reply), Outcome::Success, now()));
     }
 }
 
@@ -301,12 +386,12 @@ fn timed_pairs(gate: &Gate, threads: u32, times: u32, is_clocked: bool) -> Durat
 
 fn main() {
     let words: Vec<u32> = env::args().skip(1).map(|word| word.parse().unwrap()).collect();
-    let [threads, held, times, fourth, fifth] = words[..] else {
+    let [threads, held, times, fourth, fifth, ref rest @ ..] = words[..] else {
         panic!("words: threads held times and two more")
     };
-    let gate = Gate::new();
+    let gate = Gate::new(rest.first().map_or(0, |kept| *kept as usize));
     let out: Vec<Permit> =
-        (0..held).map(|_| admitted(gate.acquire(Part::Unknown, false, 0))).collect();
+        (0..held).map(|_| admitted(gate.acquire(Part::Unknown, false, 0).0)).collect();
     let took = match threads {
         0 => givings_up(&gate, times, fourth, fifth == 1),
         _ => timed_pairs(&gate, threads, times, fourth == 1),
