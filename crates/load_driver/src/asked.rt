@@ -1,18 +1,17 @@
 // What a line asks of a session.
-ghost use Rattle.std.specs.Prelude.{◌≡◌, ok_or, IfOk};
-ghost use Rattle.script.specs.declared.why.Why.TheVariants.{Class};
+ghost use Rattle.std.specs.Prelude.{◌≡◌, IfOk};
 ghost use Rattle.script.specs.Words.{words};
 ghost use Rattle.script.specs.Request.{request_bytes};
 ghost use Rattle.script.specs.Line.{line_of};
-ghost use Rattle.load_driver.specs.Replay.{part_of, ending_of, request_asks, line_asks, IfEvent};
+ghost use Rattle.load_driver.specs.Replay.{ending_of, request_asks, line_asks, IfEvent};
 ghost use Rattle.load_driver.specs.Session.{open_in};
 ghost use Rattle.load_driver.specs.Stretches.{IsOpen};
 
 use super::session::Session;
 use limit_laws::Limit;
 use limiter_core::{Event, Outcome};
-use partitions::{Part, PartitionTable};
-use script::{Line, Request, Why, read_line};
+use partitions::Part;
+use script::{Line, Request, Why, read_line, read_part};
 
 /// What a line asks once the settings are over.
 #[derive(Clone, Copy)]
@@ -23,16 +22,6 @@ pub(crate) enum Asked {
     NotOpen,
     /// An answer to this event.
     Event(Event),
-}
-
-/// The part of a class.
-fn read_part(table: &PartitionTable, class: &[u8]) -> Result<Part, Why>
-    ensures { result ≡ ok_or (part_of table.now class.now) Class }
-{
-    if class == b"unknown".as_slice() {
-        return Ok(Part::Unknown);
-    }
-    table.find(class).ok_or(Why::Class)
 }
 
 /// The end of a permit, where it is open.
