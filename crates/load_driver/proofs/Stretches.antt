@@ -79,8 +79,8 @@ over a true f h n same = refl
 over a false f h n same = ap (λ (b : Bool). not a && (b || n)) (same refl)
 
 -- o: the first opening, t: all entries so far, j: their last stretch
-pub record Holds {S : Type 0} (rules : Algorithm S) (o : Standing S) (t : List Entry) (j : Journal S)
-    : Type 0 where
+pub record Holds {S : Type 0}
+    (rules : Algorithm S) (o : Standing S) (t : List Entry) (j : Journal S) : Type 0 where
   pub stretch : IsLastStretch rules (image_of o) t j
   pub handed : IsHanded (gate rules j) (image_of o) t
   pub sound : IsSound (gate rules j) (image_of o)

@@ -11,8 +11,8 @@ use super::words::next_word;
 use limit_laws::HOUR;
 use limiter_core::Outcome;
 
-/// What a trace says of one call. A class is told by a `C`, as a line is read by its name; times are
-/// in nanoseconds.
+/// What a trace says of one call. A class is told by a `C`, as a line is read by its name; times
+/// are in nanoseconds.
 #[derive(Clone, Copy)]
 pub enum ArrivalLine<C> {
     /// It comes at a moment, and holds its permit for so long, if it gets one.

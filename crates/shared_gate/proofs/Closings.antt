@@ -30,7 +30,8 @@ pub fails_by : {S : Type 0} (rules : Algorithm S) (b : Book S) (calls : Calls) (
     → calls.sum ≤ calls.book → shown ≡ entries → lists ≡ kept
     → IsFirstCause (audited calls base shown lists) cause
     → FailsBy calls.sum base entries kept cause
-fails_by rules b calls base entries shown kept lists cause agrees is counted enough same lent first =
+fails_by rules b calls base entries shown kept lists cause agrees is counted enough same lent
+    first =
     record {
       book = calls.book;
       enough = enough;
