@@ -18,7 +18,8 @@ abbrev pub by_setting : ℕ → SettingFacts → Set → (SettingFacts → Trace
 by_setting number s (Ok t) after = after t
 by_setting number s (Err why) after = record { settings = s; calls = faulty number why }
 
--- by what a line says: what the lines after it say, under the same settings where it is skipped; the
+-- by what a line says: what the lines after it say, under the same settings where it is skipped;
+-- the
 -- call of this line and those after it, with which the settings are over; or the fault
 abbrev pub by_line :
     ℕ → Traced → SettingFacts → (SettingFacts → TraceFacts) → Calls → TraceFacts
