@@ -95,6 +95,12 @@ after_asked rules j asked.Nothing = j
 after_asked rules j asked.NotOpen = j
 after_asked rules j (asked.Event e) = record j { entries = j.entries ++ added rules j e }
 
+-- the entries that what is asked adds
+abbrev pub told_of : {S : Type 0} → Algorithm S → Journal S → Asked → List Entry
+told_of rules j asked.Nothing = []
+told_of rules j asked.NotOpen = []
+told_of rules j (asked.Event e) = added rules j e
+
 -- what is written of it
 abbrev pub asked_text : {S : Type 0} → Algorithm S → Journal S → Asked → List ℕ
 asked_text rules j asked.Nothing = []

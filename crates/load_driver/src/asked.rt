@@ -15,7 +15,7 @@ use script::{Line, Request, Why, read_line, read_part};
 
 /// What a line asks once the settings are over.
 #[derive(Clone, Copy)]
-pub(crate) enum Asked {
+pub enum Asked {
     /// It is skipped.
     Nothing,
     /// The end of a permit that isn't open.
@@ -24,8 +24,8 @@ pub(crate) enum Asked {
     Event(Event),
 }
 
-/// The end of a permit, where it is open.
-fn read_end<L: Limit>(session: &Session<L>, number: u64, outcome: Outcome, now: u64) -> Asked
+/// The end of a permit, where it is open. `now` is in nanoseconds.
+pub fn read_end<L: Limit>(session: &Session<L>, number: u64, outcome: Outcome, now: u64) -> Asked
     ensures asked { result ≡ ending_of (open_in session.now number) outcome now }
     ensures named { IfEvent result (IsOpen (open_in session.now)) }
 {

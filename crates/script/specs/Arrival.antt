@@ -1,5 +1,6 @@
 -- What a trace says of one call, by its words.
-use Rattle.std.specs.Prelude.{ℕ, nat_le, List, bytes_eq, codes, Option, None, Some, option_map, option_and_then, Result, Ok, Err, if◌then◌else◌}
+use Rattle.std.specs.Prelude.{ℕ, nat_le, List, bytes_eq, codes, Option, None, Some, option_map}
+use Rattle.std.specs.Prelude.{option_and_then, Result, Ok, Err, if◌then◌else◌}
 use Rattle.std.specs.Borrow.{Bor}
 use Rattle.limit_laws.specs.Facts.{hour}
 use Rattle.script.specs.declared.why.Why.{Why}

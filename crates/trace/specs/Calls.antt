@@ -1,5 +1,6 @@
 -- The calls of a trace once its settings are over.
-use Rattle.std.specs.Prelude.{ℕ, ◌+◌, true, false, List, [], ◌∷◌, ◌++◌, Option, None, Some, ok_or, Result, Ok, Err}
+use Rattle.std.specs.Prelude.{ℕ, ◌+◌, true, false, List, [], ◌∷◌, ◌++◌, Option, None, Some, ok_or}
+use Rattle.std.specs.Prelude.{Result, Ok, Err}
 use Rattle.partitions.specs.declared.part.Part.TheVariants.{Unknown}
 use Rattle.partitions.specs.Table.{Row}
 use Rattle.limiter_core.specs.declared.event.Outcome.TheVariants.{Success}
