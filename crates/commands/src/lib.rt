@@ -1,8 +1,8 @@
-//! The words of the program's command line, and what each command over a text reads, writes and ends
-//! with, over readers and writers of any kind.
+//! The words of the program's command line, and what each command over a text reads, writes and
+//! ends with, over readers and writers of any kind.
 //!
-//! [`words`] reads the command line, and [`run_text`] answers a script. Each contract pins the lines
-//! that are written and the exit status.
+//! [`words`] reads the command line, and [`run_text`] answers a script. Each contract pins the
+//! lines that are written and the exit status.
 #![tactic(auto)]
 
 mod command_line;

@@ -131,7 +131,8 @@ module _ {S : Type 0} (rules : Algorithm S) (lawful : IsLawful rules)
     same_number : next_number j ≡ next_number (whole o t j)
     same_number = ap (λ (i : Image S). i.next) holds.stretch.leads
 
-    pub same_text : asked_text rules j (asked.Event e) ≡ asked_text rules (whole o t j) (asked.Event e)
+    pub same_text : asked_text rules j (asked.Event e)
+        ≡ asked_text rules (whole o t j) (asked.Event e)
     same_text = λ k.
         cond (same_over k) (codes "- exhausted\n")
         (entries_text j.rows (same_number k) (same_told k))

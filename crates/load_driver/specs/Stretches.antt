@@ -19,15 +19,15 @@ use Rattle.load_driver.specs.Replay.{Told, Open, open_of, line_asks, by_asks}
 use Rattle.load_driver.specs.Session.{Session, open_in}
 
 -- o: a first opening, t: all entries since, j: the last stretch of them
-pub record Holds {S : Type 0} (rules : Algorithm S) (o : Standing S) (t : List Entry) (j : Journal S)
-    : Type 0 where
+pub record Holds {S : Type 0}
+    (rules : Algorithm S) (o : Standing S) (t : List Entry) (j : Journal S) : Type 0 where
   pub stretch : IsLastStretch rules (image_of o) t j
   pub handed : IsHanded (gate rules j) (image_of o) t
   pub sound : IsSound (gate rules j) (image_of o)
   pub short : j.is_rolling ≡ false → length t ≡ length j.entries
 
--- A SESSION STANDS FOR a journal that never rolled: its own journal is the last stretch of that one,
--- and the same permits are open
+-- A SESSION STANDS FOR a journal that never rolled: its own journal is the last stretch of that
+-- one, and the same permits are open
 pub record StandsFor {S : Type 0} (rules : Algorithm S) (whole : Journal S) (s : Session S)
     : Type 0 where
   pub holds : Holds rules whole.opening whole.entries s.journal

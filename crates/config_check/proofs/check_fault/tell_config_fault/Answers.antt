@@ -8,7 +8,8 @@ use Rattle.config_check.proofs.check_fault.tell_config_fault.Goals as goal
 pub returns : goal.returns
 returns g c =
     let pieces = c.pieces.result in
-    subst (λ text. IsTold g.E.Write.contents c.args.errors.now c.tell_fault.new.errors (fault_line text))
+    subst
+    (λ text. IsTold g.E.Write.contents c.args.errors.now c.tell_fault.new.errors (fault_line text))
     (word_and_three (codes "config: ") pieces.0.now pieces.1.now pieces.2.now
     (fault_text c.args.fault.now) c.pieces.ensures)
     c.tell_fault.ensures
