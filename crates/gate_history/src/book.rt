@@ -15,7 +15,7 @@ use crate::handing::{grant, hand_acquired, hand_back, hand_granted, last_entry};
 use crate::permit::Permit;
 use crate::step::{Call, Handed, Step};
 use gate_journal::Journal;
-use gate_ledgers::{Blanks, Naming, Pass, Places, Tally, open_ledgers};
+use gate_ledgers::{Blanks, Naming, Pass, Places, Returned, Tally, open_ledgers};
 use limit_laws::{LAST_MOMENT, Limit};
 use limiter_core::{Event, Outcome, PermitFacts, answers_by_image};
 use partitions::Part;
@@ -117,6 +117,23 @@ impl<L: Limit, N: Naming> Book<L, N> {
         ensures few { result ≤ next_number self.now.journal }
     {
         self.tally.calls()
+    }
+
+    /// No pass has come back.
+    pub fn none_returned(&mut self) -> Returned<N>
+        ensures none { result ≡ 0 }
+        ensures same { self.new ≡ self.old }
+    {
+        self.tally.none_returned()
+    }
+
+    /// A pass comes back. All that came back made no more calls than all passes did.
+    pub fn take_back(&mut self, returned: &mut Returned<N>, pass: Pass<N>)
+        ensures sum { returned.new ≡ returned.old + pass }
+        ensures few { returned.new ≤ self.old.tally.calls }
+        ensures same { self.new ≡ self.old }
+    {
+        self.tally.take_back(returned, pass)
     }
 
     /// What every book keeps: its history is legal, from a sound opening; its table and the room

@@ -22,7 +22,7 @@ mod ticket;
 
 pub use book::Book;
 pub use gate_journal::{History, Image, Journal, JournalFault};
-pub use gate_ledgers::{At, Blanks, Calls, Naming, Pass};
+pub use gate_ledgers::{At, Blanks, Calls, Naming, Pass, Returned};
 pub use limiter_core::Entry;
 pub use permit::Permit;
 pub use receipt::Receipt;

@@ -14,6 +14,7 @@ mod opening;
 mod pass;
 mod place;
 mod places;
+mod returned;
 mod tally;
 
 pub use names::{At, Blanks, Calls, Naming};
@@ -21,4 +22,5 @@ pub use opening::open_ledgers;
 pub use pass::Pass;
 pub use place::Mark;
 pub use places::{PlaceMark, Places};
+pub use returned::Returned;
 pub use tally::Tally;

@@ -3,6 +3,7 @@ ghost use Rattle.std.specs.Prelude.{◌≡◌, ◌+◌, ◌^◌, ◌<◌, ◌≤
 
 use crate::names::{Calls, Naming};
 use crate::pass::Pass;
+use crate::returned::Returned;
 use std::marker::Model;
 use std::sync::ledger::{Blank, Book, Share};
 
@@ -76,6 +77,32 @@ impl<N: Naming> Tally<N> {
         book.add(share, 1);
         *count += 1;
         *made += 1;
+    }
+
+    /// No pass has come back.
+    pub fn none_returned(&mut self) -> Returned<N>
+        ensures none { result ≡ 0 }
+        ensures same { self.new ≡ self.old }
+    {
+        let share = self.reserve.empty();
+        Returned { count: 0, share }
+    }
+
+    /// A pass comes back. All that came back made no more calls than all passes did.
+    pub fn take_back(&mut self, returned: &mut Returned<N>, pass: Pass<N>)
+        ensures sum { returned.new ≡ returned.old + pass }
+        ensures few { returned.new ≤ self.old.calls }
+        ensures same { self.new ≡ self.old }
+    {
+        let Pass { count, share } = pass;
+        let Returned {
+            count: sum,
+            share: whole,
+        } = returned;
+        let Tally { book, .. } = self;
+        whole.merge(share);
+        book.audit(whole);
+        *sum += count;
     }
 
     /// How many calls were made.

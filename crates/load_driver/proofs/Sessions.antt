@@ -26,7 +26,7 @@ use Rattle.load_driver.specs.Stretches.{IsOpen, open_then, opened_by}
 use Rattle.load_driver.proofs.Named.{open_by_number}
 
 -- an ending that names an open permit by its number
-names_open : {S : Type 0} (first : Image S) (t : List Entry) (by_number : Open)
+pub names_open : {S : Type 0} (first : Image S) (t : List Entry) (by_number : Open)
     → ((n : ℕ) → by_number n ≡ open_permit first.next t n) → (e : Event) → IsOpen by_number e
     → NamesOpen first t e
 names_open first t by_number found (event.End permit outcome now) is =

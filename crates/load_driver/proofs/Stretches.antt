@@ -14,24 +14,25 @@ use Rattle.limiter_core.specs.declared.event.Entry.{Entry}
 use Rattle.limiter_core.specs.History.{Gate, Image}
 use Rattle.limiter_core.specs.Answer.{answer}
 use Rattle.limiter_core.specs.Legal.{MayCome}
-use Rattle.limiter_core.specs.Bound.{IsSound, is_always_served, is_exhausted}
+use Rattle.limiter_core.specs.Bound.{is_always_served, is_exhausted}
 use Rattle.limiter_core.specs.Open.{open_permit}
 use Rattle.limiter_core.specs.Handed.{IsHanded, NamesOpen}
 use Rattle.limiter_core.specs.Laws.{MayEndOpen, AnswersHanded, OpensByItsCall, StaysSound}
 use Rattle.gate_journal.specs.Image.{Standing, image_of}
 use Rattle.gate_journal.specs.Journal.{Journal, gate, image, next_number, is_over, answered}
-use Rattle.gate_journal.specs.Rolling.{IsLastStretch, StretchesJoin, continued, after, rolls, standing}
+use Rattle.gate_journal.specs.Rolling.{StretchesJoin, continued, after, rolls, standing}
 use Rattle.script.specs.declared.why.Why.TheVariants.{Class}
 use Rattle.script.specs.declared.line.Line.TheVariants as line
 use Rattle.script.specs.declared.request.Request.{Request}
 use Rattle.script.specs.declared.request.Request.TheVariants as request
 use Rattle.script.specs.Words.{words, result_map}
+use Rattle.script.specs.Classes.{part_of}
 use Rattle.script.specs.Line.{Said, line_of}
 use Rattle.load_driver.specs.declared.asked.Asked.TheVariants as asked
-use Rattle.load_driver.specs.Replay.{Asks, Open, part_of, ending_of, request_asks}
+use Rattle.load_driver.specs.Replay.{Asks, Open, ending_of, request_asks}
 use Rattle.load_driver.specs.Replay.{line_asks, IfEvent, after_asked, asked_text, by_asks}
 use Rattle.load_driver.specs.Replay.{after_text, entries_text, lines_text}
-use Rattle.load_driver.specs.Stretches.{opened_by, open_then, stretch_after, open_asked}
+use Rattle.load_driver.specs.Stretches.{Holds, opened_by, open_then, stretch_after, open_asked}
 use Rattle.load_driver.specs.Stretches.{stretch_text}
 use Rattle.load_driver.proofs.Named.{open_own}
 
@@ -77,20 +78,12 @@ over : (a r f h n : Bool) → (r ≡ false → f ≡ h)
 over a true f h n same = refl
 over a false f h n same = ap (λ (b : Bool). not a && (b || n)) (same refl)
 
--- o: the first opening, t: all entries so far, j: their last stretch
-pub record Holds {S : Type 0} (rules : Algorithm S) (o : Standing S) (t : List Entry) (j : Journal S)
-    : Type 0 where
-  pub stretch : IsLastStretch rules (image_of o) t j
-  pub handed : IsHanded (gate rules j) (image_of o) t
-  pub sound : IsSound (gate rules j) (image_of o)
-  pub short : j.is_rolling ≡ false → length t ≡ length j.entries
-
 module _ {S : Type 0} (rules : Algorithm S) (lawful : IsLawful rules)
     (join : StretchesJoin rules) (ends : (g : Gate S) → MayEndOpen g)
     (hand : (g : Gate S) → AnswersHanded g) (opens : (g : Gate S) → OpensByItsCall g)
     (stays : (g : Gate S) → StaysSound g) where
   -- the whole history, as a journal that never rolled
-  abbrev whole : Standing S → List Entry → Journal S → Journal S
+  abbrev pub whole : Standing S → List Entry → Journal S → Journal S
   whole o t j = record j { opening = o; entries = t }
 
   abbrev grown : Journal S → Event → Bool → List Entry
@@ -124,7 +117,7 @@ module _ {S : Type 0} (rules : Algorithm S) (lawful : IsLawful rules)
         subst (λ (i : Image S). MayCome g i e) (sym holds.stretch.leads)
         (ends g (image_of o) t e holds.handed named)
 
-    same_over : is_over rules j e ≡ is_over rules (whole o t j) e
+    pub same_over : is_over rules j e ≡ is_over rules (whole o t j) e
     same_over =
         over (is_always_served (image rules j) e) j.is_rolling
         (leb j.kept (length j.entries)) (leb j.kept (length t)) (leb (2 ^ 62) (image rules j).next)
@@ -132,26 +125,27 @@ module _ {S : Type 0} (rules : Algorithm S) (lawful : IsLawful rules)
         ∙ ap (λ (i : Image S). is_exhausted j.kept j.is_rolling i (length t) e)
         holds.stretch.leads
 
-    same_told : answered rules j e ≡ answered rules (whole o t j) e
+    pub same_told : answered rules j e ≡ answered rules (whole o t j) e
     same_told = (join (image_of o) t j e holds.stretch may).0
 
     same_number : next_number j ≡ next_number (whole o t j)
     same_number = ap (λ (i : Image S). i.next) holds.stretch.leads
 
-    same_text : asked_text rules j (asked.Event e) ≡ asked_text rules (whole o t j) (asked.Event e)
+    pub same_text : asked_text rules j (asked.Event e)
+        ≡ asked_text rules (whole o t j) (asked.Event e)
     same_text = λ k.
         cond (same_over k) (codes "- exhausted\n")
         (entries_text j.rows (same_number k) (same_told k))
 
     -- the open permits of the whole history, one answer later
-    same_open : opened_by (open_permit o.next t) (next_number j) (answered rules j e)
+    pub same_open : opened_by (open_permit o.next t) (next_number j) (answered rules j e)
         ≡ open_permit o.next (t ++ answered rules j e)
     same_open =
         (λ k. opened_by (open_permit o.next t) (same_number k) (same_told k))
         ∙ (λ k n. sym (opens g (image_of o) t e _ _ holds.handed refl n) k)
         ∙ (λ k. open_permit o.next (t ++ sym same_told k))
 
-    goes : Holds rules o (t ++ answered rules j e) (continued rules j e)
+    pub goes : Holds rules o (t ++ answered rules j e) (continued rules j e)
     goes = record {
       stretch = (join (image_of o) t j e holds.stretch may).1;
       handed = subst (λ (es : List Entry). IsHanded g (image_of o) (t ++ es)) (sym same_told)

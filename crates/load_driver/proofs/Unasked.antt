@@ -16,9 +16,10 @@ use Rattle.limiter_core.specs.Laws.{StaysSound}
 use Rattle.gate_journal.specs.Journal.{Journal, gate, opening, opened}
 use Rattle.gate_journal.specs.Rolling.{IsLastStretch, StretchesJoin}
 use Rattle.load_driver.specs.Replay.{lines_text}
-use Rattle.load_driver.specs.Session.{Permits, IsSession, IsUnasked}
-use Rattle.load_driver.specs.Stretches.{stretch_text}
-use Rattle.load_driver.proofs.Stretches.{Holds, text_of_all}
+use Rattle.limiter_core.specs.Open.{open_permit}
+use Rattle.load_driver.specs.Session.{open_in, Session, Permits, IsSession, IsUnasked}
+use Rattle.load_driver.specs.Stretches.{Holds, StandsFor, stretch_text}
+use Rattle.load_driver.proofs.Stretches.{text_of_all}
 
 zeros : (p : ℕ) → slice_index (0 ∷ 0 ∷ 0 ∷ 0 ∷ 0 ∷ []) p ≡ 0
 zeros zero = refl
@@ -88,6 +89,20 @@ module _ {S : Type 0} (rules : Algorithm S) (j : Journal S) (fresh : IsUnasked j
     handed = handed_now;
     found = λ n. ap (λ (es : List (ℕ × PermitFacts)). lookup (λ m. nat_eq n m) es) closed;
   }
+
+  -- and is that of its own journal
+  pub stands_now : (s : Session S) → s.journal ≡ j → s.permits ≡ [] → StandsFor rules j s
+  stands_now s same closed =
+      let holds : Holds rules j.opening j.entries j =
+      subst (λ (es : List Entry). Holds rules j.opening es j) (sym fresh.empty) holds_now in
+      let opens : (n : ℕ) → open_in s n ≡ open_permit j.opening.next j.entries n = λ n.
+      ap (λ (es : List (ℕ × PermitFacts)). lookup (λ m. nat_eq n m) es) closed
+      ∙ ap (λ (es : List Entry). open_permit j.opening.next es n) (sym fresh.empty) in
+      record {
+        holds = subst (λ (w : Journal S). Holds rules j.opening j.entries w) (sym same) holds;
+        opens = opens;
+        same = λ k. record (sym same k) { opening = j.opening; entries = j.entries };
+      }
 
   -- its text is that of the whole history
   pub text_now : IsLawful rules → StretchesJoin rules → ((g : Gate S) → MayEndOpen g)

@@ -1,10 +1,10 @@
 -- The text of a script once its settings are over: line by line, each answered after all entries so
 -- far, however often the history rolled since.
-use Rattle.std.specs.Prelude.{ℕ, ◌+◌, true, false, List, [], ◌∷◌, ◌++◌, bytes_eq, codes, Option, None, Some, ok_or, Result, Ok, Err, if◌then◌else◌}
+use Rattle.std.specs.Prelude.{ℕ, ◌+◌, true, false, List, [], ◌∷◌, ◌++◌, codes, Option, None, Some, ok_or, Result, Ok, Err, if◌then◌else◌}
 use Rattle.limit_laws.specs.Algorithm.{Algorithm}
 use Rattle.partitions.specs.declared.part.Part.{Part}
 use Rattle.partitions.specs.declared.part.Part.TheVariants.{Unknown}
-use Rattle.partitions.specs.Table.{Row, find_part}
+use Rattle.partitions.specs.Table.{Row}
 use Rattle.limiter_core.specs.declared.event.Outcome.{Outcome}
 use Rattle.limiter_core.specs.declared.event.PermitFacts.{PermitFacts}
 use Rattle.limiter_core.specs.declared.event.Event.{Event}
@@ -19,6 +19,7 @@ use Rattle.script.specs.declared.line.Line.TheVariants as line
 use Rattle.script.specs.declared.request.Request.{Request}
 use Rattle.script.specs.declared.request.Request.TheVariants.{Acquire, Bypass, End, Claim, GiveUp, SetLimit, Reset, Look}
 use Rattle.script.specs.Words.{words, result_map}
+use Rattle.script.specs.Classes.{part_of}
 use Rattle.script.specs.Line.{Said, line_of}
 use Rattle.load_driver.specs.declared.asked.Asked.{Asked}
 use Rattle.load_driver.specs.declared.asked.Asked.TheVariants as asked
@@ -37,10 +38,6 @@ after_text text told = record { out = text ++ told.out; fault = told.fault }
 abbrev pub entries_text : List Row → ℕ → List Entry → List ℕ
 entries_text rows number [] = []
 entries_text rows number (e ∷ es) = entry_text rows number e ++ entries_text rows (number + 1) es
-
--- the part of a class: `unknown`, or a name of the table
-abbrev pub part_of : List Row → List ℕ → Option Part
-part_of rows class = if bytes_eq class (codes "unknown") then Some Unknown else find_part rows class
 
 -- what a line asks, or why it is at fault
 abbrev pub Asks : Type 0
@@ -97,6 +94,12 @@ abbrev pub after_asked : {S : Type 0} → Algorithm S → Journal S → Asked �
 after_asked rules j asked.Nothing = j
 after_asked rules j asked.NotOpen = j
 after_asked rules j (asked.Event e) = record j { entries = j.entries ++ added rules j e }
+
+-- the entries that what is asked adds
+abbrev pub told_of : {S : Type 0} → Algorithm S → Journal S → Asked → List Entry
+told_of rules j asked.Nothing = []
+told_of rules j asked.NotOpen = []
+told_of rules j (asked.Event e) = added rules j e
 
 -- what is written of it
 abbrev pub asked_text : {S : Type 0} → Algorithm S → Journal S → Asked → List ℕ

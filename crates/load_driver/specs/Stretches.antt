@@ -1,17 +1,43 @@
 -- The same text, from the last stretch of a journal that rolls and the permits that are open.
-use Rattle.std.specs.Prelude.{◌≡◌, ℕ, ◌+◌, List, [], ◌∷◌, None, Some, if◌then◌else◌}
+use Rattle.std.specs.Prelude.{◌≡◌, ℕ, ◌+◌, false, List, [], ◌∷◌, length, drop, Option, None, Some}
+use Rattle.std.specs.Prelude.{if◌then◌else◌}
 use Rattle.limit_laws.specs.Algorithm.{Algorithm}
 use Rattle.limiter_core.specs.declared.event.Event.{Event}
 use Rattle.limiter_core.specs.declared.event.Event.TheVariants.{End}
 use Rattle.limiter_core.specs.declared.event.Entry.{Entry}
-use Rattle.limiter_core.specs.Handed.{open_after}
-use Rattle.gate_journal.specs.Journal.{Journal, next_number, is_over, answered}
-use Rattle.gate_journal.specs.Rolling.{after}
+use Rattle.limiter_core.specs.Bound.{IsSound}
+use Rattle.limiter_core.specs.Handed.{IsHanded, open_after}
+use Rattle.gate_journal.specs.Image.{Standing, image_of}
+use Rattle.gate_journal.specs.Journal.{Journal, gate, next_number, is_over, answered}
+use Rattle.gate_journal.specs.Rolling.{IsLastStretch, after}
 use Rattle.script.specs.Words.{words}
 use Rattle.script.specs.Line.{line_of}
 use Rattle.load_driver.specs.declared.asked.Asked.{Asked}
+use Rattle.load_driver.specs.declared.session.Added.{Added}
 use Rattle.load_driver.specs.declared.asked.Asked.TheVariants as asked
-use Rattle.load_driver.specs.Replay.{Told, Open, line_asks, by_asks}
+use Rattle.load_driver.specs.Replay.{Told, Open, open_of, line_asks, by_asks}
+use Rattle.load_driver.specs.Session.{Session, open_in}
+
+-- o: a first opening, t: all entries since, j: the last stretch of them
+pub record Holds {S : Type 0}
+    (rules : Algorithm S) (o : Standing S) (t : List Entry) (j : Journal S) : Type 0 where
+  pub stretch : IsLastStretch rules (image_of o) t j
+  pub handed : IsHanded (gate rules j) (image_of o) t
+  pub sound : IsSound (gate rules j) (image_of o)
+  pub short : j.is_rolling ≡ false → length t ≡ length j.entries
+
+-- A SESSION STANDS FOR a journal that never rolled: its own journal is the last stretch of that
+-- one, and the same permits are open
+pub record StandsFor {S : Type 0} (rules : Algorithm S) (whole : Journal S) (s : Session S)
+    : Type 0 where
+  pub holds : Holds rules whole.opening whole.entries s.journal
+  pub opens : (n : ℕ) → open_in s n ≡ open_of whole n
+  pub same : whole ≡ record s.journal { opening = whole.opening; entries = whole.entries }
+
+-- the entries that an answer added, by their place among those that are held
+abbrev pub told_at : List Entry → Option Added → List Entry
+told_at entries None = []
+told_at entries (Some added) = drop added.place entries
 
 -- an ending names an open permit
 abbrev pub IsOpen : Open → Event → Type 0

@@ -1,16 +1,18 @@
 // The lines of a script once its settings are over, each answered after all entries so far.
 ghost use Rattle.std.specs.Prelude.{◌≡◌, ◌<◌, ◌+◌, ◌^◌, ◌++◌, ◌∷◌, [], drop, length, string_bytes};
-ghost use Rattle.std.specs.Prelude.{IfOk, OnOk};
+ghost use Rattle.std.specs.Prelude.{◌≤◌, IfOk, IfSome, OnOk};
 ghost use Rattle.std.specs.Str.Lines.{lines};
 ghost use Rattle.script.specs.Words.{words};
 ghost use Rattle.script.specs.Line.{line_of};
 ghost use Rattle.load_driver.specs.Replay.{after_text, entries_text, IfEvent, line_asks};
-ghost use Rattle.load_driver.specs.Replay.{asked_text, lines_text};
+ghost use Rattle.load_driver.specs.Replay.{after_asked, told_of, asked_text, lines_text};
 ghost use Rattle.load_driver.specs.Session.{open_in, IsUnasked};
 ghost use Rattle.load_driver.specs.Stretches.{IsOpen, stretch_after, open_asked, stretch_text};
+ghost use Rattle.load_driver.specs.Stretches.{StandsFor, told_at};
+ghost use Rattle.gate_journal.specs.Journal.{Journal};
 
 use super::asked::{Asked, read_asked};
-use super::session::Session;
+use super::session::{Added, Session};
 use super::text::push_entry;
 use gate_journal::rolling_runs_are_legal;
 use limit_laws::Limit;
@@ -38,13 +40,18 @@ fn push_entries(
     Ok(())
 }
 
-/// Answers what a line asks, and adds what is written of it.
+/// Answers what is asked, and adds what is written of it; says where the entries stand that this
+/// adds, if it adds any.
 fn serve<L: Limit>(
     session: &mut Session<L>,
     text: &mut String,
     asked: Asked,
-) -> Result<(), AllocError>
+) -> Result<Option<Added>, AllocError>
     requires { IfEvent asked (IsOpen (open_in session.old)) }
+    ensures inside { IfOk result (λ added. IfSome added (λ at.
+        at.place ≤ length session.new.journal.entries)) }
+    ensures told { IfOk result (λ added. told_at session.new.journal.entries added
+        ≡ told_of L.rules session.old.journal asked) }
     ensures journal { OnOk result
         (session.new.journal ≡ stretch_after L.rules session.old.journal asked) }
     ensures opens { OnOk result (open_in session.new
@@ -53,17 +60,50 @@ fn serve<L: Limit>(
         ≡ string_bytes text.old ++ asked_text L.rules session.old.journal asked) }
 {
     let event = match asked {
-        Asked::Nothing => return Ok(()),
-        Asked::NotOpen => return text.push_str("- not open\n"),
+        Asked::Nothing => return Ok(None),
+        Asked::NotOpen => {
+            text.push_str("- not open\n")?;
+            return Ok(None);
+        }
         Asked::Event(event) => event,
     };
     match session.ask(event)? {
         Some(added) => {
             let entries = &session.entries()[added.place..];
-            push_entries(text, session.table(), added.number, entries)
+            push_entries(text, session.table(), added.number, entries)?;
+            Ok(Some(added))
         }
-        None => text.push_str("- exhausted\n"),
+        None => {
+            text.push_str("- exhausted\n")?;
+            Ok(None)
+        }
     }
+}
+
+/// Answers what is asked after all entries so far, however often the journal rolled, and adds what
+/// is written of it; says where the entries stand that this adds, if it adds any. An ending names
+/// an open permit.
+pub fn answer<L: Limit>(
+    session: &mut Session<L>,
+    text: &mut String,
+    asked: Asked,
+) -> Result<Option<Added>, AllocError>
+    requires { IfEvent asked (IsOpen (open_in session.old)) }
+    ensures inside { IfOk result (λ added. IfSome added (λ at.
+        at.place ≤ length session.new.journal.entries)) }
+    ensures told { IfOk result (λ added. (whole : Journal L) → StandsFor L.rules whole session.old →
+        told_at session.new.journal.entries added ≡ told_of L.rules whole asked) }
+    ensures text { OnOk result ((whole : Journal L) → StandsFor L.rules whole session.old →
+        string_bytes text.new ≡ string_bytes text.old ++ asked_text L.rules whole asked) }
+    ensures stands { OnOk result ((whole : Journal L) → StandsFor L.rules whole session.old →
+        StandsFor L.rules (after_asked L.rules whole asked) session.new) }
+{
+    rolling_runs_are_legal::<L>();
+    soundness_is_kept::<L>();
+    open_permits_may_end::<L>();
+    open_permits_are_in_flight::<L>();
+    let added = serve(session, text, asked)?;
+    Ok(added)
 }
 
 /// Answers lines, the first of which has this number, up to their end or to the first one at fault.
@@ -83,7 +123,9 @@ fn answer_lines<L: Limit>(
     let mut number = first;
     while let Some((line, after)) = next_line(rest) {
         match read_asked(session, line) {
-            Ok(asked) => serve(session, text, asked)?,
+            Ok(asked) => {
+                let _added = serve(session, text, asked)?;
+            }
             Err(why) => return Ok(Some(LineFault { line: number, why })),
         }
         rest = after;

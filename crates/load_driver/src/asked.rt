@@ -1,22 +1,21 @@
 // What a line asks of a session.
-ghost use Rattle.std.specs.Prelude.{◌≡◌, ok_or, IfOk};
-ghost use Rattle.script.specs.declared.why.Why.TheVariants.{Class};
+ghost use Rattle.std.specs.Prelude.{◌≡◌, IfOk};
 ghost use Rattle.script.specs.Words.{words};
 ghost use Rattle.script.specs.Request.{request_bytes};
 ghost use Rattle.script.specs.Line.{line_of};
-ghost use Rattle.load_driver.specs.Replay.{part_of, ending_of, request_asks, line_asks, IfEvent};
+ghost use Rattle.load_driver.specs.Replay.{ending_of, request_asks, line_asks, IfEvent};
 ghost use Rattle.load_driver.specs.Session.{open_in};
 ghost use Rattle.load_driver.specs.Stretches.{IsOpen};
 
 use super::session::Session;
 use limit_laws::Limit;
 use limiter_core::{Event, Outcome};
-use partitions::{Part, PartitionTable};
-use script::{Line, Request, Why, read_line};
+use partitions::Part;
+use script::{Line, Request, Why, read_line, read_part};
 
 /// What a line asks once the settings are over.
 #[derive(Clone, Copy)]
-pub(crate) enum Asked {
+pub enum Asked {
     /// It is skipped.
     Nothing,
     /// The end of a permit that isn't open.
@@ -25,18 +24,8 @@ pub(crate) enum Asked {
     Event(Event),
 }
 
-/// The part of a class.
-fn read_part(table: &PartitionTable, class: &[u8]) -> Result<Part, Why>
-    ensures { result ≡ ok_or (part_of table.now class.now) Class }
-{
-    if class == b"unknown".as_slice() {
-        return Ok(Part::Unknown);
-    }
-    table.find(class).ok_or(Why::Class)
-}
-
-/// The end of a permit, where it is open.
-fn read_end<L: Limit>(session: &Session<L>, number: u64, outcome: Outcome, now: u64) -> Asked
+/// The end of a permit, where it is open. `now` is in nanoseconds.
+pub fn read_end<L: Limit>(session: &Session<L>, number: u64, outcome: Outcome, now: u64) -> Asked
     ensures asked { result ≡ ending_of (open_in session.now number) outcome now }
     ensures named { IfEvent result (IsOpen (open_in session.now)) }
 {

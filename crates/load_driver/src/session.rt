@@ -11,7 +11,7 @@ ghost use Rattle.gate_journal.specs.Journal.{gate, opening, next_number, is_over
 ghost use Rattle.gate_journal.specs.Journal.{opened, most_kept};
 ghost use Rattle.gate_journal.specs.Rolling.{after};
 ghost use Rattle.load_driver.specs.Session.{open_in};
-ghost use Rattle.load_driver.specs.Stretches.{IsOpen, open_then};
+ghost use Rattle.load_driver.specs.Stretches.{IsOpen, StandsFor, told_at, open_then};
 
 use gate_journal::{Journal, JournalFault, rolling_runs_are_legal};
 use limit_laws::{LAST_MOMENT, Limit};
@@ -27,7 +27,7 @@ use std::marker::Model;
 /// A journal with the permits that are open in it, by the number of their acquire: an ending is
 /// found without a walk over the history, and however often the journal rolled.
 #[derive(Drop)]
-pub(crate) struct Session<L: Limit> {
+pub struct Session<L: Limit> {
     journal: Journal<L>,
     permits: HashMap<u64, PermitFacts>,
 }
@@ -45,15 +45,17 @@ impl<L: Limit> Model for Session<L> {
 /// Where the entries of an answer stand: the number of the first, and its place among those that
 /// are held.
 #[derive(Clone, Copy)]
-pub(crate) struct Added {
-    pub(crate) number: u64,
-    pub(crate) place: usize,
+pub struct Added {
+    /// The number of the first.
+    pub number: u64,
+    /// Its place among the entries that are held.
+    pub place: usize,
 }
 
 impl<L: Limit> Session<L> {
     /// Nothing was asked yet; up to `room` may wait, and so many entries are kept of a history
     /// that rolls or doesn't.
-    pub(crate) fn new(
+    pub fn new(
         alloc: Global,
         limit: L,
         table: PartitionTable,
@@ -64,10 +66,12 @@ impl<L: Limit> Session<L> {
         requires room { room ≤ most_waiters }
         requires some_kept { 1 ≤ kept }
         requires few_kept { kept ≤ most_kept }
-        ensures { IfOk result (λ session. session ≡ record {
+        ensures begun { IfOk result (λ session. session ≡ record {
           journal = opened (unasked table room limit) kept is_rolling;
           permits = [];
         }) }
+        ensures stands { IfOk result (λ session.
+            StandsFor L.rules (opened (unasked table room limit) kept is_rolling) session) }
     {
         open_permits_are_in_flight::<L>();
         let core = match Core::new(alloc, limit, table, room) {
@@ -103,11 +107,22 @@ impl<L: Limit> Session<L> {
     }
 
     /// The entries that are held, in order.
-    pub(crate) fn entries(&self) -> &[Entry]
+    pub fn entries(&self) -> &[Entry]
         ensures entries { result.now ≡ self.now.journal.entries }
         ensures sound { IsSound (gate L.rules self.now.journal) (opening self.now.journal) }
     {
         self.journal.entries()
+    }
+
+    /// The entries that an answer added, where it is the last one.
+    pub fn told(&self, added: Option<Added>) -> &[Entry]
+        requires { IfSome added (λ at. at.place ≤ length self.now.journal.entries) }
+        ensures { result.now ≡ told_at self.now.journal.entries added }
+    {
+        match added {
+            Some(added) => &self.entries()[added.place..],
+            None => &[],
+        }
     }
 
     /// Answers an event, and says where the entries stand that this adds; nothing where the journal

@@ -3,7 +3,10 @@ pub mod Words
 pub mod LimitLine
 pub mod WindowLine
 pub mod Setting
+pub mod Classes
 pub mod Request
+pub mod Arrival
 pub mod Line
+pub mod TraceLine
 pub mod Settings
 pub mod Faults

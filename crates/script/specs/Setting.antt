@@ -2,7 +2,7 @@
 use Rattle.std.specs.Prelude.{ℕ, Bool, true, false, List, [], ◌∷◌, Option, None, Some, option_map, bytes_eq, codes, if◌then◌else◌}
 use Rattle.std.specs.Borrow.{Bor}
 use Rattle.script.specs.declared.setting.Setting.{Setting}
-use Rattle.script.specs.declared.setting.Setting.TheVariants.{Limit, Window, Class, Backlog, Keep}
+use Rattle.script.specs.declared.setting.Setting.TheVariants.{Limit, Window, Class, Backlog, Keep, Timeout}
 use Rattle.script.specs.Words.{with_number, with_word, alone, lone_number}
 use Rattle.script.specs.LimitLine.{limit_line}
 use Rattle.script.specs.WindowLine.{window_line}
@@ -30,7 +30,8 @@ setting_of first rest =
     else (if bytes_eq first (codes "class") then class_line rest
     else (if bytes_eq first (codes "backlog") then option_map Backlog (lone_number rest)
     else (if bytes_eq first (codes "keep") then keep_line rest
-    else None))))
+    else (if bytes_eq first (codes "timeout") then option_map Timeout (lone_number rest)
+    else None)))))
 
 -- a setting with the bytes of its class's name
 abbrev pub setting_bytes : Setting (Bor (List ℕ)) → Setting (List ℕ)
@@ -39,3 +40,4 @@ setting_bytes (Window line) = Window line
 setting_bytes (Class name percent) = Class name.now percent
 setting_bytes (Backlog room) = Backlog room
 setting_bytes (Keep entries is_rolling) = Keep entries is_rolling
+setting_bytes (Timeout nanos) = Timeout nanos

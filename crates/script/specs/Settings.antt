@@ -1,5 +1,6 @@
 -- The settings of a script, line by line.
 use Rattle.std.specs.Prelude.{◌≡◌, ℕ, Bool, false, ◌^◌, nat_lt, nat_le, ◌&&◌, List, [], ◌∷◌, ◌++◌, Option, None, Some, is_none, unwrap_or, Result, Ok, Err, MatchResult, if◌then◌else◌}
+use Rattle.limit_laws.specs.Facts.{hour}
 use Rattle.partitions.specs.Table.{Row}
 use Rattle.partitions.specs.Faults.{fault_of}
 use Rattle.lifo_backlog.specs.Waiters.{most_waiters}
@@ -11,21 +12,23 @@ use Rattle.limit_kinds.specs.AnyKinds.{any_from}
 use Rattle.script.specs.declared.limit_line.LimitLine.{LimitLine}
 use Rattle.script.specs.declared.window_line.WindowLine.{WindowLine}
 use Rattle.script.specs.declared.setting.Setting.{Setting}
-use Rattle.script.specs.declared.setting.Setting.TheVariants.{Limit, Window, Class, Backlog, Keep}
+use Rattle.script.specs.declared.setting.Setting.TheVariants.{Limit, Window, Class, Backlog, Keep, Timeout}
 use Rattle.script.specs.declared.why.Why.{Why}
 use Rattle.script.specs.declared.why.Why.TheVariants.{Twice, Value}
-use Rattle.script.specs.Limits.{usual_backlog, most_kept}
+use Rattle.script.specs.Limits.{usual_backlog, usual_timeout, most_kept}
 use Rattle.script.specs.LimitLine.{base_of}
 use Rattle.script.specs.WindowLine.{windows_of}
 
--- the settings so far: the limit, the windows over it, how many may wait and how many entries are
--- kept, where a line gave them, whether the history rolls, and the known partitions
+-- the settings so far: the limit, the windows over it, how many may wait, how many entries are kept
+-- and how long a caller waits, where a line gave them, whether the history rolls, and the known
+-- partitions
 pub record SettingFacts : Type 0 where
   pub limit : Option BaseLimit
   pub window : Option WindowNumbers
   pub backlog : Option ℕ
   pub keep : Option ℕ
   pub is_rolling : Bool
+  pub timeout : Option ℕ
   pub rows : List Row
 
 abbrev pub no_settings : SettingFacts
@@ -35,6 +38,7 @@ no_settings = record {
   backlog = None;
   keep = None;
   is_rolling = false;
+  timeout = None;
   rows = [];
 }
 
@@ -74,6 +78,14 @@ with_keep s entries is_rolling =
     then Ok (record s { keep = Some entries; is_rolling = is_rolling })
     else Err Value)
 
+-- a caller waits for 1 ns to an hour
+abbrev pub with_timeout : SettingFacts → ℕ → Set
+with_timeout s nanos =
+    once s.timeout
+    (if nat_le 1 nanos && nat_le nanos hour
+    then Ok (record s { timeout = Some nanos })
+    else Err Value)
+
 -- one more partition: its percentage fits 32 bits, and the partitions with it make a table
 abbrev pub with_row : SettingFacts → Row → Set
 with_row s row =
@@ -88,6 +100,7 @@ with_setting s (Window line) = with_window s line
 with_setting s (Class name percent) = with_row s (record { name = name; percent = percent })
 with_setting s (Backlog room) = with_backlog s room
 with_setting s (Keep entries is_rolling) = with_keep s entries is_rolling
+with_setting s (Timeout nanos) = with_timeout s nanos
 
 -- the limit of the settings, which is fixed at n where no line gave one
 abbrev pub base_or : ℕ → Option BaseLimit → BaseLimit
@@ -105,6 +118,10 @@ room_of s = unwrap_or s.backlog usual_backlog
 -- how many entries are kept: the usual number where no line says it
 abbrev pub kept_of : ℕ → SettingFacts → ℕ
 kept_of usual s = unwrap_or s.keep usual
+
+-- how long a caller waits: one second where no line says it
+abbrev pub timeout_of : SettingFacts → ℕ
+timeout_of s = unwrap_or s.timeout usual_timeout
 
 -- what is answered to a setting: that it is taken, or why it is at fault, and then the settings
 -- stay

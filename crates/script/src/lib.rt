@@ -1,7 +1,9 @@
-//! The lines of scripts: settings first, and then what is asked of a limiter.
+//! The lines of scripts: settings first, and then what is asked of a limiter; and those of traces,
+//! whose settings are followed by calls.
 //!
 //! [`next_line`] cuts one line off a text, and [`read_line`] says what it has: nothing, a setting
-//! or a request, or the fault of its words. Its contract is exact, by `specs/Line.antt`.
+//! or a request, or the fault of its words. Its contract is exact, by `specs/Line.antt`; that of
+//! [`read_trace_line`], which says the same of a trace's line, by `specs/TraceLine.antt`.
 //! [`Settings`] are what setting lines add up to, each taken by the rules of
 //! `specs/Settings.antt`.
 //!
@@ -9,6 +11,8 @@
 //! knows what was asked before. Other formats of lines are read by the same words and numbers.
 #![tactic(auto)]
 
+mod arrival;
+mod classes;
 mod limit_line;
 mod line;
 mod line_fault;
@@ -17,10 +21,13 @@ mod numbers;
 mod request;
 mod setting;
 mod settings;
+mod trace_line;
 mod why;
 mod window_line;
 mod words;
 
+pub use arrival::ArrivalLine;
+pub use classes::read_part;
 pub use limit_line::LimitLine;
 pub use line::{Line, read_line};
 pub use line_fault::LineFault;
@@ -29,6 +36,7 @@ pub use numbers::{next_number, read_lone_number, read_number};
 pub use request::Request;
 pub use setting::Setting;
 pub use settings::Settings;
+pub use trace_line::{TraceLine, read_trace_line};
 pub use why::Why;
 pub use window_line::WindowLine;
 pub use words::next_word;

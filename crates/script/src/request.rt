@@ -53,7 +53,7 @@ pub enum Request<C> {
 }
 
 /// Whether the rest of a line says `wait`; nothing where it says anything else.
-fn read_wait(line: &[u8]) -> Option<bool>
+pub(crate) fn read_wait(line: &[u8]) -> Option<bool>
     ensures { result ≡ wait_of (words line.now) }
 {
     let Some((word, line)) = next_word(line) else {
@@ -76,7 +76,7 @@ fn read_acquire(line: &[u8]) -> Option<Request<&[u8]>>
 }
 
 /// The outcome that a word names.
-fn read_outcome(word: &[u8]) -> Option<Outcome>
+pub(crate) fn read_outcome(word: &[u8]) -> Option<Outcome>
     ensures { result ≡ outcome_of word.now }
 {
     if word == b"success".as_slice() {

@@ -22,6 +22,9 @@ pub enum Setting<C> {
     Backlog { room: u64 },
     /// How many entries of the history are kept, and whether it rolls.
     Keep { entries: u64, is_rolling: bool },
+    /// How long a caller of a trace waits, in nanoseconds; a script may say it, and it counts for
+    /// nothing there.
+    Timeout { nanos: u64 },
 }
 
 /// What follows `class`: a name, and a percentage.
@@ -76,6 +79,9 @@ pub(crate) fn read_setting<'a>(first: &[u8], line: &'a [u8]) -> Option<Setting<&
         Some(Setting::Backlog { room })
     } else if first == b"keep".as_slice() {
         read_keep(line)
+    } else if first == b"timeout".as_slice() {
+        let nanos = read_lone_number(line)?;
+        Some(Setting::Timeout { nanos })
     } else {
         None
     }

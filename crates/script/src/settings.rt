@@ -9,6 +9,7 @@ use super::setting::Setting;
 use super::why::Why;
 use super::window_line::{WindowLine, make_windows};
 use limit_kinds::{AnyLimit, BaseLimit};
+use limit_laws::HOUR;
 use partitions::{PartitionTable, TableFault};
 use std::alloc::{AllocError, Global};
 use std::marker::Model;
@@ -23,6 +24,9 @@ const MOST_KEPT: u64 = 1_000_000;
 /// How many may wait where no line says it.
 const USUAL_BACKLOG: u32 = 100;
 
+/// How long a caller of a trace waits where no line says it, in nanoseconds.
+const USUAL_TIMEOUT: u64 = 1_000_000_000;
+
 /// The settings that the lines of a script gave so far.
 #[derive(Drop)]
 pub struct Settings<'a> {
@@ -31,6 +35,7 @@ pub struct Settings<'a> {
     backlog: Option<u32>,
     keep: Option<usize>,
     is_rolling: bool,
+    timeout: Option<u64>,
     rows: Vec<(&'a [u8], u32)>,
     table: PartitionTable,
 }
@@ -50,6 +55,7 @@ impl<'a> Model for Settings<'a> {
       backlog = s.backlog;
       keep = s.keep;
       is_rolling = s.is_rolling;
+      timeout = s.timeout;
       rows = given s.rows.items;
     } };
 
@@ -64,7 +70,7 @@ impl<'a> Settings<'a> {
     ghost use Rattle.script.specs.Setting.{setting_bytes};
     ghost use Rattle.script.specs.Settings.{no_settings, with_limit, with_window, with_backlog};
     ghost use Rattle.script.specs.Settings.{with_keep, with_row, with_setting, Answers, limit_of};
-    ghost use Rattle.script.specs.Settings.{room_of, kept_of};
+    ghost use Rattle.script.specs.Settings.{room_of, kept_of, with_timeout, timeout_of};
 
     /// No settings.
     pub fn new(alloc: Global) -> Settings<'a>
@@ -76,6 +82,7 @@ impl<'a> Settings<'a> {
             backlog: None,
             keep: None,
             is_rolling: false,
+            timeout: None,
             rows: Vec::new(alloc),
             table: PartitionTable::unknown_only(),
         }
@@ -99,6 +106,7 @@ impl<'a> Settings<'a> {
                 entries,
                 is_rolling,
             } => Ok(self.take_keep(entries, is_rolling)),
+            Setting::Timeout { nanos } => Ok(self.take_timeout(nanos)),
         }
     }
 
@@ -158,6 +166,22 @@ impl<'a> Settings<'a> {
         }
         self.keep = Some(entries as usize);
         self.is_rolling = is_rolling;
+        Ok(())
+    }
+
+    /// Takes how long a caller waits.
+    fn take_timeout(&mut self, nanos: u64) -> Result<(), Why>
+        ensures taken { OnOk result (with_timeout self.old nanos ≡ Ok self.new) }
+        ensures fault { IfErr result (λ why. with_timeout self.old nanos ≡ Err why) }
+        ensures unchanged { OnErr result (self.new ≡ self.old) }
+    {
+        if self.timeout.is_some() {
+            return Err(Why::Twice);
+        }
+        if nanos < 1 || nanos > HOUR {
+            return Err(Why::Value);
+        }
+        self.timeout = Some(nanos);
         Ok(())
     }
 
@@ -226,6 +250,20 @@ impl<'a> Settings<'a> {
         ensures { result ≡ self.now.is_rolling }
     {
         self.is_rolling
+    }
+
+    /// How long a caller of a trace waits, in nanoseconds: one second where no line says it.
+    pub fn timeout(&self) -> u64
+        ensures { result ≡ timeout_of self.now }
+    {
+        self.timeout.unwrap_or(USUAL_TIMEOUT)
+    }
+
+    /// The table of the known partitions, as it stands.
+    pub fn table(&self) -> &PartitionTable
+        ensures { result.now ≡ self.now.rows }
+    {
+        &self.table
     }
 
     /// The table of the known partitions.

@@ -1,1 +1,3 @@
 pub mod Telling
+mod Sequential
+mod Closings

@@ -1,19 +1,24 @@
 // A gate that threads share.
-ghost use Rattle.std.specs.Prelude.{◌≡◌, true};
+ghost use Rattle.std.specs.Prelude.{◌≡◌, true, IfOk, IfErr};
 ghost use Rattle.limiter_core.specs.declared.event.Event.TheVariants.{SetLimit, Reset, Look};
+ghost use Rattle.audit.specs.Accepted.{IsHistoryOf};
+ghost use Rattle.gate_history.specs.Book.{calls_of};
 ghost use Rattle.gate_history.specs.Handing.{IsChange};
 ghost use Rattle.gate_history.specs.Steps.{event_of};
 ghost use Rattle.shared_gate.specs.Calls.{Tells, Gets, Waits, Claims, GivesUp, Ends, Changes};
 ghost use Rattle.shared_gate.specs.Calls.{HandsNothing, plainly};
+ghost use Rattle.shared_gate.specs.Closing.{FailsBy, IsKept, calls_by, made_with};
 
 use crate::answers::{Claimed, GaveUp, Got, Waited};
 use crate::clock::Clock;
+use crate::closing::{AuditFault, count_calls, judge};
 use crate::pass::Pass;
 use crate::sealed::Sealed;
-use gate_history::{Book, Call, Handed, Naming, Permit, Receipt, Spent, Step, Ticket};
+use gate_history::{Book, Call, Handed, History, Naming, Permit, Receipt, Spent, Step, Ticket};
 use limit_laws::Limit;
 use limiter_core::{Counters, Outcome, Reply};
 use partitions::Part;
+use std::alloc::Global;
 use std::sync::{Condvar, Mutex, Wait};
 use std::time::{Clock as SystemClock, Duration};
 
@@ -237,6 +242,36 @@ impl<L: Limit, M: Naming> SharedGate<L, M> {
         ensures { Changes pass.old.count pass.new.count (Look part) result }
     {
         self.change(rt, pass, Call::Look { part })
+    }
+
+    /// Closes the gate and audits it: its history, where that is whole and has just the calls whose
+    /// receipts were kept, one list for each caller, each call once and each list in order.
+    ///
+    /// Else the first [`Cause`](audit::Cause) that applies, with the history and the lists; the
+    /// passes are spent. It takes memory for three marks an entry before all else, and goes over
+    /// the receipts twice and over the entries three times.
+    pub fn close(
+        self,
+        alloc: Global,
+        passes: Vec<Pass<M>>,
+        kept: Vec<Vec<Receipt<M>>>,
+    ) -> Result<History<L>, AuditFault<L, M>>
+        ensures whole { IfOk result (λ history. history.base ≡ 0) }
+        ensures legal { IfOk result (λ history. IsKept (made_with L.rules M.rows M.room)
+            history.opening.standing history.base history.entries.items) }
+        ensures counted { IfOk result (λ history.
+            calls_by passes.items ≡ calls_of history.entries.items) }
+        ensures accepted { IfOk result (λ history.
+            IsHistoryOf history.entries.items kept.items) }
+        ensures first { IfErr result (λ fault. FailsBy (calls_by passes.items)
+            fault.history.base fault.history.entries.items fault.kept.items fault.cause) }
+        ensures history { IfErr result (λ fault. IsKept (made_with L.rules M.rows M.room)
+            fault.history.opening.standing fault.history.base fault.history.entries.items) }
+        ensures kept { IfErr result (λ fault. fault.kept ≡ kept) }
+    {
+        let Sealed { mut book } = self.book.into_inner();
+        let calls = count_calls(&mut book, passes);
+        judge(alloc, book, calls, kept)
     }
 
     /// A call that hands nothing out.

@@ -11,11 +11,16 @@
 
 mod answers;
 mod clock;
+mod closing;
 mod gate;
+mod laws;
 mod pass;
 mod sealed;
 
 pub use answers::{Claimed, GaveUp, Got, Waited};
+pub use audit::Cause;
 pub use clock::{Clock, ProgramClock};
+pub use closing::AuditFault;
 pub use gate::SharedGate;
+pub use laws::accepted_histories_are_one_threads;
 pub use pass::Pass;

@@ -34,4 +34,12 @@ impl<M: Naming> Pass<M> {
     {
         self.pass.count()
     }
+
+    /// The pass of the book.
+    pub(crate) fn into_inner(self) -> gate_history::Pass<M>
+        ensures { result ≡ self.count }
+    {
+        let Pass { pass } = self;
+        pass
+    }
 }

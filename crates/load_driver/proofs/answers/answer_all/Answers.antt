@@ -9,7 +9,8 @@ pub returns : goal.returns
 returns g c =
     IfOk-weaker c.answer_lines.result _ _
     (λ fault is. is ∙ ap (after_text (string_bytes c.args.text.now))
-    (text_now g.L.Limit.rules c.args.session.now.journal c.requires.unasked c.entries-entries.ensures.sound
+    (text_now g.L.Limit.rules c.args.session.now.journal c.requires.unasked
+    c.entries-entries.ensures.sound
     c.open_permits_are_in_flight.ensures.begins g.met.L.Limit.lawful
     (c.rolling_runs_are_legal.ensures.stretches g.L.Limit.rules) c.open_permits_may_end.ensures
     c.open_permits_are_in_flight.ensures.answer c.open_permits_are_in_flight.ensures.call

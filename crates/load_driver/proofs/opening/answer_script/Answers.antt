@@ -11,17 +11,17 @@ use Rattle.load_driver.proofs.opening.answer_script.Goals as goal
 pub answer_all-requires-clause-unasked : goal.answer_all-requires-clause-unasked
 answer_all-requires-clause-unasked c =
     opens_unasked _ _ _ _ _ _ c.in_ok-session.session.journal refl
-    (ap (λ (s : Session AnyLimit). s.journal) c.in_ok-session.ensures)
+    (ap (λ (s : Session AnyLimit). s.journal) c.in_ok-session.ensures.begun)
 
 pub answer_all-requires-clause-none_open : goal.answer_all-requires-clause-none_open
 answer_all-requires-clause-none_open c =
-    ap (λ (s : Session AnyLimit). s.permits) c.in_ok-session.ensures
+    ap (λ (s : Session AnyLimit). s.permits) c.in_ok-session.ensures.begun
 
 pub returns : goal.returns
 returns c =
     let read = c.in_ok-settings.field-0 in
     let opens : c.in_ok-session.session.journal ≡ journal_of c.args.n c.args.kept read.settings =
-    ap (λ (s : Session AnyLimit). s.journal) c.in_ok-session.ensures
+    ap (λ (s : Session AnyLimit). s.journal) c.in_ok-session.ensures.begun
     ∙ (λ k. opened (unasked (c.into_table-table.ensures k) (c.room-room.ensures.value k)
     (c.limit-limit.ensures k)) (c.kept-kept.ensures.value k) (c.is_rolling-is_rolling.ensures k)) in
     c.in_ok-fault.ensures

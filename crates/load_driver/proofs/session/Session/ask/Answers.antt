@@ -20,7 +20,8 @@ invariant_of-self-in-Some g c =
     goes_on g.L.Limit.rules c.self.inside.journal c.self.inside.permits c.args.self.now
     c.self.view_is c.self.invariant c.args.event c.requires c.reserve.new.self c.note.new.permits
     c.in-Some.number c.in-Some.reply c.in-Some.ensures.number c.in-Some.ensures.reply
-    c.reserve.ensures.entries.2 c.note.ensures (c.rolling_runs_are_legal.ensures.stretches g.L.Limit.rules)
+    c.reserve.ensures.entries.2 c.note.ensures
+    (c.rolling_runs_are_legal.ensures.stretches g.L.Limit.rules)
     c.check.ensures.sound c.open_permits_may_end.ensures
     c.open_permits_are_in_flight.ensures.answer c.open_permits_are_in_flight.ensures.call
     c.apply.new.self c.in-Some.ensures.entries

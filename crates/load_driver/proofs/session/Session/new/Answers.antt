@@ -11,5 +11,5 @@ invariant_of-result g c =
     c.entries-entries.ensures.sound c.open_permits_are_in_flight.ensures.begins c.new-3.result
     c.new-3.ensures.empty
 
-pub returns : goal.returns
-returns g c = search rules
+pub returns-clause-begun : goal.returns-clause-begun
+returns-clause-begun g c = search rules

@@ -1,0 +1,15 @@
+// What a backend answers.
+use wire::{Response, WireFault};
+
+/// What became of a request that was forwarded.
+#[derive(Drop)]
+pub enum Answer {
+    /// The backend's response, read whole.
+    Answered(Response),
+    /// There was no connection, so nothing was sent.
+    NotConnected,
+    /// There was one, and then the request wasn't written or no response was read, for this cause.
+    Broken(WireFault),
+    /// A growth was refused.
+    Memory,
+}

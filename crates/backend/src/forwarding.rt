@@ -1,0 +1,28 @@
+// A backend.
+ghost use Rattle.std.specs.Prelude.{◌≡◌, ℕ};
+ghost use Rattle.counted_io.specs.Count.{raised};
+ghost use Rattle.backend.specs.Forwards.{Logs};
+
+use crate::answer::Answer;
+use wire::Request;
+
+/// A server behind the gateway. It counts the requests that it was given.
+pub trait Backend {
+    ghost use Rattle.std.specs.Prelude.{Option, List};
+    ghost use Rattle.backend.specs.Forwards.{Forwarded};
+
+    // How many requests it was given.
+    ghost forwarded: { Self → ℕ };
+
+    // What it was given and what it answered, in order, where it shows that.
+    ghost shown: { Self → Option (List Forwarded) };
+
+    /// Gives it the request once, and waits for its answer.
+    fn forward(&mut self, request: &Request) -> Answer
+        ensures count { forwarded self.new ≡ raised (forwarded self.old) }
+        ensures log { Logs (shown self.old) (shown self.new) request.now result };
+
+    /// How many requests it was given; the count stays at `u64::MAX`.
+    fn forwards(&self) -> u64
+        ensures { result ≡ forwarded self.now };
+}

@@ -1,0 +1,38 @@
+// What a line of a trace says.
+ghost use Rattle.std.specs.Prelude.{◌≡◌, option_map};
+ghost use Rattle.script.specs.Words.{words, result_map};
+ghost use Rattle.script.specs.TraceLine.{trace_line_of, trace_line_bytes};
+
+use super::arrival::{ArrivalLine, read_arrival};
+use super::setting::{Setting, read_setting};
+use super::why::Why;
+use super::words::next_word;
+
+/// A line of a trace that isn't skipped. A class is told by a `C`, as a line is read by its name.
+#[derive(Clone, Copy)]
+pub enum TraceLine<C> {
+    /// A setting, as a script has it.
+    Setting(Setting<C>),
+    /// A call.
+    Arrival(ArrivalLine<C>),
+}
+
+/// What a line of a trace says: nothing where it has no words or is a comment, whose first word
+/// begins with `#`.
+///
+/// [`Why::Words`] where no line of a trace has this format, and [`Why::Value`] where a permit is
+/// held for longer than an hour. The numbers of a setting may be out of their ranges yet.
+pub fn read_trace_line(line: &[u8]) -> Result<Option<TraceLine<&[u8]>>, Why>
+    ensures { result_map (option_map trace_line_bytes) result ≡ trace_line_of (words line.now) }
+{
+    let Some((first, line)) = next_word(line) else {
+        return Ok(None);
+    };
+    if first.first() == Some(&b'#') {
+        return Ok(None);
+    }
+    if let Some(setting) = read_setting(first, line) {
+        return Ok(Some(TraceLine::Setting(setting)));
+    }
+    Ok(Some(TraceLine::Arrival(read_arrival(first, line)?)))
+}

@@ -1,0 +1,42 @@
+-- What a gate tells as it is closed.
+use Rattle.std.specs.Prelude.{◌≡◌, ℕ, ◌+◌, ◌≤◌, List, Vec, length, sum_by}
+use Rattle.std.specs.declared.alloc.Global.{Global}
+use Rattle.limit_laws.specs.Algorithm.{Algorithm}
+use Rattle.partitions.specs.Table.{Row}
+use Rattle.limiter_core.specs.declared.event.Entry.{Entry}
+use Rattle.limiter_core.specs.History.{Gate}
+use Rattle.limiter_core.specs.Legal.{IsLegal}
+use Rattle.limiter_core.specs.Bound.{IsSound}
+use Rattle.gate_journal.specs.Image.{Standing, image_of}
+use Rattle.gate_history.specs.Book.{calls_of}
+use Rattle.gate_history.specs.Told.{Told}
+use Rattle.audit.specs.declared.cause.Cause.{Cause}
+use Rattle.audit.specs.Verdict.{audited, IsFirstCause}
+use Rattle.shared_gate.specs.Calls.{Pass}
+
+-- what the limiter was made with
+abbrev pub made_with : {S : Type 0} → Algorithm S → List Row → ℕ → Gate S
+made_with rules rows room = record { rules = rules; rows = rows; room = room }
+
+-- the calls that were made by these passes
+abbrev pub calls_by : List Pass → ℕ
+calls_by passes = sum_by (λ pass. pass.count) passes
+
+-- a history that a gate kept: its first entry has the opening's next number, and the entries are
+-- legal, from an opening that is sound
+pub record IsKept {S : Type 0} (g : Gate S) (o : Standing S) (base : ℕ) (entries : List Entry)
+    : Type 0 where
+  pub first : base ≡ o.next
+  pub sound : IsSound g (image_of o)
+  pub legal : IsLegal g (image_of o) entries
+
+-- why an audit fails, where the passes that were handed in made so many calls: the cause is the
+-- first that applies to the history and the lists, by the calls of all passes. Those are no fewer,
+-- no more than the numbers given out, and the history's calls where that is whole
+pub record FailsBy (sum base : ℕ) (entries : List Entry) (kept : List (Vec Told Global))
+    (cause : Cause) : Type 0 where
+  pub book : ℕ
+  pub enough : sum ≤ book
+  pub few : book ≤ base + length entries
+  pub whole : base ≡ 0 → book ≡ calls_of entries
+  pub first : IsFirstCause (audited (record { book = book; sum = sum }) base entries kept) cause

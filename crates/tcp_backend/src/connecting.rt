@@ -1,0 +1,110 @@
+// A backend at an address.
+ghost use Rattle.std.specs.Prelude.{◌≡◌, IfOk};
+ghost use Rattle.std.specs.Net.Text.{socket_v4_text};
+ghost use Rattle.tcp_backend.specs.Connecting.{count_of, host_of};
+
+use crate::asking::{answer_of, ask};
+use arrayvec::ArrayString;
+use backend::{Answer, Backend};
+use itoa::Buffer;
+use lent_io::{ReadBuffer, WriteBuffer};
+use std::alloc::{AllocError, Global};
+use std::net::{Net, SocketAddrV4, TcpStream};
+use wire::Request;
+
+/// How many bytes are read or written at once.
+const PIECE: usize = 16_384;
+
+/// Why a backend was not made.
+#[derive(Clone, Copy, Debug, Drop, PartialEq, Eq)]
+pub enum BackendFault {
+    /// A growth was refused.
+    Memory = 1,
+}
+
+impl From<AllocError> for BackendFault {
+    fn from(_: AllocError) -> BackendFault {
+        BackendFault::Memory
+    }
+}
+
+/// A backend at an address, with one connection for each request.
+#[derive(Drop)]
+pub struct TcpBackend<R> {
+    rt: R,
+    alloc: Global,
+    address: SocketAddrV4,
+    host: ArrayString<21>,
+    ahead: ReadBuffer,
+    behind: WriteBuffer,
+    forwards: u64,
+}
+
+impl<R: Net + Drop> TcpBackend<R> {
+    /// The backend at this address. A request that names no host is sent with the address as its
+    /// host. Nothing is connected yet, and the only fault is want of memory for the buffers.
+    pub fn new(rt: R, alloc: Global, address: SocketAddrV4) -> Result<TcpBackend<R>, BackendFault>
+        ensures host { IfOk result (λ backend. host_of backend ≡ socket_v4_text address) }
+        ensures unused { IfOk result (λ backend. count_of backend ≡ 0) }
+    {
+        Ok(TcpBackend {
+            rt,
+            alloc,
+            address,
+            host: host_text(address),
+            ahead: ReadBuffer::new(alloc, PIECE)?,
+            behind: WriteBuffer::new(alloc, PIECE)?,
+            forwards: 0,
+        })
+    }
+}
+
+impl<R: Net> Backend for TcpBackend<R> {
+    ghost use Rattle.std.specs.Prelude.{None};
+    ghost use Rattle.tcp_backend.specs.Connecting.{count_of};
+
+    ghost forwarded = { count_of };
+
+    ghost shown = { λ _. None };
+
+    /// Connects, writes the request and reads one response. Where there is no connection, that is
+    /// `NotConnected`; each later fault is `Broken`, but want of memory, which is `Memory`.
+    fn forward(&mut self, request: &Request) -> Answer {
+        self.forwards = self.forwards.saturating_add(1);
+        let mut stream = match TcpStream::connect(&self.rt, self.address) {
+            Ok(stream) => stream,
+            Err(_) => return Answer::NotConnected,
+        };
+        answer_of(ask(
+            self.alloc,
+            &mut stream,
+            &mut self.ahead,
+            &mut self.behind,
+            request,
+            self.host.as_str(),
+        ))
+    }
+
+    fn forwards(&self) -> u64 {
+        self.forwards
+    }
+}
+
+// The address as it is printed.
+fn host_text(address: SocketAddrV4) -> ArrayString<21>
+    ensures { result.bytes ≡ socket_v4_text address }
+{
+    let [first, second, third, fourth] = address.ip().octets();
+    let mut number = Buffer::new();
+    let mut text = ArrayString::new();
+    text.push_str(number.format(first));
+    text.push_str(".");
+    text.push_str(number.format(second));
+    text.push_str(".");
+    text.push_str(number.format(third));
+    text.push_str(".");
+    text.push_str(number.format(fourth));
+    text.push_str(":");
+    text.push_str(number.format(address.port()));
+    text
+}

@@ -1,0 +1,2 @@
+pub mod Time
+pub mod Timed

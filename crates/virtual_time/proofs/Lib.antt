@@ -1,0 +1,11 @@
+pub mod Orders
+pub mod Calendars
+pub mod Pendings
+pub mod Beginnings
+pub mod Additions
+pub mod Asking
+pub mod Courses
+pub mod Numbers
+pub mod Uniqueness
+pub mod Measures
+pub mod Simulations

@@ -1,0 +1,28 @@
+use Rattle.std.proofs.Common.{refl, arith}
+use Rattle.std.proofs.lemmas.Bool.Decides.{nat_tests}
+use Rattle.virtual_time.proofs.Calendars.{inserted}
+use Rattle.virtual_time.proofs.calendar.Calendar.add.Goals as goal
+
+pub returns-in_ok-insert-2 : goal.returns-in_ok-insert-2
+returns-in_ok-insert-2 c = record {
+  here = (inserted c.args.self.now.deeds c.insert.new.self c.args.deed
+      c.in_ok-insert.ensures.updates).0;
+  others = (inserted c.args.self.now.deeds c.insert.new.self c.args.deed
+      c.in_ok-insert.ensures.updates).1;
+  waits = λ h. c.in_ok-insert-2.ensures.updates.1;
+  apart = λ n ne. c.in_ok-insert-2.ensures.updates.2 n (grind (arith, nat_tests));
+  same = λ no. absurd (no c.in-GivingUp.is);
+  read = refl;
+}
+
+pub returns-in_default : goal.returns-in_default
+returns-in_default c = record {
+  here = (inserted c.args.self.now.deeds c.insert.new.self c.args.deed
+      c.in_ok-insert.ensures.updates).0;
+  others = (inserted c.args.self.now.deeds c.insert.new.self c.args.deed
+      c.in_ok-insert.ensures.updates).1;
+  waits = λ h. absurd (c.in_default.not-GivingUp h);
+  apart = λ n ne. refl;
+  same = λ no n. refl;
+  read = refl;
+}

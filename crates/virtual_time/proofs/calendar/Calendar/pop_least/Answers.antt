@@ -1,0 +1,11 @@
+use Rattle.std.proofs.Common.{sym}
+use Rattle.virtual_time.proofs.Calendars.{removed, least_queued}
+use Rattle.virtual_time.proofs.calendar.Calendar.pop_least.Goals as goal
+
+pub returns-clause-least : goal.returns-clause-least
+returns-clause-least c = least_queued c.args.self.now.deeds c.in_ok-deed.deed
+    (sym c.in_ok-deed.ensures.member) c.in_ok-deed.ensures.least
+
+pub returns-clause-loses : goal.returns-clause-loses
+returns-clause-loses c = removed c.args.self.now.deeds c.pop_first.new.self c.in_ok-deed.deed
+    (sym c.in_ok-deed.ensures.member) c.in_ok-deed.ensures.updates

@@ -1,0 +1,152 @@
+use Rattle.std.proofs.Common.{◌≡◌, ◌<◌, ◌++◌, ◌∷◌, [], List, length, Some, get_or, slice_get, sym}
+use Rattle.std.proofs.Common.{ap, ◌∙◌, subst, arith, string_bytes}
+use Rattle.std.proofs.lemmas.Option.{slice_get-get_or}
+use Rattle.limiter_core.specs.declared.event.Entry.{Entry}
+use Rattle.gate_journal.specs.Journal.{Journal}
+use Rattle.load_driver.specs.Stretches.{StandsFor}
+use Rattle.trace.specs.declared.arrival.Arrival.{Arrival}
+use Rattle.virtual_time.specs.declared.deed.Step.{Step}
+use Rattle.virtual_time.specs.declared.deed.Deed.{Deed}
+use Rattle.virtual_time.specs.Pending.{left}
+use Rattle.virtual_time.specs.Next.{IsNext}
+use Rattle.virtual_time.specs.Calendar.{Has, IsKept, IsHeld}
+use Rattle.virtual_time.specs.Course.{Limiter, Course, IsCourse, begin, limiter_of, course_with}
+use Rattle.virtual_time.specs.Course.{journal_with, step_of, deeds_left}
+use Rattle.virtual_time.proofs.Pendings.{no_arrival}
+use Rattle.virtual_time.proofs.Courses.{taken_within, told, after_course, after_held, after_fewer}
+use Rattle.virtual_time.proofs.course.run.Goals as goal
+use Rattle.virtual_time.proofs.course.run.Given.{Over}
+
+pub loop-deed-init : goal.loop-deed-init
+loop-deed-init g c =
+    let rules = g.L.Limit.rules in
+    let start : ◌≡◌ {A = Course} (record { steps = []; entries = []; out = [] })
+    (record {
+      steps = c.new-steps.result.items;
+      entries = c.new-entries.result.items;
+      out = string_bytes c.new-text.result;
+    }) =
+    λ i. record {
+      steps = sym c.new-steps.ensures.items i;
+      entries = sym c.new-entries.ensures.items i;
+      out = sym c.new-text.ensures.bytes i;
+    } in
+    record {
+      course = subst (IsCourse (limiter_of rules c.args.session.now.journal) c.args.arrivals.now
+          c.args.timeout) start begin;
+      held = subst (λ (x : Course). IsHeld c.args.arrivals.now c.args.timeout x.steps x.entries
+          c.in_ok-calendar.calendar) start (c.in_ok-calendar.ensures c.args.timeout);
+      stands = subst (λ (es : List Entry). StandsFor rules
+          (journal_with c.args.session.now.journal es) c.args.session.now)
+          (c.requires.none ∙ sym c.new-entries.ensures.items) c.requires.own;
+    }
+
+pub bounds-arrivals-deed : goal.bounds-arrivals-deed
+bounds-arrivals-deed g c =
+    taken_within c.args.arrivals.now c.args.timeout c.loop-deed.steps.items
+    c.loop-deed.entries.items c.loop-deed.calendar c.next.new.self c.loop-deed.invariant.held
+    c.in-Some.deed c.in-Some.ensures.takes
+
+pub offset_bounds-arrivals-deed : goal.offset_bounds-arrivals-deed
+offset_bounds-arrivals-deed g c =
+    let within : c.in-Some.deed.place < length c.args.arrivals.now =
+    taken_within c.args.arrivals.now c.args.timeout c.loop-deed.steps.items
+    c.loop-deed.entries.items c.loop-deed.calendar c.next.new.self c.loop-deed.invariant.held
+    c.in-Some.deed c.in-Some.ensures.takes in
+    omega arith
+
+-- what one turn of the loop does, by the limiter of the journal that was lent
+module _ (g : Over) (c : goal.In_ok-push g) where
+  abbrev limiter : Limiter
+  limiter = limiter_of g.L.Limit.rules c.args.session.now.journal
+
+  abbrev d : Deed
+  d = c.in-Some.deed
+
+  abbrev arrival : Arrival
+  arrival = get_or c.args.arrivals.now c.in-Some.deed.place no_arrival
+
+  abbrev so_far : Course
+  so_far = record {
+    steps = c.loop-deed.steps.items;
+    entries = c.loop-deed.entries.items;
+    out = string_bytes c.loop-deed.text;
+  }
+
+  found : slice_get c.args.arrivals.now c.in-Some.deed.place ≡ Some arrival
+  found =
+      slice_get-get_or c.args.arrivals.now c.in-Some.deed.place no_arrival
+      (taken_within c.args.arrivals.now c.args.timeout c.loop-deed.steps.items
+      c.loop-deed.entries.items c.loop-deed.calendar c.next.new.self c.loop-deed.invariant.held
+      c.in-Some.deed c.in-Some.ensures.takes)
+
+  next : IsNext (Has c.loop-deed.calendar.deeds) c.loop-deed.entries.items d
+  next =
+      subst (λ (es : List Entry). IsNext (Has c.loop-deed.calendar.deeds) es d)
+      c.deref.ensures.value c.in-Some.ensures.next
+
+  kept : IsKept c.loop-deed.entries.items c.next.new.self
+  kept =
+      subst (λ (es : List Entry). IsKept es c.next.new.self) c.deref.ensures.value
+      c.in-Some.ensures.kept
+
+  abbrev added : List Entry
+  added =
+      told limiter c.args.arrivals.now c.args.timeout so_far c.loop-deed.calendar c.next.new.self
+      c.loop-deed.invariant.course c.loop-deed.invariant.held d arrival found next
+      c.in-Some.ensures.takes kept
+
+  abbrev j : Journal g.row.L.Denot
+  j = c.args.session.now.journal
+
+  stepped : c.in_ok-step.step ≡ step_of d c.loop-deed.entries.items added
+  stepped = c.in_ok-step.ensures.step j c.loop-deed.invariant.stands
+
+  grown_steps : c.push.new.self.items
+      ≡ c.loop-deed.steps.items ++ step_of d c.loop-deed.entries.items added ∷ []
+  grown_steps =
+      c.in_ok-push.ensures.items ∙ ap (λ (s : Step). c.loop-deed.steps.items ++ s ∷ []) stepped
+
+  abbrev grown : Course
+  grown = record {
+    steps = c.push.new.self.items;
+    entries = c.carry_out.new.entries.items;
+    out = string_bytes c.carry_out.new.text;
+  }
+
+  grows : course_with so_far d (limiter c.loop-deed.entries.items arrival d) ≡ grown
+  grows = λ i. record {
+    steps = sym grown_steps i;
+    entries = sym (c.in_ok-step.ensures.entries j c.loop-deed.invariant.stands) i;
+    out = sym (c.in_ok-step.ensures.text j c.loop-deed.invariant.stands) i;
+  }
+
+  fewer : deeds_left c.args.timeout c.push.new.self.items 0 c.args.arrivals.now
+      < deeds_left c.args.timeout c.loop-deed.steps.items 0 c.args.arrivals.now
+  fewer =
+      subst (λ (steps : List Step). deeds_left c.args.timeout steps 0 c.args.arrivals.now
+      < deeds_left c.args.timeout c.loop-deed.steps.items 0 c.args.arrivals.now) (sym grown_steps)
+      (after_fewer limiter c.args.arrivals.now c.args.timeout so_far c.loop-deed.calendar
+      c.next.new.self c.loop-deed.invariant.course c.loop-deed.invariant.held d arrival found
+      next c.in-Some.ensures.takes kept)
+
+pub loop-deed-preserved : goal.loop-deed-preserved
+loop-deed-preserved g c = record {
+  course = subst (IsCourse (limiter g c) c.args.arrivals.now c.args.timeout) (grows g c)
+      (after_course (limiter g c) c.args.arrivals.now c.args.timeout (so_far g c)
+      c.loop-deed.calendar c.next.new.self c.loop-deed.invariant.course c.loop-deed.invariant.held
+      (d g c) (arrival g c) (found g c) (next g c) c.in-Some.ensures.takes
+      (kept g c));
+  held = subst (λ (x : Course). IsHeld c.args.arrivals.now c.args.timeout x.steps x.entries
+      c.join.new.self) (grows g c)
+      (after_held (limiter g c) c.args.arrivals.now c.args.timeout (so_far g c)
+      c.loop-deed.calendar c.next.new.self c.loop-deed.invariant.course c.loop-deed.invariant.held
+      (d g c) (arrival g c) (found g c) (next g c) c.in-Some.ensures.takes
+      (kept g c) c.join.new.self c.left.result
+      (c.left.ensures ∙ ap (left c.args.timeout (arrival g c)) (stepped g c))
+      c.in_ok-join.ensures);
+  stands = c.in_ok-step.ensures.stands (j g c) c.loop-deed.invariant.stands;
+}
+
+pub loop-deed-smaller : goal.loop-deed-smaller
+loop-deed-smaller g c = fewer g c
