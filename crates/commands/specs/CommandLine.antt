@@ -9,7 +9,7 @@ use Rattle.clap.specs.declared.builder.value_parser.ValueParser.TheVariants as P
 use Rattle.commands.specs.declared.command_line.Run.{Run}
 use Rattle.commands.specs.declared.command_line.Run.TheVariants.{Text as OfText, Check}
 use Rattle.commands.specs.declared.command_line.TextTask.{TextTask}
-use Rattle.commands.specs.declared.command_line.TextTask.TheVariants.{Replay}
+use Rattle.commands.specs.declared.command_line.TextTask.TheVariants.{Replay, Simulate}
 
 -- an option of this name that takes a whole number from low to high
 abbrev pub number_rule : Text → Text → ℕ → ℕ → Rule
@@ -31,6 +31,9 @@ config_rule = record (new_rule (codes "config")) { value_names = 1; required = t
 abbrev pub replay_app : App
 replay_app = with_rule (new_app (codes "replay")) limit_rule
 
+abbrev pub simulate_app : App
+simulate_app = with_rule (new_app (codes "simulate")) limit_rule
+
 abbrev pub check_app : App
 check_app = with_rule (new_app (codes "check")) config_rule
 
@@ -40,10 +43,14 @@ asking name = record (new_app name) {
   top = record (new_app name).top { has_version = true; subcommand_required = true };
 }
 
+-- the command line with the commands over texts
+abbrev pub text_app : App
+text_app =
+    with_subcommand (with_subcommand (asking (codes "admission")) replay_app.top) simulate_app.top
+
 -- the whole command line
 abbrev pub admission_app : App
-admission_app =
-    with_subcommand (with_subcommand (asking (codes "admission")) replay_app.top) check_app.top
+admission_app = with_subcommand text_app check_app.top
 
 -- the command, as a subcommand, is the one of this definition
 abbrev pub IsLeaf : App → Command → Type 0
@@ -59,6 +66,8 @@ HasNumber rows id low high n = (text : Text) × (one_of id rows ≡ Some text)
 abbrev pub IsTaskOf : Text → List Row → TextTask → Type 0
 IsTaskOf name rows (Replay limit) =
     (name ≡ codes "replay") × HasNumber rows (codes "limit") 1 greatest_limit limit
+IsTaskOf name rows (Simulate limit) =
+    (name ≡ codes "simulate") × HasNumber rows (codes "limit") 1 greatest_limit limit
 
 -- the run is that of this subcommand, with the numbers and the path that its rows have
 abbrev pub IsCommandOf : Text → List Row → Run → Type 0
@@ -78,6 +87,7 @@ NamesNoRun named = (run : Run) → IsRunOf named run → ⊥
 -- the limit of a text without a limit line
 abbrev pub limit_of : TextTask → ℕ
 limit_of (Replay limit) = limit
+limit_of (Simulate limit) = limit
 
 -- the limit of a run over a text is 1 to 10,000
 abbrev pub HasLimit : Run → Type 0

@@ -6,25 +6,27 @@ use Rattle.counted_io.specs.Counted.{failures_of, is_flushed}
 use Rattle.counted_io.specs.Effects.{IfLeft, Wrote}
 use Rattle.load_driver.specs.declared.driver.DriverFault.{DriverFault}
 use Rattle.load_driver.specs.declared.driver.DriverFault.TheVariants.{Memory, Read, TooLarge, Write}
-use Rattle.load_driver.specs.Driver.{IfLine}
-use Rattle.load_driver.specs.Limits.{kept_entries, most_reads, most_script}
-use Rattle.load_driver.specs.Opening.{replay_text}
-use Rattle.load_driver.specs.Replay.{Told}
+use Rattle.load_driver.specs.Driver.{IfLine, IsAnswer}
+use Rattle.load_driver.specs.Limits.{most_reads, most_script}
+use Rattle.script.specs.declared.line_fault.LineFault.{LineFault}
+use Rattle.virtual_time.specs.Simulation.{IsSimulated}
 use Rattle.commands.specs.declared.command_line.TextTask.{TextTask}
-use Rattle.commands.specs.declared.command_line.TextTask.TheVariants.{Replay}
+use Rattle.commands.specs.declared.command_line.TextTask.TheVariants.{Replay, Simulate}
 
--- the text that a command answers a text, and the line at fault, if there is one
-abbrev pub text_of : TextTask → List ℕ → Told
-text_of (Replay limit) script = replay_text limit kept_entries script
+-- the answer of a command to a text: the line at fault that ended it, if one did, and what was
+-- written
+abbrev pub IsAnswerOf : TextTask → List ℕ → Option LineFault → (List ℕ → Type 0) → Type 0
+IsAnswerOf (Replay limit) = IsAnswer limit
+IsAnswerOf (Simulate limit) = IsSimulated limit
 
 -- why a command over a text stops: a line at fault is the text's, and what was told before it is
 -- written and flushed; each other fault has its cause, and no other call failed; and nothing is
 -- written after want of memory, of a text that can't be read or is too large
 pub record IsStop {R W : Type 0} (remaining : R → Option (List ℕ)) (contents : W → Option (List ℕ))
-    (text : List ℕ → Told) (before after : Counted R) (old new : Counted W) (fault : DriverFault)
+    (task : TextTask) (before after : Counted R) (old new : Counted W) (fault : DriverFault)
     : Type 0 where
-  pub line : IfLine fault (λ at. IfLeft remaining before (λ script.
-      ((text script).fault ≡ Some at) × Wrote contents old new (text script).out))
+  pub line : IfLine fault (λ at. IfLeft remaining before (λ text.
+      IsAnswerOf task text (Some at) (Wrote contents old new)))
   pub flushed : IfLine fault (λ at. is_flushed new ≡ true)
   pub memory : fault ≡ Memory → ReadWithin remaining most_script before after
   pub too_large : fault ≡ TooLarge → IfLeft remaining before (λ script. most_script < length script)

@@ -1,10 +1,14 @@
 // The words of a command line.
-ghost use Rattle.std.specs.Prelude.{◌≡◌, ◌⊎◌, ℕ, map, string_bytes, false, [], IfErr, IfOk, IfSome, IsNone, OnOk};
+ghost use Rattle.std.specs.Prelude.{◌≡◌, ◌⊎◌, ℕ, map, codes, string_bytes, false, [], IfErr, IfOk, IfSome};
+ghost use Rattle.std.specs.Prelude.{IsNone, OnOk};
+ghost use Rattle.limit_laws.specs.Algorithm.{greatest_limit};
 ghost use Rattle.clap.specs.Words.{HasKind, app_of, fault_of, found_of, rows_of, rule_of, subcommand_of, subcommand_rows_of};
-ghost use Rattle.commands.specs.CommandLine.{HasLimit, HasNumber, IsLeaf, IsRunOf, NamesNoRun, admission_app, check_app, config_rule, limit_rule, replay_app};
+ghost use Rattle.commands.specs.CommandLine.{HasLimit, HasNumber, IsLeaf, IsRunOf, NamesNoRun, admission_app, check_app, config_rule, limit_rule, replay_app, simulate_app, text_app};
 ghost use Rattle.commands.specs.declared.command_line.Run.{Run as RunValue};
 
-use super::help::{ABOUT, CHECK_ABOUT, CHECK_HELP, REPLAY_ABOUT, REPLAY_HELP};
+use super::help::{
+    ABOUT, CHECK_ABOUT, CHECK_HELP, REPLAY_ABOUT, REPLAY_HELP, SIMULATE_ABOUT, SIMULATE_HELP,
+};
 use clap::error::ErrorKind;
 use clap::{Arg, ArgMatches, Command, Error, value_parser};
 use std::alloc::{AllocError, Global};
@@ -24,6 +28,9 @@ pub enum TextTask {
     /// A script is answered. `limit` is the fixed limit where it has no `limit` line: 1 to 10,000
     /// permits.
     Replay { limit: u32 },
+    /// A trace is carried out in virtual time. `limit` is the fixed limit where it has no `limit`
+    /// line: 1 to 10,000 permits.
+    Simulate { limit: u32 },
 }
 
 /// `--limit N`.
@@ -34,7 +41,7 @@ fn limit_option<'a>(alloc: Global) -> Arg<'a>
     Arg::new(alloc, "limit")
         .long("limit")
         .value_name("N")
-        .help("The limit of a script without a limit line, 1 to 10000 permits")
+        .help("The limit of a text without a limit line, 1 to 10000 permits")
         .value_parser(value_parser!(u32).range(1..=10_000))
         .default_value("20")
 }
@@ -46,6 +53,16 @@ fn replay_command<'a>(alloc: Global) -> Result<Command<'a>, AllocError>
     Command::new(alloc, "replay")
         .about(REPLAY_ABOUT)
         .after_help(REPLAY_HELP)
+        .arg(limit_option(alloc))
+}
+
+/// `simulate [--limit N]`.
+fn simulate_command<'a>(alloc: Global) -> Result<Command<'a>, AllocError>
+    ensures { IfOk result (IsLeaf simulate_app) }
+{
+    Command::new(alloc, "simulate")
+        .about(SIMULATE_ABOUT)
+        .after_help(SIMULATE_HELP)
         .arg(limit_option(alloc))
 }
 
@@ -70,16 +87,23 @@ fn check_command<'a>(alloc: Global) -> Result<Command<'a>, AllocError>
         .arg(config_argument(alloc))
 }
 
-/// The whole command.
-fn command<'a>(alloc: Global) -> Result<Command<'a>, AllocError>
-    ensures { IfOk result (λ whole. app_of whole ≡ admission_app) }
+/// The command, with its subcommands over texts.
+fn text_command<'a>(alloc: Global) -> Result<Command<'a>, AllocError>
+    ensures { IfOk result (λ whole. app_of whole ≡ text_app) }
 {
     Command::new(alloc, "admission")
         .about(ABOUT)
         .version("0.1.0")
         .subcommand_required(true)
         .subcommand(replay_command(alloc)?)?
-        .subcommand(check_command(alloc)?)
+        .subcommand(simulate_command(alloc)?)
+}
+
+/// The whole command.
+fn command<'a>(alloc: Global) -> Result<Command<'a>, AllocError>
+    ensures { IfOk result (λ whole. app_of whole ≡ admission_app) }
+{
+    text_command(alloc)?.subcommand(check_command(alloc)?)
 }
 
 /// The number of an option, where it lies in its range.
@@ -95,6 +119,16 @@ fn number(matches: &ArgMatches<'_>, id: &str, low: u32, high: u32) -> Option<u32
     }
 }
 
+/// The number of `--limit`, where it lies in its range.
+fn limit_in(matches: &ArgMatches<'_>) -> Option<u32>
+    ensures value { IfSome result
+        (HasNumber (rows_of (found_of matches.now)) (codes "limit") 1 greatest_limit) }
+    ensures none { IsNone result → (n : ℕ)
+        → HasNumber (rows_of (found_of matches.now)) (codes "limit") 1 greatest_limit n → ⊥ }
+{
+    number(matches, "limit", 1, 10_000)
+}
+
 /// The run of a subcommand.
 fn run_of<'a>(name: &str, matches: &ArgMatches<'a>) -> Option<Run<'a>>
     ensures run { IfSome result (IsRunOf (Some (name.now, rows_of (found_of matches.now)))) }
@@ -103,8 +137,11 @@ fn run_of<'a>(name: &str, matches: &ArgMatches<'a>) -> Option<Run<'a>>
     ensures limit { IfSome result HasLimit }
 {
     if name == "replay" {
-        let limit = number(matches, "limit", 1, 10_000)?;
+        let limit = limit_in(matches)?;
         Some(Run::Text(TextTask::Replay { limit }))
+    } else if name == "simulate" {
+        let limit = limit_in(matches)?;
+        Some(Run::Text(TextTask::Simulate { limit }))
     } else if name == "check" {
         let path = matches.get_str("config")?;
         Some(Run::Check { path })

@@ -1,8 +1,8 @@
 //! The words of the program's command line, and what each command over a text reads, writes and
 //! ends with, over readers and writers of any kind.
 //!
-//! [`words`] reads the command line, and [`run_text`] answers a script. Each contract pins the
-//! lines that are written and the exit status.
+//! [`words`] reads the command line, and [`run_text`] answers a script or carries a trace out. Each
+//! contract pins the lines that are written and the exit status.
 #![tactic(auto)]
 
 mod command_line;
@@ -10,5 +10,7 @@ mod help;
 mod scripts;
 
 pub use command_line::{Run, TextTask, words};
-pub use help::{EXAMPLE_ANSWERS, EXAMPLE_SCRIPT, FULLEST_CONFIG, SMALLEST_CONFIG};
+pub use help::{
+    EXAMPLE_ANSWERS, EXAMPLE_COURSE, EXAMPLE_SCRIPT, EXAMPLE_TRACE, FULLEST_CONFIG, SMALLEST_CONFIG,
+};
 pub use scripts::run_text;

@@ -1,12 +1,12 @@
 // A command over a text.
-ghost use Rattle.std.specs.Prelude.{◌≡◌, ◌≤◌, ◌⊎◌, true, None};
+ghost use Rattle.std.specs.Prelude.{◌≡◌, ◌≤◌, ◌⊎◌, true, None, OnOk, IfErr};
 ghost use Rattle.counted_io.specs.Counted.{failures_of, is_flushed};
 ghost use Rattle.counted_io.specs.Effects.{IfLeft, Wrote};
 ghost use Rattle.limit_laws.specs.Algorithm.{greatest_limit};
 ghost use Rattle.load_driver.specs.Driver.{fault_text};
 ghost use Rattle.commands.specs.CommandLine.{limit_of};
 ghost use Rattle.fault_lines.specs.FaultLine.{IsTold, fault_line};
-ghost use Rattle.commands.specs.Scripts.{IsStop, text_of};
+ghost use Rattle.commands.specs.Scripts.{IsAnswerOf, IsStop};
 
 use super::command_line::TextTask;
 use counted_io::Counted;
@@ -15,6 +15,7 @@ use itoa::Buffer;
 use load_driver::{DriverFault, LineFault, replay};
 use std::alloc::Global;
 use std::io::{Read, Write};
+use virtual_time::simulate;
 
 /// Carries out a command over a text, tells its fault on `errors`, and answers the exit status.
 ///
@@ -32,9 +33,8 @@ pub fn run_text<R: Read, W: Write, E: Write>(
     ensures status { (result ≡ 0) ⊎ (result ≡ 1) }
 
     // The whole text is written and flushed.
-    ensures done { result ≡ 0 → IfLeft R.remaining reader.old (λ script.
-        ((text_of task script).fault ≡ None)
-        × Wrote W.contents writer.old writer.new (text_of task script).out) }
+    ensures done { result ≡ 0 → IfLeft R.remaining reader.old (λ text.
+        IsAnswerOf task text None (Wrote W.contents writer.old writer.new)) }
     ensures flushed { result ≡ 0 → is_flushed writer.new ≡ true }
     ensures read { result ≡ 0 → failures_of reader.new ≡ failures_of reader.old }
     ensures unfailing { result ≡ 0 → failures_of writer.new ≡ failures_of writer.old }
@@ -42,19 +42,39 @@ pub fn run_text<R: Read, W: Write, E: Write>(
 
     // The fault is told.
     ensures stopped { result ≡ 1 → (fault : DriverFault)
-        × IsStop R.remaining W.contents (text_of task)
+        × IsStop R.remaining W.contents task
         reader.old reader.new writer.old writer.new fault
         × IsTold E.contents errors.old errors.new (fault_line (fault_text fault)) }
 {
-    let outcome = match task {
-        TextTask::Replay { limit } => replay(alloc, reader, writer, limit),
-    };
-    match outcome {
+    match carry_out(alloc, task, reader, writer) {
         Ok(()) => DONE,
         Err(fault) => {
             tell_driver_fault(errors, fault);
             FAULT
         }
+    }
+}
+
+/// Carries out a command over a text.
+fn carry_out<R: Read, W: Write>(
+    alloc: Global,
+    task: TextTask,
+    reader: &mut Counted<R>,
+    writer: &mut Counted<W>,
+) -> Result<(), DriverFault>
+    requires least { 1 ≤ limit_of task }
+    requires most { limit_of task ≤ greatest_limit }
+    ensures done { OnOk result (IfLeft R.remaining reader.old (λ text.
+        IsAnswerOf task text None (Wrote W.contents writer.old writer.new))) }
+    ensures flushed { OnOk result (is_flushed writer.new ≡ true) }
+    ensures read { OnOk result (failures_of reader.new ≡ failures_of reader.old) }
+    ensures unfailing { OnOk result (failures_of writer.new ≡ failures_of writer.old) }
+    ensures stopped { IfErr result (IsStop R.remaining W.contents task
+        reader.old reader.new writer.old writer.new) }
+{
+    match task {
+        TextTask::Replay { limit } => replay(alloc, reader, writer, limit),
+        TextTask::Simulate { limit } => simulate(alloc, reader, writer, limit),
     }
 }
 

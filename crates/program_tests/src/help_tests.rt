@@ -1,7 +1,11 @@
 // The help texts: their examples are carried out, and their lines are no wider than a screen.
 use super::check_tests::checked;
-use super::run_tests::replayed;
-use commands::{EXAMPLE_ANSWERS, EXAMPLE_SCRIPT, FULLEST_CONFIG, SMALLEST_CONFIG, words};
+use super::run_tests::{replayed, simulated};
+use commands::{
+    EXAMPLE_ANSWERS, EXAMPLE_COURSE, EXAMPLE_SCRIPT, EXAMPLE_TRACE, FULLEST_CONFIG,
+    SMALLEST_CONFIG, words,
+};
+use std::alloc::{AllocError, Global};
 use std::test::Fail;
 
 /// The text that these words end with.
@@ -16,18 +20,35 @@ fn text_of(rt: &HostRuntime, list: &[&str]) -> Result<String, Fail> {
     }
 }
 
+/// The lines of a text without the spaces before them.
+fn outdented(alloc: Global, text: &str) -> Result<String, AllocError> {
+    let mut shown = String::new(alloc);
+    for line in text.lines() {
+        shown.push_str(line.trim_start())?;
+        shown.push('\n')?;
+    }
+    Ok(shown)
+}
+
 #[test]
 fn the_script_of_the_help_is_answered_as_it_says(rt: HostRuntime) -> Result<(), Fail> {
     let help = text_of(&rt, &["admission", "replay", "--help"])?;
     assert!(rt; help.as_str().contains(EXAMPLE_SCRIPT));
     assert!(rt; help.as_str().contains(EXAMPLE_ANSWERS));
     let left = replayed(&rt, rt.alloc(), 20, EXAMPLE_SCRIPT.as_bytes());
-    let mut shown = String::new(rt.alloc());
-    for line in EXAMPLE_ANSWERS.lines() {
-        shown.push_str(line.trim_start())?;
-        shown.push('\n')?;
-    }
-    left.check(&rt, 0, shown.as_bytes(), b"");
+    let lines = outdented(rt.alloc(), EXAMPLE_ANSWERS)?;
+    left.check(&rt, 0, lines.as_bytes(), b"");
+    Ok(())
+}
+
+#[test]
+fn the_trace_of_the_help_takes_the_course_that_it_shows(rt: HostRuntime) -> Result<(), Fail> {
+    let help = text_of(&rt, &["admission", "simulate", "--help"])?;
+    assert!(rt; help.as_str().contains(EXAMPLE_TRACE));
+    assert!(rt; help.as_str().contains(EXAMPLE_COURSE));
+    let left = simulated(&rt, rt.alloc(), 20, EXAMPLE_TRACE.as_bytes());
+    let lines = outdented(rt.alloc(), EXAMPLE_COURSE)?;
+    left.check(&rt, 0, lines.as_bytes(), b"");
     Ok(())
 }
 
@@ -54,7 +75,7 @@ fn the_configurations_of_the_help_are_accepted(rt: HostRuntime) -> Result<(), Fa
 
 #[test]
 fn no_line_of_help_is_wider_than_a_hundred_columns(rt: HostRuntime) -> Result<(), Fail> {
-    for command in ["replay", "check"] {
+    for command in ["replay", "simulate", "check"] {
         let help = text_of(&rt, &["admission", command, "--help"])?;
         for line in help.as_str().lines() {
             assert!(rt; line.len() <= 100);

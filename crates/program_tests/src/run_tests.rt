@@ -56,6 +56,25 @@ pub fn replayed(rt: &impl Abort, alloc: Global, limit: u32, script: &[u8]) -> Le
     }
 }
 
+/// Carries a trace out under a fixed limit, 1 to 10,000.
+pub fn simulated(rt: &impl Abort, alloc: Global, limit: u32, trace: &[u8]) -> Left {
+    assert!(rt; 1 <= limit && limit <= 10_000);
+    let mut output = Vec::new(alloc);
+    let mut fault = Vec::new(alloc);
+    let status = run_text(
+        alloc,
+        TextTask::Simulate { limit },
+        &mut Counted::new(trace),
+        &mut Counted::new(&mut output),
+        &mut Counted::new(&mut fault),
+    );
+    Left {
+        status,
+        output,
+        fault,
+    }
+}
+
 /// What a script of a fixed limit is answered: status, output and fault line.
 struct Row {
     limit: u32,

@@ -23,9 +23,14 @@ fn replay(limit: u32) -> Result<Run<'static>, i32> {
     Ok(Run::Text(TextTask::Replay { limit }))
 }
 
+/// The run of a trace with this limit.
+fn simulate(limit: u32) -> Result<Run<'static>, i32> {
+    Ok(Run::Text(TextTask::Simulate { limit }))
+}
+
 #[test]
 fn words_give_the_run_or_a_status(rt: HostRuntime) -> Result<(), Fail> {
-    let rows: [(&[&str], Result<Run, i32>); 17] = [
+    let rows: [(&[&str], Result<Run, i32>); 21] = [
         (&["replay"], replay(20)),
         (&["replay", "--limit", "1"], replay(1)),
         (&["replay", "--limit=10000"], replay(10_000)),
@@ -33,6 +38,10 @@ fn words_give_the_run_or_a_status(rt: HostRuntime) -> Result<(), Fail> {
         (&["replay", "--limit", "10001"], Err(2)),
         (&["replay", "--limit"], Err(2)),
         (&["replay", "more"], Err(2)),
+        (&["simulate"], simulate(20)),
+        (&["simulate", "--limit", "7"], simulate(7)),
+        (&["simulate", "--limit", "0"], Err(2)),
+        (&["simulate", "trace"], Err(2)),
         (&["check", "a.toml"], Ok(Run::Check { path: "a.toml" })),
         (&["check"], Err(2)),
         (&["check", "a.toml", "b.toml"], Err(2)),
