@@ -3,8 +3,10 @@
 //! fault, or with 2 and the text of a fault of the words.
 #![tactic(auto)]
 
-use commands::{Run, check_file, run_text, tell_unread_words, words};
+use commands::{Run, run_text, words};
+use config_check::check_file;
 use counted_io::Counted;
+use fault_lines::tell_unread_words;
 use std::env;
 use std::io::Error;
 use std::process::ExitCode;

@@ -5,13 +5,12 @@ ghost use Rattle.counted_io.specs.Effects.{IfLeft, Wrote};
 ghost use Rattle.limit_laws.specs.Algorithm.{greatest_limit};
 ghost use Rattle.load_driver.specs.Driver.{fault_text};
 ghost use Rattle.commands.specs.CommandLine.{limit_of};
-ghost use Rattle.commands.specs.FaultLine.{IsTold, fault_line};
+ghost use Rattle.fault_lines.specs.FaultLine.{IsTold, fault_line};
 ghost use Rattle.commands.specs.Scripts.{IsStop, text_of};
 
 use super::command_line::TextTask;
-use super::fault_line::tell;
-use super::status::{DONE, FAULT};
 use counted_io::Counted;
+use fault_lines::{DONE, FAULT, tell_fault};
 use itoa::Buffer;
 use load_driver::{DriverFault, LineFault, replay};
 use std::alloc::Global;
@@ -64,11 +63,11 @@ fn tell_driver_fault<E: Write>(errors: &mut Counted<E>, fault: DriverFault)
     ensures { IsTold E.contents errors.old errors.new (fault_line (fault_text fault)) }
 {
     match fault {
-        DriverFault::Memory => tell(errors, &["memory"]),
-        DriverFault::Read => tell(errors, &["read"]),
-        DriverFault::TooLarge => tell(errors, &["too large"]),
+        DriverFault::Memory => tell_fault(errors, &["memory"]),
+        DriverFault::Read => tell_fault(errors, &["read"]),
+        DriverFault::TooLarge => tell_fault(errors, &["too large"]),
         DriverFault::Line(fault) => tell_line_fault(errors, fault),
-        DriverFault::Write => tell(errors, &["write"]),
+        DriverFault::Write => tell_fault(errors, &["write"]),
     }
 }
 
@@ -79,5 +78,5 @@ fn tell_line_fault<E: Write>(errors: &mut Counted<E>, fault: LineFault)
 {
     let mut number = Buffer::new();
     let pieces = ["line ", number.format(fault.line), ": ", fault.why.text()];
-    tell(errors, &pieces);
+    tell_fault(errors, &pieces);
 }

@@ -1,6 +1,6 @@
 // Configurations, checked over streams in memory.
 use super::run_tests::{Broken, Left, unwritten};
-use commands::{check_reader, check_text};
+use config_check::{check_reader, check_text};
 use counted_io::Counted;
 use std::alloc::Global;
 use std::io::{Error, ErrorKind, Read, Result as IoResult, Write};

@@ -1,6 +1,7 @@
 // The words of the command line.
-use commands::{Run, TextTask, tell_unread_words, words};
+use commands::{Run, TextTask, words};
 use counted_io::Counted;
+use fault_lines::tell_unread_words;
 use std::io::ErrorKind;
 use std::test::Fail;
 

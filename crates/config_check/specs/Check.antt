@@ -1,0 +1,59 @@
+-- What `check` answers a configuration.
+use Rattle.std.specs.Prelude.{◌≡◌, ◌≢◌, ◌<◌, ◌≤◌, ◌⊎◌, ℕ, true, List, length, Option, Result, Ok, Err}
+use Rattle.toml.specs.Data.{Members}
+use Rattle.counted_io.specs.declared.counted.Counted.{Counted}
+use Rattle.counted_io.specs.Causes.{IsMemoryCause, IsReadCause, IsWriteCause}
+use Rattle.counted_io.specs.Counted.{failures_of, is_flushed}
+use Rattle.counted_io.specs.Effects.{IfLeft, Wrote}
+use Rattle.config_values.specs.declared.fault.ConfigFault.{ConfigFault}
+use Rattle.config_values.specs.declared.fault.ConfigFault.TheVariants as Config
+use Rattle.gate_config.specs.declared.settings.Settings.{Settings}
+use Rattle.gate_config.specs.Settings.{Reads, settings_of}
+use Rattle.config_check.specs.declared.check_fault.CheckFault.{CheckFault}
+use Rattle.config_check.specs.declared.check_fault.CheckFault.TheVariants as Check
+use Rattle.config_check.specs.Accepted.{accepted_line}
+
+-- the bytes have this answer: it is that of every table that toml reads of them, and without such a
+-- table it is the fault of the text
+abbrev pub Says : List ℕ → Result Settings ConfigFault → Type 0
+Says bytes answer = ((t : Members) → Reads bytes t → settings_of t ≡ answer)
+    × (answer ≢ Err Config.Toml → (t : Members) × Reads bytes t)
+
+-- the bytes are all that the reader had left, and no more than 1 MiB
+abbrev pub Held : {R : Type 0} → (R → Option (List ℕ)) → Counted R → List ℕ → Type 0
+Held remaining reader bytes =
+    IfLeft remaining reader (λ all. bytes ≡ all) × (length bytes ≤ 1048576)
+
+-- the line of the settings that the bytes hold is written and flushed, and no write failed
+abbrev pub IsAccepted : {W : Type 0} → (W → Option (List ℕ)) → Counted W → Counted W → List ℕ
+    → Type 0
+IsAccepted contents old new bytes = (s : Settings) × Says bytes (Ok s)
+    × Wrote contents old new (accepted_line s)
+    × (failures_of new ≡ failures_of old) × (is_flushed new ≡ true)
+
+-- the fault is that of the bytes, and then nothing is written; or the line of their settings
+-- couldn't be written
+abbrev pub IsWhy : {W : Type 0} → Counted W → Counted W → List ℕ → CheckFault → Type 0
+IsWhy old new bytes Check.Read = ⊥
+IsWhy old new bytes (Check.Config fault) =
+    (new ≡ old) × (fault ≢ Config.Memory → Says bytes (Err fault))
+IsWhy old new bytes Check.Write = IsWriteCause old new × (s : Settings) × Says bytes (Ok s)
+
+-- the fault of a reader whose bytes were not had: it failed, wasn't at its end after 2^25 reads, or
+-- had more than 1 MiB; or memory was wanting for what it gave
+abbrev pub IsUnread : {R : Type 0} → (R → Option (List ℕ)) → Counted R → Counted R → CheckFault
+    → Type 0
+IsUnread remaining old new Check.Read =
+    IsReadCause 33554432 old new ⊎ IfLeft remaining old (λ all. 1048576 < length all)
+IsUnread remaining old new (Check.Config fault) =
+    (fault ≡ Config.Memory) × IsMemoryCause remaining 1048576 old new
+IsUnread remaining old new Check.Write = ⊥
+
+-- the fault of what a reader had: its bytes were not had, and then nothing is written; or no read
+-- failed, and the fault is that of its bytes
+abbrev pub IsWhyOfReader : {R W : Type 0} → (R → Option (List ℕ)) → Counted R → Counted R
+    → Counted W → Counted W → CheckFault → Type 0
+IsWhyOfReader remaining before after old new fault =
+    (IsUnread remaining before after fault × (new ≡ old))
+    ⊎ ((failures_of after ≡ failures_of before)
+    × ((bytes : List ℕ) × Held remaining before bytes × IsWhy old new bytes fault))

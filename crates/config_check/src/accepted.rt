@@ -1,0 +1,46 @@
+// The line of a configuration that is accepted.
+ghost use Rattle.std.specs.Prelude.{◌≡◌, true, OnErr, OnOk};
+ghost use Rattle.counted_io.specs.Counted.{failures_of, is_flushed};
+ghost use Rattle.counted_io.specs.Effects.{Wrote};
+ghost use Rattle.counted_io.specs.Causes.{IsWriteCause};
+ghost use Rattle.config_check.specs.Accepted.{accepted_line};
+
+use counted_io::{Counted, WriteFault};
+use fault_lines::write_line;
+use gate_config::Settings;
+use itoa::Buffer;
+use limit_laws::Limit;
+use std::io::Write;
+
+/// Writes the line of settings, and flushes. It takes no memory.
+pub(crate) fn write_accepted<W: Write>(
+    writer: &mut Counted<W>,
+    settings: &Settings,
+) -> Result<(), WriteFault>
+    ensures all { OnOk result
+        (Wrote W.contents writer.old writer.new (accepted_line settings.now)) }
+    ensures unfailing { OnOk result (failures_of writer.new ≡ failures_of writer.old) }
+    ensures flushed { OnOk result (is_flushed writer.new ≡ true) }
+    ensures failed { OnErr result (IsWriteCause writer.old writer.new) }
+{
+    let mut initial = Buffer::new();
+    let mut classes = Buffer::new();
+    let mut resolvers = Buffer::new();
+    let mut bypass = Buffer::new();
+    let mut backlog = Buffer::new();
+    let pieces = [
+        "ok ",
+        settings.limit.kind(),
+        " ",
+        initial.format(settings.limit.limit()),
+        " classes ",
+        classes.format(settings.table.len()),
+        " resolvers ",
+        resolvers.format(settings.rules.resolvers().len()),
+        " bypass ",
+        bypass.format(settings.rules.bypass().len()),
+        " backlog ",
+        backlog.format(settings.backlog),
+    ];
+    write_line(writer, &pieces)
+}
