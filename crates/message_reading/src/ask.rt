@@ -1,6 +1,7 @@
 // The text that asks for a body.
 ghost use Rattle.std.specs.Prelude.{◌≡◌, OnOk, OnErr};
 ghost use Rattle.counted_io.specs.Causes.{IsWriteCause};
+ghost use Rattle.counted_io.specs.Counted.{failures_of};
 ghost use Rattle.counted_io.specs.Effects.{Wrote};
 ghost use Rattle.message_reading.specs.Continue.{continue_of, is_awaited, wants_body};
 
@@ -37,6 +38,7 @@ pub fn say_continue<W: Write>(
 ) -> Result<(), WriteFault>
     ensures said { OnOk result
         (Wrote W.contents writer.old writer.new (continue_of head.now framing)) }
+    ensures unfailing { OnOk result (failures_of writer.new ≡ failures_of writer.old) }
     ensures failed { OnErr result (IsWriteCause writer.old writer.new) }
 {
     if is_awaited(head, framing) {

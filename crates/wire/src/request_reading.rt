@@ -1,7 +1,7 @@
 // Requests that are read.
 ghost use Rattle.std.specs.Prelude.{◌≡◌, IsErrOf};
 ghost use Rattle.counted_io.specs.Causes.{IsWriteCause};
-ghost use Rattle.counted_io.specs.Counted.{inner_of};
+ghost use Rattle.counted_io.specs.Counted.{failures_of, inner_of};
 ghost use Rattle.message_bytes.specs.Reading.{HasFailed};
 ghost use Rattle.message_fields.specs.Target.{path_of};
 ghost use Rattle.wire.specs.Fault.{IsUsedUp, Reads};
@@ -68,6 +68,8 @@ pub fn read_request<R: Read, W: Write>(
         IsRequest result }
     ensures said { ¬ (IsErrOf result WireFault.Write) → Said (R.remaining (inner_of reader.old))
         (W.contents (inner_of writer.old)) (W.contents (inner_of writer.new)) result }
+    ensures unfailing { ¬ (IsErrOf result WireFault.Write) →
+        failures_of writer.new ≡ failures_of writer.old }
     ensures read { IsErrOf result WireFault.Read → HasFailed reader.old reader.new }
     ensures write { IsErrOf result WireFault.Write → IsWriteCause writer.old writer.new }
     ensures turns { IsErrOf result WireFault.TurnLimit → IsUsedUp reader.old reader.new }

@@ -1,0 +1,4 @@
+pub mod Asked
+pub mod Grown
+pub mod LastWaiter
+pub mod Made

@@ -1,0 +1,5 @@
+pub mod Asking
+pub mod Ending
+pub mod Shown
+pub mod Solo
+pub mod Told

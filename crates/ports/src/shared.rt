@@ -1,0 +1,140 @@
+// A port over a gate that threads share.
+ghost use Rattle.std.specs.Prelude.{◌≡◌, ◌+◌, ◌≤◌, true, false, is_some, if◌then◌else◌};
+ghost use Rattle.shared_gate.specs.Calls.{Ends};
+ghost use Rattle.ports.specs.Asking.{ask_of};
+ghost use Rattle.ports.specs.Told.{IsTold};
+
+use crate::port::{Admission, GatePort, Why};
+use gate_history::{Naming, Permit, Receipt};
+use limit_laws::Limit;
+use limiter_core::Outcome;
+use partitions::Part;
+use shared_gate::{Clock, Got, Pass, SharedGate, Waited};
+use std::marker::Model;
+use std::sync::Wait;
+use std::time::Clock as SystemClock;
+
+/// A port over a gate that threads share, with a pass of its own. It shows no entries. Contracts
+/// see how many calls were made by its pass.
+#[derive(Drop)]
+pub struct Port<'a, L: Limit, M: Naming, R, C> {
+    rt: &'a R,
+    gate: &'a SharedGate<L, M>,
+    pass: Pass<M>,
+    clock: &'a C,
+}
+
+impl<'a, L: Limit, M: Naming, R, C> Model for Port<'a, L, M, R, C> {
+    ghost use Rattle.shared_gate.specs.Calls.{Pass};
+
+    ghost Value = { Pass };
+
+    ghost view = { λ p. p.pass };
+
+    ghost invariant = { λ p. Unit {0} };
+}
+
+impl<'a, L: Limit, M: Naming, R, C> Port<'a, L, M, R, C> {
+    /// A port that calls the gate by this pass; the clock says when a wait is over.
+    pub fn new(
+        rt: &'a R,
+        gate: &'a SharedGate<L, M>,
+        pass: Pass<M>,
+        clock: &'a C,
+    ) -> Port<'a, L, M, R, C>
+        ensures { result ≡ pass }
+    {
+        Port {
+            rt,
+            gate,
+            pass,
+            clock,
+        }
+    }
+
+    /// Its pass.
+    pub fn into_pass(self) -> Pass<M>
+        ensures { result ≡ self.entry }
+    {
+        let Port {
+            rt: _,
+            gate: _,
+            pass,
+            clock: _,
+        } = self;
+        pass
+    }
+}
+
+impl<'a, L: Limit, M: Naming, R: Wait + SystemClock, C: Clock> Port<'a, L, M, R, C> {
+    /// Asks without waiting.
+    fn ask(&mut self, part: Part, bypass: bool, now: u64) -> Admission<Permit<M>>
+        ensures { IsTold self.old.count self.new.count
+            (record { part = part; bypass = bypass; wait = false }) now result }
+    {
+        let pass = &mut self.pass;
+        match self.gate.acquire(self.rt, pass, part, bypass, false, now) {
+            Got::Admitted(_receipt, permit) => Admission::Admitted(permit),
+            Got::Bypassed(_receipt) => Admission::Bypassed,
+            Got::Full(_receipt) => Admission::Refused(Why::Full),
+            Got::BacklogFull(_receipt) => Admission::Refused(Why::BacklogFull),
+            Got::Waiting(_receipt, _ticket) => unreachable!(),
+            Got::Exhausted(_spent) => Admission::Refused(Why::Exhausted),
+        }
+    }
+
+    /// Asks, and where there is no room waits until the deadline.
+    fn ask_and_wait(&mut self, part: Part, now: u64, deadline: u64) -> Admission<Permit<M>>
+        ensures { IsTold self.old.count self.new.count
+            (record { part = part; bypass = false; wait = true }) now result }
+    {
+        let (rt, pass, clock) = (self.rt, &mut self.pass, self.clock);
+        match self.gate.acquire_wait(rt, pass, part, now, clock, deadline) {
+            Waited::Admitted(_receipt, permit) => Admission::Admitted(permit),
+            Waited::Promoted(_first, _second, permit) => Admission::Admitted(permit),
+            Waited::TimedOut(_first, _second) => Admission::Refused(Why::TimedOut),
+            Waited::BacklogFull(_receipt) => Admission::Refused(Why::BacklogFull),
+            Waited::Lost(_first, _second) => Admission::Refused(Why::Lost),
+            Waited::Exhausted(_spent) => Admission::Refused(Why::Exhausted),
+        }
+    }
+}
+
+impl<'a, L: Limit, M: Naming, R: Wait + SystemClock, C: Clock> GatePort for Port<'a, L, M, R, C> {
+    type Permit = Permit<M>;
+
+    type Receipt = Receipt<M>;
+
+    ghost use Rattle.std.specs.Prelude.{None};
+
+    ghost shown = { λ p. None };
+
+    ghost facts = { λ p. p };
+
+    /// Asks the gate once, and where that waits gives up once: a call by the pass each, unless
+    /// the history is exhausted.
+    fn admit(
+        &mut self,
+        part: Part,
+        bypass: bool,
+        deadline: Option<u64>,
+        now: u64,
+    ) -> Admission<Permit<M>>
+        ensures told { IsTold self.old.count self.new.count (ask_of part bypass deadline) now
+            result }
+        ensures few { self.new.count ≤ self.old.count + (if is_some deadline then 2 else 1) }
+    {
+        match deadline {
+            Some(until) if !bypass => self.ask_and_wait(part, now, until),
+            _ => self.ask(part, bypass, now),
+        }
+    }
+
+    /// Ends a permit, in one call by the pass.
+    fn end(&mut self, permit: Permit<M>, outcome: Outcome, now: u64) -> Receipt<M>
+        ensures told { Ends self.old.count self.new.count permit outcome now result }
+        ensures few { self.new.count ≤ self.old.count + 1 }
+    {
+        self.gate.end(self.rt, &mut self.pass, permit, outcome, now)
+    }
+}
