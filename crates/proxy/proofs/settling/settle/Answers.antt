@@ -1,0 +1,48 @@
+use Rattle.std.proofs.Common.{rules, refl}
+use Rattle.proxy.specs.Settling.{asked_for, class_by}
+use Rattle.proxy.proofs.Entries.{asks, serves_admitted, serves_bypassed, serves_refused}
+use Rattle.proxy.proofs.settling.settle.Goals as goal
+
+pub returns-in-Admitted : goal.returns-in-Admitted
+returns-in-Admitted g c = record {
+  class_is = search rules;
+  counted = search rules;
+  answered = refl;
+  asked = search rules;
+  forwarded = search rules;
+  entries = serves_admitted _ _ _ _ _ _ _ _ _
+      (asks c.args.settings.now c.classify-class.result
+      (class_by c.args.settings.now c.args.request.now)
+      c.deadline.result _ c.now-now.result _ _ g.P.GatePort.facts c.admit.result _
+      c.deadline.ensures c.in-Admitted.is c.classify-class.ensures c.admit.ensures)
+      c.outcome.ensures
+      c.end-receipt.ensures;
+}
+
+pub returns-in-Bypassed : goal.returns-in-Bypassed
+returns-in-Bypassed g c = record {
+  class_is = search rules;
+  counted = search rules;
+  answered = refl;
+  asked = search rules;
+  forwarded = search rules;
+  entries = serves_bypassed _ _ _ _ _
+      (asks c.args.settings.now c.classify-class.result
+      (class_by c.args.settings.now c.args.request.now)
+      c.deadline.result _ c.now-now.result _ _ g.P.GatePort.facts c.admit.result _
+      c.deadline.ensures c.in-Bypassed.is c.classify-class.ensures c.admit.ensures);
+}
+
+pub returns-in-Refused : goal.returns-in-Refused
+returns-in-Refused g c = record {
+  class_is = search rules;
+  counted = search rules;
+  answered = refl;
+  asked = search rules;
+  forwarded = search rules;
+  entries = serves_refused _ _ _ _ _
+      (asks c.args.settings.now c.classify-class.result
+      (class_by c.args.settings.now c.args.request.now)
+      c.deadline.result _ c.now-now.result _ _ g.P.GatePort.facts c.admit.result _
+      c.deadline.ensures c.in-Refused.is c.classify-class.ensures c.admit.ensures);
+}

@@ -1,0 +1,67 @@
+-- What an exchange is.
+use Rattle.std.specs.Prelude.{◌≡◌, ℕ, List, Option, None, Some, Result, Ok, Err, IsErrOf}
+use Rattle.counted_io.specs.declared.counted.Counted.{Counted}
+use Rattle.counted_io.specs.Counted.{inner_of}
+use Rattle.counted_io.specs.Effects.{Wrote}
+use Rattle.message_bytes.specs.Reading.{HasFailed}
+use Rattle.wire.specs.declared.fault.WireFault.{WireFault}
+use Rattle.wire.specs.declared.fault.WireFault.TheVariants as fault
+use Rattle.wire.specs.declared.request.Request.{Request}
+use Rattle.wire.specs.Fault.{IsUsedUp, Reads}
+use Rattle.wire.specs.Messages.{IsRequest, Said}
+use Rattle.gate_config.specs.declared.settings.Settings.{Settings}
+use Rattle.ports.specs.Shown.{Shown}
+use Rattle.backend.specs.declared.answer.Answer.{Answer}
+use Rattle.backend.specs.Forwards.{Forwarded}
+use Rattle.proxy.specs.declared.told.Exchange.{Exchange}
+use Rattle.proxy.specs.declared.told.Verdict.TheVariants as verdict
+use Rattle.proxy.specs.Settling.{IsSettled, class_by}
+use Rattle.proxy.specs.Table.{outcome_at, sent_status, sent_text}
+
+-- what an exchange finds and leaves: the client's two ends, the gate's entries where they are
+-- shown, how many requests the backend was given, and which where it shows them
+pub record World (R W : Type 0) : Type 0 where
+  pub reader : Counted R
+  pub writer : Counted W
+  pub shown : Option Shown
+  pub count : ℕ
+  pub log : Option (List Forwarded)
+
+-- READ: the request that the reader's bytes begin with, or the fault that comes first in them,
+-- with what was said to the client meanwhile; a fault of the reader, or of too many reads, has its
+-- cause
+pub record IsRead {R W : Type 0} (remaining : R → Option (List ℕ)) (contents : W → Option (List ℕ))
+    (reader reader' : Counted R) (writer writer' : Counted W) (read : Result Request WireFault)
+    : Type 0 where
+  pub bytes : Reads remaining reader reader' (λ (request : Request). request) IsRequest read
+  pub said : (IsErrOf read fault.Write → ⊥)
+      → Said (remaining (inner_of reader)) (contents (inner_of writer))
+      (contents (inner_of writer')) read
+  pub failed : IsErrOf read fault.Read → HasFailed reader reader'
+  pub used_up : IsErrOf read fault.TurnLimit → IsUsedUp reader reader'
+
+-- after a fault of reading the gate isn't asked and nothing is forwarded; else what was read is
+-- settled
+abbrev pub Deals : {R W : Type 0} → Settings → World R W → World R W
+    → Result Request WireFault → Option Answer → Exchange → Type 0
+Deals s old new (Err f) answer x =
+    (x.class ≡ None) × (x.admission ≡ verdict.NotAsked) × (answer ≡ None)
+    × (new.shown ≡ old.shown) × (new.count ≡ old.count) × (new.log ≡ old.log)
+Deals s old new (Ok request) answer x =
+    (x.class ≡ Some (class_by s request))
+    × IsSettled s request old.shown new.shown old.count new.count old.log new.log
+    (class_by s request) x.admission answer
+
+-- AN EXCHANGE: something is read, and dealt with; what is told of it, and without a fault of
+-- writing what is written to the client, is by the table of answers
+pub record IsExchange {R W : Type 0} (remaining : R → Option (List ℕ))
+    (contents : W → Option (List ℕ)) (s : Settings) (old new : World R W) (x : Exchange)
+    : Type 0 where
+  pub read : Result Request WireFault
+  pub asked : Counted W
+  pub answer : Option Answer
+  pub reading : IsRead remaining contents old.reader new.reader old.writer asked read
+  pub deals : Deals s old new read answer x
+  pub status : x.answer ≡ sent_status read answer
+  pub outcome : x.outcome ≡ outcome_at answer
+  pub text : x.written_fault ≡ None → Wrote contents asked new.writer (sent_text read answer)

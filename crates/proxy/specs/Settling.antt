@@ -1,0 +1,81 @@
+-- What becomes of a request that was read, at the gate and at the backend.
+use Rattle.std.specs.Prelude.{◌≡◌, ◌≢◌, ℕ, List, [], ◌++◌, Bool, true, false, Option, None, Some}
+use Rattle.std.specs.Prelude.{is_some, if◌then◌else◌}
+use Rattle.counted_io.specs.Count.{raised}
+use Rattle.limiter_core.specs.declared.event.Entry.{Entry}
+use Rattle.limiter_core.specs.declared.event.PermitFacts.{PermitFacts}
+use Rattle.wire.specs.declared.request.Request.{Request}
+use Rattle.classifier.specs.declared.class.Class.{Class}
+use Rattle.classifier.specs.Class.{class_of}
+use Rattle.gate_config.specs.declared.settings.Settings.{Settings}
+use Rattle.ports.specs.declared.port.Admission.{Admission}
+use Rattle.ports.specs.declared.port.Admission.TheVariants as admission
+use Rattle.ports.specs.Asking.{Ask, IsAsked}
+use Rattle.ports.specs.Ending.{IsEnding}
+use Rattle.ports.specs.Shown.{Adds, Shown}
+use Rattle.backend.specs.declared.answer.Answer.{Answer}
+use Rattle.backend.specs.Forwards.{Forwarded, Logs}
+use Rattle.proxy.specs.declared.told.Verdict.{Verdict}
+use Rattle.proxy.specs.declared.told.Verdict.TheVariants as verdict
+use Rattle.proxy.specs.Table.{outcome_of}
+
+-- a request's class by the settings
+abbrev pub class_by : Settings → Request → Class
+class_by s request = class_of s.rules s.table request
+
+-- what is asked for: the class's part and bypass; it waits where the settings say so and it
+-- doesn't bypass
+abbrev pub asked_for : Settings → Class → Ask
+asked_for s class = record {
+  part = class.part;
+  bypass = class.bypass;
+  wait = if class.bypass then false else s.wait;
+}
+
+-- a request is let through where it is admitted or bypasses
+abbrev pub is_through : Verdict → Bool
+is_through verdict.Admitted = true
+is_through verdict.Bypassed = true
+is_through _ = false
+
+abbrev pub verdict_of : Admission PermitFacts → Verdict
+verdict_of (admission.Admitted facts) = verdict.Admitted
+verdict_of admission.Bypassed = verdict.Bypassed
+verdict_of (admission.Refused why) = verdict.Refused why
+
+-- the backend was given the request where it answered, and else nothing
+abbrev pub IsForwarded : Option (List Forwarded) → Option (List Forwarded) → Request
+    → Option Answer → Type 0
+IsForwarded old new request None = new ≡ old
+IsForwarded old new request (Some answer) = Logs old new request answer
+
+-- an admitted permit is ended with the answer's outcome, and nobody else ends anything
+abbrev pub Closes : Admission PermitFacts → Option Answer → List Entry → Type 0
+Closes (admission.Admitted permit) (Some answer) ended =
+    (now : ℕ) × IsEnding permit (outcome_of answer) now ended
+Closes (admission.Admitted permit) None ended = ⊥
+Closes _ answer ended = ended ≡ []
+
+-- THE ENTRIES of one asking, and of the ending of what it got
+pub record Serves (ask : Ask) (said : Verdict) (answer : Option Answer) (number : ℕ)
+    (added : List Entry) : Type 0 where
+  pub now : ℕ
+  pub asked : List Entry
+  pub ended : List Entry
+  pub admission : Admission PermitFacts
+  pub both : added ≡ asked ++ ended
+  pub asking : IsAsked ask number now asked admission
+  pub verdict : said ≡ verdict_of admission
+  pub ending : Closes admission answer ended
+
+-- SETTLED: what was read is asked for by its class; it is forwarded once where it is let through,
+-- and else not at all; and the gate's entries, where they are shown, are those of this
+pub record IsSettled (s : Settings) (request : Request) (shown shown' : Option Shown)
+    (count count' : ℕ) (log log' : Option (List Forwarded))
+    (class : Class) (said : Verdict) (answer : Option Answer) : Type 0 where
+  pub class_is : class ≡ class_by s request
+  pub counted : count' ≡ (if is_through said then raised count else count)
+  pub answered : is_some answer ≡ is_through said
+  pub asked : said ≢ verdict.NotAsked
+  pub forwarded : IsForwarded log log' request answer
+  pub entries : Adds shown shown' (Serves (asked_for s (class_by s request)) said answer)

@@ -1,0 +1,77 @@
+-- The table of answers: what a backend's answer tells the gate, and what the client gets.
+use Rattle.std.specs.Prelude.{ℕ, ◌||◌, List, [], Option, None, Some, Result, Ok, Err, nat_eq}
+use Rattle.std.specs.Prelude.{nat_lt, if◌then◌else◌}
+use Rattle.limiter_core.specs.declared.event.Outcome.{Outcome}
+use Rattle.limiter_core.specs.declared.event.Outcome.TheVariants.{Success, Ignored, Dropped}
+use Rattle.message_text.specs.Answer.{local_text}
+use Rattle.wire.specs.declared.fault.WireFault.{WireFault}
+use Rattle.wire.specs.declared.fault.WireFault.TheVariants as fault
+use Rattle.wire.specs.declared.request.Request.{Request}
+use Rattle.wire.specs.Written.{response_text}
+use Rattle.backend.specs.declared.answer.Answer.{Answer}
+use Rattle.backend.specs.declared.answer.Answer.TheVariants.{Answered, NotConnected, Broken}
+use Rattle.backend.specs.declared.answer.Answer.TheVariants.{Memory}
+
+-- WHAT A STATUS TELLS THE GATE: a backend that had too much to do, or sent no final response, has
+-- dropped the request; of its load an other fault of the server's says nothing
+abbrev pub status_outcome : ℕ → Outcome
+status_outcome status =
+    if nat_lt status 200 || nat_eq status 429 || nat_eq status 503 || nat_eq status 504
+    then Dropped
+    else (if nat_lt status 500 then Success else Ignored)
+
+-- WHAT AN ANSWER TELLS THE GATE
+abbrev pub outcome_of : Answer → Outcome
+outcome_of (Answered response) = status_outcome response.status
+outcome_of NotConnected = Ignored
+outcome_of (Broken f) = Dropped
+outcome_of Memory = Ignored
+
+abbrev pub outcome_at : Option Answer → Option Outcome
+outcome_at None = None
+outcome_at (Some answer) = Some (outcome_of answer)
+
+-- THE STATUS AFTER A FAULT OF READING: none where nothing more is written
+abbrev pub fault_status : WireFault → Option ℕ
+fault_status fault.Early = Some 400
+fault_status fault.Malformed = Some 400
+fault_status fault.BothLengths = Some 400
+fault_status fault.HeadTooLarge = Some 431
+fault_status fault.BodyTooLarge = Some 413
+fault_status fault.Coding = Some 501
+fault_status fault.Method = Some 501
+fault_status fault.Memory = Some 500
+fault_status fault.Read = None
+fault_status fault.Write = None
+fault_status fault.TurnLimit = None
+
+-- THE STATUS OF A REPLY, where a request was read: none of a backend means that it wasn't asked
+abbrev pub reply_status : Option Answer → ℕ
+reply_status (Some (Answered response)) =
+    if nat_lt response.status 200 then 502 else response.status
+reply_status (Some NotConnected) = 502
+reply_status (Some (Broken f)) = 502
+reply_status (Some Memory) = 500
+reply_status None = 429
+
+-- THE REPLY to a request of this method: the response, or the gateway's own answer of the status
+abbrev pub reply_text : List ℕ → Option Answer → List ℕ
+reply_text method (Some (Answered response)) =
+    if nat_lt response.status 200 then local_text 502 else response_text method response
+reply_text method (Some NotConnected) = local_text 502
+reply_text method (Some (Broken f)) = local_text 502
+reply_text method (Some Memory) = local_text 500
+reply_text method None = local_text 429
+
+abbrev pub local_or_nothing : Option ℕ → List ℕ
+local_or_nothing None = []
+local_or_nothing (Some status) = local_text status
+
+-- the status and the text that the client gets, by what was read
+abbrev pub sent_status : Result Request WireFault → Option Answer → Option ℕ
+sent_status (Err f) answer = fault_status f
+sent_status (Ok request) answer = Some (reply_status answer)
+
+abbrev pub sent_text : Result Request WireFault → Option Answer → List ℕ
+sent_text (Err f) answer = local_or_nothing (fault_status f)
+sent_text (Ok request) answer = reply_text request.method answer

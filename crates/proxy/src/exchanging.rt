@@ -1,0 +1,97 @@
+// An exchange.
+ghost use Rattle.std.specs.Prelude.{◌≡◌, ◌⊎◌, None, IfSome};
+ghost use Rattle.counted_io.specs.Causes.{IsWriteCause};
+ghost use Rattle.counted_io.specs.Effects.{Wrote};
+ghost use Rattle.proxy.specs.Table.{fault_status, local_or_nothing};
+ghost use Rattle.proxy.specs.Exchanges.{IsExchange};
+
+use crate::replying::{fault_status, reply, reply_status};
+use crate::settling::{outcome_at, settle};
+use crate::told::{Exchange, Verdict};
+use backend::Backend;
+use counted_io::Counted;
+use gate_config::Settings;
+use message_text::write_local_answer;
+use ports::GatePort;
+use shared_gate::Clock;
+use std::alloc::Global;
+use std::io::{Read, Write};
+use wire::{WireFault, read_request};
+
+/// Serves one connection: reads a request, asks the gate for it, forwards it once where it is let
+/// through, ends its permit, and answers the client.
+///
+/// After a fault of reading the gate isn't asked and nothing is forwarded; the client gets the
+/// fault's own status, or after `Read`, `Write` and `TurnLimit` nothing. `written_fault` comes
+/// only where the writer failed; by then an admitted permit is ended.
+pub fn exchange<P: GatePort, B: Backend, C: Clock, R: Read, W: Write>(
+    alloc: Global,
+    port: &mut P,
+    backend: &mut B,
+    settings: &Settings,
+    clock: &C,
+    reader: &mut Counted<R>,
+    writer: &mut Counted<W>,
+) -> Exchange
+    ensures exchanged { IsExchange R.remaining W.contents settings.now
+        (record {
+          reader = reader.old;
+          writer = writer.old;
+          shown = P.shown port.old;
+          count = B.forwarded backend.old;
+          log = B.shown backend.old;
+        })
+        (record {
+          reader = reader.new;
+          writer = writer.new;
+          shown = P.shown port.new;
+          count = B.forwarded backend.new;
+          log = B.shown backend.new;
+        })
+        result }
+    ensures written { IfSome result.written_fault (λ fault.
+        (fault ≡ WireFault.Write) × IsWriteCause writer.old writer.new) }
+{
+    let request = match read_request(alloc, reader, writer) {
+        Ok(request) => request,
+        Err(fault) => return unread(fault, writer),
+    };
+    let settled = settle(port, backend, settings, clock, &request);
+    let written_fault = reply(writer, &settled.answer, &request.method);
+    Exchange {
+        class: Some(settled.class),
+        admission: settled.admission,
+        answer: Some(reply_status(&settled.answer)),
+        outcome: outcome_at(&settled.answer),
+        written_fault,
+    }
+}
+
+/// Answers a request that was not read.
+fn unread<W: Write>(fault: WireFault, writer: &mut Counted<W>) -> Exchange
+    ensures class { result.class ≡ None }
+    ensures admission { result.admission ≡ Verdict.NotAsked }
+    ensures answer { result.answer ≡ fault_status fault }
+    ensures outcome { result.outcome ≡ None }
+    ensures text { result.written_fault ≡ None → Wrote W.contents writer.old writer.new
+        (local_or_nothing (fault_status fault)) }
+    ensures written { IfSome result.written_fault (λ written. (written ≡ WireFault.Write)
+        × ((fault ≡ WireFault.Write) ⊎ IsWriteCause writer.old writer.new)) }
+    ensures untouched { fault ≡ WireFault.Write → writer.new ≡ writer.old }
+{
+    let answer = fault_status(fault);
+    let written_fault = match answer {
+        Some(status) => write_local_answer(writer, status)
+            .err()
+            .map(WireFault::from),
+        None if fault == WireFault::Write => Some(fault),
+        None => None,
+    };
+    Exchange {
+        class: None,
+        admission: Verdict::NotAsked,
+        answer,
+        outcome: None,
+        written_fault,
+    }
+}

@@ -1,0 +1,19 @@
+//! One exchange: a request is read, asked for at a gate, forwarded, ended and answered.
+//!
+//! [`exchange`] is the crate's one call. Its contract is `specs/Exchanges.antt`: what was read is
+//! classified and asked for; it is forwarded once where the gate lets it through, and else not at
+//! all; an admitted permit is ended with the outcome of the backend's answer, before anything is
+//! written to the client; and the client gets what the table of answers says
+//! (`specs/Table.antt`).
+#![tactic(auto)]
+
+mod exchanging;
+mod replying;
+mod settling;
+mod told;
+
+pub use backend::{Answer, Backend};
+pub use classifier::Class;
+pub use exchanging::exchange;
+pub use ports::{GatePort, Why};
+pub use told::{Exchange, Verdict};

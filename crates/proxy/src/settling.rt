@@ -1,0 +1,109 @@
+// A request on its way through the gate.
+ghost use Rattle.std.specs.Prelude.{◌≡◌, ◌+◌, ◌^◌, None, Some, min, if◌then◌else◌};
+ghost use Rattle.proxy.specs.Table.{outcome_at, outcome_of, status_outcome};
+ghost use Rattle.proxy.specs.Settling.{IsSettled};
+
+use crate::told::Verdict;
+use backend::{Answer, Backend};
+use classifier::{Class, classify};
+use gate_config::Settings;
+use limit_laws::LAST_MOMENT;
+use limiter_core::Outcome;
+use ports::{Admission, GatePort};
+use shared_gate::Clock;
+use wire::Request;
+
+/// What became of a request before its answer is written. No permit is out any more.
+#[derive(Drop)]
+pub(crate) struct Settled {
+    pub(crate) class: Class,
+    pub(crate) admission: Verdict,
+    pub(crate) answer: Option<Answer>,
+}
+
+/// What a status tells the gate: 429, 503 and 504 say that the backend had too much to do, any
+/// other status from 500 on nothing of its load.
+fn status_outcome(status: u16) -> Outcome
+    ensures { result ≡ status_outcome status }
+{
+    match status {
+        0..=199 | 429 | 503 | 504 => Outcome::Dropped,
+        200..=499 => Outcome::Success,
+        _ => Outcome::Ignored,
+    }
+}
+
+/// What a backend's answer tells the gate.
+fn outcome(answer: &Answer) -> Outcome
+    ensures { result ≡ outcome_of answer.now }
+{
+    match answer {
+        Answer::Answered(response) => status_outcome(response.status()),
+        Answer::NotConnected => Outcome::Ignored,
+        Answer::Broken(_) => Outcome::Dropped,
+        Answer::Memory => Outcome::Ignored,
+    }
+}
+
+/// The same, where the backend answered.
+pub(crate) fn outcome_at(answer: &Option<Answer>) -> Option<Outcome>
+    ensures { result ≡ outcome_at answer.now }
+{
+    match answer {
+        Some(answer) => Some(outcome(answer)),
+        None => None,
+    }
+}
+
+/// Until when a request may wait that is read now, at most 2^62; none where it may not.
+fn deadline(settings: &Settings, now: u64) -> Option<u64>
+    ensures { result
+        ≡ (if settings.now.wait then Some (min (now + settings.now.timeout) (2 ^ 62)) else None) }
+{
+    if settings.wait {
+        Some(now.saturating_add(settings.timeout).min(LAST_MOMENT))
+    } else {
+        None
+    }
+}
+
+/// Asks the gate, forwards once where it lets the request through, and ends the permit. It is lent
+/// no writer, so nothing is written to the client before its permit is ended.
+pub(crate) fn settle<P: GatePort, B: Backend, C: Clock>(
+    port: &mut P,
+    backend: &mut B,
+    settings: &Settings,
+    clock: &C,
+    request: &Request,
+) -> Settled
+    ensures { IsSettled settings.now request.now (P.shown port.old) (P.shown port.new)
+        (B.forwarded backend.old) (B.forwarded backend.new) (B.shown backend.old)
+        (B.shown backend.new) result.class result.admission result.answer }
+{
+    let class = classify(&settings.rules, &settings.table, request);
+    let now = clock.now();
+    match port.admit(class.part, class.bypass, deadline(settings, now), now) {
+        Admission::Admitted(permit) => {
+            let answer = backend.forward(request);
+            let _receipt = port.end(permit, outcome(&answer), clock.now());
+            Settled {
+                class,
+                admission: Verdict::Admitted,
+                answer: Some(answer),
+            }
+        }
+        Admission::Bypassed => {
+            let answer = backend.forward(request);
+            Settled {
+                class,
+                admission: Verdict::Bypassed,
+                answer: Some(answer),
+            }
+        }
+        Admission::Refused(why) => Settled {
+            class,
+            admission: Verdict::Refused(why),
+            answer: None,
+        },
+    }
+}
