@@ -1,0 +1,42 @@
+// Clients over TCP.
+use crate::listener::Listener;
+use std::io::Result;
+use std::net::{Net, SocketAddr, TcpListener, TcpStream};
+use std::os::fd::AsFd;
+
+/// Clients over TCP.
+#[derive(Drop)]
+pub struct Front {
+    listener: TcpListener,
+}
+
+impl Front {
+    /// Binds the address, with port 0 for one that the system picks. As many clients may wait to be
+    /// accepted as the system allows, 4,096 by default; std's own number is 128, and a client that
+    /// finds the queue full tries again a second later.
+    pub fn bind<R: Net>(rt: &R, address: SocketAddr) -> Result<Front> {
+        let queue = mio::net::TcpListener::bind(rt, address)?;
+        let listener = TcpListener::from(queue.as_fd().try_clone_to_owned()?);
+        listener.set_nonblocking(false)?;
+        Ok(Front { listener })
+    }
+
+    /// The clients of an address that is bound already, with the queue that it has.
+    pub fn over(listener: TcpListener) -> Front {
+        Front { listener }
+    }
+
+    /// The address that is bound.
+    pub fn address(&self) -> Result<SocketAddr> {
+        self.listener.local_addr()
+    }
+}
+
+impl Listener for Front {
+    type Stream = TcpStream;
+
+    fn accept(&self) -> Option<TcpStream> {
+        let (stream, _) = self.listener.accept().ok()?;
+        Some(stream)
+    }
+}
