@@ -8,8 +8,9 @@ use Rattle.commands.proofs.scripts.carry_out.Goals as goal
 pub returns-in-Simulate-clause-done : goal.returns-in-Simulate-clause-done
 returns-in-Simulate-clause-done g c =
     subst
-    (λ (task : TextTask). OnOk c.simulate.result (IfLeft g.R.Read.remaining c.args.reader.now (λ text.
-    IsAnswerOf task text None (Wrote g.W.Write.contents c.args.writer.now c.simulate.new.writer))))
+    (λ (task : TextTask). OnOk c.simulate.result (IfLeft g.R.Read.remaining c.args.reader.now
+    (λ text. IsAnswerOf task text None
+    (Wrote g.W.Write.contents c.args.writer.now c.simulate.new.writer))))
     (sym c.in-Simulate.is) c.simulate.ensures.ok
 
 pub returns-in-Simulate-clause-stopped : goal.returns-in-Simulate-clause-stopped
