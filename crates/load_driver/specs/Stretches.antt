@@ -26,8 +26,8 @@ pub record Holds {S : Type 0} (rules : Algorithm S) (o : Standing S) (t : List E
   pub sound : IsSound (gate rules j) (image_of o)
   pub short : j.is_rolling ≡ false → length t ≡ length j.entries
 
--- A SESSION STANDS FOR a journal that never rolled: its own journal is the last stretch of that one,
--- and the same permits are open
+-- A SESSION STANDS FOR a journal that never rolled: its own journal is the last stretch of that
+-- one, and the same permits are open
 pub record StandsFor {S : Type 0} (rules : Algorithm S) (whole : Journal S) (s : Session S)
     : Type 0 where
   pub holds : Holds rules whole.opening whole.entries s.journal

@@ -80,8 +80,8 @@ fn serve<L: Limit>(
     }
 }
 
-/// Answers what is asked after all entries so far, however often the journal rolled, and adds what is
-/// written of it; says where the entries stand that this adds, if it adds any. An ending names an
+/// Answers what is asked after all entries so far, however often the journal rolled, and adds what
+/// is written of it; says where the entries stand that this adds, if it adds any. An ending names an
 /// open permit.
 pub fn answer<L: Limit>(
     session: &mut Session<L>,

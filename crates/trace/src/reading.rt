@@ -20,8 +20,8 @@ pub struct Trace<'a> {
     pub fault: Option<LineFault>,
 }
 
-/// The settings of a trace, and the lines that are left: the number of the first and their bytes; or
-/// the setting line at fault.
+/// The settings of a trace, and the lines that are left: the number of the first and their bytes;
+/// or the setting line at fault.
 #[derive(Drop)]
 struct Opening<'a> {
     settings: Settings<'a>,
