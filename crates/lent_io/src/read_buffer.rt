@@ -71,7 +71,8 @@ impl ReadBuffer {
     pub(crate) fn fill<R: Read>(&mut self, from: &mut R) -> IoResult<()>
         ensures bytes { Keeps (prepend_known (ahead_of self.old) (R.remaining from.old))
             (prepend_known (ahead_of self.new) (R.remaining from.new)) }
-        ensures end { OnOk result (self.new.end ≤ self.new.start → IsAtEnd (R.remaining from.new)) }
+        ensures end { OnOk result (self.new.end ≤ self.new.start
+            → IsAtEnd (R.remaining from.new)) }
         ensures room { room_of self.new ≡ room_of self.old }
     {
         if self.start < self.end {
