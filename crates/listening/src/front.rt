@@ -12,8 +12,8 @@ pub struct Front {
 
 impl Front {
     /// Binds the address, with port 0 for one that the system picks. As many clients may wait to
-    /// be accepted as the system allows, 4,096 by default; std's own number is 128, and a client that
-    /// finds the queue full tries again a second later.
+    /// be accepted as the system allows, 4,096 by default; std's own number is 128, and a client
+    /// that finds the queue full tries again a second later.
     pub fn bind<R: Net>(rt: &R, address: SocketAddr) -> Result<Front> {
         let queue = mio::net::TcpListener::bind(rt, address)?;
         let listener = TcpListener::from(queue.as_fd().try_clone_to_owned()?);
