@@ -62,9 +62,11 @@ module _ {S : Type 0} (g : Gate S) (o : Image S) where
       → (k ≡ 0) × (slice_get (answer g o h event) 0 ≡ Some (Call event reply))
   answers_itself h e event reply zero here =
       let same : e ≡ event =
-      ap (asked e) (same_Some _ (Call event reply) here) in
-      (refl, subst (λ (it : Event). slice_get (answer g o h it) 0 ≡ Some (Call event reply))
-      same here)
+      ap (asked e) (same_Some _ (Call event reply) here) in (
+        refl,
+        subst (λ (it : Event). slice_get (answer g o h it) 0 ≡ Some (Call event reply))
+            same here,
+      )
   answers_itself h e event reply (suc k) here =
       let called_before = h ++ Call e (reply_to g (image_after g o h) e) ∷ [] in
       absurd (false≢true (sym (promoted_is_no_call g (image_after g o called_before) (moment_of e) k
