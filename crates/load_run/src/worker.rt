@@ -1,0 +1,61 @@
+// The calls of one worker.
+ghost use Rattle.std.specs.Prelude.{◌<◌, IfOk};
+ghost use Rattle.load_run.specs.Worker.{IsWork};
+
+use crate::calls::make_calls;
+use gate_history::{Naming, Receipt};
+use limit_laws::Limit;
+use shared_gate::{Clock, Pass, SharedGate};
+use std::alloc::AllocError;
+use std::sync::Wait;
+use std::time::Clock as SystemClock;
+use trace::Arrival;
+
+/// What a worker calls with: its pass, and a list with room for its receipts.
+#[derive(Drop)]
+pub(crate) struct Worker<M: Naming> {
+    pub(crate) pass: Pass<M>,
+    pub(crate) list: Vec<Receipt<M>>,
+}
+
+/// The gate and the trace that all workers share, with how long a caller waits, and how many
+/// workers there are.
+pub(crate) struct Shop<'a, L: Limit, M: Naming, R, C> {
+    pub(crate) rt: &'a R,
+    pub(crate) gate: &'a SharedGate<L, M>,
+    pub(crate) arrivals: &'a Vec<Arrival>,
+    pub(crate) clock: &'a C,
+    pub(crate) timeout: u64,
+    pub(crate) workers: usize,
+}
+
+/// Makes the calls of the worker of this number, one arrival after the other.
+pub(crate) fn work<L: Limit, M: Naming, R: Wait + SystemClock, C: Clock>(
+    shop: &Shop<L, M, R, C>,
+    number: usize,
+    worker: Worker<M>,
+) -> Result<Worker<M>, AllocError>
+    requires { 0 < shop.now.workers }
+    ensures { IfOk result (λ done.
+        IsWork shop.now.workers number shop.now.arrivals.now.items done.list.items) }
+{
+    let Worker {
+        mut pass,
+        mut list,
+    } = worker;
+    list.clear();
+    for (place, arrival) in shop.arrivals.iter().enumerate() {
+        if place % shop.workers == number {
+            let made = make_calls(
+                shop.rt,
+                shop.gate,
+                &mut pass,
+                *arrival,
+                shop.clock,
+                shop.timeout,
+            );
+            made.push_to(&mut list)?;
+        }
+    }
+    Ok(Worker { pass, list })
+}
