@@ -1,5 +1,5 @@
 // The gate that stands between clients and the backend.
-ghost use Rattle.std.specs.Prelude.{◌≡◌, ◌≤◌, true, IfOk, OnOk, vec_len};
+ghost use Rattle.std.specs.Prelude.{◌≡◌, true, false, [], IfOk};
 ghost use Rattle.gate_ledgers.specs.Names.{AreNamed, AreWhole};
 ghost use Rattle.gate_config.specs.Settings.{AreSound};
 
@@ -23,6 +23,10 @@ pub(crate) fn open_book<M: Naming>(
     requires rows { M.rows ≡ settings.now.table }
     requires room { M.room ≡ settings.now.backlog }
     requires sound { AreSound settings.now }
+    ensures rolls { IfOk result (λ book. book.journal.is_rolling ≡ true) }
+    ensures kept { IfOk result (λ book. book.journal.kept ≡ settings.now.keep) }
+    ensures empty { IfOk result (λ book. book.journal.entries ≡ []) }
+    ensures unsealed { IfOk result (λ book. book.is_sealed ≡ false) }
 {
     let Ok(table) = settings.table.copy() else {
         return Err(ServeFault::Memory);

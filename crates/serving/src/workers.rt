@@ -5,7 +5,7 @@ ghost use Rattle.gate_config.specs.Settings.{AreSound};
 
 use crate::fault::ServeFault;
 use crate::opening::{make_passes, open_book};
-use crate::working::{Buffers, Shift, work};
+use crate::working::{Buffers, Configured, Shift, work};
 use backend::Backend;
 use gate_config::AnyLimit;
 use gate_history::{Blanks, Naming};
@@ -26,26 +26,27 @@ use tcp_backend::TcpBackend;
 /// the backend of the settings, and tells the gate's counters once all have ended.
 ///
 /// `Memory` comes before any worker is started, `Thread` once those that were started have ended.
-pub fn serve<R, L, C>(
+pub fn serve<R, L, C, S>(
     rt: &R,
-    shift: &Shift<'_, L, C>,
+    shift: &Shift<'_, L, C, S>,
     workers: usize,
 ) -> Result<Counters, ServeFault>
 where
     R: Net + Threads + Wait + SystemClock + Sync,
     L: Listener + Sync,
     C: Clock + Sync,
+    S: Configured + Sync,
     L::Stream: Send + Sync,
     R::Stream: Send + Sync,
     R::Listener: Send + Sync,
     requires some { 1 ≤ workers }
     requires few { workers ≤ 64 }
-    requires sound { AreSound shift.now.settings.now }
+    requires sound { AreSound (S.configuration shift.now.settings.now) }
 {
     let alloc = shift.alloc;
     let mut backends = Vec::with_capacity(alloc, workers)?;
     for _ in 0..workers {
-        let backend = TcpBackend::new(rt, alloc, shift.settings.backend.socket())?;
+        let backend = TcpBackend::new(rt, alloc, shift.settings.settings().backend.socket())?;
         if backends.push(backend).is_err() {
             return Err(ServeFault::Memory);
         }
@@ -54,9 +55,9 @@ where
 }
 
 /// Serves clients by one worker for each backend.
-pub fn serve_with<R, L, B, C>(
+pub fn serve_with<R, L, B, C, S>(
     rt: &R,
-    shift: &Shift<'_, L, C>,
+    shift: &Shift<'_, L, C, S>,
     backends: Vec<B>,
 ) -> Result<Counters, ServeFault>
 where
@@ -64,15 +65,16 @@ where
     L: Listener + Sync,
     B: Backend + Send + Drop,
     C: Clock + Sync,
+    S: Configured + Sync,
     L::Stream: Send + Sync,
-    requires sound { AreSound shift.now.settings.now }
+    requires sound { AreSound (S.configuration shift.now.settings.now) }
 {
-    serve_named::<Brand, R, L, B, C>(rt, shift, backends, Blanks::new())
+    serve_named::<Brand, R, L, B, C, S>(rt, shift, backends, Blanks::new())
 }
 
-fn serve_named<M, R, L, B, C>(
+fn serve_named<M, R, L, B, C, S>(
     rt: &R,
-    shift: &Shift<'_, L, C>,
+    shift: &Shift<'_, L, C, S>,
     backends: Vec<B>,
     blanks: Blanks,
 ) -> Result<Counters, ServeFault>
@@ -82,15 +84,16 @@ where
     L: Listener + Sync,
     B: Backend + Send + Drop,
     C: Clock + Sync,
+    S: Configured + Sync,
     L::Stream: Send + Sync,
     requires names { AreNamed M.calls M.place blanks }
     requires parts { AreWhole blanks }
-    requires rows { M.rows ≡ shift.now.settings.now.table }
-    requires room { M.room ≡ shift.now.settings.now.backlog }
-    requires sound { AreSound shift.now.settings.now }
+    requires rows { M.rows ≡ (S.configuration shift.now.settings.now).table }
+    requires room { M.room ≡ (S.configuration shift.now.settings.now).backlog }
+    requires sound { AreSound (S.configuration shift.now.settings.now) }
 {
     let alloc = shift.alloc;
-    let mut book = open_book::<M>(alloc, shift.settings, blanks)?;
+    let mut book = open_book::<M>(alloc, shift.settings.settings(), blanks)?;
     let passes = make_passes(alloc, &mut book, backends.len())?;
     book.seal();
     let gate = SharedGate::new(book);
@@ -105,10 +108,10 @@ where
 }
 
 /// Runs the workers, each on a thread of its own, until all have ended.
-fn run_all<M, R, L, B, C>(
+fn run_all<M, R, L, B, C, S>(
     rt: &R,
     alloc: Global,
-    workers: Vec<Worker<'_, M, R, L, B, C>>,
+    workers: Vec<Worker<'_, M, R, L, B, C, S>>,
 ) -> Result<(), ServeFault>
 where
     M: Naming + Send + Sync,
@@ -116,6 +119,7 @@ where
     L: Listener + Sync,
     B: Backend + Send + Drop,
     C: Clock + Sync,
+    S: Configured + Sync,
     L::Stream: Send + Sync,
 {
     run_tasks(rt, alloc, workers)?;
@@ -124,27 +128,27 @@ where
 
 /// The gate, as its workers find it.
 #[derive(Drop)]
-struct Counter<'a, M: Naming, R, L, C> {
+struct Counter<'a, M: Naming, R, L, C, S> {
     rt: &'a R,
-    shift: &'a Shift<'a, L, C>,
+    shift: &'a Shift<'a, L, C, S>,
     gate: &'a SharedGate<AnyLimit, M>,
 }
 
 /// One worker: what it shares, and what it owns.
 #[derive(Drop)]
-struct Worker<'a, M: Naming, R, L, B, C> {
-    counter: &'a Counter<'a, M, R, L, C>,
+struct Worker<'a, M: Naming, R, L, B, C, S> {
+    counter: &'a Counter<'a, M, R, L, C, S>,
     pass: Pass<M>,
     backend: B,
     buffers: Buffers,
 }
 
 /// A worker for each pass and backend.
-fn hire<'a, M, R, L, B, C>(
-    counter: &'a Counter<'a, M, R, L, C>,
+fn hire<'a, M, R, L, B, C, S>(
+    counter: &'a Counter<'a, M, R, L, C, S>,
     passes: Vec<Pass<M>>,
     backends: Vec<B>,
-) -> Result<Vec<Worker<'a, M, R, L, B, C>>, ServeFault>
+) -> Result<Vec<Worker<'a, M, R, L, B, C, S>>, ServeFault>
 where
     M: Naming,
     B: Drop,
@@ -166,13 +170,14 @@ where
     Ok(workers)
 }
 
-impl<'a, M, R, L, B, C> Task for Worker<'a, M, R, L, B, C>
+impl<'a, M, R, L, B, C, S> Task for Worker<'a, M, R, L, B, C, S>
 where
     M: Naming + Send + Sync,
     R: Wait + SystemClock + Sync,
     L: Listener + Sync,
     B: Backend + Send + Drop,
     C: Clock + Sync,
+    S: Configured + Sync,
 {
     type Done = Pass<M>;
 
@@ -188,8 +193,8 @@ where
 }
 
 /// One worker's whole run, over a port of its own.
-fn run_one<M, R, L, B, C>(
-    counter: &Counter<'_, M, R, L, C>,
+fn run_one<M, R, L, B, C, S>(
+    counter: &Counter<'_, M, R, L, C, S>,
     pass: Pass<M>,
     backend: &mut B,
     buffers: &mut Buffers,
@@ -200,6 +205,7 @@ where
     L: Listener,
     B: Backend,
     C: Clock,
+    S: Configured,
 {
     let shift = counter.shift;
     let mut port = Port::new(counter.rt, counter.gate, pass, shift.clock);

@@ -1,5 +1,6 @@
 // What one worker does.
 ghost use Rattle.std.specs.Prelude.{◌≡◌, ◌≤◌, ◌+◌};
+ghost use Rattle.gate_config.specs.declared.settings.Settings.{Settings as SettingsValue};
 
 use backend::Backend;
 use counted_io::Counted;
@@ -32,13 +33,32 @@ impl Buffers {
     }
 }
 
+/// What has a configuration: settings themselves. That threads may share a value is known of a
+/// type parameter, and of a type without any; so what workers share names its settings so.
+pub trait Configured {
+    // The configuration that it has.
+    ghost configuration: { Self → SettingsValue };
+
+    /// The configuration.
+    fn settings(&self) -> &Settings
+        ensures { result.now ≡ configuration self.now };
+}
+
+impl Configured for Settings {
+    ghost configuration = { λ settings. settings };
+
+    fn settings(&self) -> &Settings {
+        self
+    }
+}
+
 /// What all workers of a gateway share, and what each of them is asked to do.
 #[derive(Drop)]
-pub struct Shift<'a, L, C> {
+pub struct Shift<'a, L, C, S> {
     /// Where clients come from.
     pub listener: &'a L,
     /// What the configuration says.
-    pub settings: &'a Settings,
+    pub settings: &'a S,
     /// The clock of deadlines.
     pub clock: &'a C,
     /// How many connections a worker accepts, one after the other.
@@ -52,8 +72,8 @@ pub struct Shift<'a, L, C> {
 
 /// Accepts as many connections as the shift says, one after the other, and serves each by one
 /// exchange. A connection that can't be had counts as one.
-pub fn work<P: GatePort, B: Backend, C: Clock, L: Listener>(
-    shift: &Shift<'_, L, C>,
+pub fn work<P: GatePort, B: Backend, C: Clock, L: Listener, S: Configured>(
+    shift: &Shift<'_, L, C, S>,
     port: &mut P,
     backend: &mut B,
     buffers: &mut Buffers,
@@ -66,9 +86,9 @@ pub fn work<P: GatePort, B: Backend, C: Clock, L: Listener>(
 }
 
 /// Serves one client over its connection, by readers and writers that last as long as it may take.
-pub fn serve_client<S: Connection, P: GatePort, B: Backend, C: Clock, L>(
-    shift: &Shift<'_, L, C>,
-    stream: &S,
+pub fn serve_client<T: Connection, P: GatePort, B: Backend, C: Clock, L, S: Configured>(
+    shift: &Shift<'_, L, C, S>,
+    stream: &T,
     port: &mut P,
     backend: &mut B,
     buffers: &mut Buffers,
@@ -82,7 +102,7 @@ pub fn serve_client<S: Connection, P: GatePort, B: Backend, C: Clock, L>(
         shift.alloc,
         port,
         backend,
-        shift.settings,
+        shift.settings.settings(),
         clock,
         &mut reader,
         &mut writer,
