@@ -16,8 +16,7 @@ IsRunOf n kept trace out =
     (timeout_of trace.settings) out
 
 -- THE ANSWER to a trace of at most 16 MiB: the line at fault that ended it, if one did, and what
--- was
--- written of the calls before that line
+-- was written of the calls before that line
 pub record IsSimulated (n : ℕ) (text : List ℕ) (fault : Option LineFault)
     (Written : List ℕ → Type 0) : Type 0 where
   pub small : length text ≤ most_script
