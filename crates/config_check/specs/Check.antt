@@ -49,6 +49,21 @@ IsUnread remaining old new (Check.Config fault) =
     (fault ≡ Config.Memory) × IsMemoryCause remaining 1048576 old new
 IsUnread remaining old new Check.Write = ⊥
 
+-- the fault is that of the bytes
+abbrev pub IsFaultOf : List ℕ → CheckFault → Type 0
+IsFaultOf bytes Check.Read = ⊥
+IsFaultOf bytes (Check.Config fault) = fault ≢ Config.Memory → Says bytes (Err fault)
+IsFaultOf bytes Check.Write = ⊥
+
+-- why a reader's settings weren't had: its bytes were not had; or no read failed, and the fault is
+-- that of its bytes
+abbrev pub IsUnset : {R : Type 0} → (R → Option (List ℕ)) → Counted R → Counted R → CheckFault
+    → Type 0
+IsUnset remaining before after fault =
+    IsUnread remaining before after fault
+    ⊎ ((failures_of after ≡ failures_of before)
+    × ((bytes : List ℕ) × Held remaining before bytes × IsFaultOf bytes fault))
+
 -- the fault of what a reader had: its bytes were not had, and then nothing is written; or no read
 -- failed, and the fault is that of its bytes
 abbrev pub IsWhyOfReader : {R W : Type 0} → (R → Option (List ℕ)) → Counted R → Counted R

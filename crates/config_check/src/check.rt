@@ -8,18 +8,13 @@ ghost use Rattle.fault_lines.specs.FaultLine.{IsTold, fault_line};
 
 use super::accepted::write_accepted;
 use super::check_fault::{CheckFault, tell_check_fault};
-use counted_io::{Counted, read_all};
+use super::reading::read_settings;
+use counted_io::Counted;
 use fault_lines::{DONE, FAULT};
 use gate_config::read;
 use std::alloc::Global;
 use std::fs::{File, Files};
 use std::io::{Read, Write};
-
-/// The most bytes of a configuration: 1 MiB.
-const MOST_CONFIG: usize = 1_048_576;
-
-/// The most reads that it may take: 2^25.
-const MOST_READS: u64 = 33_554_432;
 
 /// Checks the configuration in the file of a path, as [`check_reader`] does, and answers the exit
 /// status.
@@ -122,8 +117,8 @@ fn check_read<R: Read, W: Write>(
     ensures refused { IfErr result (λ fault.
         IsWhyOfReader R.remaining reader.old reader.new writer.old writer.new fault) }
 {
-    let bytes = read_all(alloc, reader, MOST_CONFIG, MOST_READS)?;
-    check(alloc, &bytes, writer)
+    let settings = read_settings(alloc, reader)?;
+    Ok(write_accepted(writer, &settings)?)
 }
 
 /// Writes the line of the settings that the bytes hold.

@@ -54,8 +54,9 @@ impl From<WriteFault> for CheckFault {
     }
 }
 
-/// Tells why a configuration isn't accepted.
-pub(crate) fn tell_check_fault<E: Write>(errors: &mut Counted<E>, fault: &CheckFault)
+/// Tells why a configuration isn't accepted, in one line that is flushed. Where it can't be
+/// written, it is dropped. It takes no memory.
+pub fn tell_check_fault<E: Write>(errors: &mut Counted<E>, fault: &CheckFault)
     ensures { IsTold E.contents errors.old errors.new (fault_line (check_fault_text fault.now)) }
 {
     match fault {

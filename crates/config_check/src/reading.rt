@@ -1,0 +1,68 @@
+// A configuration, read.
+ghost use Rattle.std.specs.Prelude.{◌≡◌, ◌⊎◌, ℕ, List, Ok, IfErr, IfOk, OnOk};
+ghost use Rattle.counted_io.specs.declared.counted.Counted.{Counted as CountedValue};
+ghost use Rattle.counted_io.specs.Counted.{failures_of};
+ghost use Rattle.gate_config.specs.Settings.{AreSound};
+ghost use Rattle.config_check.specs.Check.{Held, IsFaultOf, IsUnset, Says};
+
+use super::check_fault::CheckFault;
+use counted_io::{Counted, read_all};
+use gate_config::{Settings, read};
+use std::alloc::Global;
+use std::fs::{File, Files};
+use std::io::Read;
+
+/// The most bytes of a configuration: 1 MiB.
+const MOST_CONFIG: usize = 1_048_576;
+
+/// The most reads that it may take: 2^25.
+const MOST_READS: u64 = 33_554_432;
+
+/// The settings of the configuration in the file of a path, as [`read_settings`] gives them.
+///
+/// A file that can't be opened is told as one that can't be read.
+pub fn read_file_settings<F: Files>(
+    files: &F,
+    alloc: Global,
+    path: &str,
+) -> Result<Settings, CheckFault>
+    ensures settings { IfOk result (λ settings. (file : CountedValue F.File) × (bytes : List ℕ)
+        × Held F.File.remaining file bytes × Says bytes (Ok settings)) }
+    ensures sound { IfOk result AreSound }
+    ensures refused { IfErr result (λ fault. (fault ≡ CheckFault.Read)
+        ⊎ (before : CountedValue F.File) × (after : CountedValue F.File)
+        × IsUnset F.File.remaining before after fault) }
+{
+    match File::open(files, path) {
+        Ok(file) => read_settings(alloc, &mut Counted::new(file)),
+        Err(_) => Err(CheckFault::Read),
+    }
+}
+
+/// The settings of the configuration that a reader gives up to its end, at most 1 MiB in at most
+/// 2^25 reads.
+///
+/// A reader that fails, isn't at its end after so many reads, or has more is told as one that can't
+/// be read; else the fault is the first of its bytes.
+pub fn read_settings<R: Read>(
+    alloc: Global,
+    reader: &mut Counted<R>,
+) -> Result<Settings, CheckFault>
+    ensures settings { IfOk result (λ settings. (bytes : List ℕ)
+        × Held R.remaining reader.old bytes × Says bytes (Ok settings)) }
+    ensures sound { IfOk result AreSound }
+    ensures unfailing { OnOk result (failures_of reader.new ≡ failures_of reader.old) }
+    ensures refused { IfErr result (IsUnset R.remaining reader.old reader.new) }
+{
+    let bytes = read_all(alloc, reader, MOST_CONFIG, MOST_READS)?;
+    read_bytes(alloc, &bytes)
+}
+
+/// The settings that bytes hold.
+fn read_bytes(alloc: Global, bytes: &[u8]) -> Result<Settings, CheckFault>
+    ensures settings { IfOk result (λ settings. Says bytes.now (Ok settings)) }
+    ensures sound { IfOk result AreSound }
+    ensures refused { IfErr result (IsFaultOf bytes.now) }
+{
+    Ok(read(alloc, bytes)?)
+}

@@ -1,0 +1,214 @@
+// Workers that serve through one gate.
+ghost use Rattle.std.specs.Prelude.{◌≡◌, ◌≤◌, vec_len};
+ghost use Rattle.gate_ledgers.specs.Names.{AreNamed, AreWhole};
+ghost use Rattle.gate_config.specs.Settings.{AreSound};
+
+use crate::fault::ServeFault;
+use crate::opening::{make_passes, open_book};
+use crate::working::{Buffers, Configured, Shift, work};
+use backend::Backend;
+use gate_config::AnyLimit;
+use gate_history::{Blanks, Naming};
+use limiter_core::Counters;
+use listening::Listener;
+use ports::Port;
+use shared_gate::{Clock, Pass, SharedGate};
+use std::alloc::Global;
+use std::marker::Brand;
+use std::net::Net;
+use std::sync::Wait;
+use std::thread::Threads;
+use std::time::Clock as SystemClock;
+use tasks::{Task, run_tasks};
+use tcp_backend::TcpBackend;
+
+/// Serves clients by so many workers, each on a thread of its own with a connection of its own to
+/// the backend of the settings, and tells the gate's counters once all have ended.
+///
+/// `Memory` comes before any worker is started, `Thread` once those that were started have ended.
+pub fn serve<R, L, C, S>(
+    rt: &R,
+    shift: &Shift<'_, L, C, S>,
+    workers: usize,
+) -> Result<Counters, ServeFault>
+where
+    R: Net + Threads + Wait + SystemClock + Sync,
+    L: Listener + Sync,
+    C: Clock + Sync,
+    S: Configured + Sync,
+    L::Stream: Send + Sync,
+    R::Stream: Send + Sync,
+    R::Listener: Send + Sync,
+    requires some { 1 ≤ workers }
+    requires few { workers ≤ 64 }
+    requires sound { AreSound (S.configuration shift.now.settings.now) }
+{
+    let alloc = shift.alloc;
+    let mut backends = Vec::with_capacity(alloc, workers)?;
+    for _ in 0..workers {
+        let backend = TcpBackend::new(rt, alloc, shift.settings.settings().backend.socket())?;
+        if backends.push(backend).is_err() {
+            return Err(ServeFault::Memory);
+        }
+    }
+    serve_with(rt, shift, backends)
+}
+
+/// Serves clients by one worker for each backend.
+pub fn serve_with<R, L, B, C, S>(
+    rt: &R,
+    shift: &Shift<'_, L, C, S>,
+    backends: Vec<B>,
+) -> Result<Counters, ServeFault>
+where
+    R: Threads + Wait + SystemClock + Sync,
+    L: Listener + Sync,
+    B: Backend + Send + Drop,
+    C: Clock + Sync,
+    S: Configured + Sync,
+    L::Stream: Send + Sync,
+    requires sound { AreSound (S.configuration shift.now.settings.now) }
+{
+    serve_named::<Brand, R, L, B, C, S>(rt, shift, backends, Blanks::new())
+}
+
+fn serve_named<M, R, L, B, C, S>(
+    rt: &R,
+    shift: &Shift<'_, L, C, S>,
+    backends: Vec<B>,
+    blanks: Blanks,
+) -> Result<Counters, ServeFault>
+where
+    M: Naming + Send + Sync,
+    R: Threads + Wait + SystemClock + Sync,
+    L: Listener + Sync,
+    B: Backend + Send + Drop,
+    C: Clock + Sync,
+    S: Configured + Sync,
+    L::Stream: Send + Sync,
+    requires names { AreNamed M.calls M.place blanks }
+    requires parts { AreWhole blanks }
+    requires rows { M.rows ≡ (S.configuration shift.now.settings.now).table }
+    requires room { M.room ≡ (S.configuration shift.now.settings.now).backlog }
+    requires sound { AreSound (S.configuration shift.now.settings.now) }
+{
+    let alloc = shift.alloc;
+    let mut book = open_book::<M>(alloc, shift.settings.settings(), blanks)?;
+    let passes = make_passes(alloc, &mut book, backends.len())?;
+    book.seal();
+    let gate = SharedGate::new(book);
+    let counter = Counter {
+        rt,
+        shift,
+        gate: &gate,
+    };
+    let workers = hire(&counter, passes, backends)?;
+    run_all(rt, alloc, workers)?;
+    Ok(gate.counters(rt))
+}
+
+/// Runs the workers, each on a thread of its own, until all have ended.
+fn run_all<M, R, L, B, C, S>(
+    rt: &R,
+    alloc: Global,
+    workers: Vec<Worker<'_, M, R, L, B, C, S>>,
+) -> Result<(), ServeFault>
+where
+    M: Naming + Send + Sync,
+    R: Threads + Wait + SystemClock + Sync,
+    L: Listener + Sync,
+    B: Backend + Send + Drop,
+    C: Clock + Sync,
+    S: Configured + Sync,
+    L::Stream: Send + Sync,
+{
+    run_tasks(rt, alloc, workers)?;
+    Ok(())
+}
+
+/// The gate, as its workers find it.
+#[derive(Drop)]
+struct Counter<'a, M: Naming, R, L, C, S> {
+    rt: &'a R,
+    shift: &'a Shift<'a, L, C, S>,
+    gate: &'a SharedGate<AnyLimit, M>,
+}
+
+/// One worker: what it shares, and what it owns.
+#[derive(Drop)]
+struct Worker<'a, M: Naming, R, L, B, C, S> {
+    counter: &'a Counter<'a, M, R, L, C, S>,
+    pass: Pass<M>,
+    backend: B,
+    buffers: Buffers,
+}
+
+/// A worker for each pass and backend.
+fn hire<'a, M, R, L, B, C, S>(
+    counter: &'a Counter<'a, M, R, L, C, S>,
+    passes: Vec<Pass<M>>,
+    backends: Vec<B>,
+) -> Result<Vec<Worker<'a, M, R, L, B, C, S>>, ServeFault>
+where
+    M: Naming,
+    B: Drop,
+{
+    let alloc = counter.shift.alloc;
+    let mut workers = Vec::with_capacity(alloc, backends.len())?;
+    for (pass, backend) in passes.into_iter().zip(backends) {
+        let buffers = Buffers::new(alloc)?;
+        let worker = Worker {
+            counter,
+            pass,
+            backend,
+            buffers,
+        };
+        if workers.push(worker).is_err() {
+            return Err(ServeFault::Memory);
+        }
+    }
+    Ok(workers)
+}
+
+impl<'a, M, R, L, B, C, S> Task for Worker<'a, M, R, L, B, C, S>
+where
+    M: Naming + Send + Sync,
+    R: Wait + SystemClock + Sync,
+    L: Listener + Sync,
+    B: Backend + Send + Drop,
+    C: Clock + Sync,
+    S: Configured + Sync,
+{
+    type Done = Pass<M>;
+
+    fn run(self) -> Pass<M> {
+        let Worker {
+            counter,
+            pass,
+            mut backend,
+            mut buffers,
+        } = self;
+        run_one(counter, pass, &mut backend, &mut buffers)
+    }
+}
+
+/// One worker's whole run, over a port of its own.
+fn run_one<M, R, L, B, C, S>(
+    counter: &Counter<'_, M, R, L, C, S>,
+    pass: Pass<M>,
+    backend: &mut B,
+    buffers: &mut Buffers,
+) -> Pass<M>
+where
+    M: Naming,
+    R: Wait + SystemClock,
+    L: Listener,
+    B: Backend,
+    C: Clock,
+    S: Configured,
+{
+    let shift = counter.shift;
+    let mut port = Port::new(counter.rt, counter.gate, pass, shift.clock);
+    work(shift, &mut port, backend, buffers);
+    port.into_pass()
+}
