@@ -13,7 +13,7 @@ use limiter_core::Outcome;
 
 /// What a trace says of one call. A class is told by a `C`, as a line is read by its name; times
 /// are in nanoseconds.
-#[derive(Clone, Copy)]
+#[derive(Drop)]
 pub enum ArrivalLine<C> {
     /// It comes at a moment, and holds its permit for so long, if it gets one.
     Arrive {

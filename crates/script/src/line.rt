@@ -9,7 +9,7 @@ use super::why::Why;
 use super::words::next_word;
 
 /// A line that isn't skipped. A class is told by a `C`, as a line is read by its name.
-#[derive(Clone, Copy)]
+#[derive(Drop)]
 pub enum Line<C> {
     /// A setting.
     Setting(Setting<C>),

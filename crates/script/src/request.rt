@@ -11,7 +11,7 @@ use limiter_core::Outcome;
 
 /// What is asked of a limiter. A class is told by a `C`, as a line is read by its name; moments are
 /// in nanoseconds.
-#[derive(Clone, Copy)]
+#[derive(Drop)]
 pub enum Request<C> {
     /// A permit, at once or after waiting for it.
     Acquire {

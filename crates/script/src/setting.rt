@@ -10,7 +10,7 @@ use super::words::next_word;
 
 /// A setting, whose numbers may be out of their ranges. A class is told by a `C`, as a line is read
 /// by its name.
-#[derive(Clone, Copy)]
+#[derive(Drop)]
 pub enum Setting<C> {
     /// The limit.
     Limit(LimitLine),

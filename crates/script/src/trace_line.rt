@@ -9,7 +9,7 @@ use super::why::Why;
 use super::words::next_word;
 
 /// A line of a trace that isn't skipped. A class is told by a `C`, as a line is read by its name.
-#[derive(Clone, Copy)]
+#[derive(Drop)]
 pub enum TraceLine<C> {
     /// A setting, as a script has it.
     Setting(Setting<C>),

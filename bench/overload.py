@@ -1,0 +1,45 @@
+#!/usr/bin/env python3
+"""Measures what overload costs, with and without the gateway: bench/overload.py PROGRAM [SECONDS]
+
+The origin answers 4 at a time in 20 ms, so 200 a second. Callers come four times as often, whether or not
+others are answered, and wait for a second. The gateway has a fixed limit of 4 and a backlog of 4, in which
+callers wait for up to 50 ms. Printed are the share of calls answered 200, the time of an answer of 200, and that
+of a refusal.
+"""
+import asyncio
+import os
+import sys
+
+from traffic import Gateway, Origin, allow_many_sockets, offer, percentile
+
+SLOTS, PAUSE = 4, 0.020
+TIMES = 4
+TABLES = 'backlog = 4\ntimeout_ms = 50\n[limit]\nkind = "fixed"\ninitial = 4\n'
+
+
+def row(name, calls):
+    good = [it.seconds * 1000 for it in calls if it.status == 200]
+    refused = [it.seconds * 1000 for it in calls if it.status == 429]
+    within = sum(it <= 100 for it in good)
+    times = " | ".join(f"{percentile(part, 0.5):.1f} / {percentile(part, 0.99):.1f} ms" if part else "none"
+                       for part in (good, refused))
+    none = sum(it.status == 0 for it in calls)
+    print(f"| {name} | {len(calls)} | {len(good) / len(calls):.0%} | {within / len(calls):.0%} | {times} | {none / len(calls):.0%} |",
+          flush=True)
+
+
+def main():
+    if len(sys.argv) not in (2, 3) or not os.access(sys.argv[1], os.X_OK):
+        sys.exit(__doc__)
+    seconds = float(sys.argv[2]) if len(sys.argv) == 3 else 10
+    allow_many_sockets()
+    rate = TIMES * SLOTS / PAUSE
+    print("| | calls | answered 200 | within 100 ms | time of a 200, p50 / p99 | time of a 429, p50 / p99 | unanswered |")
+    print("|---|---|---|---|---|---|---|")
+    with Origin(SLOTS, PAUSE) as origin:
+        row("without", asyncio.run(offer(origin.port, rate, seconds)))
+    with Origin(SLOTS, PAUSE) as origin, Gateway(sys.argv[1], origin, TABLES) as gateway:
+        row("with the gateway", asyncio.run(offer(gateway.port, rate, seconds)))
+
+
+main()

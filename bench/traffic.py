@@ -1,0 +1,175 @@
+"""Traffic for overload: an origin that serves few at a time, callers who come at their own rate, and a gateway
+between them. All of it stands on loopback, and everything that is started is ended.
+"""
+import asyncio
+import collections
+import contextlib
+import dataclasses
+import multiprocessing
+import os
+import pathlib
+import resource
+import signal
+import socket
+import subprocess
+import tempfile
+import time
+
+ANSWER = b"HTTP/1.1 200 OK\r\nContent-Length: 13\r\nConnection: close\r\n\r\nhello, world\n"
+STARTING = 10
+
+
+def free_port():
+    with socket.socket() as found:
+        found.bind(("127.0.0.1", 0))
+        return found.getsockname()[1]
+
+
+def allow_many_sockets():
+    _, most = resource.getrlimit(resource.RLIMIT_NOFILE)
+    resource.setrlimit(resource.RLIMIT_NOFILE, (min(most, 65_536), most))
+
+
+class Origin:
+    """A backend in a process of its own: it serves `slots` requests at a time, each in `seconds` divided by its
+    speed, and slower by `drag` of that for each request that waits."""
+
+    def __init__(self, slots, seconds, drag=0.0):
+        self.slots, self.seconds, self.drag, self.port = slots, seconds, drag, free_port()
+        self.speed = multiprocessing.Value("d", 1.0)
+        self.held = multiprocessing.Value("i", 0)
+        self.is_up = multiprocessing.Event()
+        self.process = multiprocessing.Process(target=self.run, daemon=True)
+
+    def __enter__(self):
+        self.process.start()
+        if not self.is_up.wait(STARTING):
+            raise RuntimeError("the origin didn't start")
+        return self
+
+    def __exit__(self, *_):
+        self.process.terminate()
+        self.process.join()
+
+    def run(self):
+        signal.signal(signal.SIGINT, signal.SIG_IGN)
+        allow_many_sockets()
+        asyncio.run(self.serve())
+
+    async def serve(self):
+        self.free = asyncio.Semaphore(self.slots)
+        server = await asyncio.start_server(self.answer, "127.0.0.1", self.port, backlog=4096)
+        self.is_up.set()
+        async with server:
+            await server.serve_forever()
+
+    async def answer(self, reader, writer):
+        self.held.value += 1
+        try:
+            await reader.readuntil(b"\r\n\r\n")
+            async with self.free:
+                queue = max(0, self.held.value - self.slots)
+                await asyncio.sleep(self.seconds / self.speed.value * (1 + self.drag * queue))
+            writer.write(ANSWER)
+            await writer.drain()
+        except (OSError, asyncio.IncompleteReadError):
+            pass
+        finally:
+            self.held.value -= 1
+            writer.close()
+
+
+class Gateway:
+    """The program over a configuration of its own. `tables` is what stands below the addresses."""
+
+    def __init__(self, program, origin, tables, workers=64):
+        self.port = free_port()
+        self.room = tempfile.TemporaryDirectory(prefix="admission-")
+        self.file = pathlib.Path(self.room.name) / "gateway.toml"
+        self.file.write_text(f'version = 1\nlisten = "127.0.0.1:{self.port}"\nbackend = "127.0.0.1:{origin.port}"\n{tables}')
+        self.words = [program, "serve", str(self.file), "--workers", str(workers)]
+
+    def __enter__(self):
+        self.process = subprocess.Popen(self.words, stdout=subprocess.DEVNULL, stderr=subprocess.PIPE, text=True)
+        for line in self.process.stderr:
+            if "listening" in line:
+                return self
+        self.process.wait()
+        raise RuntimeError(f"the gateway ended with status {self.process.returncode}")
+
+    def __exit__(self, *_):
+        self.process.terminate()
+        self.process.wait()
+        self.process.stderr.close()
+        self.room.cleanup()
+
+    def resident(self):
+        """What it holds in memory, in bytes."""
+        pages = pathlib.Path(f"/proc/{self.process.pid}/statm").read_text().split()[1]
+        return int(pages) * os.sysconf("SC_PAGE_SIZE")
+
+
+@dataclasses.dataclass
+class Call:
+    """One call: when it came, of which class, the status of its answer (0: none in time), and how long that took."""
+    at: float
+    name: str
+    status: int
+    seconds: float
+
+
+async def call(port, name, patience, found, begun):
+    at = time.perf_counter()
+    status, writer = 0, None
+    try:
+        async with asyncio.timeout(patience):
+            reader, writer = await asyncio.open_connection("127.0.0.1", port)
+            writer.write(f"GET / HTTP/1.1\r\nHost: h\r\nX-Class: {name}\r\n\r\n".encode())
+            text = await reader.read()
+            status = int(text[9:12]) if text[:5] == b"HTTP/" else 0
+    except (OSError, TimeoutError, ValueError):
+        pass
+    finally:
+        if writer:
+            writer.close()
+    found.append(Call(at - begun, name, status, time.perf_counter() - at))
+
+
+async def offer(port, rate, seconds, names=("unknown",), patience=1.0):
+    """So many calls a second, whether or not those before are answered: of these classes in turns."""
+    found, begun, calls = [], time.perf_counter(), []
+    for number in range(int(rate * seconds)):
+        pause = begun + number / rate - time.perf_counter()
+        if pause > 0:
+            await asyncio.sleep(pause)
+        calls.append(asyncio.create_task(call(port, names[number % len(names)], patience, found, begun)))
+    await asyncio.gather(*calls)
+    return found
+
+
+def percentile(values, part):
+    ordered = sorted(values)
+    return ordered[min(len(ordered) - 1, int(len(ordered) * part))] if ordered else float("nan")
+
+
+def statuses(calls):
+    return collections.Counter(it.status for it in calls)
+
+
+@contextlib.contextmanager
+def watched(origin, pause=0.1):
+    """How many requests the origin holds, sampled every so often: pairs of a time and a number."""
+    found, is_done = [], False
+
+    async def watch():
+        begun = time.perf_counter()
+        while not is_done:
+            found.append((time.perf_counter() - begun, origin.held.value))
+            await asyncio.sleep(pause)
+
+    task = asyncio.get_running_loop().create_task(watch())
+    try:
+        yield found
+    finally:
+        is_done = True
+        task.cancel()
