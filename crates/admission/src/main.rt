@@ -6,7 +6,7 @@
 use commands::{Run, run_text, words};
 use config_check::check_file;
 use counted_io::Counted;
-use fault_lines::tell_unread_words;
+use fault_lines::{FAULT, tell_fault, tell_unread_words};
 use std::env;
 use std::io::Error;
 use std::process::ExitCode;
@@ -32,5 +32,9 @@ fn main(rt: HostRuntime) -> ExitCode {
             run_text(alloc, task, &mut reader, &mut writer, &mut errors)
         }
         Run::Check { path } => check_file(&rt, alloc, path, &mut writer, &mut errors),
+        Run::Load { .. } | Run::Serve { .. } => {
+            tell_fault(&mut errors, &["not carried out yet"]);
+            FAULT
+        }
     })
 }

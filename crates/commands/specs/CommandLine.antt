@@ -1,13 +1,13 @@
 -- The command line, and the run that its words name.
 use Rattle.std.specs.Prelude.{◌≡◌, ◌≤◌, ℕ, List, [], ◌∷◌, Option, Some, None, true, false, codes, pos}
 use Rattle.std.specs.Str.Parse.{IsNumeral, digits_value, without_leading_plus}
-use Rattle.clap.specs.Words.{App, Row, Rule, Text, first_of, new_app, new_rule, one_of, shape_of, with_rule, with_subcommand}
+use Rattle.clap.specs.Words.{App, Row, Rule, Text, app_of, first_of, new_app, new_rule, one_of, shape_of, with_rule, with_subcommand}
 use Rattle.limit_laws.specs.Algorithm.{greatest_limit}
 use Rattle.clap.specs.declared.builder.command.Command.{Command}
 use Rattle.clap.specs.declared.builder.command.Command.TheViews.{out-Command}
 use Rattle.clap.specs.declared.builder.value_parser.ValueParser.TheVariants as Parser
 use Rattle.commands.specs.declared.command_line.Run.{Run}
-use Rattle.commands.specs.declared.command_line.Run.TheVariants.{Text as OfText, Check}
+use Rattle.commands.specs.declared.command_line.Run.TheVariants.{Text as OfText, Load, Check, Serve}
 use Rattle.commands.specs.declared.command_line.TextTask.{TextTask}
 use Rattle.commands.specs.declared.command_line.TextTask.TheVariants.{Replay, Simulate}
 
@@ -24,6 +24,18 @@ number_rule name default low high = record (new_rule name) {
 abbrev pub limit_rule : Rule
 limit_rule = number_rule (codes "limit") (codes "20") 1 greatest_limit
 
+-- `--workers W`, 4 where it isn't given
+abbrev pub workers_rule : Rule
+workers_rule = number_rule (codes "workers") (codes "4") 1 64
+
+-- `--per-worker M`, a thousand million where it isn't given
+abbrev pub per_worker_rule : Rule
+per_worker_rule = number_rule (codes "per-worker") (codes "1000000000") 1 1000000000
+
+-- `--client-timeout-ms T`, ten seconds where it isn't given
+abbrev pub client_timeout_rule : Rule
+client_timeout_rule = number_rule (codes "client-timeout-ms") (codes "10000") 1 3600000
+
 -- `CONFIG`
 abbrev pub config_rule : Rule
 config_rule = record (new_rule (codes "config")) { value_names = 1; required = true }
@@ -34,8 +46,18 @@ replay_app = with_rule (new_app (codes "replay")) limit_rule
 abbrev pub simulate_app : App
 simulate_app = with_rule (new_app (codes "simulate")) limit_rule
 
+abbrev pub load_app : App
+load_app = with_rule (with_rule (new_app (codes "load")) limit_rule) workers_rule
+
 abbrev pub check_app : App
 check_app = with_rule (new_app (codes "check")) config_rule
+
+-- `serve` before its numbers
+abbrev pub serving_app : App
+serving_app = with_rule (with_rule (new_app (codes "serve")) config_rule) workers_rule
+
+abbrev pub serve_app : App
+serve_app = with_rule (with_rule serving_app per_worker_rule) client_timeout_rule
 
 -- a command that has a version, and subcommands of which one is required
 abbrev pub asking : Text → App
@@ -48,13 +70,22 @@ abbrev pub text_app : App
 text_app =
     with_subcommand (with_subcommand (asking (codes "admission")) replay_app.top) simulate_app.top
 
+-- the one with the commands that serve nobody
+abbrev pub offline_app : App
+offline_app = with_subcommand (with_subcommand text_app load_app.top) check_app.top
+
 -- the whole command line
 abbrev pub admission_app : App
-admission_app = with_subcommand text_app check_app.top
+admission_app = with_subcommand offline_app serve_app.top
 
 -- the command, as a subcommand, is the one of this definition
 abbrev pub IsLeaf : App → Command → Type 0
 IsLeaf app command = (shape_of command ≡ app.top) × ((out-Command command).has_globals ≡ false)
+
+-- the command is the one of this definition, and has no global argument
+abbrev pub IsWithoutGlobals : App → Command → Type 0
+IsWithoutGlobals app command =
+    (app_of command ≡ app) × ((out-Command command).has_globals ≡ false)
 
 -- the number that the rows have for an option lies in the range
 abbrev pub HasNumber : List Row → Text → ℕ → ℕ → ℕ → Type 0
@@ -72,8 +103,16 @@ IsTaskOf name rows (Simulate limit) =
 -- the run is that of this subcommand, with the numbers and the path that its rows have
 abbrev pub IsCommandOf : Text → List Row → Run → Type 0
 IsCommandOf name rows (OfText task) = IsTaskOf name rows task
+IsCommandOf name rows (Load limit workers) =
+    (name ≡ codes "load") × HasNumber rows (codes "limit") 1 greatest_limit limit
+    × HasNumber rows (codes "workers") 1 64 workers
 IsCommandOf name rows (Check path) =
     (name ≡ codes "check") × (first_of (codes "config") rows ≡ Some path.now)
+IsCommandOf name rows (Serve path workers per_worker client_timeout) =
+    (name ≡ codes "serve") × (first_of (codes "config") rows ≡ Some path.now)
+    × HasNumber rows (codes "workers") 1 64 workers
+    × HasNumber rows (codes "per-worker") 1 1000000000 per_worker
+    × HasNumber rows (codes "client-timeout-ms") 1 3600000 client_timeout
 
 -- the run is that of the subcommand which the words name
 abbrev pub IsRunOf : Option (Text × List Row) → Run → Type 0
@@ -89,7 +128,12 @@ abbrev pub limit_of : TextTask → ℕ
 limit_of (Replay limit) = limit
 limit_of (Simulate limit) = limit
 
--- the limit of a run over a text is 1 to 10,000
-abbrev pub HasLimit : Run → Type 0
-HasLimit (OfText task) = (1 ≤ limit_of task) × (limit_of task ≤ greatest_limit)
-HasLimit (Check path) = Unit {0}
+-- the numbers of a run lie in their ranges
+abbrev pub KeepsRanges : Run → Type 0
+KeepsRanges (OfText task) = (1 ≤ limit_of task) × (limit_of task ≤ greatest_limit)
+KeepsRanges (Load limit workers) =
+    (1 ≤ limit) × (limit ≤ greatest_limit) × (1 ≤ workers) × (workers ≤ 64)
+KeepsRanges (Check path) = Unit {0}
+KeepsRanges (Serve path workers per_worker client_timeout) =
+    (1 ≤ workers) × (workers ≤ 64) × (1 ≤ per_worker) × (per_worker ≤ 1000000000)
+    × (1 ≤ client_timeout) × (client_timeout ≤ 3600000)

@@ -1,25 +1,40 @@
 // The words of a command line.
-ghost use Rattle.std.specs.Prelude.{◌≡◌, ◌⊎◌, ℕ, map, codes, string_bytes, false, [], IfErr, IfOk, IfSome};
+ghost use Rattle.std.specs.Prelude.{◌≡◌, ◌⊎◌, ℕ, map, codes, string_bytes, [], IfErr, IfOk, IfSome};
 ghost use Rattle.std.specs.Prelude.{IsNone, OnOk};
-ghost use Rattle.limit_laws.specs.Algorithm.{greatest_limit};
-ghost use Rattle.clap.specs.Words.{HasKind, app_of, fault_of, found_of, rows_of, rule_of, subcommand_of, subcommand_rows_of};
-ghost use Rattle.commands.specs.CommandLine.{HasLimit, HasNumber, IsLeaf, IsRunOf, NamesNoRun, admission_app, check_app, config_rule, limit_rule, replay_app, simulate_app, text_app};
+ghost use Rattle.clap.specs.Words.{HasKind, fault_of, found_of, rows_of, subcommand_of, subcommand_rows_of};
+ghost use Rattle.commands.specs.CommandLine.{HasNumber, IsCommandOf, IsRunOf, KeepsRanges, NamesNoRun, admission_app};
 ghost use Rattle.commands.specs.declared.command_line.Run.{Run as RunValue};
 
-use super::help::{
-    ABOUT, CHECK_ABOUT, CHECK_HELP, REPLAY_ABOUT, REPLAY_HELP, SIMULATE_ABOUT, SIMULATE_HELP,
-};
+use super::interface::command;
 use clap::error::ErrorKind;
-use clap::{Arg, ArgMatches, Command, Error, value_parser};
-use std::alloc::{AllocError, Global};
+use clap::{ArgMatches, Error};
+use std::alloc::Global;
 
 /// What the words ask for: a command, with its path and its numbers.
 #[derive(Clone, Copy, Debug, PartialEq, Eq)]
 pub enum Run<'a> {
     /// A text on standard input is answered on standard output.
     Text(TextTask),
+    /// The calls of a trace on standard input are made by threads, and audited. `limit` is the
+    /// fixed limit where the trace has no `limit` line, 1 to 10,000 permits; there are 1 to 64
+    /// workers.
+    Load {
+        limit: u32,
+        workers: u32,
+    },
     /// The configuration in the file of this path is checked.
-    Check { path: &'a str },
+    Check {
+        path: &'a str,
+    },
+    /// Clients are served by the configuration in the file of this path. There are 1 to 64 workers;
+    /// each ends once it has served `per_worker` connections, 1 to 1,000,000,000. A client may take
+    /// 1 to 3,600,000 milliseconds for its request, and again for its answer.
+    Serve {
+        path: &'a str,
+        workers: u32,
+        per_worker: u32,
+        client_timeout_ms: u32,
+    },
 }
 
 /// A command over a text.
@@ -31,79 +46,6 @@ pub enum TextTask {
     /// A trace is carried out in virtual time. `limit` is the fixed limit where it has no `limit`
     /// line: 1 to 10,000 permits.
     Simulate { limit: u32 },
-}
-
-/// `--limit N`.
-fn limit_option<'a>(alloc: Global) -> Arg<'a>
-    ensures rule { rule_of result ≡ limit_rule }
-    ensures local { result.global ≡ false }
-{
-    Arg::new(alloc, "limit")
-        .long("limit")
-        .value_name("N")
-        .help("The limit of a text without a limit line, 1 to 10000 permits")
-        .value_parser(value_parser!(u32).range(1..=10_000))
-        .default_value("20")
-}
-
-/// `replay [--limit N]`.
-fn replay_command<'a>(alloc: Global) -> Result<Command<'a>, AllocError>
-    ensures { IfOk result (IsLeaf replay_app) }
-{
-    Command::new(alloc, "replay")
-        .about(REPLAY_ABOUT)
-        .after_help(REPLAY_HELP)
-        .arg(limit_option(alloc))
-}
-
-/// `simulate [--limit N]`.
-fn simulate_command<'a>(alloc: Global) -> Result<Command<'a>, AllocError>
-    ensures { IfOk result (IsLeaf simulate_app) }
-{
-    Command::new(alloc, "simulate")
-        .about(SIMULATE_ABOUT)
-        .after_help(SIMULATE_HELP)
-        .arg(limit_option(alloc))
-}
-
-/// `CONFIG`.
-fn config_argument<'a>(alloc: Global) -> Arg<'a>
-    ensures rule { rule_of result ≡ config_rule }
-    ensures local { result.global ≡ false }
-{
-    Arg::new(alloc, "config")
-        .value_name("CONFIG")
-        .help("The file of the configuration; /dev/stdin reads standard input")
-        .required(true)
-}
-
-/// `check CONFIG`.
-fn check_command<'a>(alloc: Global) -> Result<Command<'a>, AllocError>
-    ensures { IfOk result (IsLeaf check_app) }
-{
-    Command::new(alloc, "check")
-        .about(CHECK_ABOUT)
-        .after_help(CHECK_HELP)
-        .arg(config_argument(alloc))
-}
-
-/// The command, with its subcommands over texts.
-fn text_command<'a>(alloc: Global) -> Result<Command<'a>, AllocError>
-    ensures { IfOk result (λ whole. app_of whole ≡ text_app) }
-{
-    Command::new(alloc, "admission")
-        .about(ABOUT)
-        .version("0.1.0")
-        .subcommand_required(true)
-        .subcommand(replay_command(alloc)?)?
-        .subcommand(simulate_command(alloc)?)
-}
-
-/// The whole command.
-fn command<'a>(alloc: Global) -> Result<Command<'a>, AllocError>
-    ensures { IfOk result (λ whole. app_of whole ≡ admission_app) }
-{
-    text_command(alloc)?.subcommand(check_command(alloc)?)
 }
 
 /// The number of an option, where it lies in its range.
@@ -119,32 +61,81 @@ fn number(matches: &ArgMatches<'_>, id: &str, low: u32, high: u32) -> Option<u32
     }
 }
 
-/// The number of `--limit`, where it lies in its range.
-fn limit_in(matches: &ArgMatches<'_>) -> Option<u32>
-    ensures value { IfSome result
-        (HasNumber (rows_of (found_of matches.now)) (codes "limit") 1 greatest_limit) }
-    ensures none { IsNone result → (n : ℕ)
-        → HasNumber (rows_of (found_of matches.now)) (codes "limit") 1 greatest_limit n → ⊥ }
+/// The run of `replay`.
+fn replay_run<'a>(matches: &ArgMatches<'a>) -> Option<Run<'a>>
+    ensures run { IfSome result (IsCommandOf (codes "replay") (rows_of (found_of matches.now))) }
+    ensures none { IsNone result → (run : RunValue)
+        → IsCommandOf (codes "replay") (rows_of (found_of matches.now)) run → ⊥ }
 {
-    number(matches, "limit", 1, 10_000)
+    let limit = number(matches, "limit", 1, 10_000)?;
+    Some(Run::Text(TextTask::Replay { limit }))
+}
+
+/// The run of `simulate`.
+fn simulate_run<'a>(matches: &ArgMatches<'a>) -> Option<Run<'a>>
+    ensures run { IfSome result (IsCommandOf (codes "simulate") (rows_of (found_of matches.now))) }
+    ensures none { IsNone result → (run : RunValue)
+        → IsCommandOf (codes "simulate") (rows_of (found_of matches.now)) run → ⊥ }
+{
+    let limit = number(matches, "limit", 1, 10_000)?;
+    Some(Run::Text(TextTask::Simulate { limit }))
+}
+
+/// The run of `load`.
+fn load_run<'a>(matches: &ArgMatches<'a>) -> Option<Run<'a>>
+    ensures run { IfSome result (IsCommandOf (codes "load") (rows_of (found_of matches.now))) }
+    ensures none { IsNone result → (run : RunValue)
+        → IsCommandOf (codes "load") (rows_of (found_of matches.now)) run → ⊥ }
+{
+    let limit = number(matches, "limit", 1, 10_000)?;
+    let workers = number(matches, "workers", 1, 64)?;
+    Some(Run::Load { limit, workers })
+}
+
+/// The run of `check`.
+fn check_run<'a>(matches: &ArgMatches<'a>) -> Option<Run<'a>>
+    ensures run { IfSome result (IsCommandOf (codes "check") (rows_of (found_of matches.now))) }
+    ensures none { IsNone result → (run : RunValue)
+        → IsCommandOf (codes "check") (rows_of (found_of matches.now)) run → ⊥ }
+{
+    let path = matches.get_str("config")?;
+    Some(Run::Check { path })
+}
+
+/// The run of `serve`.
+fn serve_run<'a>(matches: &ArgMatches<'a>) -> Option<Run<'a>>
+    ensures run { IfSome result (IsCommandOf (codes "serve") (rows_of (found_of matches.now))) }
+    ensures none { IsNone result → (run : RunValue)
+        → IsCommandOf (codes "serve") (rows_of (found_of matches.now)) run → ⊥ }
+{
+    let path = matches.get_str("config")?;
+    let workers = number(matches, "workers", 1, 64)?;
+    let per_worker = number(matches, "per-worker", 1, 1_000_000_000)?;
+    let client_timeout_ms = number(matches, "client-timeout-ms", 1, 3_600_000)?;
+    Some(Run::Serve {
+        path,
+        workers,
+        per_worker,
+        client_timeout_ms,
+    })
 }
 
 /// The run of a subcommand.
 fn run_of<'a>(name: &str, matches: &ArgMatches<'a>) -> Option<Run<'a>>
-    ensures run { IfSome result (IsRunOf (Some (name.now, rows_of (found_of matches.now)))) }
+    ensures run { IfSome result (IsCommandOf name.now (rows_of (found_of matches.now))) }
     ensures none { IsNone result → (run : RunValue)
-        → IsRunOf (Some (name.now, rows_of (found_of matches.now))) run → ⊥ }
-    ensures limit { IfSome result HasLimit }
+        → IsCommandOf name.now (rows_of (found_of matches.now)) run → ⊥ }
 {
     if name == "replay" {
-        let limit = limit_in(matches)?;
-        Some(Run::Text(TextTask::Replay { limit }))
+        replay_run(matches)
     } else if name == "simulate" {
-        let limit = limit_in(matches)?;
-        Some(Run::Text(TextTask::Simulate { limit }))
+        simulate_run(matches)
+    } else if name == "load" {
+        load_run(matches)
     } else if name == "check" {
-        let path = matches.get_str("config")?;
-        Some(Run::Check { path })
+        check_run(matches)
+    } else if name == "serve" {
+        serve_run(matches)
     } else {
         None
     }
@@ -155,7 +146,6 @@ fn named_run<'a>(matches: &ArgMatches<'a>) -> Option<Run<'a>>
     ensures run { IfSome result (IsRunOf (subcommand_rows_of matches.now)) }
     ensures none { IsNone result → (run : RunValue)
         → IsRunOf (subcommand_rows_of matches.now) run → ⊥ }
-    ensures limit { IfSome result HasLimit }
 {
     let (name, found) = matches.subcommand()?;
     run_of(name, found)
@@ -168,7 +158,7 @@ fn named_run<'a>(matches: &ArgMatches<'a>) -> Option<Run<'a>>
 pub fn words<'a>(alloc: Global, list: &'a [String]) -> Result<Run<'a>, Error>
     ensures run { IfOk result (IsRunOf (subcommand_of admission_app (map string_bytes list.now))) }
     ensures faultless { OnOk result (fault_of admission_app (map string_bytes list.now) ≡ []) }
-    ensures limit { IfOk result HasLimit }
+    ensures ranges { IfOk result KeepsRanges }
 
     // An error is of a kind that the words are at fault by, or says that memory is wanting, unless
     // they name no run.

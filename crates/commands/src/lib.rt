@@ -7,10 +7,12 @@
 
 mod command_line;
 mod help;
+mod interface;
 mod scripts;
 
 pub use command_line::{Run, TextTask, words};
 pub use help::{
-    EXAMPLE_ANSWERS, EXAMPLE_COURSE, EXAMPLE_SCRIPT, EXAMPLE_TRACE, FULLEST_CONFIG, SMALLEST_CONFIG,
+    EXAMPLE_ANSWERS, EXAMPLE_COURSE, EXAMPLE_LOAD, EXAMPLE_SCRIPT, EXAMPLE_SUMMARY, EXAMPLE_TRACE,
+    FULLEST_CONFIG, SERVED_CONFIG, SMALLEST_CONFIG,
 };
 pub use scripts::run_text;

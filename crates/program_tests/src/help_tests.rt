@@ -2,8 +2,8 @@
 use super::check_tests::checked;
 use super::run_tests::{replayed, simulated};
 use commands::{
-    EXAMPLE_ANSWERS, EXAMPLE_COURSE, EXAMPLE_SCRIPT, EXAMPLE_TRACE, FULLEST_CONFIG,
-    SMALLEST_CONFIG, words,
+    EXAMPLE_ANSWERS, EXAMPLE_COURSE, EXAMPLE_LOAD, EXAMPLE_SCRIPT, EXAMPLE_SUMMARY, EXAMPLE_TRACE,
+    FULLEST_CONFIG, SERVED_CONFIG, SMALLEST_CONFIG, words,
 };
 use std::alloc::{AllocError, Global};
 use std::test::Fail;
@@ -53,6 +53,39 @@ fn the_trace_of_the_help_takes_the_course_that_it_shows(rt: HostRuntime) -> Resu
 }
 
 #[test]
+fn the_trace_of_the_help_of_load_is_one(rt: HostRuntime) -> Result<(), Fail> {
+    let help = text_of(&rt, &["admission", "load", "--help"])?;
+    assert!(rt; help.as_str().contains(EXAMPLE_LOAD));
+    assert!(rt; help.as_str().contains(EXAMPLE_SUMMARY));
+    let left = simulated(&rt, rt.alloc(), 20, EXAMPLE_LOAD.as_bytes());
+    left.check(
+        &rt,
+        0,
+        b"0 admitted unknown inflight 1
+1 admitted unknown inflight 2
+2 admitted unknown inflight 3
+3 admitted unknown inflight 4
+4 ended promoted 0
+5 ended promoted 0
+6 ended promoted 0
+7 ended promoted 0
+",
+        b"",
+    );
+    Ok(())
+}
+
+#[test]
+fn the_configuration_of_the_help_of_serve_is_accepted(rt: HostRuntime) -> Result<(), Fail> {
+    let help = text_of(&rt, &["admission", "serve", "--help"])?;
+    assert!(rt; help.as_str().contains(SERVED_CONFIG));
+    let left = checked(rt.alloc(), SERVED_CONFIG.as_bytes());
+    let line = b"ok fixed 40 classes 0 resolvers 0 bypass 0 backlog 20\n";
+    left.check(&rt, 0, line, b"");
+    Ok(())
+}
+
+#[test]
 fn the_configurations_of_the_help_are_accepted(rt: HostRuntime) -> Result<(), Fail> {
     let help = text_of(&rt, &["admission", "check", "--help"])?;
     let rows: [(&str, &[u8]); 2] = [
@@ -75,7 +108,7 @@ fn the_configurations_of_the_help_are_accepted(rt: HostRuntime) -> Result<(), Fa
 
 #[test]
 fn no_line_of_help_is_wider_than_a_hundred_columns(rt: HostRuntime) -> Result<(), Fail> {
-    for command in ["replay", "simulate", "check"] {
+    for command in ["replay", "simulate", "load", "check", "serve"] {
         let help = text_of(&rt, &["admission", command, "--help"])?;
         for line in help.as_str().lines() {
             assert!(rt; line.len() <= 100);

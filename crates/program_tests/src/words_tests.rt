@@ -28,9 +28,24 @@ fn simulate(limit: u32) -> Result<Run<'static>, i32> {
     Ok(Run::Text(TextTask::Simulate { limit }))
 }
 
+/// The run of a trace by threads.
+fn load(limit: u32, workers: u32) -> Result<Run<'static>, i32> {
+    Ok(Run::Load { limit, workers })
+}
+
+/// The run that serves by `a.toml`.
+fn serve(workers: u32, per_worker: u32, client_timeout_ms: u32) -> Result<Run<'static>, i32> {
+    Ok(Run::Serve {
+        path: "a.toml",
+        workers,
+        per_worker,
+        client_timeout_ms,
+    })
+}
+
 #[test]
-fn words_give_the_run_or_a_status(rt: HostRuntime) -> Result<(), Fail> {
-    let rows: [(&[&str], Result<Run, i32>); 21] = [
+fn the_words_of_replay_have_their_ranges(rt: HostRuntime) -> Result<(), Fail> {
+    let rows: [(&[&str], Result<Run, i32>); 9] = [
         (&["replay"], replay(20)),
         (&["replay", "--limit", "1"], replay(1)),
         (&["replay", "--limit=10000"], replay(10_000)),
@@ -38,23 +53,126 @@ fn words_give_the_run_or_a_status(rt: HostRuntime) -> Result<(), Fail> {
         (&["replay", "--limit", "10001"], Err(2)),
         (&["replay", "--limit"], Err(2)),
         (&["replay", "more"], Err(2)),
+        (&["replay", "--help"], Err(0)),
+        (&["replay", "--version"], Err(2)),
+    ];
+    for (list, wanted) in rows {
+        assert!(rt; is_read(&rt, list, wanted)?);
+    }
+    Ok(())
+}
+
+#[test]
+fn the_words_of_simulate_have_their_ranges(rt: HostRuntime) -> Result<(), Fail> {
+    let rows: [(&[&str], Result<Run, i32>); 4] = [
         (&["simulate"], simulate(20)),
         (&["simulate", "--limit", "7"], simulate(7)),
         (&["simulate", "--limit", "0"], Err(2)),
         (&["simulate", "trace"], Err(2)),
+    ];
+    for (list, wanted) in rows {
+        assert!(rt; is_read(&rt, list, wanted)?);
+    }
+    Ok(())
+}
+
+#[test]
+fn the_words_of_check_name_one_file(rt: HostRuntime) -> Result<(), Fail> {
+    let rows: [(&[&str], Result<Run, i32>); 5] = [
         (&["check", "a.toml"], Ok(Run::Check { path: "a.toml" })),
         (&["check"], Err(2)),
         (&["check", "a.toml", "b.toml"], Err(2)),
         (&["check", "a.toml", "--limit", "1"], Err(2)),
         (&["check", "--help"], Err(0)),
-        (&["forward"], Err(2)),
-        (&[], Err(2)),
-        (&["replay", "--help"], Err(0)),
-        (&["--version"], Err(0)),
-        (&["replay", "--version"], Err(2)),
     ];
     for (list, wanted) in rows {
         assert!(rt; is_read(&rt, list, wanted)?);
+    }
+    Ok(())
+}
+
+#[test]
+fn words_that_name_no_command_are_a_fault(rt: HostRuntime) -> Result<(), Fail> {
+    let rows: [(&[&str], Result<Run, i32>); 3] = [
+        (&["forward"], Err(2)),
+        (&[], Err(2)),
+        (&["--version"], Err(0)),
+    ];
+    for (list, wanted) in rows {
+        assert!(rt; is_read(&rt, list, wanted)?);
+    }
+    Ok(())
+}
+
+#[test]
+fn the_words_of_load_have_their_ranges(rt: HostRuntime) -> Result<(), Fail> {
+    let rows: [(&[&str], Result<Run, i32>); 9] = [
+        (&["load"], load(20, 4)),
+        (&["load", "--limit", "7"], load(7, 4)),
+        (
+            &["load", "--workers", "1", "--limit", "10000"],
+            load(10_000, 1),
+        ),
+        (&["load", "--workers=64"], load(20, 64)),
+        (&["load", "--workers", "0"], Err(2)),
+        (&["load", "--workers", "65"], Err(2)),
+        (&["load", "--limit", "0"], Err(2)),
+        (&["load", "trace"], Err(2)),
+        (&["load", "--help"], Err(0)),
+    ];
+    for (list, wanted) in rows {
+        assert!(rt; is_read(&rt, list, wanted)?);
+    }
+    Ok(())
+}
+
+#[test]
+fn the_words_of_serve_have_their_ranges(rt: HostRuntime) -> Result<(), Fail> {
+    let rows: [(&[&str], Result<Run, i32>); 10] = [
+        (&["serve", "a.toml"], serve(4, 1_000_000_000, 10_000)),
+        (
+            &["serve", "--workers", "64", "a.toml"],
+            serve(64, 1_000_000_000, 10_000),
+        ),
+        (
+            &["serve", "a.toml", "--workers", "1", "--per-worker", "2"],
+            serve(1, 2, 10_000),
+        ),
+        (
+            &["serve", "a.toml", "--per-worker=1000000000"],
+            serve(4, 1_000_000_000, 10_000),
+        ),
+        (
+            &["serve", "a.toml", "--client-timeout-ms", "1"],
+            serve(4, 1_000_000_000, 1),
+        ),
+        (
+            &["serve", "a.toml", "--client-timeout-ms", "3600000"],
+            serve(4, 1_000_000_000, 3_600_000),
+        ),
+        (&["serve"], Err(2)),
+        (&["serve", "a.toml", "b.toml"], Err(2)),
+        (&["serve", "a.toml", "--limit", "1"], Err(2)),
+        (&["serve", "--help"], Err(0)),
+    ];
+    for (list, wanted) in rows {
+        assert!(rt; is_read(&rt, list, wanted)?);
+    }
+    Ok(())
+}
+
+#[test]
+fn numbers_out_of_the_ranges_of_serve_are_faults(rt: HostRuntime) -> Result<(), Fail> {
+    let rows: [(&str, &str); 6] = [
+        ("--workers", "0"),
+        ("--workers", "65"),
+        ("--per-worker", "0"),
+        ("--per-worker", "1000000001"),
+        ("--client-timeout-ms", "0"),
+        ("--client-timeout-ms", "3600001"),
+    ];
+    for (option, number) in rows {
+        assert!(rt; is_read(&rt, &["serve", "a.toml", option, number], Err(2))?);
     }
     Ok(())
 }

@@ -7,8 +7,5 @@ returns-clause-run c = search rules
 pub returns-clause-none : goal.returns-clause-none
 returns-clause-none c = search rules
 
-pub returns-clause-limit : goal.returns-clause-limit
-returns-clause-limit c = search rules
-
 pub returns-in_err-name-clause-none : goal.returns-in_err-name-clause-none
 returns-in_err-name-clause-none c = search rules

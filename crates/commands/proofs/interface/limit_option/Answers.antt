@@ -1,5 +1,5 @@
 use Rattle.std.proofs.Common.{rules}
-use Rattle.commands.proofs.command_line.limit_option.Goals as goal
+use Rattle.commands.proofs.interface.limit_option.Goals as goal
 
 pub returns-clause-rule : goal.returns-clause-rule
 returns-clause-rule c = search rules

@@ -1,0 +1,79 @@
+-- Subcommands that name no run, and what every run keeps to.
+use Rattle.std.proofs.Common.{rules, ◌≡◌, ◌≢◌, ◌∙◌, sym, codes, ℕ, List, Option, Some, None}
+use Rattle.clap.specs.Words.{Row, Text, first_of}
+use Rattle.commands.specs.CommandLine.{HasNumber, IsCommandOf, IsRunOf, KeepsRanges}
+use Rattle.commands.specs.declared.command_line.Run.{Run}
+use Rattle.commands.specs.declared.command_line.Run.TheVariants.{Text as OfText, Load, Check, Serve}
+use Rattle.commands.specs.declared.command_line.TextTask.TheVariants.{Replay, Simulate}
+
+-- a run is named by one subcommand alone
+pub no_run : (name : Text) (rows : List Row) (run : Run) → name ≢ codes "replay"
+    → name ≢ codes "simulate" → name ≢ codes "load" → name ≢ codes "check" → name ≢ codes "serve"
+    → IsCommandOf name rows run → ⊥
+no_run name rows (OfText (Replay limit)) replay simulate load check serve is = replay is.0
+no_run name rows (OfText (Simulate limit)) replay simulate load check serve is = simulate is.0
+no_run name rows (Load limit workers) replay simulate load check serve is = load is.0
+no_run name rows (Check path) replay simulate load check serve is = check is.0
+no_run name rows (Serve path workers per_worker client_timeout) replay simulate load check serve is =
+    serve is.0
+
+-- a path that isn't there
+pub no_path : {o : Option (List ℕ)} {path : List ℕ} → o ≡ None → o ≡ Some path → ⊥
+no_path none some = let same = sym none ∙ some in search rules
+
+-- what every run of the words keeps to
+pub ranges_kept : (named : Option (Text × List Row)) (run : Run) → IsRunOf named run
+    → KeepsRanges run
+ranges_kept None run is = absurd is
+ranges_kept (Some named) (OfText (Replay limit)) is = (is.1.4, is.1.5)
+ranges_kept (Some named) (OfText (Simulate limit)) is = (is.1.4, is.1.5)
+ranges_kept (Some named) (Load limit workers) is = (is.1.4, is.1.5, is.2.4, is.2.5)
+ranges_kept (Some named) (Check path) is = tt
+ranges_kept (Some named) (Serve path workers per_worker client_timeout) is =
+    (is.2.4, is.2.5, is.3.4, is.3.5, is.4.4, is.4.5)
+
+pub no_replay : (rows : List Row) (run : Run) → ((n : ℕ) → HasNumber rows (codes "limit") 1 10000 n → ⊥)
+    → IsCommandOf (codes "replay") rows run → ⊥
+no_replay rows (OfText (Replay limit)) none is = none limit is.1
+no_replay rows (OfText (Simulate limit)) none is = let named = is.0 in search rules
+no_replay rows (Load limit workers) none is = let named = is.0 in search rules
+no_replay rows (Check path) none is = let named = is.0 in search rules
+no_replay rows (Serve path workers per_worker client_timeout) none is = let named = is.0 in search rules
+
+pub no_simulate : (rows : List Row) (run : Run) → ((n : ℕ) → HasNumber rows (codes "limit") 1 10000 n → ⊥)
+    → IsCommandOf (codes "simulate") rows run → ⊥
+no_simulate rows (OfText (Replay limit)) none is = let named = is.0 in search rules
+no_simulate rows (OfText (Simulate limit)) none is = none limit is.1
+no_simulate rows (Load limit workers) none is = let named = is.0 in search rules
+no_simulate rows (Check path) none is = let named = is.0 in search rules
+no_simulate rows (Serve path workers per_worker client_timeout) none is = let named = is.0 in search rules
+
+pub no_load : (rows : List Row) (run : Run) → ((limit workers : ℕ) → HasNumber rows (codes "limit") 1 10000 limit
+    → HasNumber rows (codes "workers") 1 64 workers → ⊥)
+    → IsCommandOf (codes "load") rows run → ⊥
+no_load rows (OfText (Replay limit)) none is = let named = is.0 in search rules
+no_load rows (OfText (Simulate limit)) none is = let named = is.0 in search rules
+no_load rows (Load limit workers) none is = none limit workers is.1 is.2
+no_load rows (Check path) none is = let named = is.0 in search rules
+no_load rows (Serve path workers per_worker client_timeout) none is = let named = is.0 in search rules
+
+pub no_check : (rows : List Row) (run : Run) → first_of (codes "config") rows ≡ None
+    → IsCommandOf (codes "check") rows run → ⊥
+no_check rows (OfText (Replay limit)) none is = let named = is.0 in search rules
+no_check rows (OfText (Simulate limit)) none is = let named = is.0 in search rules
+no_check rows (Load limit workers) none is = let named = is.0 in search rules
+no_check rows (Check path) none is = no_path none is.1
+no_check rows (Serve path workers per_worker client_timeout) none is = let named = is.0 in search rules
+
+pub no_serve : (rows : List Row) (run : Run)
+    → ((path : List ℕ) (workers per_worker client_timeout : ℕ)
+    → first_of (codes "config") rows ≡ Some path → HasNumber rows (codes "workers") 1 64 workers
+    → HasNumber rows (codes "per-worker") 1 1000000000 per_worker
+    → HasNumber rows (codes "client-timeout-ms") 1 3600000 client_timeout → ⊥)
+    → IsCommandOf (codes "serve") rows run → ⊥
+no_serve rows (OfText (Replay limit)) none is = let named = is.0 in search rules
+no_serve rows (OfText (Simulate limit)) none is = let named = is.0 in search rules
+no_serve rows (Load limit workers) none is = let named = is.0 in search rules
+no_serve rows (Check path) none is = let named = is.0 in search rules
+no_serve rows (Serve path workers per_worker client_timeout) none is =
+    none path.now workers per_worker client_timeout is.1 is.2 is.3 is.4

@@ -1,0 +1,99 @@
+// The help of `replay`.
+
+/// The script that the help of `replay` shows, as it stands there.
+pub const EXAMPLE_SCRIPT: &str = "  limit fixed 1
+  class a 100
+  acquire a 0
+  acquire a 1 wait
+  end 0 success 5
+  claim 1
+";
+
+/// The lines that answer it, as they stand there.
+pub const EXAMPLE_ANSWERS: &str = "  0 admitted a inflight 1
+  1 waiting
+  2 ended promoted 1
+  3 promoted 1 inflight 1
+  4 granted inflight 1
+";
+
+pub(crate) const REPLAY_ABOUT: &str = "Answers a script of acquires and endings, line by line";
+
+pub(crate) const REPLAY_HELP: &str = "\
+Reads a script from standard input and writes one line for each decision. The script is read whole,
+at most 16 MiB, before the first answer: lines that are typed are answered once the input is ended.
+Numbers are decimal without sign or unit, and times are nanoseconds (one hour: 3600000000000).
+
+Settings, before any other line, with 1 <= LO <= N <= HI <= 10000 permits. Without a limit line the
+limit is fixed at the N of --limit.
+
+  limit fixed N                a limit that never changes
+  limit settable LO N HI       a limit that `set` changes, from LO to HI
+  limit aimd LO N HI RATIO TIMEOUT
+                               one more for a good sample, RATIO thousandths (500 to 999) of it
+                               after a drop or a round trip above TIMEOUT (1 ns to one hour)
+  limit vegas LO N HI ALPHA BETA PROBE
+                               rises while the queue is below ALPHA permits (1 to 100), falls above
+                               BETA (ALPHA to 100), and measures the least round trip anew after
+                               PROBE samples (0 to 1000000; 0: never)
+  window SIZE MIN MAX MINRTT   the limit learns from windows of at least SIZE samples (1 to 1000000)
+                               that last MIN to MAX (1 ns to one hour, MIN at most MAX); round trips
+                               below MINRTT (0 to one hour) are left out. Without this line it
+                               learns from each sample
+  class NAME PERCENT           a class and its share of the limit: 1 to 32 of a-z 0-9 - _ and not
+                               unknown, at most four; 1 to 100 percent, together at most 100
+  backlog N                    how many may wait, 0 to 10000; 100 without this line
+  keep K                       how many entries of the history are kept, 1 to 1000000; 100000
+                               without this line
+  keep K rolling               the same of a history that rolls: it forgets entries to go on
+  timeout T                    read, and of no use here: it is a setting of `simulate`
+
+Then, with every NOW in nanoseconds:
+
+  acquire CLASS NOW        asks for a permit; CLASS is a name above, or unknown
+  acquire CLASS NOW wait   the same, and waits where there is none
+  bypass NOW               lets a call through, neither limited nor counted
+  end N OUTCOME NOW        ends the permit of acquire number N: success, ignored or dropped;
+                           the newest waiter gets a permit where it then has room
+  claim N                  asks for the permit of acquire number N, which waits or was promoted
+  giveup N                 ends the wait of acquire number N, or takes its permit if it got one
+  set N NOW                sets a settable limit
+  reset NOW                puts the algorithm into its first state
+  look CLASS               shows the limit, what is in flight, who waits, and the share of the class
+  # ..                     a comment; empty lines are skipped too
+
+For example, `admission replay < script` answers the script
+
+  limit fixed 1
+  class a 100
+  acquire a 0
+  acquire a 1 wait
+  end 0 success 5
+  claim 1
+
+by the lines
+
+  0 admitted a inflight 1
+  1 waiting
+  2 ended promoted 1
+  3 promoted 1 inflight 1
+  4 granted inflight 1
+
+An ending of no open permit is answered `- not open`, and each event `- exhausted` once so many
+entries are kept (what waits may still be given up, and what is open ended), unless the history
+rolls.
+
+Ends with status 0 once all is written, with 2 where a word of the command line is at fault, and
+else with 1 and one line on standard error, which comes after the answers to the lines before it:
+
+  admission: line L: words   no line is written so: a word too many, too few or misspelt, a number
+                             with a sign, a point or a unit
+  admission: line L: late    a setting behind another line
+  admission: line L: twice   a second limit, window, backlog, keep or timeout
+  admission: line L: value   a number out of its range, N outside LO to HI, MIN above MAX, a class
+                             given twice, a fifth class, or shares above 100 percent together
+  admission: line L: class   no class line has this name
+  admission: read            standard input can't be read, such as a folder, or doesn't end
+  admission: too large       the script has more than 16 MiB
+  admission: memory          memory is wanting: lower the memory that other programs take
+  admission: write           standard output can't be written: a full disk, a closed pipe";

@@ -1,0 +1,87 @@
+// The help of `simulate`.
+
+/// The trace that the help of `simulate` shows, as it stands there.
+pub const EXAMPLE_TRACE: &str = "  limit fixed 1
+  class a 100
+  timeout 50
+  arrive a 0 100 success wait
+  arrive a 10 100 success wait
+  arrive a 60 5 success wait
+";
+
+/// What becomes of it, as it stands there.
+pub const EXAMPLE_COURSE: &str = "  0 admitted a inflight 1
+  1 waiting
+  2 timed out
+  3 waiting
+  4 ended promoted 1
+  5 promoted 3 inflight 1
+  6 granted inflight 1
+  7 ended promoted 0
+";
+
+pub(crate) const SIMULATE_ABOUT: &str =
+    "Carries a trace of arrivals out in virtual time, to try settings before they are used";
+
+pub(crate) const SIMULATE_HELP: &str = "\
+Reads a trace from standard input and writes one line for each decision. No clock is read and nobody
+waits: each arrival comes at its moment, holds its permit for as long as the trace says, and gives
+up once it has waited for the timeout. The trace is read whole, at most 16 MiB, before the first
+answer. Numbers are decimal without sign or unit, and times are nanoseconds (one hour:
+3600000000000).
+
+The settings are those of `admission replay --help`, before any other line, and
+
+  timeout T                    how long an arrival waits, 1 ns to one hour; 1000000000, one second,
+                               without this line
+
+Then the arrivals, in any order of their moments:
+
+  arrive CLASS AT DURATION OUTCOME
+                           a call of a class comes at AT; where it gets a permit, it ends DURATION
+                           later (0 to one hour) with the outcome success, ignored or dropped
+  arrive CLASS AT DURATION OUTCOME wait
+                           the same, and waits where there is no permit
+  bypass AT                a call that is neither limited nor counted
+  # ..                     a comment; empty lines are skipped too
+
+What comes first by moment is done first; of one moment, endings come before givings up, these
+before arrivals, and of one kind what stands earlier in the trace. Who was promoted by an ending
+gets its permit right behind it.
+
+For example, `admission simulate < trace` answers the trace
+
+  limit fixed 1
+  class a 100
+  timeout 50
+  arrive a 0 100 success wait
+  arrive a 10 100 success wait
+  arrive a 60 5 success wait
+
+by the lines
+
+  0 admitted a inflight 1
+  1 waiting
+  2 timed out
+  3 waiting
+  4 ended promoted 1
+  5 promoted 3 inflight 1
+  6 granted inflight 1
+  7 ended promoted 0
+
+An arrival is answered `- exhausted` once so many entries are kept, unless the history rolls.
+
+Ends with status 0 once all is written, with 2 where a word of the command line is at fault, and
+else with 1 and one line on standard error, which comes after what became of the lines before it:
+
+  admission: line L: words   no line is written so: a word too many, too few or misspelt, a number
+                             with a sign, a point or a unit, a line of a script
+  admission: line L: late    a setting behind another line
+  admission: line L: twice   a second limit, window, backlog, keep or timeout
+  admission: line L: value   a number out of its range, N outside LO to HI, MIN above MAX, a class
+                             given twice, a fifth class, or shares above 100 percent together
+  admission: line L: class   no class line has this name
+  admission: read            standard input can't be read, such as a folder, or doesn't end
+  admission: too large       the trace has more than 16 MiB
+  admission: memory          memory is wanting: lower the memory that other programs take
+  admission: write           standard output can't be written: a full disk, a closed pipe";
