@@ -1,6 +1,8 @@
 // What one worker does.
-ghost use Rattle.std.specs.Prelude.{◌≡◌, ◌≤◌, ◌+◌};
+ghost use Rattle.std.specs.Prelude.{◌≡◌, ◌≤◌, ◌+◌, if◌then◌else◌};
+ghost use Rattle.counted_io.specs.Count.{raised};
 ghost use Rattle.gate_config.specs.declared.settings.Settings.{Settings as SettingsValue};
+ghost use Rattle.proxy.specs.Settling.{is_through};
 
 use backend::Backend;
 use counted_io::Counted;
@@ -39,6 +41,10 @@ pub trait Configured {
     // The configuration that it has.
     ghost configuration: { Self → SettingsValue };
 
+    /// What has these settings.
+    fn of(settings: Settings) -> Self
+        ensures { configuration result ≡ settings };
+
     /// The configuration.
     fn settings(&self) -> &Settings
         ensures { result.now ≡ configuration self.now };
@@ -46,6 +52,10 @@ pub trait Configured {
 
 impl Configured for Settings {
     ghost configuration = { λ settings. settings };
+
+    fn of(settings: Settings) -> Settings {
+        settings
+    }
 
     fn settings(&self) -> &Settings {
         self
@@ -71,13 +81,15 @@ pub struct Shift<'a, L, C, S> {
 }
 
 /// Accepts as many connections as the shift says, one after the other, and serves each by one
-/// exchange. A connection that can't be had counts as one.
+/// exchange. A connection that can't be had counts as one. None is forwarded twice.
 pub fn work<P: GatePort, B: Backend, C: Clock, L: Listener, S: Configured>(
     shift: &Shift<'_, L, C, S>,
     port: &mut P,
     backend: &mut B,
     buffers: &mut Buffers,
-) {
+)
+    ensures once { B.forwarded backend.new ≤ B.forwarded backend.old + shift.now.per_worker }
+{
     for _ in 0..shift.per_worker {
         if let Some(stream) = shift.listener.accept() {
             serve_client(shift, &stream, port, backend, buffers);
@@ -86,13 +98,17 @@ pub fn work<P: GatePort, B: Backend, C: Clock, L: Listener, S: Configured>(
 }
 
 /// Serves one client over its connection, by readers and writers that last as long as it may take.
+/// It is forwarded once where its request was let through, and else not at all.
 pub fn serve_client<T: Connection, P: GatePort, B: Backend, C: Clock, L, S: Configured>(
     shift: &Shift<'_, L, C, S>,
     stream: &T,
     port: &mut P,
     backend: &mut B,
     buffers: &mut Buffers,
-) -> Exchange {
+) -> Exchange
+    ensures forwarded { B.forwarded backend.new ≡ (if is_through result.admission
+        then raised (B.forwarded backend.old) else B.forwarded backend.old) }
+{
     let (clock, time) = (shift.clock, shift.client_time);
     let from = TimedReader::new(Lent::new(stream), clock, time);
     let to = TimedWriter::new(Lent::new(stream), clock, time);
