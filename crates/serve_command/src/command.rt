@@ -1,0 +1,152 @@
+// The gateway of a configuration, from its file to its counters.
+ghost use Rattle.std.specs.Prelude.{◌≡◌, ◌≤◌, ◌⊎◌, IfErr, OnOk};
+ghost use Rattle.gate_config.specs.Settings.{AreSound};
+ghost use Rattle.fault_lines.specs.FaultLine.{IsTold, fault_line};
+ghost use Rattle.serve_command.specs.Command.{HasServed, IsOfServing, IsWhyOfService};
+ghost use Rattle.serve_command.specs.ServiceFault.{service_fault_text};
+
+use crate::fault::{ServiceFault, tell_service_fault};
+use crate::logging::log_listening;
+use config_check::read_file_settings;
+use counted_io::Counted;
+use counters_line::write_counters;
+use fault_lines::{DONE, FAULT};
+use limiter_core::Counters;
+use listening::Front;
+use log::Log;
+use serving::{Configured, Shift, serve};
+use shared_gate::ProgramClock;
+use std::alloc::Global;
+use std::fs::Files;
+use std::io::Write;
+use std::net::{Net, SocketAddr};
+use std::sync::Wait;
+use std::thread::Threads;
+use std::time::Clock as SystemClock;
+
+/// The nanoseconds of a millisecond.
+const MILLI: u64 = 1_000_000;
+
+/// What a gateway is asked to do.
+#[derive(Clone, Copy, Debug, PartialEq, Eq)]
+pub struct Service<'a> {
+    /// The path of its configuration.
+    pub path: &'a str,
+    /// How many workers serve clients, each on a thread of its own: 1 to 64.
+    pub workers: u32,
+    /// How many connections each worker accepts before it ends; without a number it serves for
+    /// good.
+    pub per_worker: Option<u64>,
+    /// How long a client may take to send its request, and again to take its answer, in
+    /// milliseconds.
+    pub client_timeout_ms: u32,
+}
+
+/// Serves clients by the configuration in a file, and at the end of all workers writes the line of
+/// the gate's counters to `writer`; or the line of the first fault to `errors`. Answers the exit
+/// status.
+///
+/// Once the address is bound the log says so. What workers share of the configuration is an `S`, as
+/// `gate_config::Settings` are one: a caller names it, since that threads may share a value is known
+/// of a type parameter, and of a type where there is none. Either line is flushed. Where the line of a fault
+/// can't be written itself, it is dropped.
+pub fn serve_file<S, R, W, E>(
+    rt: &R,
+    alloc: Global,
+    service: &Service<'_>,
+    writer: &mut Counted<W>,
+    errors: &mut Counted<E>,
+) -> u8
+where
+    S: Configured + Sync + Drop,
+    R: Files + Net + Threads + Wait + SystemClock + Log + Sync,
+    W: Write,
+    E: Write,
+    R::Stream: Send + Sync,
+    R::Listener: Send + Sync,
+    requires some { 1 ≤ service.now.workers }
+    requires few { service.now.workers ≤ 64 }
+    ensures status { (result ≡ 0) ⊎ (result ≡ 1) }
+
+    // The line of counters is written, and nothing else.
+    ensures served { result ≡ 0 → HasServed R.File.remaining W.contents writer.old writer.new }
+    ensures quiet { result ≡ 0 → errors.new ≡ errors.old }
+
+    // The first fault is told.
+    ensures refused { result ≡ 1 → (fault : ServiceFault)
+        × IsTold E.contents errors.old errors.new (fault_line (service_fault_text fault))
+        × IsWhyOfService R.File.remaining writer.old writer.new fault }
+{
+    match serve_and_count::<S, R, W>(rt, alloc, service, writer) {
+        Ok(()) => DONE,
+        Err(fault) => report(errors, fault),
+    }
+}
+
+/// Serves, and writes the counters.
+fn serve_and_count<S, R, W>(
+    rt: &R,
+    alloc: Global,
+    service: &Service<'_>,
+    writer: &mut Counted<W>,
+) -> Result<(), ServiceFault>
+where
+    S: Configured + Sync + Drop,
+    R: Files + Net + Threads + Wait + SystemClock + Log + Sync,
+    W: Write,
+    R::Stream: Send + Sync,
+    R::Listener: Send + Sync,
+    requires some { 1 ≤ service.now.workers }
+    requires few { service.now.workers ≤ 64 }
+    ensures served { OnOk result (HasServed R.File.remaining W.contents writer.old writer.new) }
+    ensures refused { IfErr result (IsWhyOfService R.File.remaining writer.old writer.new) }
+{
+    let settings = read_file_settings(rt, alloc, service.path)?;
+    let counters = serve_settings(rt, alloc, &S::of(settings), service)?;
+    write_counters(writer, &counters)?;
+    Ok(())
+}
+
+/// Serves by these settings.
+fn serve_settings<S, R>(
+    rt: &R,
+    alloc: Global,
+    configured: &S,
+    service: &Service<'_>,
+) -> Result<Counters, ServiceFault>
+where
+    S: Configured + Sync + Drop,
+    R: Net + Threads + Wait + SystemClock + Log + Sync,
+    R::Stream: Send + Sync,
+    R::Listener: Send + Sync,
+    requires sound { AreSound (S.configuration configured.now) }
+    requires some { 1 ≤ service.now.workers }
+    requires few { service.now.workers ≤ 64 }
+    ensures { IfErr result IsOfServing }
+{
+    let settings = configured.settings();
+    let Ok(front) = Front::bind(rt, SocketAddr::V4(settings.listen.socket())) else {
+        return Err(ServiceFault::Listen);
+    };
+    log_listening(rt, settings, service.workers);
+    let clock = ProgramClock::start(rt);
+    let shift = Shift {
+        listener: &front,
+        settings: configured,
+        clock: &clock,
+        per_worker: service.per_worker.unwrap_or(u64::MAX),
+        client_time: u64::from(service.client_timeout_ms) * MILLI,
+        alloc,
+    };
+    Ok(serve(rt, &shift, service.workers as usize)?)
+}
+
+/// Tells a fault, and answers the status after it.
+fn report<E: Write>(errors: &mut Counted<E>, fault: ServiceFault) -> u8
+    ensures status { result ≡ 1 }
+    ensures told { IsTold E.contents errors.old errors.new
+        (fault_line (service_fault_text fault)) }
+{
+    tell_service_fault(errors, &fault);
+    FAULT
+}

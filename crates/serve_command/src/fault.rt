@@ -1,0 +1,74 @@
+// Why a gateway ended, or didn't begin, and the line that says so.
+ghost use Rattle.fault_lines.specs.FaultLine.{IsTold, fault_line};
+ghost use Rattle.serve_command.specs.ServiceFault.{service_fault_text};
+
+use config_check::{CheckFault, tell_check_fault};
+use counted_io::{Counted, WriteFault};
+use fault_lines::tell_fault;
+use serving::ServeFault;
+use std::io::Write;
+
+/// Why a gateway ended with a fault.
+#[derive(Debug, Drop)]
+pub enum ServiceFault {
+    /// The configuration can't be read, or isn't one.
+    Config(CheckFault),
+    /// The address can't be bound.
+    Listen,
+    /// A growth was refused before a worker was started.
+    Memory,
+    /// A thread couldn't be started; the workers that were have ended.
+    Thread,
+    /// The counters can't be written.
+    Write,
+}
+
+impl From<CheckFault> for ServiceFault {
+    ghost use Rattle.std.specs.Prelude.{◌≡◌};
+    ghost use Rattle.serve_command.specs.declared.fault.ServiceFault.TheVariants.{Config};
+
+    ghost from_gives = { λ fault given. given ≡ Config fault };
+
+    fn from(fault: CheckFault) -> ServiceFault {
+        ServiceFault::Config(fault)
+    }
+}
+
+impl From<ServeFault> for ServiceFault {
+    ghost use Rattle.std.specs.Prelude.{◌≡◌};
+    ghost use Rattle.serve_command.specs.ServiceFault.{of_workers};
+
+    ghost from_gives = { λ fault given. given ≡ of_workers fault };
+
+    fn from(fault: ServeFault) -> ServiceFault {
+        match fault {
+            ServeFault::Memory => ServiceFault::Memory,
+            ServeFault::Thread => ServiceFault::Thread,
+        }
+    }
+}
+
+impl From<WriteFault> for ServiceFault {
+    ghost use Rattle.std.specs.Prelude.{◌≡◌};
+    ghost use Rattle.serve_command.specs.declared.fault.ServiceFault.TheVariants.{Write};
+
+    ghost from_gives = { λ _ given. given ≡ Write };
+
+    fn from(_: WriteFault) -> ServiceFault {
+        ServiceFault::Write
+    }
+}
+
+/// Tells a fault.
+pub(crate) fn tell_service_fault<E: Write>(errors: &mut Counted<E>, fault: &ServiceFault)
+    ensures { IsTold E.contents errors.old errors.new
+        (fault_line (service_fault_text fault.now)) }
+{
+    match fault {
+        ServiceFault::Config(fault) => tell_check_fault(errors, fault),
+        ServiceFault::Listen => tell_fault(errors, &["listen"]),
+        ServiceFault::Memory => tell_fault(errors, &["memory"]),
+        ServiceFault::Thread => tell_fault(errors, &["thread"]),
+        ServiceFault::Write => tell_fault(errors, &["write"]),
+    }
+}
