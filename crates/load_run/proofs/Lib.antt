@@ -1,0 +1,3 @@
+pub mod Calling
+pub mod Runs
+pub mod Working

@@ -1,0 +1,78 @@
+-- One arrival more of a worker, and one worker more.
+use Rattle.std.proofs.Common.{◌≡◌, ◌≢◌, ℕ, zero, suc, ◌+◌, ◌<◌, ◌%◌, [], ◌∷◌, ◌++◌, List, Some, length, take, get_or, false, refl, sym, ap, ◌∙◌, subst, arith, inl, inr, ◌⊎◌}
+use Rattle.std.specs.Prelude.{slice_get, Vec}
+use Rattle.std.specs.declared.alloc.Global.{Global}
+use Rattle.std.proofs.lemmas.List.{length-take-le, take_more}
+use Rattle.std.proofs.lemmas.Option.{same_Some, none-some}
+use Rattle.partitions.specs.declared.part.Part.TheVariants.{Unknown}
+use Rattle.limiter_core.specs.declared.event.Outcome.TheVariants.{Success}
+use Rattle.gate_history.specs.Told.{Told}
+use Rattle.trace.specs.declared.arrival.Arrival.{Arrival}
+use Rattle.load_run.specs.Worker.{IsWork, Makes}
+use Rattle.load_run.specs.Worker.IsWork.{leaves, takes}
+use Rattle.load_run.specs.Workers.{AreWork}
+
+-- some arrival: what a list is said to have where it has none
+nobody : Arrival
+nobody = record {
+  part = Unknown;
+  bypass = false;
+  wait = false;
+  at = 0;
+  duration = 0;
+  outcome = Success;
+}
+
+module _ (workers worker : ℕ) (arrivals : List Arrival) (place : ℕ)
+    (within : place < length arrivals) where
+  long : length (take place arrivals) ≡ place
+  long = length-take-le place arrivals (omega (arith, within))
+
+  longer : (a d : Arrival) → a ≡ get_or arrivals place d
+      → take place arrivals ++ a ∷ [] ≡ take (place + 1) arrivals
+  longer a d is =
+      ap (λ (x : Arrival). take place arrivals ++ x ∷ []) is
+      ∙ sym (take_more arrivals place d within)
+
+  pub leaves_one : (told : List Told) → IsWork workers worker (take place arrivals) told
+      → place % workers ≢ worker → IsWork workers worker (take (place + 1) arrivals) told
+  leaves_one told work other =
+      subst (λ (xs : List Arrival). IsWork workers worker xs told)
+      (longer (get_or arrivals place nobody) nobody refl)
+      (leaves (take place arrivals) told (get_or arrivals place nobody) work
+      (λ same. other (ap (λ (n : ℕ). n % workers) (sym long) ∙ same)))
+
+  pub takes_one : (a d : Arrival) → a ≡ get_or arrivals place d → (told all own : List Told)
+      → IsWork workers worker (take place arrivals) told
+      → place % workers ≡ worker → Makes a own → all ≡ told ++ own
+      → IsWork workers worker (take (place + 1) arrivals) all
+  takes_one a d is told all own work same makes joined =
+      subst (λ (ts : List Told). IsWork workers worker (take (place + 1) arrivals) ts) (sym joined)
+      (subst (λ (xs : List Arrival). IsWork workers worker xs (told ++ own)) (longer a d is)
+      (takes (take place arrivals) told a own work
+      (ap (λ (n : ℕ). n % workers) long ∙ same) makes))
+
+-- where an item of joined lists stands
+placed : {X : Type 0} (xs : List X) (y : X) (n : ℕ) (x : X) → slice_get (xs ++ y ∷ []) n ≡ Some x
+    → (slice_get xs n ≡ Some x) ⊎ ((n ≡ length xs) × (y ≡ x))
+placed [] y zero x here = inr (omega arith, same_Some y x here)
+placed [] y (suc n) x here = absurd (none-some x here)
+placed (z ∷ xs) y zero x here = inl here
+placed (z ∷ xs) y (suc n) x here = elim (placed xs y n x here) [
+  | inl there ↦ inl there
+  | inr last ↦ inr (omega (arith, last.0), last.1)
+]
+
+pub one_worker_more : (workers number : ℕ) (arrivals : List Arrival)
+    (before all : List (Vec Told Global)) (own : Vec Told Global)
+    → AreWork workers arrivals before → IsWork workers number arrivals own.items
+    → length before ≡ number → all ≡ before ++ own ∷ [] → AreWork workers arrivals all
+one_worker_more workers number arrivals before all own work mine count same place list here =
+    let there : slice_get (before ++ own ∷ []) place ≡ Some list =
+    ap (λ (ls : List (Vec Told Global)). slice_get ls place) (sym same) ∙ here in
+    elim (placed before own place list there) [
+      | inl earlier ↦ work place list earlier
+      | inr last ↦
+          subst (λ (n : ℕ). IsWork workers n arrivals list.items) (sym (last.0 ∙ count))
+          (subst (λ (l : Vec Told Global). IsWork workers number arrivals l.items) last.1 mine)
+    ]

@@ -1,0 +1,55 @@
+-- What a worker makes of its arrivals.
+use Rattle.std.specs.Prelude.{◌≡◌, ◌≢◌, ℕ, ◌+◌, ◌%◌, Bool, not, ◌&&◌, List, [], ◌∷◌, ◌++◌, length, Option, None, Some}
+use Rattle.limit_laws.specs.Facts.{moment}
+use Rattle.limiter_core.specs.declared.event.Event.{Event}
+use Rattle.limiter_core.specs.declared.event.Event.TheVariants.{Acquire, End, GiveUp}
+use Rattle.limiter_core.specs.declared.event.Reply.TheVariants.{Waiting}
+use Rattle.limiter_core.specs.declared.event.Entry.TheVariants.{Call}
+use Rattle.limiter_core.specs.declared.event.PermitFacts.{PermitFacts}
+use Rattle.limiter_core.specs.Open.{handed_out}
+use Rattle.gate_history.specs.Told.{Told}
+use Rattle.trace.specs.declared.arrival.Arrival.{Arrival}
+
+-- an arrival waits where it says so and doesn't go past the limit
+abbrev pub waits : Arrival → Bool
+waits a = a.wait && not a.bypass
+
+-- what it asks at its moment
+abbrev pub asked : Arrival → Event
+asked a = Acquire a.part a.bypass (waits a) a.at
+
+-- the ending of a permit that an arrival got: its own outcome, after its own duration
+abbrev pub ending : Arrival → PermitFacts → Event
+ending a permit = End permit a.outcome (moment (permit.start + a.duration))
+
+-- the permit that a call was handed, by its receipt
+abbrev pub handed : Told → Option PermitFacts
+handed told = handed_out told.number (Call told.event told.reply)
+
+-- these receipts end that permit, and do nothing else
+abbrev pub Ends : Arrival → Option PermitFacts → List Told → Type 0
+Ends a None ended = ended ≡ []
+Ends a (Some permit) ended = (e : Told) × (ended ≡ e ∷ []) × (e.event ≡ ending a permit)
+
+-- THE RECEIPTS OF AN ARRIVAL: none where it was exhausted; else that of its acquire, where that
+-- waited that of the giving up of its number, unless this was exhausted, and where either handed a
+-- permit out that of the one ending of this permit
+pub data Makes (a : Arrival) : List Told → Type 0 where
+  exhausted : Makes a []
+  at_once : (asks : Told) (ended : List Told) → asks.event ≡ asked a → asks.reply ≢ Waiting
+      → Ends a (handed asks) ended → Makes a (asks ∷ ended)
+  gave_up : (asks gives : Told) (ended : List Told) → asks.event ≡ asked a → asks.reply ≡ Waiting
+      → gives.event ≡ GiveUp asks.number → Ends a (handed gives) ended
+      → Makes a (asks ∷ gives ∷ ended)
+  stuck : (asks : Told) → asks.event ≡ asked a → asks.reply ≡ Waiting → Makes a (asks ∷ [])
+
+-- THE RECEIPTS OF A WORKER, one of so many: those of each arrival whose place, counted from 0,
+-- leaves the worker's number when it is divided by how many there are, in their order
+pub data IsWork (workers worker : ℕ) : List Arrival → List Told → Type 0 where
+  begins : IsWork workers worker [] []
+  leaves : (before : List Arrival) (told : List Told) (a : Arrival)
+      → IsWork workers worker before told → length before % workers ≢ worker
+      → IsWork workers worker (before ++ a ∷ []) told
+  takes : (before : List Arrival) (told : List Told) (a : Arrival) (own : List Told)
+      → IsWork workers worker before told → length before % workers ≡ worker → Makes a own
+      → IsWork workers worker (before ++ a ∷ []) (told ++ own)

@@ -1,0 +1,141 @@
+// The calls of one arrival.
+ghost use Rattle.std.specs.Prelude.{◌≡◌, ◌++◌, true, false, OnOk};
+ghost use Rattle.load_run.specs.Worker.{Makes, ending, waits};
+ghost use Rattle.load_run.specs.Made.{made_of};
+
+use gate_history::{Naming, Permit, Receipt};
+use limit_laws::{LAST_MOMENT, Limit};
+use shared_gate::{Clock, Got, Pass, SharedGate, Waited};
+use std::alloc::AllocError;
+use std::sync::Wait;
+use std::time::Clock as SystemClock;
+use trace::Arrival;
+
+/// The receipts of an arrival, in the order of its calls.
+#[derive(Drop)]
+pub(crate) enum Made<M: Naming> {
+    Nothing,
+    One(Receipt<M>),
+    Two(Receipt<M>, Receipt<M>),
+    Three(Receipt<M>, Receipt<M>, Receipt<M>),
+}
+
+impl<M: Naming> Made<M> {
+    /// Puts them at the end of a list.
+    pub(crate) fn push_to(self, list: &mut Vec<Receipt<M>>) -> Result<(), AllocError>
+        ensures { OnOk result (list.new.items ≡ list.old.items ++ made_of self) }
+    {
+        match self {
+            Made::Nothing => {}
+            Made::One(first) => list.push(first)?,
+            Made::Two(first, second) => {
+                list.push(first)?;
+                list.push(second)?;
+            }
+            Made::Three(first, second, third) => {
+                list.push(first)?;
+                list.push(second)?;
+                list.push(third)?;
+            }
+        }
+        Ok(())
+    }
+}
+
+/// Ends the permit of an arrival, at once.
+fn finish<L: Limit, M: Naming>(
+    rt: &impl Wait,
+    gate: &SharedGate<L, M>,
+    pass: &mut Pass<M>,
+    arrival: Arrival,
+    permit: Permit<M>,
+) -> Receipt<M>
+    ensures { result.event ≡ ending arrival permit }
+{
+    let start = permit.facts().start;
+    let now = start.saturating_add(arrival.duration).min(LAST_MOMENT);
+    gate.end(rt, pass, permit, arrival.outcome, now)
+}
+
+/// The calls of an arrival that doesn't wait.
+fn call_once<L: Limit, M: Naming>(
+    rt: &impl Wait,
+    gate: &SharedGate<L, M>,
+    pass: &mut Pass<M>,
+    arrival: Arrival,
+) -> Made<M>
+    requires { waits arrival ≡ false }
+    ensures { Makes arrival (made_of result) }
+{
+    let Arrival {
+        part,
+        bypass,
+        at,
+        ..
+    } = arrival;
+    match gate.acquire(rt, pass, part, bypass, false, at) {
+        Got::Admitted(receipt, permit) => {
+            Made::Two(receipt, finish(rt, gate, pass, arrival, permit))
+        }
+        Got::Bypassed(receipt) => Made::One(receipt),
+        Got::Full(receipt) => Made::One(receipt),
+        Got::BacklogFull(receipt) => Made::One(receipt),
+        Got::Waiting(_receipt, _ticket) => unreachable!(),
+        Got::Exhausted(_spent) => Made::Nothing,
+    }
+}
+
+/// The calls of an arrival that waits, up to the deadline of its own clock.
+fn call_and_wait<L: Limit, M: Naming, R: Wait + SystemClock, C: Clock>(
+    rt: &R,
+    gate: &SharedGate<L, M>,
+    pass: &mut Pass<M>,
+    arrival: Arrival,
+    clock: &C,
+    timeout: u64,
+) -> Made<M>
+    requires { waits arrival ≡ true }
+    ensures { Makes arrival (made_of result) }
+{
+    let deadline = clock.now().saturating_add(timeout).min(LAST_MOMENT);
+    match gate.acquire_wait(rt, pass, arrival.part, arrival.at, clock, deadline) {
+        Waited::Admitted(receipt, permit) => {
+            Made::Two(receipt, finish(rt, gate, pass, arrival, permit))
+        }
+        Waited::Promoted(first, second, permit) => {
+            Made::Three(first, second, finish(rt, gate, pass, arrival, permit))
+        }
+        Waited::TimedOut(first, second) => Made::Two(first, second),
+        Waited::BacklogFull(receipt) => Made::One(receipt),
+        Waited::Lost(first, second) => match second {
+            Ok(second) => Made::Two(first, second),
+            Err(_spent) => Made::One(first),
+        },
+        Waited::Exhausted(_spent) => Made::Nothing,
+    }
+}
+
+/// An arrival waits where it says so and doesn't go past the limit.
+fn waits(arrival: Arrival) -> bool
+    ensures { result ≡ waits arrival }
+{
+    arrival.wait && !arrival.bypass
+}
+
+/// The calls of an arrival, which ends at once what it gets.
+pub(crate) fn make_calls<L: Limit, M: Naming, R: Wait + SystemClock, C: Clock>(
+    rt: &R,
+    gate: &SharedGate<L, M>,
+    pass: &mut Pass<M>,
+    arrival: Arrival,
+    clock: &C,
+    timeout: u64,
+) -> Made<M>
+    ensures { Makes arrival (made_of result) }
+{
+    if waits(arrival) {
+        call_and_wait(rt, gate, pass, arrival, clock, timeout)
+    } else {
+        call_once(rt, gate, pass, arrival)
+    }
+}

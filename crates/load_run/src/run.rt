@@ -1,0 +1,116 @@
+// A run of the calls of a trace, and its audit.
+ghost use Rattle.std.specs.Prelude.{◌≡◌, ◌≤◌, IfErr, IfOk, vec_len};
+ghost use Rattle.limit_laws.specs.Algorithm.{greatest_limit};
+ghost use Rattle.gate_ledgers.specs.Names.{AreNamed, AreWhole};
+ghost use Rattle.script.specs.Settings.{room_of};
+ghost use Rattle.load_run.specs.Driver.{StopsRun};
+ghost use Rattle.load_run.specs.Load.{IsAccepted, IsRejected, IsRun};
+
+use crate::counting::count_entries;
+use crate::fault::LoadFault;
+use crate::opening::{Making, hire, open_book};
+use crate::summary::Summary;
+use crate::worker::{Shop, Worker};
+use crate::workers::{Worked, run_all};
+use gate_history::{Blanks, Naming};
+use limit_kinds::AnyLimit;
+use load_driver::KEPT;
+use script::Settings;
+use shared_gate::{Cause, Clock, SharedGate};
+use std::alloc::{AllocError, Global};
+use std::sync::Wait;
+use std::thread::Threads;
+use std::time::Clock as SystemClock;
+use trace::Arrival;
+
+/// How the run is made: the limit where no line gives one, and how many workers there are.
+#[derive(Clone, Copy, Debug)]
+pub(crate) struct Crew {
+    pub(crate) limit: u32,
+    pub(crate) workers: usize,
+}
+
+/// Runs the calls by workers on threads of their own, and audits the run.
+pub(crate) fn run_named<M: Naming + Send + Sync, R, C>(
+    rt: &R,
+    alloc: Global,
+    blanks: Blanks,
+    settings: Settings,
+    arrivals: Vec<Arrival>,
+    crew: Crew,
+    clock: &C,
+) -> Result<Summary, LoadFault>
+where
+    R: Threads + Wait + SystemClock + Sync,
+    C: Clock + Sync,
+    requires least { 1 ≤ crew.limit }
+    requires most { crew.limit ≤ greatest_limit }
+    requires some { 1 ≤ crew.workers }
+    requires few { crew.workers ≤ 64 }
+    requires rows { M.rows ≡ settings.rows }
+    requires room { M.room ≡ room_of settings }
+    requires names { AreNamed M.calls M.place blanks }
+    requires parts { AreWhole blanks }
+    ensures run { IfOk result (IsRun crew.workers settings.entry arrivals.items) }
+    ensures stops { IfErr result (StopsRun crew.workers settings.entry arrivals.items) }
+{
+    let timeout = settings.timeout();
+    let receipts = (arrivals.len() / crew.workers)
+        .saturating_add(1)
+        .saturating_mul(3);
+    let (gate, hired) = open_gate::<M>(alloc, blanks, settings, crew, receipts)?;
+    let shop = Shop {
+        rt,
+        gate: &gate,
+        arrivals: &arrivals,
+        clock,
+        timeout,
+        workers: crew.workers,
+    };
+    let worked = run_all(alloc, &shop, hired)?;
+    Ok(close(alloc, gate, worked)?)
+}
+
+/// The gate of a run, and its workers, each with room for so many receipts.
+fn open_gate<M: Naming>(
+    alloc: Global,
+    blanks: Blanks,
+    settings: Settings,
+    crew: Crew,
+    receipts: usize,
+) -> Result<(SharedGate<AnyLimit, M>, Vec<Worker<M>>), AllocError>
+    requires least { 1 ≤ crew.limit }
+    requires most { crew.limit ≤ greatest_limit }
+    requires few { crew.workers ≤ 64 }
+    requires rows { M.rows ≡ settings.rows }
+    requires room { M.room ≡ room_of settings }
+    requires names { AreNamed M.calls M.place blanks }
+    requires parts { AreWhole blanks }
+    ensures { IfOk result (λ opened. vec_len opened.1 ≡ crew.workers) }
+{
+    let making = Making {
+        limit: settings.limit(crew.limit),
+        room: settings.room(),
+        kept: settings.kept(KEPT),
+        is_rolling: settings.is_rolling(),
+    };
+    let mut book = open_book::<M>(alloc, making, settings.into_table(), blanks)?;
+    let hired = hire(alloc, &mut book, crew.workers, receipts)?;
+    book.seal();
+    Ok((SharedGate::new(book), hired))
+}
+
+/// What is counted of the history of a gate that is closed, where its audit accepts it.
+fn close<M: Naming>(
+    alloc: Global,
+    gate: SharedGate<AnyLimit, M>,
+    worked: Worked<M>,
+) -> Result<Summary, Cause>
+    ensures accepted { IfOk result (IsAccepted M.rows M.room worked.kept.items) }
+    ensures rejected { IfErr result (IsRejected M.rows M.room worked.kept.items) }
+{
+    match gate.close(alloc, worked.passes, worked.kept) {
+        Ok(history) => Ok(count_entries(&history.entries)),
+        Err(fault) => Err(fault.cause),
+    }
+}

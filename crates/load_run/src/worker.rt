@@ -1,0 +1,74 @@
+// The calls of one worker.
+ghost use Rattle.std.specs.Prelude.{◌<◌, ◌+◌, IfOk, OnOk, length, take};
+ghost use Rattle.load_run.specs.Worker.{IsWork};
+
+use crate::calls::make_calls;
+use gate_history::{Naming, Receipt};
+use limit_laws::Limit;
+use shared_gate::{Clock, Pass, SharedGate};
+use std::alloc::AllocError;
+use std::sync::Wait;
+use std::time::Clock as SystemClock;
+use trace::Arrival;
+
+/// What a worker calls with: its pass, and a list with room for its receipts.
+#[derive(Drop)]
+pub(crate) struct Worker<M: Naming> {
+    pub(crate) pass: Pass<M>,
+    pub(crate) list: Vec<Receipt<M>>,
+}
+
+/// The gate and the trace that all workers share, with how long a caller waits, and how many
+/// workers there are.
+#[derive(Drop)]
+pub(crate) struct Shop<'a, L: Limit, M: Naming, R, C> {
+    pub(crate) rt: &'a R,
+    pub(crate) gate: &'a SharedGate<L, M>,
+    pub(crate) arrivals: &'a Vec<Arrival>,
+    pub(crate) clock: &'a C,
+    pub(crate) timeout: u64,
+    pub(crate) workers: usize,
+}
+
+/// Makes the calls of the arrival at a place, where it falls to the worker of this number, and keeps
+/// their receipts.
+fn take_turn<L: Limit, M: Naming, R: Wait + SystemClock, C: Clock>(
+    shop: &Shop<L, M, R, C>,
+    number: usize,
+    place: usize,
+    pass: &mut Pass<M>,
+    list: &mut Vec<Receipt<M>>,
+) -> Result<(), AllocError>
+    requires some { 0 < shop.now.workers }
+    requires inside { place < length shop.now.arrivals.now.items }
+    ensures { OnOk result (
+        IsWork shop.now.workers number
+        (take place shop.now.arrivals.now.items) list.old.items →
+        IsWork shop.now.workers number
+        (take (place + 1) shop.now.arrivals.now.items) list.new.items) }
+{
+    if place % shop.workers != number {
+        return Ok(());
+    }
+    let arrival = shop.arrivals[place];
+    let made = make_calls(shop.rt, shop.gate, pass, arrival, shop.clock, shop.timeout);
+    made.push_to(list)
+}
+
+/// Makes the calls of the worker of this number, one arrival after the other.
+pub(crate) fn work<L: Limit, M: Naming, R: Wait + SystemClock, C: Clock>(
+    shop: &Shop<L, M, R, C>,
+    number: usize,
+    worker: Worker<M>,
+) -> Result<Worker<M>, AllocError>
+    requires { 0 < shop.now.workers }
+    ensures { IfOk result (λ done.
+        IsWork shop.now.workers number shop.now.arrivals.now.items done.list.items) }
+{
+    let Worker { mut pass, mut list } = worker;
+    list.clear();
+    for place in 0..shop.arrivals.len() {
+        take_turn(shop, number, place, &mut pass, &mut list)?;
+    }
+    Ok(Worker { pass, list })
+}
