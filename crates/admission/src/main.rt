@@ -7,6 +7,7 @@ use commands::{Run, run_text, words};
 use config_check::check_file;
 use counted_io::Counted;
 use fault_lines::{FAULT, tell_fault, tell_unread_words};
+use serve_command::{Service, serve_file};
 use std::env;
 use std::io::Error;
 use std::process::ExitCode;
@@ -32,9 +33,23 @@ fn main(rt: HostRuntime) -> ExitCode {
             run_text(alloc, task, &mut reader, &mut writer, &mut errors)
         }
         Run::Check { path } => check_file(&rt, alloc, path, &mut writer, &mut errors),
-        Run::Load { .. } | Run::Serve { .. } => {
+        Run::Load { .. } => {
             tell_fault(&mut errors, &["not carried out yet"]);
             FAULT
+        }
+        Run::Serve {
+            path,
+            workers,
+            per_worker,
+            client_timeout_ms,
+        } => {
+            let service = Service {
+                path,
+                workers,
+                per_worker,
+                client_timeout_ms,
+            };
+            serve_file(&rt, alloc, &service, &mut writer, &mut errors)
         }
     })
 }

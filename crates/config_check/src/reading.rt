@@ -3,7 +3,7 @@ ghost use Rattle.std.specs.Prelude.{◌≡◌, ◌⊎◌, ℕ, List, Ok, IfErr, 
 ghost use Rattle.counted_io.specs.declared.counted.Counted.{Counted as CountedValue};
 ghost use Rattle.counted_io.specs.Counted.{failures_of};
 ghost use Rattle.gate_config.specs.Settings.{AreSound};
-ghost use Rattle.config_check.specs.Check.{Held, IsFaultOf, IsUnset, Says};
+ghost use Rattle.config_check.specs.Check.{Held, IsFaultOf, IsUnread, IsUnset, Says};
 
 use super::check_fault::CheckFault;
 use counted_io::{Counted, read_all};
@@ -18,25 +18,35 @@ const MOST_CONFIG: usize = 1_048_576;
 /// The most reads that it may take: 2^25.
 const MOST_READS: u64 = 33_554_432;
 
-/// The settings of the configuration in the file of a path, as [`read_settings`] gives them.
+/// The text of the configuration in the file of a path: at most 1 MiB, in at most 2^25 reads.
 ///
-/// A file that can't be opened is told as one that can't be read.
-pub fn read_file_settings<F: Files>(
+/// A file that can't be opened or read, isn't at its end after so many reads, or has more is told as
+/// one that can't be read; else memory was wanting.
+pub fn read_file_text<F: Files>(
     files: &F,
     alloc: Global,
     path: &str,
-) -> Result<Settings, CheckFault>
-    ensures settings { IfOk result (λ settings. (file : CountedValue F.File) × (bytes : List ℕ)
-        × Held F.File.remaining file bytes × Says bytes (Ok settings)) }
-    ensures sound { IfOk result AreSound }
+) -> Result<Vec<u8>, CheckFault>
+    ensures text { IfOk result (λ text. (before : CountedValue F.File) × (after : CountedValue F.File)
+        × Held F.File.remaining before text.items
+        × (failures_of after ≡ failures_of before)) }
     ensures refused { IfErr result (λ fault. (fault ≡ CheckFault.Read)
         ⊎ (before : CountedValue F.File) × (after : CountedValue F.File)
-        × IsUnset F.File.remaining before after fault) }
+        × IsUnread F.File.remaining before after fault) }
 {
     match File::open(files, path) {
-        Ok(file) => read_settings(alloc, &mut Counted::new(file)),
+        Ok(file) => read_text(alloc, &mut Counted::new(file)),
         Err(_) => Err(CheckFault::Read),
     }
+}
+
+/// The text that a reader gives up to its end.
+fn read_text<R: Read>(alloc: Global, reader: &mut Counted<R>) -> Result<Vec<u8>, CheckFault>
+    ensures text { IfOk result (λ text. Held R.remaining reader.old text.items) }
+    ensures unfailing { OnOk result (failures_of reader.new ≡ failures_of reader.old) }
+    ensures refused { IfErr result (IsUnread R.remaining reader.old reader.new) }
+{
+    Ok(read_all(alloc, reader, MOST_CONFIG, MOST_READS)?)
 }
 
 /// The settings of the configuration that a reader gives up to its end, at most 1 MiB in at most
@@ -58,8 +68,8 @@ pub fn read_settings<R: Read>(
     read_bytes(alloc, &bytes)
 }
 
-/// The settings that bytes hold.
-fn read_bytes(alloc: Global, bytes: &[u8]) -> Result<Settings, CheckFault>
+/// The settings that bytes hold, or the first fault of the bytes; want of memory may hide it.
+pub fn read_bytes(alloc: Global, bytes: &[u8]) -> Result<Settings, CheckFault>
     ensures settings { IfOk result (λ settings. Says bytes.now (Ok settings)) }
     ensures sound { IfOk result AreSound }
     ensures refused { IfErr result (IsFaultOf bytes.now) }

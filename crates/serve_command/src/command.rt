@@ -6,15 +6,17 @@ ghost use Rattle.serve_command.specs.Command.{HasServed, IsOfServing, IsWhyOfSer
 ghost use Rattle.serve_command.specs.ServiceFault.{service_fault_text};
 
 use crate::fault::{ServiceFault, tell_service_fault};
+use crate::config_text::ConfigText;
 use crate::logging::log_listening;
-use config_check::read_file_settings;
+use config_check::{read_bytes, read_file_text};
 use counted_io::Counted;
 use counters_line::write_counters;
 use fault_lines::{DONE, FAULT};
+use gate_config::Settings;
 use limiter_core::Counters;
 use listening::Front;
 use log::Log;
-use serving::{Configured, Shift, serve};
+use serving::{Shift, serve};
 use shared_gate::ProgramClock;
 use std::alloc::Global;
 use std::fs::Files;
@@ -34,9 +36,8 @@ pub struct Service<'a> {
     pub path: &'a str,
     /// How many workers serve clients, each on a thread of its own: 1 to 64.
     pub workers: u32,
-    /// How many connections each worker accepts before it ends; without a number it serves for
-    /// good.
-    pub per_worker: Option<u64>,
+    /// How many connections each worker accepts before it ends.
+    pub per_worker: u32,
     /// How long a client may take to send its request, and again to take its answer, in
     /// milliseconds.
     pub client_timeout_ms: u32,
@@ -46,11 +47,9 @@ pub struct Service<'a> {
 /// the gate's counters to `writer`; or the line of the first fault to `errors`. Answers the exit
 /// status.
 ///
-/// Once the address is bound the log says so. What workers share of the configuration is an `S`, as
-/// `gate_config::Settings` are one: a caller names it, since that threads may share a value is known
-/// of a type parameter, and of a type where there is none. Either line is flushed. Where the line of a fault
+/// Once the address is bound the log says so. Either line is flushed. Where the line of a fault
 /// can't be written itself, it is dropped.
-pub fn serve_file<S, R, W, E>(
+pub fn serve_file<R, W, E>(
     rt: &R,
     alloc: Global,
     service: &Service<'_>,
@@ -58,7 +57,6 @@ pub fn serve_file<S, R, W, E>(
     errors: &mut Counted<E>,
 ) -> u8
 where
-    S: Configured + Sync + Drop,
     R: Files + Net + Threads + Wait + SystemClock + Log + Sync,
     W: Write,
     E: Write,
@@ -77,21 +75,20 @@ where
         × IsTold E.contents errors.old errors.new (fault_line (service_fault_text fault))
         × IsWhyOfService R.File.remaining writer.old writer.new fault }
 {
-    match serve_and_count::<S, R, W>(rt, alloc, service, writer) {
+    match serve_and_count(rt, alloc, service, writer) {
         Ok(()) => DONE,
         Err(fault) => report(errors, fault),
     }
 }
 
 /// Serves, and writes the counters.
-fn serve_and_count<S, R, W>(
+fn serve_and_count<R, W>(
     rt: &R,
     alloc: Global,
     service: &Service<'_>,
     writer: &mut Counted<W>,
 ) -> Result<(), ServiceFault>
 where
-    S: Configured + Sync + Drop,
     R: Files + Net + Threads + Wait + SystemClock + Log + Sync,
     W: Write,
     R::Stream: Send + Sync,
@@ -101,30 +98,30 @@ where
     ensures served { OnOk result (HasServed R.File.remaining W.contents writer.old writer.new) }
     ensures refused { IfErr result (IsWhyOfService R.File.remaining writer.old writer.new) }
 {
-    let settings = read_file_settings(rt, alloc, service.path)?;
-    let counters = serve_settings(rt, alloc, &S::of(settings), service)?;
+    let text = read_file_text(rt, alloc, service.path)?;
+    let settings = read_bytes(alloc, &text)?;
+    let counters = serve_settings(rt, alloc, &ConfigText::new(text), &settings, service)?;
     write_counters(writer, &counters)?;
     Ok(())
 }
 
-/// Serves by these settings.
-fn serve_settings<S, R>(
+/// Serves by these settings, which are those of the text.
+fn serve_settings<R>(
     rt: &R,
     alloc: Global,
-    configured: &S,
+    text: &ConfigText,
+    settings: &Settings,
     service: &Service<'_>,
 ) -> Result<Counters, ServiceFault>
 where
-    S: Configured + Sync + Drop,
     R: Net + Threads + Wait + SystemClock + Log + Sync,
     R::Stream: Send + Sync,
     R::Listener: Send + Sync,
-    requires sound { AreSound (S.configuration configured.now) }
+    requires sound { AreSound settings.now }
     requires some { 1 ≤ service.now.workers }
     requires few { service.now.workers ≤ 64 }
     ensures { IfErr result IsOfServing }
 {
-    let settings = configured.settings();
     let Ok(front) = Front::bind(rt, SocketAddr::V4(settings.listen.socket())) else {
         return Err(ServiceFault::Listen);
     };
@@ -132,13 +129,13 @@ where
     let clock = ProgramClock::start(rt);
     let shift = Shift {
         listener: &front,
-        settings: configured,
+        source: text,
         clock: &clock,
-        per_worker: service.per_worker.unwrap_or(u64::MAX),
+        per_worker: u64::from(service.per_worker),
         client_time: u64::from(service.client_timeout_ms) * MILLI,
         alloc,
     };
-    Ok(serve(rt, &shift, service.workers as usize)?)
+    Ok(serve(rt, &shift, settings, service.workers as usize)?)
 }
 
 /// Tells a fault, and answers the status after it.

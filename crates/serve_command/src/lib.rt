@@ -6,6 +6,7 @@
 #![tactic(auto)]
 
 mod command;
+mod config_text;
 mod fault;
 mod logging;
 

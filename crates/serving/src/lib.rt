@@ -14,4 +14,4 @@ mod working;
 
 pub use fault::ServeFault;
 pub use workers::{serve, serve_with};
-pub use working::{Buffers, Configured, Shift, serve_client, work};
+pub use working::{Buffers, Shift, Source, serve_client, work};

@@ -5,15 +5,15 @@ ghost use Rattle.gate_config.specs.Settings.{AreSound};
 
 use crate::fault::ServeFault;
 use crate::opening::{make_passes, open_book};
-use crate::working::{Buffers, Configured, Shift, work};
+use crate::working::{Buffers, Shift, Source, work};
 use backend::Backend;
-use gate_config::AnyLimit;
+use gate_config::{AnyLimit, Settings};
 use gate_history::{Blanks, Naming};
 use limiter_core::Counters;
 use listening::Listener;
 use ports::Port;
 use shared_gate::{Clock, Pass, SharedGate};
-use std::alloc::Global;
+use std::alloc::{AllocError, Global};
 use std::marker::Brand;
 use std::net::Net;
 use std::sync::Wait;
@@ -25,39 +25,43 @@ use tcp_backend::TcpBackend;
 /// Serves clients by so many workers, each on a thread of its own with a connection of its own to
 /// the backend of the settings, and tells the gate's counters once all have ended.
 ///
-/// `Memory` comes before any worker is started, `Thread` once those that were started have ended.
+/// The gate is opened by `settings`, which are those that the source of the shift gives. `Memory`
+/// comes before any worker is started, or where one had none for its settings, once all have ended;
+/// `Thread` once those that were started have.
 pub fn serve<R, L, C, S>(
     rt: &R,
     shift: &Shift<'_, L, C, S>,
+    settings: &Settings,
     workers: usize,
 ) -> Result<Counters, ServeFault>
 where
     R: Net + Threads + Wait + SystemClock + Sync,
     L: Listener + Sync,
     C: Clock + Sync,
-    S: Configured + Sync,
+    S: Source + Sync,
     L::Stream: Send + Sync,
     R::Stream: Send + Sync,
     R::Listener: Send + Sync,
     requires some { 1 ≤ workers }
     requires few { workers ≤ 64 }
-    requires sound { AreSound (S.configuration shift.now.settings.now) }
+    requires sound { AreSound settings.now }
 {
     let alloc = shift.alloc;
     let mut backends = Vec::with_capacity(alloc, workers)?;
     for _ in 0..workers {
-        let backend = TcpBackend::new(rt, alloc, shift.settings.settings().backend.socket())?;
+        let backend = TcpBackend::new(rt, alloc, settings.backend.socket())?;
         if backends.push(backend).is_err() {
             return Err(ServeFault::Memory);
         }
     }
-    serve_with(rt, shift, backends)
+    serve_with(rt, shift, settings, backends)
 }
 
 /// Serves clients by one worker for each backend.
 pub fn serve_with<R, L, B, C, S>(
     rt: &R,
     shift: &Shift<'_, L, C, S>,
+    settings: &Settings,
     backends: Vec<B>,
 ) -> Result<Counters, ServeFault>
 where
@@ -65,16 +69,17 @@ where
     L: Listener + Sync,
     B: Backend + Send + Drop,
     C: Clock + Sync,
-    S: Configured + Sync,
+    S: Source + Sync,
     L::Stream: Send + Sync,
-    requires sound { AreSound (S.configuration shift.now.settings.now) }
+    requires sound { AreSound settings.now }
 {
-    serve_named::<Brand, R, L, B, C, S>(rt, shift, backends, Blanks::new())
+    serve_named::<Brand, R, L, B, C, S>(rt, shift, settings, backends, Blanks::new())
 }
 
 fn serve_named<M, R, L, B, C, S>(
     rt: &R,
     shift: &Shift<'_, L, C, S>,
+    settings: &Settings,
     backends: Vec<B>,
     blanks: Blanks,
 ) -> Result<Counters, ServeFault>
@@ -84,16 +89,16 @@ where
     L: Listener + Sync,
     B: Backend + Send + Drop,
     C: Clock + Sync,
-    S: Configured + Sync,
+    S: Source + Sync,
     L::Stream: Send + Sync,
     requires names { AreNamed M.calls M.place blanks }
     requires parts { AreWhole blanks }
-    requires rows { M.rows ≡ (S.configuration shift.now.settings.now).table }
-    requires room { M.room ≡ (S.configuration shift.now.settings.now).backlog }
-    requires sound { AreSound (S.configuration shift.now.settings.now) }
+    requires rows { M.rows ≡ settings.now.table }
+    requires room { M.room ≡ settings.now.backlog }
+    requires sound { AreSound settings.now }
 {
     let alloc = shift.alloc;
-    let mut book = open_book::<M>(alloc, shift.settings.settings(), blanks)?;
+    let mut book = open_book::<M>(alloc, settings, blanks)?;
     let passes = make_passes(alloc, &mut book, backends.len())?;
     book.seal();
     let gate = SharedGate::new(book);
@@ -119,11 +124,15 @@ where
     L: Listener + Sync,
     B: Backend + Send + Drop,
     C: Clock + Sync,
-    S: Configured + Sync,
+    S: Source + Sync,
     L::Stream: Send + Sync,
 {
-    run_tasks(rt, alloc, workers)?;
-    Ok(())
+    let began = run_tasks(rt, alloc, workers)?;
+    if began.iter().all(|it| *it) {
+        Ok(())
+    } else {
+        Err(ServeFault::Memory)
+    }
 }
 
 /// The gate, as its workers find it.
@@ -177,38 +186,40 @@ where
     L: Listener + Sync,
     B: Backend + Send + Drop,
     C: Clock + Sync,
-    S: Configured + Sync,
+    S: Source + Sync,
 {
-    type Done = Pass<M>;
+    // Whether it had the memory to begin.
+    type Done = bool;
 
-    fn run(self) -> Pass<M> {
+    fn run(self) -> bool {
         let Worker {
             counter,
             pass,
             mut backend,
             mut buffers,
         } = self;
-        run_one(counter, pass, &mut backend, &mut buffers)
+        run_one(counter, pass, &mut backend, &mut buffers).is_ok()
     }
 }
 
-/// One worker's whole run, over a port of its own.
+/// One worker's whole run, over settings and a port of its own.
 fn run_one<M, R, L, B, C, S>(
     counter: &Counter<'_, M, R, L, C, S>,
     pass: Pass<M>,
     backend: &mut B,
     buffers: &mut Buffers,
-) -> Pass<M>
+) -> Result<(), AllocError>
 where
     M: Naming,
     R: Wait + SystemClock,
     L: Listener,
     B: Backend,
     C: Clock,
-    S: Configured,
+    S: Source,
 {
     let shift = counter.shift;
+    let settings = shift.source.settings(shift.alloc)?;
     let mut port = Port::new(counter.rt, counter.gate, pass, shift.clock);
-    work(shift, &mut port, backend, buffers);
-    port.into_pass()
+    work(shift, &settings, &mut port, backend, buffers);
+    Ok(())
 }

@@ -1,5 +1,5 @@
 // What one worker does.
-ghost use Rattle.std.specs.Prelude.{◌≡◌, ◌≤◌, ◌+◌, if◌then◌else◌};
+ghost use Rattle.std.specs.Prelude.{◌≡◌, ◌≤◌, ◌+◌, if◌then◌else◌, IfOk};
 ghost use Rattle.counted_io.specs.Count.{raised};
 ghost use Rattle.gate_config.specs.declared.settings.Settings.{Settings as SettingsValue};
 ghost use Rattle.proxy.specs.Settling.{is_through};
@@ -35,31 +35,16 @@ impl Buffers {
     }
 }
 
-/// What has a configuration: settings themselves. That threads may share a value is known of a
-/// type parameter, and of a type without any; so what workers share names its settings so.
-pub trait Configured {
-    // The configuration that it has.
-    ghost configuration: { Self → SettingsValue };
+/// Where a worker has its settings from: something that threads may share, such as the text of a
+/// configuration. Each worker makes settings of its own of it, since that threads may share
+/// settings themselves isn't known where a function has type parameters.
+pub trait Source {
+    // Settings that it gives.
+    ghost gives: { Self → SettingsValue → Type 0 };
 
-    /// What has these settings.
-    fn of(settings: Settings) -> Self
-        ensures { configuration result ≡ settings };
-
-    /// The configuration.
-    fn settings(&self) -> &Settings
-        ensures { result.now ≡ configuration self.now };
-}
-
-impl Configured for Settings {
-    ghost configuration = { λ settings. settings };
-
-    fn of(settings: Settings) -> Settings {
-        settings
-    }
-
-    fn settings(&self) -> &Settings {
-        self
-    }
+    /// Settings of one's own. The only fault is want of memory.
+    fn settings(&self, alloc: Global) -> Result<Settings, AllocError>
+        ensures { IfOk result (gives self.now) };
 }
 
 /// What all workers of a gateway share, and what each of them is asked to do.
@@ -67,8 +52,8 @@ impl Configured for Settings {
 pub struct Shift<'a, L, C, S> {
     /// Where clients come from.
     pub listener: &'a L,
-    /// What the configuration says.
-    pub settings: &'a S,
+    /// Where a worker has its settings from.
+    pub source: &'a S,
     /// The clock of deadlines.
     pub clock: &'a C,
     /// How many connections a worker accepts, one after the other.
@@ -82,8 +67,9 @@ pub struct Shift<'a, L, C, S> {
 
 /// Accepts as many connections as the shift says, one after the other, and serves each by one
 /// exchange. A connection that can't be had counts as one. None is forwarded twice.
-pub fn work<P: GatePort, B: Backend, C: Clock, L: Listener, S: Configured>(
+pub fn work<P: GatePort, B: Backend, C: Clock, L: Listener, S>(
     shift: &Shift<'_, L, C, S>,
+    settings: &Settings,
     port: &mut P,
     backend: &mut B,
     buffers: &mut Buffers,
@@ -92,15 +78,16 @@ pub fn work<P: GatePort, B: Backend, C: Clock, L: Listener, S: Configured>(
 {
     for _ in 0..shift.per_worker {
         if let Some(stream) = shift.listener.accept() {
-            serve_client(shift, &stream, port, backend, buffers);
+            serve_client(shift, settings, &stream, port, backend, buffers);
         }
     }
 }
 
 /// Serves one client over its connection, by readers and writers that last as long as it may take.
 /// It is forwarded once where its request was let through, and else not at all.
-pub fn serve_client<T: Connection, P: GatePort, B: Backend, C: Clock, L, S: Configured>(
+pub fn serve_client<T: Connection, P: GatePort, B: Backend, C: Clock, L, S>(
     shift: &Shift<'_, L, C, S>,
+    settings: &Settings,
     stream: &T,
     port: &mut P,
     backend: &mut B,
@@ -118,7 +105,7 @@ pub fn serve_client<T: Connection, P: GatePort, B: Backend, C: Clock, L, S: Conf
         shift.alloc,
         port,
         backend,
-        shift.settings.settings(),
+        settings,
         clock,
         &mut reader,
         &mut writer,

@@ -1,0 +1,33 @@
+use Rattle.std.proofs.Common.{rules, ◌≡◌, ℕ, List, Ok, Err, subst}
+use Rattle.config_check.specs.Check.{IsFaultOf, Says}
+use Rattle.serve_command.specs.declared.fault.ServiceFault.TheVariants as Service
+use Rattle.serve_command.proofs.Whys.{why_unread, why_unset}
+use Rattle.serve_command.proofs.command.serve_and_count.Goals as goal
+
+pub returns-in_err-text-clause-refused :
+    goal.returns-in_err-text-clause-refused
+returns-in_err-text-clause-refused g c =
+    let fault = c.in_err-text.field-0.0 in
+    let is : c.from_residual.result ≡ Err (Service.Config fault) = search rules in
+    why_unread g.R.File.Read.remaining c.args.writer.now c.from_residual.result fault is
+    c.in_err-text.ensures.refused
+
+pub returns-in_err-settings-clause-refused : goal.returns-in_err-settings-clause-refused
+returns-in_err-settings-clause-refused g c =
+    let fault = c.in_err-settings.field-0.0 in
+    let is : c.from_residual-in_err-settings.result ≡ Err (Service.Config fault) = search rules in
+    let bytes = c.in_ok-text.text.items in
+    let same : c.deref.result.now ≡ bytes = search rules in
+    why_unset g.R.File.Read.remaining c.args.writer.now c.from_residual-in_err-settings.result
+    fault is bytes c.in_ok-text.ensures.text
+    (subst (λ (xs : List ℕ). IsFaultOf xs fault) same c.in_err-settings.ensures.refused)
+
+-- the file and its text, its settings, and the counters that were written
+pub returns-clause-served : goal.returns-clause-served
+returns-clause-served g c =
+    let had = c.in_ok-text.ensures.text in
+    let bytes = c.in_ok-text.text.items in
+    let says : Says bytes (Ok c.in_ok-settings.settings) = search rules in
+    (had.0, bytes, c.in_ok-settings.settings, had.2, says, c.in_ok-counters.counters,
+    c.in_ok-write_counters.ensures.all, c.in_ok-write_counters.ensures.unfailing,
+    c.in_ok-write_counters.ensures.flushed)

@@ -1,0 +1,33 @@
+// The text of a configuration, of which each worker reads settings of its own.
+ghost use Rattle.std.specs.Prelude.{◌≡◌, Ok};
+ghost use Rattle.config_check.specs.Check.{Says};
+
+use config_check::read_bytes;
+use gate_config::Settings;
+use serving::Source;
+use std::alloc::{AllocError, Global};
+
+/// The text of a configuration that was read once without a fault.
+#[derive(Drop)]
+pub(crate) struct ConfigText {
+    bytes: Vec<u8>,
+}
+
+impl ConfigText {
+    pub(crate) fn new(bytes: Vec<u8>) -> ConfigText
+        ensures { result.bytes ≡ bytes }
+    {
+        ConfigText { bytes }
+    }
+}
+
+impl Source for ConfigText {
+    ghost gives = { λ text settings. Says text.bytes.items (Ok settings) };
+
+    fn settings(&self, alloc: Global) -> Result<Settings, AllocError> {
+        match read_bytes(alloc, &self.bytes) {
+            Ok(settings) => Ok(settings),
+            Err(_) => Err(AllocError),
+        }
+    }
+}
