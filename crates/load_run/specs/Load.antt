@@ -16,8 +16,8 @@ use Rattle.load_run.specs.Workers.{AreWork}
 use Rattle.load_run.specs.declared.summary.Summary.{Summary}
 use Rattle.load_run.specs.Summary.{summary_of}
 
--- AN ACCEPTED HISTORY of a gate with these partitions and this room: it is whole and legal, and that
--- of just these receipts; and what is told is counted from it
+-- AN ACCEPTED HISTORY of a gate with these partitions and this room: it is whole and legal, and
+-- that of just these receipts; and what is told is counted from it
 pub record IsAccepted (rows : List Row) (room : ℕ) (kept : List (Vec Told Global))
     (summary : Summary) : Type 0 where
   pub opening : Standing AnyLimit

@@ -30,8 +30,8 @@ pub(crate) struct Shop<'a, L: Limit, M: Naming, R, C> {
     pub(crate) workers: usize,
 }
 
-/// Makes the calls of the arrival at a place, where it falls to the worker of this number, and keeps
-/// their receipts.
+/// Makes the calls of the arrival at a place, where it falls to the worker of this number, and
+/// keeps their receipts.
 fn take_turn<L: Limit, M: Naming, R: Wait + SystemClock, C: Clock>(
     shop: &Shop<L, M, R, C>,
     number: usize,

@@ -1,5 +1,5 @@
 use Rattle.std.proofs.Common.{rules}
-use Rattle.script.proofs.arrival.read_held.Goals as goal
+use Rattle.wire.proofs.response.Response.new.Goals as goal
 
 pub returns : goal.returns
 returns c = search rules

@@ -1,0 +1,5 @@
+use Rattle.std.proofs.Common.{rules}
+use Rattle.config_values.proofs.unknown.Stranger.path.Goals as goal
+
+pub returns : goal.returns
+returns c = search rules

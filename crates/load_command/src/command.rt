@@ -1,0 +1,139 @@
+// A load as a command.
+ghost use Rattle.std.specs.Prelude.{◌≡◌, ◌≤◌, ◌⊎◌, true, IfErr, OnOk};
+ghost use Rattle.counted_io.specs.Counted.{failures_of, is_flushed};
+ghost use Rattle.counted_io.specs.Effects.{IfLeft, Wrote};
+ghost use Rattle.limit_laws.specs.Algorithm.{greatest_limit};
+ghost use Rattle.audit.specs.Text.{cause_text};
+ghost use Rattle.script.specs.Faults.{line_fault_text};
+ghost use Rattle.fault_lines.specs.FaultLine.{IsTold, fault_line};
+ghost use Rattle.load_run.specs.Driver.{IsLoaded};
+ghost use Rattle.load_command.specs.Command.{IsLoadStop, load_fault_text};
+
+use counted_io::Counted;
+use fault_lines::{DONE, FAULT, tell_fault};
+use itoa::Buffer;
+use load_run::{LoadFault, load};
+use script::LineFault;
+use shared_gate::Cause;
+use std::alloc::Global;
+use std::io::{Read, Write};
+use std::sync::Wait;
+use std::thread::Threads;
+use std::time::Clock as SystemClock;
+
+/// Carries a trace out by so many workers on threads of their own, tells its fault on `errors`, and
+/// answers the exit status.
+///
+/// `limit` is in permits, where the trace has no `limit` line. The line of the fault comes after
+/// all output, is flushed and takes no memory; where it can't be written itself, it is dropped.
+pub fn run_load<T, R: Read, W: Write, E: Write>(
+    rt: &T,
+    alloc: Global,
+    limit: u32,
+    workers: usize,
+    reader: &mut Counted<R>,
+    writer: &mut Counted<W>,
+    errors: &mut Counted<E>,
+) -> u8
+where
+    T: Threads + Wait + SystemClock + Sync,
+    requires least { 1 ≤ limit }
+    requires most { limit ≤ greatest_limit }
+    requires some { 1 ≤ workers }
+    requires few { workers ≤ 64 }
+    ensures status { (result ≡ 0) ⊎ (result ≡ 1) }
+
+    // Both lines are written and flushed.
+    ensures done { result ≡ 0 → IfLeft R.remaining reader.old (λ text.
+        IsLoaded workers text (Wrote W.contents writer.old writer.new)) }
+    ensures flushed { result ≡ 0 → is_flushed writer.new ≡ true }
+    ensures read { result ≡ 0 → failures_of reader.new ≡ failures_of reader.old }
+    ensures unfailing { result ≡ 0 → failures_of writer.new ≡ failures_of writer.old }
+    ensures quiet { result ≡ 0 → errors.new ≡ errors.old }
+
+    // The fault is told.
+    ensures stopped { result ≡ 1 → (fault : LoadFault)
+        × IsLoadStop R.remaining workers reader.old reader.new writer.old writer.new fault
+        × IsTold E.contents errors.old errors.new (fault_line (load_fault_text fault)) }
+{
+    match carry_out(rt, alloc, limit, workers, reader, writer) {
+        Ok(()) => DONE,
+        Err(fault) => {
+            tell_load_fault(errors, fault);
+            FAULT
+        }
+    }
+}
+
+/// Carries a trace out.
+fn carry_out<T, R: Read, W: Write>(
+    rt: &T,
+    alloc: Global,
+    limit: u32,
+    workers: usize,
+    reader: &mut Counted<R>,
+    writer: &mut Counted<W>,
+) -> Result<(), LoadFault>
+where
+    T: Threads + Wait + SystemClock + Sync,
+    requires least { 1 ≤ limit }
+    requires most { limit ≤ greatest_limit }
+    requires some { 1 ≤ workers }
+    requires few { workers ≤ 64 }
+    ensures done { OnOk result (IfLeft R.remaining reader.old (λ text.
+        IsLoaded workers text (Wrote W.contents writer.old writer.new))) }
+    ensures flushed { OnOk result (is_flushed writer.new ≡ true) }
+    ensures read { OnOk result (failures_of reader.new ≡ failures_of reader.old) }
+    ensures unfailing { OnOk result (failures_of writer.new ≡ failures_of writer.old) }
+    ensures stopped { IfErr result (IsLoadStop R.remaining workers
+        reader.old reader.new writer.old writer.new) }
+{
+    load(rt, alloc, reader, writer, limit, workers)
+}
+
+/// Tells why a load stopped.
+fn tell_load_fault<E: Write>(errors: &mut Counted<E>, fault: LoadFault)
+    ensures { IsTold E.contents errors.old errors.new (fault_line (load_fault_text fault)) }
+{
+    match fault {
+        LoadFault::Memory => tell_fault(errors, &["memory"]),
+        LoadFault::Read => tell_fault(errors, &["read"]),
+        LoadFault::TooLarge => tell_fault(errors, &["too large"]),
+        LoadFault::Line(fault) => tell_line_fault(errors, fault),
+        LoadFault::Write => tell_fault(errors, &["write"]),
+        LoadFault::Thread => tell_fault(errors, &["thread"]),
+        LoadFault::Audit(cause) => tell_cause(errors, cause),
+    }
+}
+
+/// Tells which line is at fault, and why.
+fn tell_line_fault<E: Write>(errors: &mut Counted<E>, fault: LineFault)
+    ensures { IsTold E.contents errors.old errors.new (fault_line (line_fault_text fault)) }
+{
+    let mut number = Buffer::new();
+    let pieces = ["line ", number.format(fault.line), ": ", fault.why.text()];
+    tell_fault(errors, &pieces);
+}
+
+/// Tells why an audit fails.
+fn tell_cause<E: Write>(errors: &mut Counted<E>, cause: Cause)
+    ensures { IsTold E.contents errors.old errors.new
+        (fault_line (load_fault_text (LoadFault.Audit cause))) }
+{
+    tell_fault(errors, &["audit: ", cause_word(cause)]);
+}
+
+/// The word of a cause.
+fn cause_word(cause: Cause) -> &'static str
+    ensures { result.now ≡ cause_text cause }
+{
+    match cause {
+        Cause::Memory => "memory",
+        Cause::PassesMissing { .. } => "passes missing",
+        Cause::Rolled { .. } => "rolled",
+        Cause::Strange { .. } => "strange",
+        Cause::Order { .. } => "order",
+        Cause::Uncovered { .. } => "uncovered",
+        Cause::Unmatched { .. } => "unmatched",
+    }
+}

@@ -1,8 +1,0 @@
-use Rattle.std.proofs.Common.{rules}
-use Rattle.script.proofs.numbers.read_lone_number.Goals as goal
-
-pub returns : goal.returns
-returns c = search rules
-
-pub returns-then-is_some : goal.returns-then-is_some
-returns-then-is_some c = search rules
