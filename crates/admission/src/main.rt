@@ -6,7 +6,8 @@
 use commands::{Run, run_text, words};
 use config_check::check_file;
 use counted_io::Counted;
-use fault_lines::{FAULT, tell_fault, tell_unread_words};
+use fault_lines::tell_unread_words;
+use load_command::run_load;
 use serve_command::{Service, serve_file};
 use std::env;
 use std::io::Error;
@@ -33,9 +34,10 @@ fn main(rt: HostRuntime) -> ExitCode {
             run_text(alloc, task, &mut reader, &mut writer, &mut errors)
         }
         Run::Check { path } => check_file(&rt, alloc, path, &mut writer, &mut errors),
-        Run::Load { .. } => {
-            tell_fault(&mut errors, &["not carried out yet"]);
-            FAULT
+        Run::Load { limit, workers } => {
+            let mut reader = Counted::new(rt.stdin());
+            let workers = workers as usize;
+            run_load(&rt, alloc, limit, workers, &mut reader, &mut writer, &mut errors)
         }
         Run::Serve {
             path,

@@ -7,20 +7,20 @@ use gate_config::Settings;
 use limit_laws::Limit;
 use log::{Log, info, warn};
 
-/// Logs where clients are listened for, by how many workers, and which kind of limit there is; and
-/// a warning where the greatest limit, with the callers who may wait, exceeds the workers: who
-/// comes while all workers are taken waits unseen in the system's accept queue, and isn't refused.
+/// Logs a warning where the greatest limit, with the callers who may wait, exceeds the workers, since
+/// who comes while all workers are taken waits unseen in the system's accept queue, and isn't
+/// refused; and then where clients are listened for, by how many workers, and the kind of limit.
 pub(crate) fn log_listening<R: Log>(rt: &R, settings: &Settings, workers: u32)
     requires { AreSound settings.now }
 {
-    let address = settings.listen.socket();
-    let limit = settings.limit.kind();
-    info!(rt; target: "admission", address:%, workers, limit; "listening");
     let inside = most_inside(settings);
     if inside > u64::from(workers) {
         warn!(rt; target: "admission", inside, workers;
             "limit and backlog exceed the workers: callers past them wait unseen");
     }
+    let address = settings.listen.socket();
+    let limit = settings.limit.kind();
+    info!(rt; target: "admission", address:%, workers, limit; "listening");
 }
 
 /// How many callers the gate lets be in flight at the greatest limit, or wait.
