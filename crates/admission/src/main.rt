@@ -37,7 +37,15 @@ fn main(rt: HostRuntime) -> ExitCode {
         Run::Load { limit, workers } => {
             let mut reader = Counted::new(rt.stdin());
             let workers = workers as usize;
-            run_load(&rt, alloc, limit, workers, &mut reader, &mut writer, &mut errors)
+            run_load(
+                &rt,
+                alloc,
+                limit,
+                workers,
+                &mut reader,
+                &mut writer,
+                &mut errors,
+            )
         }
         Run::Serve {
             path,

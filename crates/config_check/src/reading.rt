@@ -22,13 +22,9 @@ const MOST_READS: u64 = 33_554_432;
 ///
 /// A file that can't be opened or read, isn't at its end after so many reads, or has more is told as
 /// one that can't be read; else memory was wanting.
-pub fn read_file_text<F: Files>(
-    files: &F,
-    alloc: Global,
-    path: &str,
-) -> Result<Vec<u8>, CheckFault>
-    ensures text { IfOk result (λ text. (before : CountedValue F.File) × (after : CountedValue F.File)
-        × Held F.File.remaining before text.items
+pub fn read_file_text<F: Files>(files: &F, alloc: Global, path: &str) -> Result<Vec<u8>, CheckFault>
+    ensures text { IfOk result (λ text. (before : CountedValue F.File)
+        × (after : CountedValue F.File) × Held F.File.remaining before text.items
         × (failures_of after ≡ failures_of before)) }
     ensures refused { IfErr result (λ fault. (fault ≡ CheckFault.Read)
         ⊎ (before : CountedValue F.File) × (after : CountedValue F.File)

@@ -1,5 +1,5 @@
-// Clients that break off: requests that are cut after each byte, and ends that fail at each read and
-// each write.
+// Clients that break off: requests that are cut after each byte, and ends that fail at each read
+// and each write.
 use crate::devices::{Says, bytes_of};
 use crate::gateway::{Came, Case, exchanged};
 use limiter_core::Outcome;

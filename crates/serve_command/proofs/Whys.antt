@@ -20,10 +20,13 @@ module _ {F W X : Type 0} (remaining : F → Option (List ℕ)) (w : Counted W)
       ⊎ ((b : Counted F) × (a : Counted F) × IsUnread remaining b a fault)
       → IfErr r (IsWhyOfService remaining w w)
   why_unread unread =
-      why (refl, elim unread [
-        | inl read ↦ inl read
-        | inr had ↦ inr (had.0, had.1, inl had.2)
-      ])
+      why (
+        refl,
+        elim unread [
+          | inl read ↦ inl read
+          | inr had ↦ inr (had.0, had.1, inl had.2)
+        ],
+      )
 
   -- the text holds no settings
   pub why_unset : (bytes : List ℕ)

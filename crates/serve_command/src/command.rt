@@ -5,8 +5,8 @@ ghost use Rattle.fault_lines.specs.FaultLine.{IsTold, fault_line};
 ghost use Rattle.serve_command.specs.Command.{HasServed, IsOfServing, IsWhyOfService};
 ghost use Rattle.serve_command.specs.ServiceFault.{service_fault_text};
 
-use crate::fault::{ServiceFault, tell_service_fault};
 use crate::config_text::ConfigText;
+use crate::fault::{ServiceFault, tell_service_fault};
 use crate::logging::log_listening;
 use config_check::{read_bytes, read_file_text};
 use counted_io::Counted;

@@ -7,8 +7,8 @@ use gate_config::Settings;
 use limit_laws::Limit;
 use log::{Log, info, warn};
 
-/// Logs a warning where the greatest limit, with the callers who may wait, exceeds the workers, since
-/// who comes while all workers are taken waits unseen in the system's accept queue, and isn't
+/// Logs a warning where the greatest limit, with the callers who may wait, exceeds the workers,
+/// since who comes while all workers are taken waits unseen in the system's accept queue, and isn't
 /// refused; and then where clients are listened for, by how many workers, and the kind of limit.
 pub(crate) fn log_listening<R: Log>(rt: &R, settings: &Settings, workers: u32)
     requires { AreSound settings.now }

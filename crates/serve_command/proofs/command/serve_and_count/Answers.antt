@@ -27,7 +27,14 @@ pub returns-clause-served : goal.returns-clause-served
 returns-clause-served g c =
     let had = c.in_ok-text.ensures.text in
     let bytes = c.in_ok-text.text.items in
-    let says : Says bytes (Ok c.in_ok-settings.settings) = search rules in
-    (had.0, bytes, c.in_ok-settings.settings, had.2, says, c.in_ok-counters.counters,
-    c.in_ok-write_counters.ensures.all, c.in_ok-write_counters.ensures.unfailing,
-    c.in_ok-write_counters.ensures.flushed)
+    let says : Says bytes (Ok c.in_ok-settings.settings) = search rules in (
+      had.0,
+      bytes,
+      c.in_ok-settings.settings,
+      had.2,
+      says,
+      c.in_ok-counters.counters,
+      c.in_ok-write_counters.ensures.all,
+      c.in_ok-write_counters.ensures.unfailing,
+      c.in_ok-write_counters.ensures.flushed,
+    )
