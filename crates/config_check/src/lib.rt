@@ -1,8 +1,9 @@
 //! What `check` says of a configuration, over readers and writers of any kind.
 //!
 //! [`check_file`], [`check_reader`] and [`check_text`] say whether a configuration is right. Each
-//! contract pins the line that is written and the exit status. [`read_file_text`] and [`read_bytes`]
-//! give the text of a file and its settings, and [`tell_check_fault`] tells why there are none.
+//! contract pins the line that is written and the exit status. [`read_file_text`] and
+//! [`read_bytes`] give the text of a file and its settings, and [`tell_check_fault`] tells why there
+//! are none.
 #![tactic(auto)]
 
 mod accepted;

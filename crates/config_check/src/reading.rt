@@ -20,8 +20,8 @@ const MOST_READS: u64 = 33_554_432;
 
 /// The text of the configuration in the file of a path: at most 1 MiB, in at most 2^25 reads.
 ///
-/// A file that can't be opened or read, isn't at its end after so many reads, or has more is told as
-/// one that can't be read; else memory was wanting.
+/// A file that can't be opened or read, isn't at its end after so many reads, or has more is told
+/// as one that can't be read; else memory was wanting.
 pub fn read_file_text<F: Files>(files: &F, alloc: Global, path: &str) -> Result<Vec<u8>, CheckFault>
     ensures text { IfOk result (λ text. (before : CountedValue F.File)
         × (after : CountedValue F.File) × Held F.File.remaining before text.items
