@@ -2,8 +2,8 @@
 //!
 //! [`check_file`], [`check_reader`] and [`check_text`] say whether a configuration is right. Each
 //! contract pins the line that is written and the exit status. [`read_file_text`] and
-//! [`read_bytes`] give the text of a file and its settings, and [`tell_check_fault`] tells why there
-//! are none.
+//! [`read_bytes`] give the text of a file and its settings, and [`tell_check_fault`] tells why
+//! there are none.
 #![tactic(auto)]
 
 mod accepted;
