@@ -177,7 +177,7 @@ def main():
     reader.add_argument("--seconds", type=int, default=3)
     reader.add_argument("--rounds", type=int, default=8)
     reader.add_argument("clients", type=int, nargs="*", default=[16, 64, 256])
-    given = reader.parse_args()
+    given = reader.parse_intermixed_args()
     missing = [package for name, package in PACKAGES.items() if not shutil.which(name)]
     if missing or not os.access(given.program, os.X_OK):
         sys.exit(f"proxy.py: {', '.join(missing)} isn't installed" if missing else f"proxy.py: {given.program} isn't a built program")
