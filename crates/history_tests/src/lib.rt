@@ -6,6 +6,8 @@ mod audit_tests;
 #[cfg(test)]
 mod book_tests;
 #[cfg(test)]
+mod closing_tests;
+#[cfg(test)]
 mod dice;
 #[cfg(test)]
 mod four_threads_tests;

@@ -1,0 +1,241 @@
+// One exchange through a gate of its own.
+ghost use Rattle.std.specs.Prelude.{◌≡◌};
+ghost use Rattle.gate_ledgers.specs.Names.{AreNamed, AreWhole};
+
+use crate::devices::{Keeping, Says, Sink, Source, Still};
+use counted_io::Counted;
+use gate_config::{Settings, read};
+use gate_history::{Blanks, Book, Journal, Naming};
+use limit_laws::Fixed;
+use limiter_core::{Core, Counters, Outcome};
+use partitions::{Part, PartitionTable};
+use ports::{Admission, GatePort, SoloPort};
+use proxy::{Exchange, exchange};
+use std::alloc::Global;
+use std::marker::Brand;
+use std::test::Fail;
+
+const LINES: &str = "version = 1\nlisten = \"127.0.0.1:8080\"\nbackend = \"127.0.0.1:9000\"\n";
+
+const TABLES: &str = "[limit]\nkind = \"fixed\"\ninitial = 10\n\
+    [[bypass]]\nkind = \"prefix\"\nprefix = \"/health\"\n";
+
+const CLASSES: &str = "[[class]]\nname = \"live\"\npercent = 60\n\
+    [[resolver]]\nkind = \"header\"\nheader = \"X-Class\"\n";
+
+/// What an exchange is asked with.
+#[derive(Clone, Copy, Drop)]
+pub(crate) struct Case<'a> {
+    /// The client's bytes.
+    pub(crate) sent: &'a [u8],
+    /// The most bytes of one read.
+    pub(crate) most: usize,
+    /// What the backend does.
+    pub(crate) says: Says<'a>,
+    /// The limit; one permit is out where it is 1.
+    pub(crate) limit: u32,
+    /// The read and the write from which on the client's end fails.
+    pub(crate) failing_read: u64,
+    pub(crate) failing_write: u64,
+    /// Whether a refused request waits.
+    pub(crate) waits: bool,
+    /// Whether a header tells the class `live`, with a share of 60 percent.
+    pub(crate) has_classes: bool,
+}
+
+impl<'a> Case<'a> {
+    /// A request that comes whole, with room at the gate, and what the backend does.
+    pub(crate) fn new(sent: &'a [u8], says: Says<'a>) -> Case<'a> {
+        Case {
+            sent,
+            most: usize::MAX,
+            says,
+            limit: 10,
+            failing_read: u64::MAX,
+            failing_write: u64::MAX,
+            waits: false,
+            has_classes: false,
+        }
+    }
+}
+
+/// What came of an exchange.
+#[derive(Drop)]
+pub(crate) struct Came {
+    pub(crate) told: Exchange,
+    pub(crate) written: Vec<u8>,
+    pub(crate) forwarded: Vec<u8>,
+    pub(crate) forwards: u64,
+    /// How often the client's end was read and written.
+    pub(crate) reads: u64,
+    pub(crate) writes: u64,
+    /// How many entries it added.
+    pub(crate) entries: usize,
+    /// How many permits are out behind it, and what the gate has counted.
+    pub(crate) in_flight: u32,
+    pub(crate) counters: Counters,
+}
+
+impl Came {
+    /// So many forwards and entries, and no permit is out: each that was got is counted as ended.
+    pub(crate) fn has(&self, forwards: u64, entries: usize) -> bool {
+        let Counters {
+            admitted,
+            success,
+            ignored,
+            dropped,
+            ..
+        } = self.counters;
+        let ended = success.saturating_add(ignored).saturating_add(dropped);
+        self.forwards == forwards
+            && self.entries == entries
+            && self.in_flight == 0
+            && ended == admitted
+    }
+}
+
+/// One exchange.
+pub(crate) fn exchanged(alloc: Global, case: Case) -> Result<Came, Fail> {
+    let classes = if case.has_classes { CLASSES } else { "" };
+    let text = format!(in alloc; "{LINES}wait = {}\n{TABLES}{classes}", case.waits)?;
+    let settings = read(alloc, text.as_bytes())?;
+    let table = settings.table.copy()?;
+    came_through::<Brand>(alloc, case, &settings, table, Blanks::new())
+}
+
+fn came_through<N: Naming>(
+    alloc: Global,
+    case: Case,
+    settings: &Settings,
+    table: PartitionTable,
+    blanks: Blanks,
+) -> Result<Came, Fail>
+    requires names { AreNamed N.calls N.place blanks }
+    requires parts { AreWhole blanks }
+    requires rows { table ≡ N.rows }
+    requires room { N.room ≡ 100 }
+{
+    let mut port = open_port::<N>(alloc, case.limit, table, blanks)?;
+    Ok(came_by(alloc, &mut port, case, settings))
+}
+
+/// One exchange through this port.
+fn came_by<N: Naming>(
+    alloc: Global,
+    port: &mut SoloPort<Fixed, N>,
+    case: Case,
+    settings: &Settings,
+) -> Came {
+    let held = hold(port, case.limit);
+    let before = entries_of(port);
+    let told = told_of(alloc, port, case, settings);
+    let entries = entries_of(port).saturating_sub(before);
+    give_back(port, held);
+    came_of(told, entries, port.book().journal().core())
+}
+
+/// How many entries the port's book has.
+fn entries_of<N: Naming>(port: &SoloPort<Fixed, N>) -> usize {
+    port.book().journal().entries().len()
+}
+
+fn came_of(told: Told, entries: usize, core: &Core<Fixed>) -> Came {
+    Came {
+        told: told.exchange,
+        written: told.written,
+        forwarded: told.forwarded,
+        forwards: told.forwards,
+        reads: told.reads,
+        writes: told.writes,
+        entries,
+        in_flight: core.total(),
+        counters: core.counters(),
+    }
+}
+
+/// A port over a gate of its own with this fixed limit.
+fn open_port<N: Naming>(
+    alloc: Global,
+    limit: u32,
+    table: PartitionTable,
+    blanks: Blanks,
+) -> Result<SoloPort<Fixed, N>, Fail>
+    requires names { AreNamed N.calls N.place blanks }
+    requires parts { AreWhole blanks }
+    requires rows { table ≡ N.rows }
+    requires room { N.room ≡ 100 }
+{
+    let core = Core::new(alloc, Fixed::new(limit)?, table, 100)?;
+    let mut book = Book::<Fixed, N>::new(Journal::new(alloc, core, 100, false)?, blanks);
+    let pass = book.pass().ok_or("a pass")?;
+    Ok(SoloPort::new(book, pass))
+}
+
+/// The one permit of a gate with the limit 1.
+fn hold<P: GatePort>(port: &mut P, limit: u32) -> Option<Admission<P::Permit>> {
+    if limit == 1 {
+        Some(port.admit(Part::Unknown, false, None, 0))
+    } else {
+        None
+    }
+}
+
+/// Ends the permit that was held.
+fn give_back<P: GatePort>(port: &mut P, held: Option<Admission<P::Permit>>) {
+    match held {
+        Some(Admission::Admitted(permit)) => {
+            port.end(permit, Outcome::Ignored, 9);
+        }
+        Some(Admission::Bypassed) => {}
+        Some(Admission::Refused(_)) => {}
+        None => {}
+    }
+}
+
+/// What an exchange leaves at its client and its backend.
+#[derive(Drop)]
+struct Told {
+    exchange: Exchange,
+    written: Vec<u8>,
+    forwarded: Vec<u8>,
+    forwards: u64,
+    reads: u64,
+    writes: u64,
+}
+
+fn told_of<P: GatePort>(alloc: Global, port: &mut P, case: Case, settings: &Settings) -> Told {
+    let mut backend = Keeping {
+        alloc,
+        says: case.says,
+        got: Vec::new(alloc),
+        count: 0,
+    };
+    let mut source = Source {
+        left: case.sent,
+        most: case.most,
+        calls: 0,
+        failing: case.failing_read,
+    };
+    let mut sink = Sink {
+        taken: Vec::new(alloc),
+        calls: 0,
+        failing: case.failing_write,
+    };
+    let exchange = exchange(
+        alloc,
+        port,
+        &mut backend,
+        settings,
+        &Still,
+        &mut Counted::new(&mut source),
+        &mut Counted::new(&mut sink),
+    );
+    Told {
+        exchange,
+        written: sink.taken,
+        forwarded: backend.got,
+        forwards: backend.count,
+        reads: source.calls,
+        writes: sink.calls,
+    }
+}
