@@ -4,12 +4,12 @@ ghost use Rattle.std.specs.Prelude.{◌≡◌, []};
 ghost use Rattle.gate_ledgers.specs.Names.{AreNamed, AreWhole};
 
 use crate::one_permit::single;
-use gate_history::{Blanks, Book, Entry, History, Journal, Naming, Permit, Receipt};
+use gate_history::{Blanks, Book, Entry, History, Journal, Naming, Permit, Receipt, Spent};
 use limit_laws::Fixed;
 use limiter_core::{Core, Event, Outcome, PermitFacts, Reply};
 use partitions::{Part, PartitionTable};
 use shared_gate::{AuditFault, Cause, Got, Pass, SharedGate};
-use std::alloc::Global;
+use std::alloc::{AllocError, Global};
 use std::marker::Brand;
 use std::process::Abort;
 use std::sync::Wait;
@@ -76,20 +76,45 @@ fn closes_two_calls<M: Naming, R: Wait + Abort>(
     requires rows { M.rows ≡ [] }
     requires room { M.room ≡ 100 }
 {
-    let mut book = single::<M>(alloc, 1_000, false, blanks)?;
-    let mut pass = Pass::of(book.pass().ok_or("a pass")?);
+    let (gate, mut pass) = open::<M>(alloc, 1_000, false, blanks)?;
+    let list = handed_in(two_calls(rt, alloc, &gate, &mut pass)?, handing);
+    let pass = if handing.has_pass { Some(pass) } else { None };
+    is_told(rt, closed(alloc, gate, pass, list)?, handing, wanted);
+    Ok(())
+}
+
+/// A gate with one permit that keeps so many entries, and a pass for it.
+fn open<M: Naming>(
+    alloc: Global,
+    kept: usize,
+    is_rolling: bool,
+    blanks: Blanks,
+) -> Result<(SharedGate<Fixed, M>, Pass<M>), Fail>
+    requires names { AreNamed M.calls M.place blanks }
+    requires parts { AreWhole blanks }
+    requires rows { M.rows ≡ [] }
+    requires room { M.room ≡ 100 }
+{
+    let mut book = single::<M>(alloc, kept, is_rolling, blanks)?;
+    let pass = Pass::of(book.pass().ok_or("a pass")?);
     book.seal();
-    let gate = SharedGate::new(book);
-    let list = two_calls(rt, alloc, &gate, &mut pass)?;
-    let list = handed_in(list, handing);
+    Ok((SharedGate::new(book), pass))
+}
+
+/// What the closing of a gate answers that is handed this list, and its pass if there is one.
+fn closed<M: Naming>(
+    alloc: Global,
+    gate: SharedGate<Fixed, M>,
+    pass: Option<Pass<M>>,
+    list: Vec<Receipt<M>>,
+) -> Result<Result<History<Fixed>, AuditFault<Fixed, M>>, AllocError> {
     let mut kept = Vec::new(alloc);
     kept.push(list)?;
     let mut passes = Vec::new(alloc);
-    if handing.has_pass {
+    if let Some(pass) = pass {
         passes.push(pass)?;
     }
-    is_told(rt, gate.close(alloc, passes, kept), handing, wanted);
-    Ok(())
+    Ok(gate.close(alloc, passes, kept))
 }
 
 /// The receipts of an acquire and its ending.
@@ -196,7 +221,6 @@ fn a_gate_that_rolled_is_not_accepted(rt: HostRuntime) -> Result<(), Fail> {
     closes_rolled::<Brand, _>(&rt, rt.alloc(), Blanks::new())
 }
 
-/// Two looks by one pass, of which one entry is kept.
 fn closes_rolled<M: Naming, R: Wait + Abort>(
     rt: &R,
     alloc: Global,
@@ -207,22 +231,38 @@ fn closes_rolled<M: Naming, R: Wait + Abort>(
     requires rows { M.rows ≡ [] }
     requires room { M.room ≡ 100 }
 {
-    let mut book = single::<M>(alloc, 1, true, blanks)?;
-    let mut pass = Pass::of(book.pass().ok_or("a pass")?);
-    book.seal();
-    let gate = SharedGate::new(book);
+    let (gate, mut pass) = open::<M>(alloc, 1, true, blanks)?;
+    let list = two_looks(rt, alloc, &gate, &mut pass)?;
+    has_rolled(rt, closed(alloc, gate, Some(pass), list)?);
+    Ok(())
+}
+
+/// The receipts of two looks by one pass.
+fn two_looks<M: Naming, R: Wait + Abort>(
+    rt: &R,
+    alloc: Global,
+    gate: &SharedGate<Fixed, M>,
+    pass: &mut Pass<M>,
+) -> Result<Vec<Receipt<M>>, AllocError> {
+    let first = seen(rt, gate.look(rt, pass, Part::Unknown));
+    let second = seen(rt, gate.look(rt, pass, Part::Unknown));
     let mut list = Vec::new(alloc);
-    for _ in 0..2 {
-        match gate.look(rt, &mut pass, Part::Unknown) {
-            Ok(receipt) => list.push(receipt)?,
-            Err(_spent) => rt.abort(),
-        }
+    list.push(first)?;
+    list.push(second)?;
+    Ok(list)
+}
+
+/// The receipt of a look.
+fn seen<M: Naming, R: Abort>(rt: &R, looked: Result<Receipt<M>, Spent<M>>) -> Receipt<M> {
+    match looked {
+        Ok(receipt) => receipt,
+        Err(_spent) => rt.abort(),
     }
-    let mut kept = Vec::new(alloc);
-    kept.push(list)?;
-    let mut passes = Vec::new(alloc);
-    passes.push(pass)?;
-    match gate.close(alloc, passes, kept) {
+}
+
+/// The history of two looks begins with the second one.
+fn has_rolled<M: Naming, R: Abort>(rt: &R, closed: Result<History<Fixed>, AuditFault<Fixed, M>>) {
+    match closed {
         Ok(_history) => rt.abort(),
         Err(fault) => {
             assert!(rt; fault.cause == Cause::Rolled { base: 1 });
@@ -230,7 +270,6 @@ fn closes_rolled<M: Naming, R: Wait + Abort>(
             assert!(rt; fault.kept.len() == 1);
         }
     }
-    Ok(())
 }
 
 #[test]
@@ -248,14 +287,52 @@ fn closes_two_threads<M: Naming + Send + Sync, R: Threads + Wait + Abort + Sync>
     requires rows { M.rows ≡ [] }
     requires room { M.room ≡ 100 }
 {
+    let book = roomy::<M>(alloc, blanks)?;
+    closes_book(rt, alloc, book)
+}
+
+/// A book whose limit isn't reached by two callers.
+fn roomy<M: Naming>(alloc: Global, blanks: Blanks) -> Result<Book<Fixed, M>, Fail>
+    requires names { AreNamed M.calls M.place blanks }
+    requires parts { AreWhole blanks }
+    requires rows { M.rows ≡ [] }
+    requires room { M.room ≡ 100 }
+{
     let table = PartitionTable::unknown_only();
     let core = Core::new(alloc, Fixed::new(10)?, table, 100)?;
-    let mut book = Book::<Fixed, M>::new(Journal::new(alloc, core, 1_000, false)?, blanks);
+    Ok(Book::new(Journal::new(alloc, core, 1_000, false)?, blanks))
+}
+
+fn closes_book<M: Naming + Send + Sync, R: Threads + Wait + Abort + Sync>(
+    rt: &R,
+    alloc: Global,
+    mut book: Book<Fixed, M>,
+) -> Result<(), Fail> {
     let one = a_caller(alloc, &mut book)?;
     let two = a_caller(alloc, &mut book)?;
     book.seal();
     let gate = SharedGate::new(book);
-    let (one, two) = join(rt, || calls(rt, &gate, one), || calls(rt, &gate, two));
+    let (one, two) = by_two_threads(rt, &gate, one, two);
+    is_accepted(rt, alloc, gate, one, two)
+}
+
+fn by_two_threads<M: Naming + Send + Sync, R: Threads + Wait + Abort + Sync>(
+    rt: &R,
+    gate: &SharedGate<Fixed, M>,
+    one: Caller<M>,
+    two: Caller<M>,
+) -> (Caller<M>, Caller<M>) {
+    join(rt, || calls(rt, gate, one), || calls(rt, gate, two))
+}
+
+/// The gate of these two callers has a whole history of their 400 calls.
+fn is_accepted<M: Naming, R: Abort>(
+    rt: &R,
+    alloc: Global,
+    gate: SharedGate<Fixed, M>,
+    one: Caller<M>,
+    two: Caller<M>,
+) -> Result<(), Fail> {
     let mut passes = Vec::new(alloc);
     let mut kept = Vec::new(alloc);
     passes.push(one.pass)?;
