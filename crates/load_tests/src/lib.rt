@@ -1,0 +1,9 @@
+//! Tests of traces that threads carry out through one gate, by public calls.
+#![tactic(auto)]
+
+#[cfg(test)]
+mod fault_tests;
+#[cfg(test)]
+mod overlap_tests;
+#[cfg(test)]
+mod run_tests;
