@@ -7,6 +7,8 @@ use commands::{Run, run_text, words};
 use config_check::check_file;
 use counted_io::Counted;
 use fault_lines::tell_unread_words;
+use gate_config::Settings;
+use serve_command::{Service, serve_file};
 use std::env;
 use std::io::Error;
 use std::process::ExitCode;
@@ -18,6 +20,23 @@ fn main(rt: HostRuntime) -> ExitCode {
         Ok(list) => list,
         Err(error) => return ExitCode::from(tell_unread_words(error.kind(), &mut errors)),
     };
+    if let Some(first) = list.get(1) && first.as_str() == "serve" {
+        let mut writer = Counted::new(rt.stdout());
+        let number = |at: usize| list.get(at).and_then(|word| word.parse::<u64>().ok());
+        let service = Service {
+            path: list.get(2).map_or("", |word| word.as_str()),
+            workers: number(3).unwrap_or(4).clamp(1, 64) as u32,
+            per_worker: number(4),
+            client_timeout_ms: number(5).unwrap_or(10_000) as u32,
+        };
+        return ExitCode::from(serve_file::<Settings, _, _, _>(
+            &rt,
+            alloc,
+            &service,
+            &mut writer,
+            &mut errors,
+        ));
+    }
     let run = match words(alloc, list.as_slice()) {
         Ok(run) => run,
         Err(error) => {
