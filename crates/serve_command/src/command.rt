@@ -46,10 +46,10 @@ pub struct Service<'a> {
 /// the gate's counters to `writer`; or the line of the first fault to `errors`. Answers the exit
 /// status.
 ///
-/// Once the address is bound the log says so. What workers share of the configuration is an `S`, as
-/// `gate_config::Settings` are one: a caller names it, since that threads may share a value is known
-/// of a type parameter, and of a type where there is none. Either line is flushed. Where the line of a fault
-/// can't be written itself, it is dropped.
+/// Once the address is bound the log says so. What workers share of the configuration is an `S`,
+/// such as `gate_config::Settings`, and its caller names it: that threads may share a value is
+/// known of a type parameter, and of a type where there are none. Either line is flushed. Where the
+/// line of a fault can't be written itself, it is dropped.
 pub fn serve_file<S, R, W, E>(
     rt: &R,
     alloc: Global,
