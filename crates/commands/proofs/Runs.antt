@@ -32,30 +32,36 @@ ranges_kept (Some named) (Check path) is = tt
 ranges_kept (Some named) (Serve path workers per_worker client_timeout) is =
     (is.2.4, is.2.5, is.3.4, is.3.5, is.4.4, is.4.5)
 
-pub no_replay : (rows : List Row) (run : Run) → ((n : ℕ) → HasNumber rows (codes "limit") 1 10000 n → ⊥)
+pub no_replay : (rows : List Row) (run : Run)
+    → ((n : ℕ) → HasNumber rows (codes "limit") 1 10000 n → ⊥)
     → IsCommandOf (codes "replay") rows run → ⊥
 no_replay rows (OfText (Replay limit)) none is = none limit is.1
 no_replay rows (OfText (Simulate limit)) none is = let named = is.0 in search rules
 no_replay rows (Load limit workers) none is = let named = is.0 in search rules
 no_replay rows (Check path) none is = let named = is.0 in search rules
-no_replay rows (Serve path workers per_worker client_timeout) none is = let named = is.0 in search rules
+no_replay rows (Serve path workers per_worker client_timeout) none is =
+    let named = is.0 in search rules
 
-pub no_simulate : (rows : List Row) (run : Run) → ((n : ℕ) → HasNumber rows (codes "limit") 1 10000 n → ⊥)
+pub no_simulate : (rows : List Row) (run : Run)
+    → ((n : ℕ) → HasNumber rows (codes "limit") 1 10000 n → ⊥)
     → IsCommandOf (codes "simulate") rows run → ⊥
 no_simulate rows (OfText (Replay limit)) none is = let named = is.0 in search rules
 no_simulate rows (OfText (Simulate limit)) none is = none limit is.1
 no_simulate rows (Load limit workers) none is = let named = is.0 in search rules
 no_simulate rows (Check path) none is = let named = is.0 in search rules
-no_simulate rows (Serve path workers per_worker client_timeout) none is = let named = is.0 in search rules
+no_simulate rows (Serve path workers per_worker client_timeout) none is =
+    let named = is.0 in search rules
 
-pub no_load : (rows : List Row) (run : Run) → ((limit workers : ℕ) → HasNumber rows (codes "limit") 1 10000 limit
+pub no_load : (rows : List Row) (run : Run)
+    → ((limit workers : ℕ) → HasNumber rows (codes "limit") 1 10000 limit
     → HasNumber rows (codes "workers") 1 64 workers → ⊥)
     → IsCommandOf (codes "load") rows run → ⊥
 no_load rows (OfText (Replay limit)) none is = let named = is.0 in search rules
 no_load rows (OfText (Simulate limit)) none is = let named = is.0 in search rules
 no_load rows (Load limit workers) none is = none limit workers is.1 is.2
 no_load rows (Check path) none is = let named = is.0 in search rules
-no_load rows (Serve path workers per_worker client_timeout) none is = let named = is.0 in search rules
+no_load rows (Serve path workers per_worker client_timeout) none is =
+    let named = is.0 in search rules
 
 pub no_check : (rows : List Row) (run : Run) → first_of (codes "config") rows ≡ None
     → IsCommandOf (codes "check") rows run → ⊥
@@ -63,7 +69,8 @@ no_check rows (OfText (Replay limit)) none is = let named = is.0 in search rules
 no_check rows (OfText (Simulate limit)) none is = let named = is.0 in search rules
 no_check rows (Load limit workers) none is = let named = is.0 in search rules
 no_check rows (Check path) none is = no_path none is.1
-no_check rows (Serve path workers per_worker client_timeout) none is = let named = is.0 in search rules
+no_check rows (Serve path workers per_worker client_timeout) none is =
+    let named = is.0 in search rules
 
 pub no_serve : (rows : List Row) (run : Run)
     → ((path : List ℕ) (workers per_worker client_timeout : ℕ)

@@ -34,13 +34,13 @@ returns-in-BacklogFull g c =
 
 pub returns-in-Ok : goal.returns-in-Ok
 returns-in-Ok g c =
-    makes_lost (Unit {0}) _ _ c.args.arrival c.in-Lost.first c.in-Lost.second c.requires c.in-Lost.ensures
-    c.in-Ok.second c.in-Ok.is
+    makes_lost (Unit {0}) _ _ c.args.arrival c.in-Lost.first c.in-Lost.second c.requires
+    c.in-Lost.ensures c.in-Ok.second c.in-Ok.is
 
 pub returns-in-Err : goal.returns-in-Err
 returns-in-Err g c =
-    makes_stuck (Unit {0}) _ _ c.args.arrival c.in-Lost.first c.in-Lost.second c.requires c.in-Lost.ensures
-    c.in-Err._spent c.in-Err.is
+    makes_stuck (Unit {0}) _ _ c.args.arrival c.in-Lost.first c.in-Lost.second c.requires
+    c.in-Lost.ensures c.in-Err._spent c.in-Err.is
 
 pub returns-in-Exhausted : goal.returns-in-Exhausted
 returns-in-Exhausted g c = exhausted
