@@ -1,5 +1,5 @@
 -- Known bytes, read or written a piece at a time.
-use Rattle.std.proofs.Common.{◌≡◌, ℕ, ◌+◌, ◌-◌, ◌<◌, ◌≤◌, List, take, drop, take-append-drop, length-take-le, ◌++◌, length, ap, ◌∙◌, sym, length-append, Option, None, Some, IfSome, arith, Result, Ok, Err, OnErr}
+use Rattle.std.proofs.Common.{◌≡◌, ℕ, ◌+◌, ◌-◌, ◌<◌, ◌≤◌, List, [], take, drop, take-append-drop, length-take-le, ◌++◌, length, ap, ◌∙◌, sym, length-append, Option, None, Some, IfSome, arith, Result, Ok, Err, OnErr}
 use Rattle.std.specs.Io.KnownBytes.{Consumes, Appends, Keeps}
 use Rattle.std.proofs.Math.Seq.{take-append-add, take-length}
 use Rattle.std.proofs.lemmas.List.{take_rest}
@@ -40,3 +40,9 @@ front_of_whole (Err e) (Some x) None c bytes p q = absurd p
 front_of_whole (Err e) (Some x) (Some y) None bytes p q = absurd q
 front_of_whole (Err e) (Some x) (Some y) (Some z) bytes p q =
     (length bytes, q ∙ p ∙ ap (λ l. x ++ l) (sym (take-length bytes)))
+
+-- where a reader shows nothing, it has nothing left
+pub none_left : (a : Option (List ℕ)) (n : ℕ) → IfSome a (λ xs. n ≡ 0 → xs ≡ []) → n ≡ 0
+    → IfSome a (λ xs. xs ≡ [])
+none_left None n h zero = tt
+none_left (Some xs) n h zero = h zero

@@ -1,11 +1,13 @@
 // A reader or a writer with its two counts.
-ghost use Rattle.std.specs.Prelude.{◌≡◌, ◌<◌, ◌||◌, length, Ok, is_ok, false, IfOk};
-ghost use Rattle.std.specs.Io.{ReadsAtMost, WritesAtMost};
+ghost use Rattle.std.specs.Prelude.{◌≡◌, ◌<◌, ◌||◌, [], length, take, Ok, is_ok, false, IfOk, OnErr};
+ghost use Rattle.std.specs.Io.{ReadsAtMost, StopsAt, WritesAtMost};
 ghost use Rattle.std.specs.Io.KnownBytes.{Keeps, ReadConsumes, WriteAppends};
 ghost use Rattle.counted_io.specs.Count.{raised, raised_by_err};
 ghost use Rattle.counted_io.specs.Counted.{inner_of, calls_of, failures_of, flushes_of, is_flushed};
+ghost use Rattle.counted_io.specs.Effects.{Gave, IfLeft};
 
-use std::io::{Error, ErrorKind, Read, Result, Write};
+use crate::through::move_through;
+use std::io::{BufRead, Error, ErrorKind, Read, Result, Write};
 
 /// A reader or a writer, with how many reads or writes, flushes and failures it had.
 ///
@@ -106,6 +108,32 @@ impl<R: Read> Read for Counted<R> {
     {
         self.count_call();
         let outcome = self.inner.read(buf);
+        self.count_failure(&outcome);
+        outcome
+    }
+}
+
+impl<R: BufRead> Counted<R> {
+    /// Reads some bytes to the front of `buf`, no further than the first `stop` among them.
+    ///
+    /// It is one call, like a read. The reader shows what it has read ahead, so a whole line costs
+    /// one call where it lies in the reader's buffer.
+    pub fn read_through(&mut self, stop: u8, buf: &mut [u8]) -> Result<usize>
+        ensures bound { ReadsAtMost result buf.new }
+        ensures length { length buf.new ≡ length buf.old }
+        ensures gave { IfOk result (λ count. Gave R.remaining self.old self.new (take count buf.new)) }
+        ensures kept { OnErr result
+            (Keeps (R.remaining (inner_of self.old)) (R.remaining (inner_of self.new))) }
+        ensures end { IfOk result (λ count. count ≡ 0 → 0 < length buf.new
+            → IfLeft R.remaining self.old (λ left. left ≡ [])) }
+        ensures stops { IfOk result (λ count. StopsAt (take count buf.new) stop) }
+        ensures calls { calls_of self.new ≡ raised (calls_of self.old) }
+        ensures flushes { flushes_of self.new ≡ flushes_of self.old }
+        ensures failures { failures_of self.new ≡ raised_by_err result (failures_of self.old) }
+        ensures flushed { is_flushed self.new ≡ is_flushed self.old }
+    {
+        self.count_call();
+        let outcome = move_through(&mut self.inner, stop, buf);
         self.count_failure(&outcome);
         outcome
     }

@@ -8,6 +8,7 @@
 
 mod counted;
 mod reading;
+mod through;
 mod writing;
 
 pub use counted::Counted;

@@ -9,6 +9,10 @@ use Rattle.lent_io.specs.Buffers.{ahead_of, behind_of}
 abbrev pub left_of : {R : Type 0} → (R → Option (List ℕ)) → BufferedRead R → Option (List ℕ)
 left_of remaining reader = prepend_known (ahead_of reader.ahead.now) (remaining reader.inner)
 
+-- what the buffer holds of a reader
+abbrev pub held_of : {R : Type 0} → BufferedRead R → List ℕ
+held_of reader = ahead_of reader.ahead.now
+
 -- what the writer below holds, where that is known, and then what lies in the buffer
 abbrev pub held_by : {W : Type 0} → (W → Option (List ℕ)) → BufferedWrite W → Option (List ℕ)
 held_by contents writer = append_known (contents writer.inner) (behind_of writer.behind.now)

@@ -40,7 +40,7 @@ impl ReadBuffer {
     }
 
     // What was read and not yet handed on.
-    fn held(&self) -> &[u8]
+    pub(crate) fn held(&self) -> &[u8]
         ensures value { result.now ≡ ahead_of self.now }
         ensures len { length result.now ≡ self.now.end - self.now.start }
     {
@@ -50,7 +50,7 @@ impl ReadBuffer {
     }
 
     // Forgets so many bytes of the front, or all.
-    fn consume(&mut self, amount: usize)
+    pub(crate) fn consume(&mut self, amount: usize)
         ensures room { room_of self.new ≡ room_of self.old }
         ensures bytes { ahead_of self.new ≡ drop amount (ahead_of self.old) }
     {

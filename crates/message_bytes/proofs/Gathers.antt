@@ -12,7 +12,7 @@ abbrev pub GivesByte : Option (List ℕ) → Option (List ℕ) → Result ℕ Re
 GivesByte = Gives {X = ℕ} {V = ℕ} (λ b. b) (By byte_of)
 
 module _ (ends : List ℕ → Bool) (most : ℕ) (over : Fault) where
-  one_more : (seen ys zs : List ℕ) (b : ℕ) → Ok (b, zs) ≡ byte_of ys → length seen < most
+  pub one_more : (seen ys zs : List ℕ) (b : ℕ) → Ok (b, zs) ≡ byte_of ys → length seen < most
       → gather ends most over seen ys ≡ (if ends (seen ++ b ∷ []) then Ok (seen ++ b ∷ [], zs)
       else gather ends most over (seen ++ b ∷ []) zs)
   one_more seen [] zs b is short = search rules
@@ -48,18 +48,6 @@ module _ (ends : List ℕ → Bool) (most : ℕ) (over : Fault) where
     gathered (Some xs) None new seen b x on byte short more is = absurd on
     gathered (Some xs) (Some ys) None seen b x on byte short more is = absurd byte
     gathered (Some xs) (Some ys) (Some zs) seen b x on byte short more is =
-        let found = on ∙ one_more seen ys zs b byte short ∙ rw more refl in
-        sym (ap k found ∙ is zs)
-
-    pub gathered_fault : (old mid new : Option (List ℕ)) (seen : List ℕ) (b : ℕ) (f : Fault)
-        → GoesOn ends most over old mid seen → GivesByte mid new (Ok b) → length seen < most
-        → ends (seen ++ b ∷ []) ≡ true
-        → ((zs : List ℕ) → k (Ok (seen ++ b ∷ [], zs)) ≡ Err f)
-        → Gives view Is old new (Err (Bytes f))
-    gathered_fault None mid new seen b f on byte short more is = search rules
-    gathered_fault (Some xs) None new seen b f on byte short more is = absurd on
-    gathered_fault (Some xs) (Some ys) None seen b f on byte short more is = absurd byte
-    gathered_fault (Some xs) (Some ys) (Some zs) seen b f on byte short more is =
         let found = on ∙ one_more seen ys zs b byte short ∙ rw more refl in
         sym (ap k found ∙ is zs)
 

@@ -1,5 +1,7 @@
 mod Gathers
 mod Phases
-mod Progress
+mod Pieces
+mod HeadEnds
+mod HeadProgress
 mod Sized
 mod TrailerLines

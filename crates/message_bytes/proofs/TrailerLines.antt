@@ -8,7 +8,7 @@ use Rattle.message_bytes.specs.declared.fault.ReadFault.TheVariants.{Bytes}
 use Rattle.message_bytes.specs.Reading.{Reading, By, Gives, ◌>>=◌}
 use Rattle.message_bytes.specs.Lines.{TrailersGoOn, ends_in_empty, is_empty_end, trailers_of}
 use Rattle.message_bytes.proofs.Gathers.{GivesByte, gathered, gathered_early, gathered_over, goes_on_start, goes_on_more}
-use Rattle.message_bytes.proofs.Progress.{empty_more, three_more}
+use Rattle.message_bytes.proofs.HeadProgress.{empty_more, three_more}
 
 abbrev drop_lines : Reading (List ℕ) → Reading (List ℕ)
 drop_lines r = r >>= λ p. Ok ([], p.1)

@@ -1,9 +1,9 @@
 -- Where a head ends.
-use Rattle.std.specs.Prelude.{◌≡◌, ◌≤◌, ℕ, Bool, true, not, ◌&&◌, ◌||◌, ◌==◌, List, [], ◌∷◌, Ok, Err, length, nat_lt, if◌then◌else◌, count_by}
+use Rattle.std.specs.Prelude.{ℕ, Bool, true, not, ◌&&◌, ◌||◌, ◌==◌, List, [], ◌∷◌, Ok, Err, nat_lt, if◌then◌else◌, count_by}
 use Rattle.message_bytes.specs.declared.fault.Fault.TheVariants.{HeadTooLarge}
 use Rattle.message_bytes.specs.Reading.{Reading}
 use Rattle.message_bytes.specs.Gather.{gather}
-use Rattle.message_bytes.specs.Lines.{last_three, ends_in_empty}
+use Rattle.message_bytes.specs.Lines.{ends_in_empty}
 
 -- behind the byte `last` of empty lines this byte goes on with them
 abbrev pub stays_blank : ℕ → ℕ → Bool
@@ -39,11 +39,3 @@ head_of bytes = limit_lines (gather ends_head 65536 HeadTooLarge [] bytes)
 -- 1 where the byte ends a line that isn't one of the empty ones in front
 abbrev pub ended_by : Bool → ℕ → ℕ
 ended_by blank b = if (b == 10) && not blank then 1 else 0
-
--- what is kept beside the bytes of a head so far
-pub record IsProgress (text : List ℕ) (blank : Bool) (before last lines : ℕ) : Type 0 where
-  pub blank_is : blank ≡ is_blank 10 text
-  pub before_is : before ≡ (last_three (0, 0, 10) text).1
-  pub last_is : last ≡ (last_three (0, 0, 10) text).2
-  pub lines_is : lines ≡ line_ends text
-  pub lines_fit : lines ≤ length text

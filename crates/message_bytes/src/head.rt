@@ -1,116 +1,89 @@
 // The bytes of a head.
-ghost use Rattle.std.specs.Prelude.{◌≡◌, ◌≤◌, ◌++◌, ◌∷◌, [], IsErrOf, IfOk, OnOk, ◌&&◌, not};
+ghost use Rattle.std.specs.Prelude.{◌≡◌, ◌≤◌, ◌<◌, ◌++◌, [], length, IsErrOf, IfErr, IfOk, OnErr, OnOk};
 ghost use Rattle.counted_io.specs.Counted.{inner_of, calls_of, failures_of};
 ghost use Rattle.message_bytes.specs.Reading.{By, HasFailed, Reads};
-ghost use Rattle.message_bytes.specs.Head.{ended_by, ends_head, head_of, line_ends, stays_blank};
+ghost use Rattle.message_bytes.specs.Head.{ends_head, head_of, line_ends};
 
-use crate::byte::read_byte;
-use crate::ending::ends_empty;
+use crate::byte::read_line_part;
 use crate::fault::{Fault, ReadFault};
+use crate::progress::Progress;
 use counted_io::Counted;
 use std::alloc::{AllocError, Global};
-use std::io::Read;
+use std::io::BufRead;
 use std::marker::Model;
 
 /// The greatest number of bytes of a head.
 const MOST_HEAD: usize = 65_536;
 
+/// How many bytes are asked for at once.
+const PIECE: usize = 1_024;
+
 /// The greatest number of lines, the first and the empty one among them.
 const MOST_LINES: usize = 102;
 
-// The bytes of a head so far, with what decides on the next one.
+// The bytes of a head so far.
 #[derive(Drop)]
 struct Seen {
     bytes: Vec<u8>,
-    // There are only empty lines, and perhaps a CR.
-    blank: bool,
-    before: u8,
-    last: u8,
-    // How many lines ended, but for the empty ones in front.
-    lines: usize,
+    progress: Progress,
 }
 
 impl Model for Seen {
     ghost use Rattle.std.specs.Prelude.{ℕ, List};
-    ghost use Rattle.message_bytes.specs.Head.{IsProgress};
+    ghost use Rattle.message_bytes.specs.Progress.{IsProgress};
 
     ghost Value = { List ℕ };
 
-    ghost view = { λ s. s.bytes.items };
+    ghost view = { λ seen. seen.bytes.items };
 
-    ghost invariant = { λ s. IsProgress s.bytes.items s.blank s.before s.last s.lines };
+    ghost invariant = { λ seen. IsProgress seen.bytes.items seen.progress };
 }
 
 impl Seen {
-    #[tactic(auto, using(crate::proofs::Progress::progress_none))]
     fn new(alloc: Global) -> Seen
         ensures { result ≡ [] }
     {
         Seen {
             bytes: Vec::new(alloc),
-            blank: true,
-            before: 0,
-            last: b'\n',
-            lines: 0,
+            progress: Progress::new(),
         }
     }
 
-    // Adds a byte, and tells whether it ends the head.
-    #[tactic(auto, using(crate::proofs::Progress::progress_more))]
-    fn add(&mut self, byte: u8) -> Result<bool, AllocError>
-        ensures bytes { OnOk result (self.new ≡ self.old ++ byte ∷ []) }
-        ensures ends { IfOk result (λ ends. ends ≡ ends_head (self.old ++ byte ∷ [])) }
+    // Adds some bytes, and tells whether all are a head.
+    fn add(&mut self, piece: &[u8]) -> Result<bool, AllocError>
+        ensures bytes { OnOk result (self.new ≡ self.old ++ piece.now) }
+        ensures ends { IfOk result (λ ends. ends ≡ ends_head (self.old ++ piece.now)) }
     {
-        let blank = goes_on_blank(self.blank, self.last, byte);
-        let ends = ends_full(blank, ends_empty(self.before, self.last, byte));
-        self.bytes.push(byte)?;
-        self.lines += ended(blank, byte);
-        self.blank = blank;
-        self.before = self.last;
-        self.last = byte;
-        Ok(ends)
+        self.bytes.extend_from_slice(piece)?;
+        self.progress = self.progress.through(piece);
+        Ok(self.progress.ends())
     }
 
-    fn lines(&self) -> usize
-        ensures { result ≡ line_ends self.now }
+    fn len(&self) -> usize
+        ensures { result ≡ length self.now }
     {
-        self.lines
+        self.bytes.len()
     }
 
-    fn into_bytes(self) -> Vec<u8>
-        ensures { result.items ≡ self }
+    // The bytes, unless they have too many lines.
+    fn into_head(self) -> Result<Vec<u8>, ReadFault>
+        ensures head { IfOk result (λ head. head.items ≡ self) }
+        ensures lines { OnOk result (line_ends self ≤ 102) }
+        ensures fault { IfErr result (λ fault. fault ≡ ReadFault.Bytes Fault.HeadTooLarge) }
+        ensures too_large { OnErr result (102 < line_ends self) }
     {
-        self.bytes
+        if self.progress.lines() > MOST_LINES {
+            return Err(ReadFault::Bytes(Fault::HeadTooLarge));
+        }
+        Ok(self.bytes)
     }
-}
-
-// After this byte there are still only empty lines, and perhaps a CR.
-fn goes_on_blank(blank: bool, last: u8, byte: u8) -> bool
-    ensures { result ≡ (blank && stays_blank last byte) }
-{
-    blank && (byte == b'\n' || (byte == b'\r' && last != b'\r'))
-}
-
-// An empty line ends here that isn't one of those in front.
-fn ends_full(blank: bool, empty: bool) -> bool
-    ensures { result ≡ (not blank && empty) }
-{
-    !blank && empty
-}
-
-// 1 where the byte ends a line that isn't one of the empty ones in front.
-fn ended(blank: bool, byte: u8) -> usize
-    ensures value { result ≡ ended_by blank byte }
-    ensures most { result ≤ 1 }
-{
-    if byte == b'\n' && !blank { 1 } else { 0 }
 }
 
 /// The bytes of a head through its empty line, those of empty lines before it included.
 ///
 /// At most 65,536 bytes and, between the first line and the empty one, 100 lines; more is
 /// `HeadTooLarge`.
-pub fn read_head<R: Read>(
+pub fn read_head<R: BufRead>(
     alloc: Global,
     reader: &mut Counted<R>,
     limit: u64,
@@ -123,17 +96,14 @@ pub fn read_head<R: Read>(
     ensures turns { IsErrOf result ReadFault.TurnLimit → limit ≤ calls_of reader.new }
 {
     let mut seen = Seen::new(alloc);
-    for _ in 0..MOST_HEAD {
-        let byte = read_byte(reader, limit)?;
-        match seen.add(byte) {
+    let mut piece = [0u8; PIECE];
+    while seen.len() < MOST_HEAD {
+        let room = PIECE.min(MOST_HEAD - seen.len());
+        let count = read_line_part(reader, limit, &mut piece[..room])?;
+        match seen.add(&piece[..count]) {
             Err(_) => return Err(ReadFault::Memory),
             Ok(false) => {}
-            Ok(true) => {
-                if seen.lines() > MOST_LINES {
-                    return Err(ReadFault::Bytes(Fault::HeadTooLarge));
-                }
-                return Ok(seen.into_bytes());
-            }
+            Ok(true) => return seen.into_head(),
         }
     }
     Err(ReadFault::Bytes(Fault::HeadTooLarge))

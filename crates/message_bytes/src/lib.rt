@@ -12,6 +12,7 @@ mod ending;
 mod fault;
 mod head;
 mod line;
+mod progress;
 mod trailers;
 
 pub use body::{fill, read_sized, read_to_end};

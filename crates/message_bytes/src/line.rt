@@ -15,7 +15,7 @@ const MOST_SIZE_LINE: usize = 4_096;
 /// The bytes through the next LF, in the room of `line`, whose own bytes are dropped.
 ///
 /// More than 4,096 of them are `Malformed`.
-#[tactic(auto, using(crate::proofs::Progress::ends_line_more))]
+#[tactic(auto, using(crate::proofs::HeadProgress::ends_line_more))]
 pub fn read_size_line<R: Read>(
     reader: &mut Counted<R>,
     limit: u64,

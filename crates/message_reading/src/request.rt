@@ -9,11 +9,11 @@ use counted_io::Counted;
 use message_bytes::{ReadFault, read_head};
 use message_heads::{RequestHead, parse_request};
 use std::alloc::Global;
-use std::io::Read;
+use std::io::BufRead;
 
 // The head of a request, and nothing behind it.
 #[tactic(auto, using(crate::proofs::Phases::request_steps))]
-fn read_request_head<R: Read>(
+fn read_request_head<R: BufRead>(
     alloc: Global,
     reader: &mut Counted<R>,
     limit: u64,
@@ -29,7 +29,7 @@ fn read_request_head<R: Read>(
 
 /// The head of a request, and how its body is delimited, once all checks passed.
 #[tactic(auto, using(crate::proofs::Phases::check_steps))]
-pub fn read_checked_head<R: Read>(
+pub fn read_checked_head<R: BufRead>(
     alloc: Global,
     reader: &mut Counted<R>,
     limit: u64,

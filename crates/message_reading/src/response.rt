@@ -8,14 +8,14 @@ use counted_io::Counted;
 use message_bytes::{Fault, ReadFault, read_head};
 use message_heads::{ResponseHead, parse_response};
 use std::alloc::Global;
-use std::io::Read;
+use std::io::BufRead;
 
 /// How many interim responses may come before the final one.
 const MOST_INTERIM: u8 = 16;
 
 // The head of a response, be it interim or final, and nothing behind it.
 #[tactic(auto, using(crate::proofs::Phases::response_steps))]
-fn read_response_head<R: Read>(
+fn read_response_head<R: BufRead>(
     alloc: Global,
     reader: &mut Counted<R>,
     limit: u64,
@@ -48,7 +48,7 @@ fn is_final(status: u16) -> bool
 ///
 /// The 17th interim head is `Malformed`, and so is one with the status 101 or one below 100.
 #[tactic(auto, using(crate::proofs::Finals::final_steps))]
-pub fn read_final_head<R: Read>(
+pub fn read_final_head<R: BufRead>(
     alloc: Global,
     reader: &mut Counted<R>,
     limit: u64,

@@ -1,8 +1,8 @@
 // Readers and writers over memory that cut, and that fail at a chosen call.
 use std::alloc::Global;
-use std::io::{Error, ErrorKind, Read, Result, Write};
+use std::io::{BufRead, Error, ErrorKind, Read, Result, Write};
 
-/// Gives its bytes, at most `most` in a read, and fails from the call `failing` on.
+/// Gives its bytes, or shows them, at most `most` in a call, and fails from the call `failing` on.
 #[derive(Drop)]
 pub struct Source<'a> {
     pub left: &'a [u8],
@@ -31,20 +31,35 @@ impl<'a> Source<'a> {
     pub fn calls(&self) -> u64 {
         self.call
     }
-}
 
-impl<'a> Read for Source<'a> {
-    fn read(&mut self, buf: &mut [u8]) -> Result<usize> {
+    // What the next read shows. It is a call.
+    fn shown(&mut self) -> Result<&'a [u8]> {
         let call = self.call;
         self.call = call.saturating_add(1);
         if call >= self.failing {
             return Err(Error::from(ErrorKind::ConnectionReset));
         }
-        let count = buf.len().min(self.most).min(self.left.len());
-        let (front, rest) = self.left.split_at(count);
-        buf[..count].copy_from_slice(front);
-        self.left = rest;
+        Ok(&self.left[..self.most.min(self.left.len())])
+    }
+}
+
+impl<'a> Read for Source<'a> {
+    fn read(&mut self, buf: &mut [u8]) -> Result<usize> {
+        let shown = self.shown()?;
+        let count = shown.len().min(buf.len());
+        buf[..count].copy_from_slice(&shown[..count]);
+        self.consume(count);
         Ok(count)
+    }
+}
+
+impl<'a> BufRead for Source<'a> {
+    fn fill_buf(&mut self) -> Result<&[u8]> {
+        self.shown()
+    }
+
+    fn consume(&mut self, amount: usize) {
+        self.left = &self.left[amount.min(self.left.len())..];
     }
 }
 

@@ -15,7 +15,7 @@ use message_text::write_local_answer;
 use ports::GatePort;
 use shared_gate::Clock;
 use std::alloc::Global;
-use std::io::{Read, Write};
+use std::io::{BufRead, Write};
 use wire::{WireFault, read_request};
 
 /// Serves one connection: reads a request, asks the gate for it, forwards it once where it is let
@@ -24,7 +24,7 @@ use wire::{WireFault, read_request};
 /// After a fault of reading the gate isn't asked and nothing is forwarded; the client gets the
 /// fault's own status, or after `Read`, `Write` and `TurnLimit` nothing. `written_fault` comes
 /// only where the writer failed; by then an admitted permit is ended.
-pub fn exchange<P: GatePort, B: Backend, C: Clock, R: Read, W: Write>(
+pub fn exchange<P: GatePort, B: Backend, C: Clock, R: BufRead, W: Write>(
     alloc: Global,
     port: &mut P,
     backend: &mut B,

@@ -7,7 +7,7 @@ use counted_io::Counted;
 use message_parts::Headers;
 use shared_gate::Clock;
 use std::alloc::{AllocError, Global};
-use std::io::{Error, ErrorKind, Read, Result, Write};
+use std::io::{BufRead, Error, ErrorKind, Read, Result, Write};
 use wire::{Request, Response, WireFault, read_response, write_request};
 
 /// The bytes that a row writes: `|` is the end of a line.
@@ -23,7 +23,7 @@ pub(crate) fn bytes_of(alloc: Global, row: &str) -> std::result::Result<Vec<u8>,
     Ok(bytes)
 }
 
-/// Gives its bytes, at most `most` in a read, and fails from the call `failing` on.
+/// Gives its bytes, or shows them, at most `most` in a call, and fails from the call `failing` on.
 #[derive(Drop)]
 pub(crate) struct Source<'a> {
     pub(crate) left: &'a [u8],
@@ -32,18 +32,35 @@ pub(crate) struct Source<'a> {
     pub(crate) failing: u64,
 }
 
-impl<'a> Read for Source<'a> {
-    fn read(&mut self, buf: &mut [u8]) -> Result<usize> {
+impl<'a> Source<'a> {
+    // What the next read shows. It is a call.
+    fn shown(&mut self) -> Result<&'a [u8]> {
         let call = self.calls;
         self.calls = call.saturating_add(1);
         if call >= self.failing {
             return Err(Error::from(ErrorKind::ConnectionReset));
         }
-        let count = buf.len().min(self.most).min(self.left.len());
-        let (front, rest) = self.left.split_at(count);
-        buf[..count].copy_from_slice(front);
-        self.left = rest;
+        Ok(&self.left[..self.most.min(self.left.len())])
+    }
+}
+
+impl<'a> Read for Source<'a> {
+    fn read(&mut self, buf: &mut [u8]) -> Result<usize> {
+        let shown = self.shown()?;
+        let count = shown.len().min(buf.len());
+        buf[..count].copy_from_slice(&shown[..count]);
+        self.consume(count);
         Ok(count)
+    }
+}
+
+impl<'a> BufRead for Source<'a> {
+    fn fill_buf(&mut self) -> Result<&[u8]> {
+        self.shown()
+    }
+
+    fn consume(&mut self, amount: usize) {
+        self.left = &self.left[amount.min(self.left.len())..];
     }
 }
 

@@ -15,7 +15,7 @@ use message_heads::RequestHead;
 use message_parts::{Bytes, Text};
 use message_reading::{read_body, read_checked_head, say_continue};
 use std::alloc::Global;
-use std::io::{Read, Write};
+use std::io::{BufRead, Write};
 
 /// The greatest number of reads for one message.
 pub(crate) const MOST_READS: u64 = 100_000_000;
@@ -59,7 +59,7 @@ fn request_of(head: RequestHead, path: Text, body: Option<Bytes>) -> Request
 /// reader or the writer failed, or 100,000,000 reads were made; each other fault where the bytes
 /// have it first: in the head, in its checks, in the lengths or in the body.
 #[tactic(auto, using(crate::proofs::SaidTexts::request_told))]
-pub fn read_request<R: Read, W: Write>(
+pub fn read_request<R: BufRead, W: Write>(
     alloc: Global,
     reader: &mut Counted<R>,
     writer: &mut Counted<W>,

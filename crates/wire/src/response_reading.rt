@@ -11,7 +11,7 @@ use counted_io::Counted;
 use http::Method;
 use message_reading::{frame_response, read_body, read_final_head};
 use std::alloc::Global;
-use std::io::Read;
+use std::io::BufRead;
 
 /// The final response that the reader's bytes begin with, to a request of this method; what follows
 /// it stays unread. A response without lengths runs to the end of the connection.
@@ -19,7 +19,7 @@ use std::io::Read;
 /// At most 16 interim responses before it are read and dropped. `Memory`, `Read` and `TurnLimit`
 /// come where a growth was refused, the reader failed, or 100,000,000 reads were made; each other
 /// fault where the bytes have it first: in a head, in its status, in the lengths or in the body.
-pub fn read_response<R: Read>(
+pub fn read_response<R: BufRead>(
     alloc: Global,
     reader: &mut Counted<R>,
     method: &Method,

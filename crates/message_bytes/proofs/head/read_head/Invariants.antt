@@ -1,16 +1,19 @@
-use Rattle.std.proofs.Common.{◌≡◌, length}
+use Rattle.std.proofs.Common.{◌≡◌, ◌≤◌, ◌-◌, length}
 use Rattle.counted_io.specs.Counted.{inner_of, failures_of}
 use Rattle.message_bytes.specs.declared.fault.Fault.TheVariants.{HeadTooLarge}
 use Rattle.message_bytes.specs.Gather.{GoesOn}
 use Rattle.message_bytes.specs.Head.{ends_head}
 use Rattle.message_bytes.proofs.head.read_head.Given as goal
 
-abbrev pub invariant-loop : goal.invariant-loop
-invariant-loop g l =
+abbrev pub invariant-loop-piece : goal.invariant-loop-piece
+invariant-loop-piece g l =
     let left = g.R.Read.remaining in
     record {
       on : GoesOn ends_head 65536 HeadTooLarge (left (inner_of l.fn.reader))
           (left (inner_of l.reader)) l.seen;
-      counted : length l.seen ≡ l.counter;
+      fits : length l.seen ≤ 65536;
       failures : failures_of l.reader ≡ failures_of l.fn.reader;
     }
+
+abbrev pub decreases-loop-piece : goal.decreases-loop-piece
+decreases-loop-piece g l = 65536 - length l.seen

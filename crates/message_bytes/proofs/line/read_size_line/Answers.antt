@@ -3,7 +3,7 @@ use Rattle.counted_io.specs.Counted.{inner_of}
 use Rattle.message_bytes.specs.declared.fault.Fault.TheVariants.{Malformed}
 use Rattle.message_bytes.specs.Lines.{ends_line}
 use Rattle.message_bytes.proofs.Gathers.{gathered, gathered_over, goes_on_more}
-use Rattle.message_bytes.proofs.Progress.{ends_line_more}
+use Rattle.message_bytes.proofs.HeadProgress.{ends_line_more}
 use Rattle.message_bytes.proofs.line.read_size_line.Goals as goal
 
 pub returns-then-byte-eq10-clause-line : goal.returns-then-byte-eq10-clause-line

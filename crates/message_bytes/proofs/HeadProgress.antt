@@ -1,9 +1,11 @@
 -- What is kept beside the bytes of a head, a byte further.
-use Rattle.std.proofs.Common.{rules, arith, ◌≡◌, ◌≤◌, ◌+◌, ◌∙◌, ◌++◌, ◌==◌, ◌&&◌, sym, ap, ap₂, refl, ℕ, Bool, true, false, not, cond, List, [], ◌∷◌}
+use Rattle.std.proofs.Common.{rules, arith, ◌≡◌, ◌≢◌, ◌≤◌, ◌+◌, ne_eqb, ◌∙◌, ◌++◌, ◌==◌, ◌&&◌, sym, ap, ap₂, refl, ℕ, Bool, true, false, not, cond, List, [], ◌∷◌}
 use Rattle.std.specs.Prelude.{if◌then◌else◌, count_by}
 use Rattle.std.proofs.lemmas.List.{length-append}
 use Rattle.std.proofs.lemmas.List.Sums.{sum_by-append}
-use Rattle.message_bytes.specs.Head.{IsProgress, ended_by, stays_blank, is_blank, after_blank, line_ends, ends_head}
+use Rattle.message_bytes.specs.declared.progress.Progress.{Progress}
+use Rattle.message_bytes.specs.Head.{ended_by, stays_blank, is_blank, after_blank, line_ends, ends_head}
+use Rattle.message_bytes.specs.Progress.{IsProgress}
 use Rattle.message_bytes.specs.Lines.{ends_line, ends_in_empty, is_empty_end, last_three}
 
 pub three_more : (three : ℕ × ℕ × ℕ) (b : ℕ) (text : List ℕ)
@@ -75,46 +77,53 @@ ends_more last b (x ∷ text) =
           ∙ ap (λ n. ends_of (x ∷ text) + n) (one_end b)
     ]
 
-pub progress_none : IsProgress [] true 0 10 0
+pub progress_none : IsProgress [] (record { blank = true; third = 0; second = 0; last = 10; lines = 0 })
 unfolding line_ends
 progress_none = record {
   blank_is = refl;
-  before_is = refl;
+  third_is = refl;
+  second_is = refl;
   last_is = refl;
   lines_is = refl;
   lines_fit = search rules;
 }
 
-pub progress_more : (text : List ℕ) (blank : Bool) (before last lines b : ℕ)
-    → IsProgress text blank before last lines
-    → IsProgress (text ++ b ∷ []) (blank && stays_blank last b) last b
-    (lines + ended_by (blank && stays_blank last b) b)
+-- a byte further
+pub progress_more : (text : List ℕ) (p q : Progress) (b : ℕ) → IsProgress text p
+    → q.blank ≡ (p.blank && stays_blank p.last b) → q.third ≡ p.second → q.second ≡ p.last
+    → q.last ≡ b → q.lines ≡ p.lines + ended_by q.blank b → IsProgress (text ++ b ∷ []) q
 unfolding line_ends
-progress_more text blank before last lines b is =
-    let blank_is : (blank && stays_blank last b) ≡ is_blank 10 (text ++ b ∷ []) =
-    ap₂ (λ t l. t && stays_blank l b) is.blank_is is.last_is ∙ sym (blank_more (0, 0, 10) b text)
-    in
+progress_more text p q b is blank third second last lines =
+    let blank_is : q.blank ≡ is_blank 10 (text ++ b ∷ []) =
+    blank ∙ ap₂ (λ t l. t && stays_blank l b) is.blank_is is.last_is
+    ∙ sym (blank_more (0, 0, 10) b text) in
     let three = three_more (0, 0, 10) b text in
     let longer = length-append text (b ∷ []) in
-    let few = few_ends (blank && stays_blank last b) b in
+    let few = few_ends q.blank b in
     let fit = is.lines_fit in
     record {
       blank_is = blank_is;
-      before_is = is.last_is ∙ sym (ap (λ (t : ℕ × ℕ × ℕ). t.1) three);
-      last_is = sym (ap (λ (t : ℕ × ℕ × ℕ). t.2) three);
-      lines_is = ap₂ (λ n t. n + ended_by t b) is.lines_is blank_is ∙ sym (ends_more 10 b text);
-      lines_fit = omega arith;
+      third_is = third ∙ is.second_is ∙ sym (ap (λ (t : ℕ × ℕ × ℕ). t.0) three);
+      second_is = second ∙ is.last_is ∙ sym (ap (λ (t : ℕ × ℕ × ℕ). t.1) three);
+      last_is = last ∙ sym (ap (λ (t : ℕ × ℕ × ℕ). t.2) three);
+      lines_is = lines ∙ ap₂ (λ n t. n + ended_by t b) is.lines_is blank_is
+          ∙ sym (ends_more 10 b text);
+      lines_fit = omega (arith, lines);
     }
 
--- the byte ends the head
-pub head_ends : (text : List ℕ) (blank : Bool) (before last lines b : ℕ)
-    → IsProgress text blank before last lines
-    → (not (blank && stays_blank last b) && is_empty_end (before, last, b))
-    ≡ ends_head (text ++ b ∷ [])
-unfolding ends_head
-head_ends text blank before last lines b is =
-    let blank_is : (blank && stays_blank last b) ≡ is_blank 10 (text ++ b ∷ []) =
-    ap₂ (λ t l. t && stays_blank l b) is.blank_is is.last_is ∙ sym (blank_more (0, 0, 10) b text)
-    in
-    let empty = empty_more before last b text (sym is.before_is) (sym is.last_is) in
-    ap₂ (λ t e. not t && e) blank_is (sym empty)
+-- the bytes are a head, or more
+pub head_ends : (text : List ℕ) (p : Progress) → IsProgress text p
+    → (not p.blank && is_empty_end (p.third, p.second, p.last)) ≡ ends_head text
+unfolding ends_head ends_in_empty
+head_ends text p is = rw (is.blank_is, is.third_is, is.second_is, is.last_is) refl
+
+-- a head ends in LF
+pub head_ends_in_lf : (text : List ℕ) (b : ℕ) → b ≢ 10 → ends_head (text ++ b ∷ []) ≡ false
+unfolding ends_head ends_in_empty is_empty_end
+head_ends_in_lf text b other =
+    let three = three_more (0, 0, 10) b text in
+    let last : (b == 10) ≡ false = ne_eqb b 10 other in
+    let none : ends_in_empty (text ++ b ∷ []) ≡ false =
+    ap is_empty_end three ∙ rw last refl in
+    rw none (elim (not (is_blank 10 (text ++ b ∷ []))) as (λ t. (t && false) ≡ false)
+    [ true ↦ refl | false ↦ refl ])
