@@ -1,6 +1,7 @@
 // An exchange.
-ghost use Rattle.std.specs.Prelude.{◌≡◌, ◌⊎◌, None, IfSome};
+ghost use Rattle.std.specs.Prelude.{◌≡◌, ◌⊎◌, None, IfSome, is_some, true};
 ghost use Rattle.counted_io.specs.Causes.{IsWriteCause};
+ghost use Rattle.counted_io.specs.Counted.{is_flushed};
 ghost use Rattle.counted_io.specs.Effects.{Wrote};
 ghost use Rattle.proxy.specs.Table.{fault_status, local_or_nothing};
 ghost use Rattle.proxy.specs.Exchanges.{IsExchange};
@@ -22,8 +23,9 @@ use wire::{WireFault, read_request};
 /// through, ends its permit, and answers the client.
 ///
 /// After a fault of reading the gate isn't asked and nothing is forwarded; the client gets the
-/// fault's own status, or after `Read`, `Write` and `TurnLimit` nothing. `written_fault` comes
-/// only where the writer failed; by then an admitted permit is ended.
+/// fault's own status, or after `Read`, `Write` and `TurnLimit` nothing. Where the client is
+/// answered and no write fails, a flush comes last. `written_fault` comes only where the writer
+/// failed; by then an admitted permit is ended.
 pub fn exchange<P: GatePort, B: Backend, C: Clock, R: BufRead, W: Write>(
     alloc: Global,
     port: &mut P,
@@ -49,6 +51,8 @@ pub fn exchange<P: GatePort, B: Backend, C: Clock, R: BufRead, W: Write>(
           log = B.shown backend.new;
         })
         result }
+    ensures flushed { result.written_fault ≡ None → is_some result.answer ≡ true
+        → is_flushed writer.new ≡ true }
     ensures written { IfSome result.written_fault (λ fault.
         (fault ≡ WireFault.Write) × IsWriteCause writer.old writer.new) }
 {
@@ -75,6 +79,8 @@ fn unread<W: Write>(fault: WireFault, writer: &mut Counted<W>) -> Exchange
     ensures outcome { result.outcome ≡ None }
     ensures text { result.written_fault ≡ None → Wrote W.contents writer.old writer.new
         (local_or_nothing (fault_status fault)) }
+    ensures flushed { result.written_fault ≡ None → is_some result.answer ≡ true
+        → is_flushed writer.new ≡ true }
     ensures written { IfSome result.written_fault (λ written. (written ≡ WireFault.Write)
         × ((fault ≡ WireFault.Write) ⊎ IsWriteCause writer.old writer.new)) }
     ensures untouched { fault ≡ WireFault.Write → writer.new ≡ writer.old }

@@ -1,6 +1,7 @@
 // What the client gets.
-ghost use Rattle.std.specs.Prelude.{◌≡◌, ◌≤◌, None, OnOk, OnErr, IfSome};
+ghost use Rattle.std.specs.Prelude.{◌≡◌, ◌≤◌, None, OnOk, OnErr, IfSome, true};
 ghost use Rattle.counted_io.specs.Causes.{IsWriteCause};
+ghost use Rattle.counted_io.specs.Counted.{is_flushed};
 ghost use Rattle.counted_io.specs.Effects.{Wrote};
 ghost use Rattle.proxy.specs.Table.{fault_status, reply_status, reply_text};
 
@@ -30,7 +31,7 @@ pub(crate) fn reply_status(answer: &Option<Answer>) -> u16
     }
 }
 
-/// Writes what the client gets, and tells a fault of writing.
+/// Writes and flushes what the client gets, and tells a fault of writing.
 pub(crate) fn reply<W: Write>(
     writer: &mut Counted<W>,
     answer: &Option<Answer>,
@@ -38,6 +39,7 @@ pub(crate) fn reply<W: Write>(
 ) -> Option<WireFault>
     ensures all { result ≡ None →
         Wrote W.contents writer.old writer.new (reply_text method.now answer.now) }
+    ensures flushed { result ≡ None → is_flushed writer.new ≡ true }
     ensures failed { IfSome result (λ fault.
         (fault ≡ WireFault.Write) × IsWriteCause writer.old writer.new) }
 {
@@ -56,6 +58,7 @@ fn write_reply<W: Write>(
 ) -> Result<(), WriteFault>
     ensures all { OnOk result
         (Wrote W.contents writer.old writer.new (reply_text method.now answer.now)) }
+    ensures flushed { OnOk result (is_flushed writer.new ≡ true) }
     ensures failed { OnErr result (IsWriteCause writer.old writer.new) }
 {
     match answer {

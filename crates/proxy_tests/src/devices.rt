@@ -2,6 +2,7 @@
 ghost use Rattle.std.specs.Prelude.{◌≡◌};
 ghost use Rattle.counted_io.specs.Count.{raised};
 
+use crate::course::{Course, Deed};
 use backend::{Answer, Backend};
 use counted_io::Counted;
 use message_parts::Headers;
@@ -23,13 +24,32 @@ pub(crate) fn bytes_of(alloc: Global, row: &str) -> std::result::Result<Vec<u8>,
     Ok(bytes)
 }
 
-/// Gives its bytes, or shows them, at most `most` in a call, and fails from the call `failing` on.
+/// Which calls of a device fail.
+#[derive(Clone, Copy, Drop)]
+pub(crate) enum Fails {
+    /// This one and all after it.
+    From(u64),
+    /// This one alone.
+    At(u64),
+}
+
+impl Fails {
+    fn has(self, call: u64) -> bool {
+        match self {
+            Fails::From(first) => first <= call,
+            Fails::At(only) => only == call,
+        }
+    }
+}
+
+/// Gives its bytes, or shows them, at most `most` in a call.
 #[derive(Drop)]
 pub(crate) struct Source<'a> {
     pub(crate) left: &'a [u8],
     pub(crate) most: usize,
     pub(crate) calls: u64,
-    pub(crate) failing: u64,
+    pub(crate) fails: Fails,
+    pub(crate) course: &'a Course,
 }
 
 impl<'a> Source<'a> {
@@ -37,7 +57,8 @@ impl<'a> Source<'a> {
     fn shown(&mut self) -> Result<&'a [u8]> {
         let call = self.calls;
         self.calls = call.saturating_add(1);
-        if call >= self.failing {
+        self.course.mark(Deed::Read);
+        if self.fails.has(call) {
             return Err(Error::from(ErrorKind::ConnectionReset));
         }
         Ok(&self.left[..self.most.min(self.left.len())])
@@ -64,26 +85,28 @@ impl<'a> BufRead for Source<'a> {
     }
 }
 
-/// Keeps what is written, and fails from the call `failing` on, flushes among them.
+/// Keeps what is written. Flushes are calls like writes.
 #[derive(Drop)]
-pub(crate) struct Sink {
+pub(crate) struct Sink<'a> {
     pub(crate) taken: Vec<u8>,
     pub(crate) calls: u64,
-    pub(crate) failing: u64,
+    pub(crate) fails: Fails,
+    pub(crate) course: &'a Course,
 }
 
-impl Sink {
+impl<'a> Sink<'a> {
     fn next_call(&mut self) -> Result<()> {
         let call = self.calls;
         self.calls = call.saturating_add(1);
-        if call >= self.failing {
+        self.course.mark(Deed::Write);
+        if self.fails.has(call) {
             return Err(Error::from(ErrorKind::BrokenPipe));
         }
         Ok(())
     }
 }
 
-impl Write for Sink {
+impl<'a> Write for Sink<'a> {
     fn write(&mut self, buf: &[u8]) -> Result<usize> {
         self.next_call()?;
         if self.taken.extend_from_slice(buf).is_err() {
@@ -102,6 +125,8 @@ impl Write for Sink {
 pub(crate) enum Says<'a> {
     /// It sends these bytes.
     Bytes(&'a [u8]),
+    /// It sends these, one in a read, and from this read on they fail.
+    Failing(&'a [u8], u64),
     /// It answers with a status below 200.
     Interim,
     /// It isn't there.
@@ -119,6 +144,7 @@ pub(crate) struct Keeping<'a> {
     pub(crate) says: Says<'a>,
     pub(crate) got: Vec<u8>,
     pub(crate) count: u64,
+    pub(crate) course: &'a Course,
 }
 
 /// The text of a request as it is forwarded, and whether there was memory for it.
@@ -128,14 +154,27 @@ fn text_of(alloc: Global, request: &Request) -> (Vec<u8>, bool) {
     (text, written.is_ok())
 }
 
+/// What is read of a backend.
+fn read_from<R: Read + Drop>(alloc: Global, reader: R, request: &Request) -> Answer {
+    match read_response(alloc, &mut Counted::new(reader), &request.method) {
+        Ok(response) => Answer::Answered(response),
+        Err(fault) => Answer::Broken(fault),
+    }
+}
+
 /// What is answered to a request.
 fn said(alloc: Global, says: Says, request: &Request) -> Answer {
     match says {
-        Says::Bytes(bytes) => {
-            match read_response(alloc, &mut Counted::new(bytes), &request.method) {
-                Ok(response) => Answer::Answered(response),
-                Err(fault) => Answer::Broken(fault),
-            }
+        Says::Bytes(bytes) => read_from(alloc, bytes, request),
+        Says::Failing(left, failing) => {
+            let source = Source {
+                left,
+                most: 1,
+                calls: 0,
+                fails: Fails::From(failing),
+                course: &Course::new(),
+            };
+            read_from(alloc, source, request)
         }
         Says::Interim => {
             let headers = Headers::new(Vec::new(alloc));
@@ -158,6 +197,7 @@ impl<'a> Backend for Keeping<'a> {
         ensures { self.new.count ≡ raised self.old.count }
     {
         self.count = self.count.saturating_add(1);
+        self.course.mark(Deed::Forward);
         let (text, is_whole) = text_of(self.alloc, request);
         self.got = text;
         if is_whole {

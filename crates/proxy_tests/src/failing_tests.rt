@@ -1,6 +1,6 @@
 // Clients that break off: requests that are cut after each byte, and ends that fail at each read
 // and each write.
-use crate::devices::{Says, bytes_of};
+use crate::devices::{Fails, Says, bytes_of};
 use crate::gateway::{Came, Case, exchanged};
 use limiter_core::Outcome;
 use proxy::Verdict;
@@ -67,7 +67,7 @@ fn fails_at_each_read(
     for failing in 0..whole.reads {
         let mut case = Case::new(sent, Says::Bytes(said));
         case.most = most;
-        case.failing_read = failing;
+        case.failing_reads = Fails::From(failing);
         let came = exchanged(alloc, case)?;
         assert!(rt; came.told.answer.is_none(), "{most} {failing}");
         assert!(rt; is_unasked(&came), "{most} {failing}");
@@ -95,11 +95,12 @@ fn a_client_that_fails_at_any_read_is_neither_asked_for_nor_answered(
 fn fails_at_write(
     rt: &impl Abort,
     alloc: Global,
-    case: Case,
+    mut case: Case,
+    failing: u64,
     whole: &Came,
     asked: u64,
 ) -> Result<(), Fail> {
-    let failing = case.failing_write;
+    case.failing_writes = Fails::From(failing);
     let came = exchanged(alloc, case)?;
     assert!(rt;
         came.told.written_fault == Some(WireFault::Write),
@@ -126,7 +127,7 @@ fn fails_at_write(
 fn writes_that_ask(alloc: Global, sent: &[u8], said: &[u8]) -> Result<u64, Fail> {
     let mut case = Case::new(sent, Says::Bytes(said));
     case.most = 1;
-    case.failing_read = u64::try_from(sent.len())?.saturating_sub(1);
+    case.failing_reads = Fails::From(u64::try_from(sent.len())?.saturating_sub(1));
     let came = exchanged(alloc, case)?;
     Ok(came.writes)
 }
@@ -141,9 +142,8 @@ fn a_permit_is_ended_at_whichever_write_the_client_fails(rt: HostRuntime) -> Res
         let asked = writes_that_ask(alloc, sent.as_slice(), said.as_slice())?;
         assert!(rt; (asked > 0) == (request == ASKING) && asked < whole.writes);
         for failing in 0..whole.writes {
-            let mut case = Case::new(sent.as_slice(), Says::Bytes(said.as_slice()));
-            case.failing_write = failing;
-            fails_at_write(&rt, alloc, case, &whole, asked)?;
+            let case = Case::new(sent.as_slice(), Says::Bytes(said.as_slice()));
+            fails_at_write(&rt, alloc, case, failing, &whole, asked)?;
         }
     }
     Ok(())

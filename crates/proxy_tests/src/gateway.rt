@@ -2,7 +2,8 @@
 ghost use Rattle.std.specs.Prelude.{◌≡◌};
 ghost use Rattle.gate_ledgers.specs.Names.{AreNamed, AreWhole};
 
-use crate::devices::{Keeping, Says, Sink, Source, Still};
+use crate::course::{Course, Deed, Watched};
+use crate::devices::{Fails, Keeping, Says, Sink, Source, Still};
 use counted_io::Counted;
 use gate_config::{Settings, read};
 use gate_history::{Blanks, Book, Journal, Naming};
@@ -34,9 +35,9 @@ pub(crate) struct Case<'a> {
     pub(crate) says: Says<'a>,
     /// The limit; one permit is out where it is 1.
     pub(crate) limit: u32,
-    /// The read and the write from which on the client's end fails.
-    pub(crate) failing_read: u64,
-    pub(crate) failing_write: u64,
+    /// The reads and the writes at which the client's end fails.
+    pub(crate) failing_reads: Fails,
+    pub(crate) failing_writes: Fails,
     /// Whether a refused request waits.
     pub(crate) waits: bool,
     /// Whether a header tells the class `live`, with a share of 60 percent.
@@ -51,8 +52,8 @@ impl<'a> Case<'a> {
             most: usize::MAX,
             says,
             limit: 10,
-            failing_read: u64::MAX,
-            failing_write: u64::MAX,
+            failing_reads: Fails::From(u64::MAX),
+            failing_writes: Fails::From(u64::MAX),
             waits: false,
             has_classes: false,
         }
@@ -74,6 +75,8 @@ pub(crate) struct Came {
     /// How many permits are out behind it, and what the gate has counted.
     pub(crate) in_flight: u32,
     pub(crate) counters: Counters,
+    /// What it did, in order.
+    pub(crate) deeds: [Deed; 8],
 }
 
 impl Came {
@@ -115,23 +118,28 @@ fn came_through<N: Naming>(
     requires rows { table ≡ N.rows }
     requires room { N.room ≡ 100 }
 {
-    let mut port = open_port::<N>(alloc, case.limit, table, blanks)?;
-    Ok(came_by(alloc, &mut port, case, settings))
+    let course = Course::new();
+    let port = open_port::<N>(alloc, case.limit, table, blanks)?;
+    let mut watched = Watched {
+        port,
+        course: &course,
+    };
+    Ok(came_by(alloc, &mut watched, case, settings))
 }
 
 /// One exchange through this port.
 fn came_by<N: Naming>(
     alloc: Global,
-    port: &mut SoloPort<Fixed, N>,
+    watched: &mut Watched<'_, SoloPort<Fixed, N>>,
     case: Case,
     settings: &Settings,
 ) -> Came {
-    let held = hold(port, case.limit);
-    let before = entries_of(port);
-    let told = told_of(alloc, port, case, settings);
-    let entries = entries_of(port).saturating_sub(before);
-    give_back(port, held);
-    came_of(told, entries, port.book().journal().core())
+    let held = hold(&mut watched.port, case.limit);
+    let before = entries_of(&watched.port);
+    let told = told_of(alloc, watched, watched.course, case, settings);
+    let entries = entries_of(&watched.port).saturating_sub(before);
+    give_back(&mut watched.port, held);
+    came_of(told, entries, watched.port.book().journal().core())
 }
 
 /// How many entries the port's book has.
@@ -140,6 +148,7 @@ fn entries_of<N: Naming>(port: &SoloPort<Fixed, N>) -> usize {
 }
 
 fn came_of(told: Told, entries: usize, core: &Core<Fixed>) -> Came {
+    let deeds = told.deeds;
     Came {
         told: told.exchange,
         written: told.written,
@@ -150,6 +159,7 @@ fn came_of(told: Told, entries: usize, core: &Core<Fixed>) -> Came {
         entries,
         in_flight: core.total(),
         counters: core.counters(),
+        deeds,
     }
 }
 
@@ -201,25 +211,35 @@ struct Told {
     forwards: u64,
     reads: u64,
     writes: u64,
+    deeds: [Deed; 8],
 }
 
-fn told_of<P: GatePort>(alloc: Global, port: &mut P, case: Case, settings: &Settings) -> Told {
+fn told_of<P: GatePort>(
+    alloc: Global,
+    port: &mut P,
+    course: &Course,
+    case: Case,
+    settings: &Settings,
+) -> Told {
     let mut backend = Keeping {
         alloc,
         says: case.says,
         got: Vec::new(alloc),
         count: 0,
+        course,
     };
     let mut source = Source {
         left: case.sent,
         most: case.most,
         calls: 0,
-        failing: case.failing_read,
+        fails: case.failing_reads,
+        course,
     };
     let mut sink = Sink {
         taken: Vec::new(alloc),
         calls: 0,
-        failing: case.failing_write,
+        fails: case.failing_writes,
+        course,
     };
     let exchange = exchange(
         alloc,
@@ -230,6 +250,7 @@ fn told_of<P: GatePort>(alloc: Global, port: &mut P, case: Case, settings: &Sett
         &mut Counted::new(&mut source),
         &mut Counted::new(&mut sink),
     );
+    let deeds = course.deeds();
     Told {
         exchange,
         written: sink.taken,
@@ -237,5 +258,6 @@ fn told_of<P: GatePort>(alloc: Global, port: &mut P, case: Case, settings: &Sett
         forwards: backend.count,
         reads: source.calls,
         writes: sink.calls,
+        deeds,
     }
 }

@@ -2,6 +2,10 @@
 #![tactic(auto)]
 
 #[cfg(test)]
+mod course;
+#[cfg(test)]
+mod cut_tests;
+#[cfg(test)]
 mod devices;
 #[cfg(test)]
 mod failing_tests;
@@ -9,5 +13,7 @@ mod failing_tests;
 mod fault_tests;
 #[cfg(test)]
 mod gateway;
+#[cfg(test)]
+mod order_tests;
 #[cfg(test)]
 mod row_tests;

@@ -7,7 +7,8 @@ use tcp_backend::BackendFault;
 /// Why a gateway stopped, or didn't begin.
 #[derive(Clone, Copy, Debug, Drop, PartialEq, Eq)]
 pub enum ServeFault {
-    /// A growth was refused, and no worker was started.
+    /// A growth was refused: before any worker was started, or to one that was, for its settings.
+    /// The workers that were started have ended.
     Memory = 1,
     /// A thread couldn't be started. The workers that were started have ended.
     Thread = 2,
