@@ -121,7 +121,8 @@ impl<R: BufRead> Counted<R> {
     pub fn read_through(&mut self, stop: u8, buf: &mut [u8]) -> Result<usize>
         ensures bound { ReadsAtMost result buf.new }
         ensures length { length buf.new ≡ length buf.old }
-        ensures gave { IfOk result (λ count. Gave R.remaining self.old self.new (take count buf.new)) }
+        ensures gave { IfOk result (λ count.
+            Gave R.remaining self.old self.new (take count buf.new)) }
         ensures kept { OnErr result
             (Keeps (R.remaining (inner_of self.old)) (R.remaining (inner_of self.new))) }
         ensures end { IfOk result (λ count. count ≡ 0 → 0 < length buf.new

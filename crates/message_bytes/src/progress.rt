@@ -36,7 +36,8 @@ impl Progress {
     // What is kept after this byte.
     fn after(self, byte: u8) -> Progress
         requires { lines_of self < 18446744073709551615 }
-        ensures is { (text : List ℕ) → IsProgress text self → IsProgress (text ++ byte ∷ []) result }
+        ensures is { (text : List ℕ) → IsProgress text self
+            → IsProgress (text ++ byte ∷ []) result }
         ensures few { lines_of result ≤ lines_of self + 1 }
     {
         let blank = goes_on_blank(self.blank, self.last, byte);
