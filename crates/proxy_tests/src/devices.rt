@@ -155,7 +155,7 @@ fn text_of(alloc: Global, request: &Request) -> (Vec<u8>, bool) {
 }
 
 /// What is read of a backend.
-fn read_from<R: Read + Drop>(alloc: Global, reader: R, request: &Request) -> Answer {
+fn read_from<R: BufRead + Drop>(alloc: Global, reader: R, request: &Request) -> Answer {
     match read_response(alloc, &mut Counted::new(reader), &request.method) {
         Ok(response) => Answer::Answered(response),
         Err(fault) => Answer::Broken(fault),
