@@ -2,17 +2,6 @@ use Rattle.std.proofs.Common.{rules}
 use Rattle.shared_gate.proofs.Closings.{fails_by, is_history_in}
 use Rattle.shared_gate.proofs.closing.judge.Goals as goal
 
-pub returns-in-Some-clause-first : goal.returns-in-Some-clause-first
-returns-in-Some-clause-first g c =
-    fails_by g.L.Limit.rules c.args.book c.args.calls c.into_history-history.result.base
-    c.into_history-history.result.entries.items c.deref.result.now c.args.kept.items
-    c.deref-2.result.now c.in-Some.cause c.check.ensures.agrees
-    (is_history_in c.args.book c.into_journal.result c.into_history-history.result.base
-    c.into_history-history.result.entries.items c.into_journal.ensures
-    c.into_history-history.ensures.base c.into_history-history.ensures.entries)
-    c.requires.book c.requires.enough c.deref.ensures.value c.deref-2.ensures.value
-    c.in-Some.ensures.first
-
 pub returns-in-None-clause-whole : goal.returns-in-None-clause-whole
 returns-in-None-clause-whole g c = search rules
 
@@ -51,3 +40,14 @@ returns-in-Some-clause-history g c = search rules
 
 pub returns-in-Some-clause-kept : goal.returns-in-Some-clause-kept
 returns-in-Some-clause-kept g c = search rules
+
+pub returns-in-Some-clause-first : goal.returns-in-Some-clause-first
+returns-in-Some-clause-first g c =
+    fails_by g.L.Limit.rules c.args.book c.args.calls c.into_history-history.result.base
+    c.into_history-history.result.entries.items c.deref.result.now c.args.kept.items
+    c.deref-2.result.now c.in-Some.cause c.check.ensures.agrees
+    (is_history_in c.args.book c.into_journal.result c.into_history-history.result.base
+    c.into_history-history.result.entries.items c.into_journal.ensures
+    c.into_history-history.ensures.base c.into_history-history.ensures.entries)
+    c.requires.book c.requires.enough c.deref.ensures.value c.deref-2.ensures.value
+    c.in-Some.ensures.first

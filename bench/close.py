@@ -1,0 +1,38 @@
+#!/usr/bin/env python3
+"""Times `SharedGate::close`: the audit of a gate, by how many receipts its caller kept.
+
+Usage: bench/close.py. The program is close/, over `shared_gate`: one caller makes so many calls, pairs of
+acquire and end, keeps their receipts in one list, and closes the gate. Printed is the time of the closing
+alone, as nanoseconds a receipt: the median, the least and the greatest of nine runs. Needs rt.
+"""
+import statistics
+import sys
+
+from sides import TURNS, Bench, run
+
+RECEIPTS = (10_000, 100_000, 1_000_000)
+
+
+def closing(program, receipts):
+    """The nanoseconds that one closing took, which accepted a history of all calls."""
+    took, _, did = run(program, (receipts,))
+    assert did == f"entries {receipts}\n", did
+    return took
+
+
+def main():
+    if len(sys.argv) > 1:
+        sys.exit(__doc__)
+    bench = Bench("close", "shared_gate")
+    with open(bench.tree / "build.log", "w") as log:
+        print(f"building, some minutes at most; {log.name} tells how far it is", file=sys.stderr)
+        program = bench.product((10,), b"", log)
+    print("| receipts | ns a receipt | least | greatest |")
+    print("|---|---|---|---|")
+    for receipts in RECEIPTS:
+        each = [closing(program, receipts) / receipts for _ in range(TURNS)]
+        print(f"| {receipts:,} | {statistics.median(each):.0f} | {min(each):.0f} | {max(each):.0f} |",
+              flush=True)
+
+
+main()
