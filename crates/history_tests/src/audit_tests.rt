@@ -12,7 +12,6 @@ use partitions::Part;
 use std::alloc::Global;
 use std::marker::Brand;
 use std::process::Abort;
-use std::test::Fail;
 
 /// All passes of a gate that was called twice.
 const TWICE: Calls = Calls { book: 2, sum: 2 };
@@ -89,38 +88,47 @@ fn judges<N: Naming, R: Abort>(
 }
 
 /// The entries, but for another one of this number.
-fn but(alloc: Global, entries: &[Entry], number: usize, other: Entry) -> Result<Vec<Entry>, Fail> {
+fn but<R: Abort>(
+    rt: &R,
+    alloc: Global,
+    entries: &[Entry],
+    number: usize,
+    other: Entry,
+) -> Vec<Entry> {
     let mut changed = Vec::new(alloc);
     for (at, entry) in entries.iter().enumerate() {
-        changed.push(if at == number { other } else { *entry })?;
+        let entry = if at == number { other } else { *entry };
+        changed.push(entry).expect(rt, "memory for entries");
     }
-    Ok(changed)
+    changed
 }
 
 /// The entries, and one more.
-fn and(alloc: Global, entries: &[Entry], more: Entry) -> Result<Vec<Entry>, Fail> {
+fn and<R: Abort>(rt: &R, alloc: Global, entries: &[Entry], more: Entry) -> Vec<Entry> {
     let mut longer = Vec::new(alloc);
-    longer.extend_from_slice(entries)?;
-    longer.push(more)?;
-    Ok(longer)
+    longer
+        .extend_from_slice(entries)
+        .expect(rt, "memory for entries");
+    longer.push(more).expect(rt, "memory for entries");
+    longer
 }
 
 #[test]
-fn one_acquire_and_one_ending_are_accepted(rt: HostRuntime) -> Result<(), Fail> {
-    acquire_and_end::<Brand, _>(&rt, rt.alloc(), Blanks::new())
+fn one_acquire_and_one_ending_are_accepted(rt: HostRuntime) {
+    acquire_and_end::<Brand, _>(&rt, rt.alloc(), Blanks::new());
 }
 
-fn acquire_and_end<N: Naming, R: Abort>(rt: &R, alloc: Global, blanks: Blanks) -> Result<(), Fail>
+fn acquire_and_end<N: Naming, R: Abort>(rt: &R, alloc: Global, blanks: Blanks)
     requires names { AreNamed N.calls N.place blanks }
     requires parts { AreWhole blanks }
     requires rows { N.rows ≡ [] }
     requires room { N.room ≡ 100 }
 {
-    let mut book = single::<N>(alloc, 1_000, false, blanks)?;
+    let mut book = single::<N, R>(rt, alloc, 1_000, false, blanks);
     let mut kept = Vec::new(alloc);
-    call_twice(rt, alloc, &mut book, &mut kept)?;
+    call_twice(rt, alloc, &mut book, &mut kept);
     let history = book.into_journal().into_history();
-    judges_two_calls(rt, alloc, &history.entries, &mut kept)
+    judges_two_calls(rt, alloc, &history.entries, &mut kept);
 }
 
 fn call_twice<N: Naming, R: Abort>(
@@ -128,14 +136,13 @@ fn call_twice<N: Naming, R: Abort>(
     alloc: Global,
     book: &mut Book<Fixed, N>,
     kept: &mut Vec<Vec<Receipt<N>>>,
-) -> Result<(), Fail> {
-    let mut pass = book.pass().ok_or("a pass")?;
+) {
+    let mut pass = book.pass().expect(rt, "a pass");
     let handed = call(rt, alloc, book, &mut pass, kept, acquire(false, 0));
     let permit = permit_of(rt, handed);
     let handed = call(rt, alloc, book, &mut pass, kept, end(permit, 5));
     nothing_of(rt, handed);
     assert!(rt; (book.calls(), pass.count()) == (2, 2));
-    Ok(())
 }
 
 /// What is answered of two calls, whose receipts stand in two lists.
@@ -144,16 +151,15 @@ fn judges_two_calls<N: Naming, R: Abort>(
     alloc: Global,
     entries: &[Entry],
     kept: &mut Vec<Vec<Receipt<N>>>,
-) -> Result<(), Fail> {
+) {
     is_uncovered(rt, alloc, entries, kept);
     passes_and_base_come_first(rt, alloc, kept);
-    strangers_are_found(rt, alloc, entries, kept)?;
-    pass_on(kept, 0, 1)?;
-    turned_lists_are_found(rt, alloc, entries, kept)?;
-    pass_on(kept, 1, 0)?;
-    pass_on(kept, 1, 0)?;
+    strangers_are_found(rt, alloc, entries, kept);
+    pass_on(rt, kept, 0, 1);
+    turned_lists_are_found(rt, alloc, entries, kept);
+    pass_on(rt, kept, 1, 0);
+    pass_on(rt, kept, 1, 0);
     judges(rt, alloc, entries, kept, None);
-    Ok(())
 }
 
 /// A call without a receipt is found, and none where each has one.
@@ -189,21 +195,26 @@ fn strangers_are_found<N: Naming, R: Abort>(
     alloc: Global,
     entries: &[Entry],
     kept: &[Vec<Receipt<N>>],
-) -> Result<(), Fail> {
+) {
     let first = Some(Cause::Strange { list: 0, place: 0 });
     judges(rt, alloc, &[], kept, first);
-    judges(rt, alloc, &but(alloc, entries, 0, PROMOTED)?, kept, first);
+    judges(
+        rt,
+        alloc,
+        &but(rt, alloc, entries, 0, PROMOTED),
+        kept,
+        first,
+    );
     let second = Some(Cause::Strange { list: 1, place: 0 });
-    judges(rt, alloc, &but(alloc, entries, 1, SEEN)?, kept, second);
-    Ok(())
+    judges(rt, alloc, &but(rt, alloc, entries, 1, SEEN), kept, second);
 }
 
 /// Puts the last receipt of a list to the end of another.
-fn pass_on<N: Naming>(kept: &mut [Vec<Receipt<N>>], from: usize, to: usize) -> Result<(), Fail> {
-    let list = kept.get_mut(from).ok_or("a list")?;
-    let receipt = list.pop().ok_or("a receipt")?;
-    kept.get_mut(to).ok_or("a list")?.push(receipt)?;
-    Ok(())
+fn pass_on<N: Naming, R: Abort>(rt: &R, kept: &mut [Vec<Receipt<N>>], from: usize, to: usize) {
+    let list = kept.get_mut(from).expect(rt, "a list");
+    let receipt = list.pop().expect(rt, "a receipt");
+    let list = kept.get_mut(to).expect(rt, "a list");
+    list.push(receipt).expect(rt, "memory for a receipt");
 }
 
 /// The second list has both receipts, the later one first: strangers come before that, and calls
@@ -213,31 +224,30 @@ fn turned_lists_are_found<N: Naming, R: Abort>(
     alloc: Global,
     entries: &[Entry],
     kept: &[Vec<Receipt<N>>],
-) -> Result<(), Fail> {
+) {
     let turned = Some(Cause::Order { list: 1, place: 1 });
     judges(rt, alloc, entries, kept, turned);
-    judges(rt, alloc, &and(alloc, entries, SEEN)?, kept, turned);
+    judges(rt, alloc, &and(rt, alloc, entries, SEEN), kept, turned);
     let strange = Some(Cause::Strange { list: 1, place: 1 });
-    judges(rt, alloc, &but(alloc, entries, 0, SEEN)?, kept, strange);
-    Ok(())
+    judges(rt, alloc, &but(rt, alloc, entries, 0, SEEN), kept, strange);
 }
 
 #[test]
-fn a_promoted_permit_is_ended_once_it_is_handed_out(rt: HostRuntime) -> Result<(), Fail> {
-    promoted::<Brand, _>(&rt, rt.alloc(), Blanks::new())
+fn a_promoted_permit_is_ended_once_it_is_handed_out(rt: HostRuntime) {
+    promoted::<Brand, _>(&rt, rt.alloc(), Blanks::new());
 }
 
-fn promoted<N: Naming, R: Abort>(rt: &R, alloc: Global, blanks: Blanks) -> Result<(), Fail>
+fn promoted<N: Naming, R: Abort>(rt: &R, alloc: Global, blanks: Blanks)
     requires names { AreNamed N.calls N.place blanks }
     requires parts { AreWhole blanks }
     requires rows { N.rows ≡ [] }
     requires room { N.room ≡ 100 }
 {
-    let mut book = single::<N>(alloc, 1_000, false, blanks)?;
+    let mut book = single::<N, R>(rt, alloc, 1_000, false, blanks);
     let mut kept = Vec::new(alloc);
-    wait_and_claim(rt, alloc, &mut book, &mut kept)?;
+    wait_and_claim(rt, alloc, &mut book, &mut kept);
     let history = book.into_journal().into_history();
-    judges_a_promotion(rt, alloc, &history.entries, &mut kept)
+    judges_a_promotion(rt, alloc, &history.entries, &mut kept);
 }
 
 /// Number 1 waits, is promoted at 5, and claimed by number 4.
@@ -246,8 +256,8 @@ fn wait_and_claim<N: Naming, R: Abort>(
     alloc: Global,
     book: &mut Book<Fixed, N>,
     kept: &mut Vec<Vec<Receipt<N>>>,
-) -> Result<(), Fail> {
-    let mut pass = book.pass().ok_or("a pass")?;
+) {
+    let mut pass = book.pass().expect(rt, "a pass");
     let handed = call(rt, alloc, book, &mut pass, kept, acquire(false, 0));
     let permit = permit_of(rt, handed);
     let handed = call(rt, alloc, book, &mut pass, kept, acquire(true, 1));
@@ -258,7 +268,6 @@ fn wait_and_claim<N: Naming, R: Abort>(
     let permit = permit_of(rt, handed);
     let handed = call(rt, alloc, book, &mut pass, kept, end(permit, 7));
     nothing_of(rt, handed);
-    Ok(())
 }
 
 /// What is answered of these calls: the ending of number 5 is of nobody's permit where number 4
@@ -268,7 +277,7 @@ fn judges_a_promotion<N: Naming, R: Abort>(
     alloc: Global,
     entries: &[Entry],
     kept: &mut Vec<Vec<Receipt<N>>>,
-) -> Result<(), Fail> {
+) {
     judges(rt, alloc, entries, kept, None);
     assert!(rt; kept.len() == 5);
     kept.swap(3, 4);
@@ -276,33 +285,37 @@ fn judges_a_promotion<N: Naming, R: Abort>(
     let kept = &kept[..4];
     let uncovered = Some(Cause::Uncovered { number: 4 });
     judges(rt, alloc, entries, kept, uncovered);
-    let unclaimed = but(alloc, entries, 4, PROMOTED)?;
+    let unclaimed = but(rt, alloc, entries, 4, PROMOTED);
     let unmatched = Some(Cause::Unmatched { number: 5 });
     judges(rt, alloc, &unclaimed, kept, unmatched);
     let uncovered = Some(Cause::Uncovered { number: 6 });
-    judges(rt, alloc, &and(alloc, &unclaimed, SEEN)?, kept, uncovered);
-    Ok(())
+    judges(
+        rt,
+        alloc,
+        &and(rt, alloc, &unclaimed, SEEN),
+        kept,
+        uncovered,
+    );
 }
 
 #[test]
-fn a_history_that_rolled_is_not_accepted(rt: HostRuntime) -> Result<(), Fail> {
-    rolled::<Brand, _>(&rt, rt.alloc(), Blanks::new())
+fn a_history_that_rolled_is_not_accepted(rt: HostRuntime) {
+    rolled::<Brand, _>(&rt, rt.alloc(), Blanks::new());
 }
 
 /// Two looks by one pass, of which one entry is kept.
-fn rolled<N: Naming, R: Abort>(rt: &R, alloc: Global, blanks: Blanks) -> Result<(), Fail>
+fn rolled<N: Naming, R: Abort>(rt: &R, alloc: Global, blanks: Blanks)
     requires names { AreNamed N.calls N.place blanks }
     requires parts { AreWhole blanks }
     requires rows { N.rows ≡ [] }
     requires room { N.room ≡ 100 }
 {
-    let mut book = single::<N>(alloc, 1, true, blanks)?;
+    let mut book = single::<N, R>(rt, alloc, 1, true, blanks);
     let mut kept = Vec::new(alloc);
-    look_twice(rt, alloc, &mut book, &mut kept)?;
+    look_twice(rt, alloc, &mut book, &mut kept);
     let history = book.into_journal().into_history();
     let found = verdict(alloc, TWICE, history.base, &history.entries, &kept);
     assert!(rt; found == Some(Cause::Rolled { base: 1 }));
-    Ok(())
 }
 
 fn look_twice<N: Naming, R: Abort>(
@@ -310,13 +323,12 @@ fn look_twice<N: Naming, R: Abort>(
     alloc: Global,
     book: &mut Book<Fixed, N>,
     kept: &mut Vec<Vec<Receipt<N>>>,
-) -> Result<(), Fail> {
-    let mut pass = book.pass().ok_or("a pass")?;
+) {
+    let mut pass = book.pass().expect(rt, "a pass");
     for _ in 0..2 {
         let part = Part::Unknown;
         let handed = call(rt, alloc, book, &mut pass, kept, Call::Look { part });
         nothing_of(rt, handed);
     }
     assert!(rt; (book.calls(), pass.count()) == (2, 2));
-    Ok(())
 }

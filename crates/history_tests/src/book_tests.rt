@@ -9,7 +9,6 @@ use partitions::Part;
 use std::alloc::Global;
 use std::marker::Brand;
 use std::process::Abort;
-use std::test::Fail;
 
 /// The permit that a step hands out, which tells this number and reply.
 fn permit_of<N: Naming, R: Abort>(rt: &R, step: Step<N>, number: u64, reply: Reply) -> Permit<N> {
@@ -62,22 +61,18 @@ fn spent<N: Naming, R: Abort>(rt: &R, step: Step<N>) -> Handed<N> {
 }
 
 #[test]
-fn past_what_it_keeps_endings_are_answered(rt: HostRuntime) -> Result<(), Fail> {
-    past_what_it_keeps::<Brand, _>(&rt, rt.alloc(), Blanks::new())
+fn past_what_it_keeps_endings_are_answered(rt: HostRuntime) {
+    past_what_it_keeps::<Brand, _>(&rt, rt.alloc(), Blanks::new());
 }
 
-fn past_what_it_keeps<N: Naming, R: Abort>(
-    rt: &R,
-    alloc: Global,
-    blanks: Blanks,
-) -> Result<(), Fail>
+fn past_what_it_keeps<N: Naming, R: Abort>(rt: &R, alloc: Global, blanks: Blanks)
     requires names { AreNamed N.calls N.place blanks }
     requires parts { AreWhole blanks }
     requires rows { N.rows ≡ [] }
     requires room { N.room ≡ 100 }
 {
-    let mut book = single::<N>(alloc, 2, false, blanks)?;
-    let mut pass = book.pass().ok_or("a pass")?;
+    let mut book = single::<N, R>(rt, alloc, 2, false, blanks);
+    let mut pass = book.pass().expect(rt, "a pass");
     let admitted = book.step(&mut pass, acquire(false, 0));
     let permit = permit_of(rt, admitted, 0, Reply::Admitted { inflight: 1 });
     let waiting = book.step(&mut pass, acquire(true, 1));
@@ -99,26 +94,21 @@ fn past_what_it_keeps<N: Naming, R: Abort>(
     assert!(rt; (pass.count(), book.calls()) == (4, 4));
     let history = book.into_journal().into_history();
     assert!(rt; (history.base, history.entries.len()) == (0, 4));
-    Ok(())
 }
 
 #[test]
-fn a_promoted_waiter_keeps_its_permit(rt: HostRuntime) -> Result<(), Fail> {
-    one_waits_and_one_is_promoted::<Brand, _>(&rt, rt.alloc(), Blanks::new())
+fn a_promoted_waiter_keeps_its_permit(rt: HostRuntime) {
+    one_waits_and_one_is_promoted::<Brand, _>(&rt, rt.alloc(), Blanks::new());
 }
 
-fn one_waits_and_one_is_promoted<N: Naming, R: Abort>(
-    rt: &R,
-    alloc: Global,
-    blanks: Blanks,
-) -> Result<(), Fail>
+fn one_waits_and_one_is_promoted<N: Naming, R: Abort>(rt: &R, alloc: Global, blanks: Blanks)
     requires names { AreNamed N.calls N.place blanks }
     requires parts { AreWhole blanks }
     requires rows { N.rows ≡ [] }
     requires room { N.room ≡ 100 }
 {
-    let mut book = single::<N>(alloc, 1000, false, blanks)?;
-    let mut pass = book.pass().ok_or("a pass")?;
+    let mut book = single::<N, R>(rt, alloc, 1000, false, blanks);
+    let mut pass = book.pass().expect(rt, "a pass");
     let admitted = book.step(&mut pass, acquire(false, 0));
     let permit = permit_of(rt, admitted, 0, Reply::Admitted { inflight: 1 });
     let first = book.step(&mut pass, acquire(true, 1));
@@ -144,42 +134,39 @@ fn one_waits_and_one_is_promoted<N: Naming, R: Abort>(
     let ended = book.step(&mut pass, end(permit, 9));
     nothing_of(rt, ended, 8, Reply::Ended { promoted: 0 });
     assert!(rt; (pass.count(), book.calls()) == (8, 8));
-    Ok(())
 }
 
 #[test]
-fn a_book_gives_a_million_passes(rt: HostRuntime) -> Result<(), Fail> {
-    a_million_passes::<Brand, _>(&rt, rt.alloc(), Blanks::new())
+fn a_book_gives_a_million_passes(rt: HostRuntime) {
+    a_million_passes::<Brand, _>(&rt, rt.alloc(), Blanks::new());
 }
 
-fn a_million_passes<N: Naming, R: Abort>(rt: &R, alloc: Global, blanks: Blanks) -> Result<(), Fail>
+fn a_million_passes<N: Naming, R: Abort>(rt: &R, alloc: Global, blanks: Blanks)
     requires names { AreNamed N.calls N.place blanks }
     requires parts { AreWhole blanks }
     requires rows { N.rows ≡ [] }
     requires room { N.room ≡ 100 }
 {
-    let mut book = single::<N>(alloc, 1, false, blanks)?;
+    let mut book = single::<N, R>(rt, alloc, 1, false, blanks);
     for _ in 0..1_000_000 {
         assert!(rt; book.pass().is_some());
     }
     assert!(rt; book.pass().is_none());
-    Ok(())
 }
 
 #[test]
-fn a_sealed_book_gives_no_pass(rt: HostRuntime) -> Result<(), Fail> {
-    sealed::<Brand, _>(&rt, rt.alloc(), Blanks::new())
+fn a_sealed_book_gives_no_pass(rt: HostRuntime) {
+    sealed::<Brand, _>(&rt, rt.alloc(), Blanks::new());
 }
 
-fn sealed<N: Naming, R: Abort>(rt: &R, alloc: Global, blanks: Blanks) -> Result<(), Fail>
+fn sealed<N: Naming, R: Abort>(rt: &R, alloc: Global, blanks: Blanks)
     requires names { AreNamed N.calls N.place blanks }
     requires parts { AreWhole blanks }
     requires rows { N.rows ≡ [] }
     requires room { N.room ≡ 100 }
 {
-    let mut book = single::<N>(alloc, 1, false, blanks)?;
+    let mut book = single::<N, R>(rt, alloc, 1, false, blanks);
     assert!(rt; book.pass().is_some());
     book.seal();
     assert!(rt; book.pass().is_none());
-    Ok(())
 }

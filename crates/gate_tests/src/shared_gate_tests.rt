@@ -1,0 +1,171 @@
+// A shared gate by worked rows, and by two threads of which one waits for the other.
+ghost use Rattle.std.specs.Prelude.{◌≡◌, []};
+ghost use Rattle.gate_ledgers.specs.Names.{AreNamed, AreWhole};
+
+use crate::one_permit::single;
+use gate_history::{Blanks, Naming, Permit, Ticket};
+use limit_laws::Fixed;
+use limiter_core::{Outcome, Reply};
+use partitions::Part;
+use shared_gate::{Claimed, Clock, GaveUp, Got, Pass, SharedGate, Waited};
+use std::alloc::Global;
+use std::marker::Brand;
+use std::process::Abort;
+use std::sync::Wait;
+use std::thread::{Threads, join};
+use std::time::Clock as SystemClock;
+
+/// A clock that stands still.
+pub(crate) struct Still {}
+
+impl Clock for Still {
+    fn now(&self) -> u64 {
+        0
+    }
+}
+
+/// The permit of an acquire that is admitted.
+pub(crate) fn admitted<M: Naming, R: Abort>(rt: &R, got: Got<M>) -> Permit<M> {
+    match got {
+        Got::Admitted(_receipt, permit) => permit,
+        Got::Bypassed(_receipt) => rt.abort(),
+        Got::Full(_receipt) => rt.abort(),
+        Got::BacklogFull(_receipt) => rt.abort(),
+        Got::Waiting(_receipt, _ticket) => rt.abort(),
+        Got::Exhausted(_spent) => rt.abort(),
+    }
+}
+
+/// The ticket of an acquire that waits.
+pub(crate) fn queued<M: Naming, R: Abort>(rt: &R, got: Got<M>) -> Ticket<M> {
+    match got {
+        Got::Waiting(_receipt, ticket) => ticket,
+        Got::Admitted(_receipt, _permit) => rt.abort(),
+        Got::Bypassed(_receipt) => rt.abort(),
+        Got::Full(_receipt) => rt.abort(),
+        Got::BacklogFull(_receipt) => rt.abort(),
+        Got::Exhausted(_spent) => rt.abort(),
+    }
+}
+
+#[test]
+fn one_waits_and_one_is_promoted(rt: HostRuntime) {
+    by_one_pass::<Brand, _>(&rt, rt.alloc(), Blanks::new(), 1_000_000, false);
+}
+
+pub(crate) fn by_one_pass<M: Naming, R: Wait + Abort>(
+    rt: &R,
+    alloc: Global,
+    blanks: Blanks,
+    kept: usize,
+    is_rolling: bool,
+)
+    requires names { AreNamed M.calls M.place blanks }
+    requires parts { AreWhole blanks }
+    requires rows { M.rows ≡ [] }
+    requires room { M.room ≡ 100 }
+{
+    let mut book = single::<M, R>(rt, alloc, kept, is_rolling, blanks);
+    let mut pass = Pass::of(book.pass().expect(rt, "a pass"));
+    book.seal();
+    let gate = SharedGate::new(book);
+    let unknown = Part::Unknown;
+    let permit = admitted(rt, gate.acquire(rt, &mut pass, unknown, false, false, 0));
+    let first = queued(rt, gate.acquire(rt, &mut pass, unknown, false, true, 1));
+    let second = queued(rt, gate.acquire(rt, &mut pass, unknown, false, true, 2));
+    let ended = gate.end(rt, &mut pass, permit, Outcome::Success, 5);
+    assert!(rt; ended.reply() == Reply::Ended { promoted: 1 });
+    let first = match gate.claim(rt, &mut pass, first) {
+        Claimed::StillWaiting(_receipt, ticket) => ticket,
+        Claimed::Granted(_receipt, _permit) => rt.abort(),
+        Claimed::Lost(_receipt) => rt.abort(),
+        Claimed::Exhausted(_spent, _ticket) => rt.abort(),
+    };
+    let permit = match gate.give_up(rt, &mut pass, second) {
+        GaveUp::Granted(_receipt, permit) => permit,
+        GaveUp::TimedOut(_receipt) => rt.abort(),
+        GaveUp::Lost(_receipt) => rt.abort(),
+        GaveUp::Exhausted(_spent) => rt.abort(),
+    };
+    match gate.give_up(rt, &mut pass, first) {
+        GaveUp::TimedOut(_receipt) => {}
+        GaveUp::Granted(_receipt, _permit) => rt.abort(),
+        GaveUp::Lost(_receipt) => rt.abort(),
+        GaveUp::Exhausted(_spent) => rt.abort(),
+    }
+    let ended = gate.end(rt, &mut pass, permit, Outcome::Ignored, 9);
+    assert!(rt; (ended.number(), pass.count()) == (8, 8));
+    let counters = gate.counters(rt);
+    assert!(rt; (counters.admitted, counters.promoted, counters.timed_out) == (1, 1, 1));
+}
+
+#[test]
+fn who_waits_gets_the_permit_that_another_ends(rt: HostRuntime) {
+    by_two_threads::<Brand, _>(&rt, rt.alloc(), Blanks::new());
+}
+
+fn by_two_threads<M: Naming + Send + Sync, R: Threads + Wait + SystemClock + Abort + Sync>(
+    rt: &R,
+    alloc: Global,
+    blanks: Blanks,
+)
+    requires names { AreNamed M.calls M.place blanks }
+    requires parts { AreWhole blanks }
+    requires rows { M.rows ≡ [] }
+    requires room { M.room ≡ 100 }
+{
+    let mut book = single::<M, R>(rt, alloc, 1_000_000, false, blanks);
+    let one = Pass::of(book.pass().expect(rt, "a pass"));
+    let two = Pass::of(book.pass().expect(rt, "a pass"));
+    book.seal();
+    let gate = SharedGate::new(book);
+    let (one, two) = join(rt, || holds(rt, &gate, one), || waits(rt, &gate, two));
+    assert!(rt; one.count() >= 2 && two.count() == 3);
+}
+
+/// Holds the only permit until somebody waits for it.
+fn holds<M: Naming, R: Wait + Abort>(
+    rt: &R,
+    gate: &SharedGate<Fixed, M>,
+    mut pass: Pass<M>,
+) -> Pass<M> {
+    let permit = admitted(
+        rt,
+        gate.acquire(rt, &mut pass, Part::Unknown, false, false, 0),
+    );
+    for _ in 0..900_000 {
+        let seen = gate
+            .look(rt, &mut pass, Part::Unknown)
+            .map(|receipt| receipt.reply());
+        if let Ok(Reply::Seen { waiting: 1, .. }) = seen {
+            break;
+        }
+    }
+    let _receipt = gate.end(rt, &mut pass, permit, Outcome::Success, 1);
+    pass
+}
+
+/// Waits for the permit, once it is held, by a clock that stands still.
+fn waits<M: Naming, R: Wait + SystemClock + Abort>(
+    rt: &R,
+    gate: &SharedGate<Fixed, M>,
+    mut pass: Pass<M>,
+) -> Pass<M> {
+    for _ in rt.forever() {
+        if gate.counters(rt).admitted == 1 {
+            break;
+        }
+    }
+    let far = 1 << 62;
+    match gate.acquire_wait(rt, &mut pass, Part::Unknown, 0, &Still {}, far) {
+        Waited::Promoted(_first, _second, permit) => {
+            let _receipt = gate.end(rt, &mut pass, permit, Outcome::Success, 2);
+        }
+        Waited::Admitted(_receipt, _permit) => rt.abort(),
+        Waited::TimedOut(_first, _second) => rt.abort(),
+        Waited::BacklogFull(_receipt) => rt.abort(),
+        Waited::Lost(_first, _second) => rt.abort(),
+        Waited::Exhausted(_spent) => rt.abort(),
+    }
+    pass
+}

@@ -1,0 +1,232 @@
+// Waiting at a shared gate by clocks of several kinds, and a gate whose history is exhausted.
+ghost use Rattle.std.specs.Prelude.{◌≡◌, []};
+ghost use Rattle.gate_ledgers.specs.Names.{AreNamed, AreWhole};
+
+use crate::one_permit::single;
+use crate::shared_gate_tests::{Still, admitted, queued};
+use gate_history::{Blanks, Naming, Receipt, Spent, Ticket};
+use limit_laws::Fixed;
+use limiter_core::{Counters, Event, Outcome, Reply};
+use partitions::Part;
+use shared_gate::{Claimed, Clock, GaveUp, Got, Pass, SharedGate, Waited};
+use std::alloc::Global;
+use std::marker::Brand;
+use std::process::Abort;
+use std::sync::Wait;
+use std::sync::atomic::{AtomicU64, Ordering};
+use std::time::Clock as SystemClock;
+
+const UNKNOWN: Part = Part::Unknown;
+
+/// A clock that goes on by a second at each look.
+#[derive(Drop)]
+struct GoesOn {
+    nanos: AtomicU64,
+}
+
+impl Clock for GoesOn {
+    fn now(&self) -> u64 {
+        self.nanos.fetch_add(1_000_000_000, Ordering::SeqCst)
+    }
+}
+
+/// A clock that tells more than the last moment, which is 2^62.
+struct Late {}
+
+impl Clock for Late {
+    fn now(&self) -> u64 {
+        u64::MAX
+    }
+}
+
+#[test]
+fn who_waits_gives_up_at_the_deadline(rt: HostRuntime) {
+    let clock = GoesOn {
+        nanos: AtomicU64::new(0),
+    };
+    in_vain::<Brand, _, _>(&rt, rt.alloc(), Blanks::new(), 0, &clock, 3_000_000_000);
+    assert_eq!(rt; clock.now(), 4_000_000_000);
+}
+
+#[test]
+fn after_the_deadline_one_look_at_the_clock_is_enough(rt: HostRuntime) {
+    let clock = GoesOn {
+        nanos: AtomicU64::new(9_000_000_000),
+    };
+    in_vain::<Brand, _, _>(&rt, rt.alloc(), Blanks::new(), 0, &clock, 3_000_000_000);
+    assert_eq!(rt; clock.now(), 10_000_000_000);
+}
+
+#[test]
+fn a_clock_may_stand_still_at_the_deadline(rt: HostRuntime) {
+    in_vain::<Brand, _, _>(&rt, rt.alloc(), Blanks::new(), 0, &Still {}, 0);
+}
+
+#[test]
+fn a_clock_may_tell_more_than_the_last_moment(rt: HostRuntime) {
+    in_vain::<Brand, _, _>(&rt, rt.alloc(), Blanks::new(), u64::MAX, &Late {}, u64::MAX);
+}
+
+/// A caller holds the only permit and waits for another, until its clock has reached the deadline.
+fn in_vain<M: Naming, R: Wait + SystemClock + Abort, C: Clock>(
+    rt: &R,
+    alloc: Global,
+    blanks: Blanks,
+    now: u64,
+    clock: &C,
+    deadline: u64,
+)
+    requires names { AreNamed M.calls M.place blanks }
+    requires parts { AreWhole blanks }
+    requires rows { M.rows ≡ [] }
+    requires room { M.room ≡ 100 }
+{
+    let mut book = single::<M, R>(rt, alloc, 1_000, false, blanks);
+    let mut pass = Pass::of(book.pass().expect(rt, "a pass"));
+    book.seal();
+    let gate = SharedGate::new(book);
+    let permit = admitted(rt, gate.acquire(rt, &mut pass, UNKNOWN, false, false, now));
+    assert!(rt; permit.facts().start == now.min(1 << 62));
+    let waited = gate.acquire_wait(rt, &mut pass, UNKNOWN, now, clock, deadline);
+    is_timed_out(rt, waited);
+    let ended = gate.end(rt, &mut pass, permit, Outcome::Success, now);
+    assert!(rt; ended.reply() == Reply::Ended { promoted: 0 });
+    assert!(rt; (ended.number(), pass.count()) == (3, 4));
+}
+
+/// A wait of number 1 that number 2 gave up.
+fn is_timed_out<M: Naming, R: Abort>(rt: &R, waited: Waited<M>) {
+    match waited {
+        Waited::TimedOut(first, second) => {
+            assert!(rt; (first.number(), second.number()) == (1, 2));
+        }
+        Waited::Admitted(_receipt, _permit) => rt.abort(),
+        Waited::Promoted(_first, _second, _permit) => rt.abort(),
+        Waited::BacklogFull(_receipt) => rt.abort(),
+        Waited::Lost(_first, _second) => rt.abort(),
+        Waited::Exhausted(_spent) => rt.abort(),
+    }
+}
+
+#[test]
+fn an_exhausted_gate_answers_what_is_owed(rt: HostRuntime) {
+    exhausted::<Brand, _>(&rt, rt.alloc(), Blanks::new());
+}
+
+fn exhausted<M: Naming, R: Wait + SystemClock + Abort>(rt: &R, alloc: Global, blanks: Blanks)
+    requires names { AreNamed M.calls M.place blanks }
+    requires parts { AreWhole blanks }
+    requires rows { M.rows ≡ [] }
+    requires room { M.room ≡ 100 }
+{
+    let mut book = single::<M, R>(rt, alloc, 2, false, blanks);
+    let mut pass = Pass::of(book.pass().expect(rt, "a pass"));
+    book.seal();
+    let gate = SharedGate::new(book);
+    let permit = admitted(rt, gate.acquire(rt, &mut pass, UNKNOWN, false, false, 0));
+    let ticket = queued(rt, gate.acquire(rt, &mut pass, UNKNOWN, false, true, 1));
+    refuses_acquires(rt, &gate, &mut pass);
+    refuses_changes(rt, &gate, &mut pass);
+    let ticket = handed_back(rt, &gate, &mut pass, ticket);
+    is_as_before(rt, &gate, &pass);
+    match gate.give_up(rt, &mut pass, ticket) {
+        GaveUp::TimedOut(receipt) => assert!(rt; receipt.number() == 2),
+        GaveUp::Granted(_receipt, _permit) => rt.abort(),
+        GaveUp::Lost(_receipt) => rt.abort(),
+        GaveUp::Exhausted(_spent) => rt.abort(),
+    }
+    let ended = gate.end(rt, &mut pass, permit, Outcome::Success, 3);
+    assert!(rt; (ended.number(), pass.count()) == (3, 4));
+}
+
+/// No acquire is answered.
+fn refuses_acquires<M: Naming, R: Wait + SystemClock + Abort>(
+    rt: &R,
+    gate: &SharedGate<Fixed, M>,
+    pass: &mut Pass<M>,
+) {
+    match gate.acquire(rt, pass, UNKNOWN, true, false, 2) {
+        Got::Exhausted(spent) => is_spent(rt, spent, acquire(true, false, 2)),
+        Got::Admitted(_receipt, _permit) => rt.abort(),
+        Got::Bypassed(_receipt) => rt.abort(),
+        Got::Full(_receipt) => rt.abort(),
+        Got::BacklogFull(_receipt) => rt.abort(),
+        Got::Waiting(_receipt, _ticket) => rt.abort(),
+    }
+    match gate.acquire_wait(rt, pass, UNKNOWN, 3, &Late {}, 0) {
+        Waited::Exhausted(spent) => is_spent(rt, spent, acquire(false, true, 3)),
+        Waited::Admitted(_receipt, _permit) => rt.abort(),
+        Waited::Promoted(_first, _second, _permit) => rt.abort(),
+        Waited::TimedOut(_first, _second) => rt.abort(),
+        Waited::BacklogFull(_receipt) => rt.abort(),
+        Waited::Lost(_first, _second) => rt.abort(),
+    }
+}
+
+const fn acquire(bypass: bool, wait: bool, now: u64) -> Event {
+    Event::Acquire {
+        part: UNKNOWN,
+        bypass,
+        wait,
+        now,
+    }
+}
+
+/// Neither settings nor a look are answered.
+fn refuses_changes<M: Naming, R: Wait + Abort>(
+    rt: &R,
+    gate: &SharedGate<Fixed, M>,
+    pass: &mut Pass<M>,
+) {
+    let set = gate.set_limit(rt, pass, 7, 4);
+    is_refused(rt, set, Event::SetLimit { n: 7, now: 4 });
+    let reset = gate.reset(rt, pass, 5);
+    is_refused(rt, reset, Event::Reset { now: 5 });
+    let seen = gate.look(rt, pass, UNKNOWN);
+    is_refused(rt, seen, Event::Look { part: UNKNOWN });
+}
+
+/// A claim isn't answered, and its ticket comes back.
+fn handed_back<M: Naming, R: Wait + Abort>(
+    rt: &R,
+    gate: &SharedGate<Fixed, M>,
+    pass: &mut Pass<M>,
+    ticket: Ticket<M>,
+) -> Ticket<M> {
+    match gate.claim(rt, pass, ticket) {
+        Claimed::Exhausted(spent, ticket) => {
+            is_spent(rt, spent, Event::Claim { number: 1 });
+            ticket
+        }
+        Claimed::Granted(_receipt, _permit) => rt.abort(),
+        Claimed::StillWaiting(_receipt, _ticket) => rt.abort(),
+        Claimed::Lost(_receipt) => rt.abort(),
+    }
+}
+
+/// The call of this event isn't answered.
+fn is_refused<M: Naming, R: Abort>(rt: &R, told: Result<Receipt<M>, Spent<M>>, event: Event) {
+    match told {
+        Err(spent) => is_spent(rt, spent, event),
+        Ok(_receipt) => rt.abort(),
+    }
+}
+
+/// It tells this event, that two entries are held of two that are kept, and that the next number
+/// is 2.
+fn is_spent<M: Naming, R: Abort>(rt: &R, spent: Spent<M>, event: Event) {
+    assert!(rt; spent.event() == event);
+    assert!(rt; (spent.held(), spent.kept(), spent.next()) == (2, 2, 2));
+    assert!(rt; !spent.is_rolling());
+}
+
+/// One was admitted and one waits, and the pass counts these two calls.
+fn is_as_before<M: Naming, R: Wait + Abort>(rt: &R, gate: &SharedGate<Fixed, M>, pass: &Pass<M>) {
+    let two = Counters {
+        admitted: 1,
+        waiting: 1,
+        ..Counters::default()
+    };
+    assert!(rt; gate.counters(rt) == two);
+    assert!(rt; pass.count() == 2);
+}

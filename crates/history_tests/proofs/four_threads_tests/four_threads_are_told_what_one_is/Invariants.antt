@@ -1,7 +1,0 @@
-use Rattle.gate_ledgers.specs.Names.{places_of}
-use Rattle.history_tests.proofs.four_threads_tests.four_threads_are_told_what_one_is.Given as goal
-
--- the ledgers that were just made, over the table of the gate
-abbrev pub ghosts-told_by_four : goal.ghosts-told_by_four
-ghosts-told_by_four g a =
-    record { calls = a.blanks.calls.name; place = places_of a.blanks; rows = a.table; room = 2 }

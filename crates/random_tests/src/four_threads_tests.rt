@@ -1,0 +1,270 @@
+// Four threads make random calls of one gate: what they are told is what one thread is told.
+ghost use Rattle.std.specs.Prelude.{◌≡◌, [], ◌∷◌};
+ghost use Rattle.limiter_core.specs.Answer.{granted_at};
+ghost use Rattle.limiter_core.specs.Limiter.{gate_of, stands};
+ghost use Rattle.gate_ledgers.specs.Names.{AreNamed, AreWhole};
+
+use crate::random_calls::{Caller, Told, call_at_random};
+use aimd::Aimd;
+use gate_history::{Blanks, Book, Journal, Naming};
+use limit_laws::Limit;
+use limiter_core::{Core, Counters, Event, Outcome, Reply};
+use partitions::PartitionTable;
+use shared_gate::{Pass, SharedGate};
+use std::alloc::Global;
+use std::marker::Brand;
+use std::process::Abort;
+use std::sync::Wait;
+use std::thread::{Threads, join};
+
+/// How many may wait.
+const ROOM: u32 = 2;
+
+/// Three classes.
+pub(crate) fn classes<R: Abort>(rt: &R, alloc: Global) -> PartitionTable {
+    let rows = [(b"live".as_slice(), 50), (b"batch", 30), (b"scan", 10)];
+    PartitionTable::new(alloc, &rows).expect(rt, "a table")
+}
+
+/// A limiter of 1 to 5.
+pub(crate) fn limiter<R: Abort>(rt: &R, alloc: Global, table: PartitionTable) -> Core<Aimd>
+    ensures rows { result.rows ≡ table }
+    ensures room { result.room ≡ 2 }
+    ensures idle { result.counts ≡ 0 ∷ 0 ∷ 0 ∷ 0 ∷ 0 ∷ [] }
+    ensures nobody { result.granted ≡ [] }
+    ensures base { result.next ≡ 0 }
+{
+    let limit = Aimd::new(1, 3, 5, 900, 1_000_000).expect(rt, "a limit");
+    Core::new(alloc, limit, table, ROOM).expect(rt, "a limiter")
+}
+
+#[test]
+fn four_threads_are_told_what_one_is(rt: HostRuntime) {
+    let table = classes(&rt, rt.alloc());
+    told_by_four::<Brand, _>(&rt, rt.alloc(), table, Blanks::new(), 1_000_000, false);
+}
+
+#[test]
+fn four_threads_over_a_rolling_gate_are_told_what_one_is(rt: HostRuntime) {
+    let table = classes(&rt, rt.alloc());
+    told_by_four::<Brand, _>(&rt, rt.alloc(), table, Blanks::new(), 100, true);
+}
+
+fn told_by_four<M: Naming + Send + Sync, R: Threads + Wait + Abort + Sync>(
+    rt: &R,
+    alloc: Global,
+    table: PartitionTable,
+    blanks: Blanks,
+    kept: usize,
+    is_rolling: bool,
+)
+    requires names { AreNamed M.calls M.place blanks }
+    requires parts { AreWhole blanks }
+    requires rows { M.rows ≡ table }
+    requires room { M.room ≡ 2 }
+{
+    let book = a_book::<M, R>(rt, alloc, table, blanks, kept, is_rolling);
+    told_of_book(rt, alloc, book);
+}
+
+fn a_book<M: Naming, R: Abort>(
+    rt: &R,
+    alloc: Global,
+    table: PartitionTable,
+    blanks: Blanks,
+    kept: usize,
+    is_rolling: bool,
+) -> Book<Aimd, M>
+    requires names { AreNamed M.calls M.place blanks }
+    requires parts { AreWhole blanks }
+    requires rows { M.rows ≡ table }
+    requires room { M.room ≡ 2 }
+{
+    let core = limiter(rt, alloc, table);
+    let journal = Journal::new(alloc, core, kept, is_rolling).expect(rt, "a journal");
+    Book::new(journal, blanks)
+}
+
+fn told_of_book<M: Naming + Send + Sync, R: Threads + Wait + Abort + Sync>(
+    rt: &R,
+    alloc: Global,
+    mut book: Book<Aimd, M>,
+) {
+    let callers = four_callers(rt, alloc, &mut book);
+    book.seal();
+    let gate = SharedGate::new(book);
+    told_of_gate(rt, alloc, &gate, callers);
+}
+
+fn told_of_gate<M: Naming + Send + Sync, R: Threads + Wait + Abort + Sync>(
+    rt: &R,
+    alloc: Global,
+    gate: &SharedGate<Aimd, M>,
+    callers: Four<M>,
+) {
+    let callers = by_four_threads(rt, gate, callers);
+    let told = all_told(rt, alloc, &callers);
+    is_told_to_one(rt, alloc, &told, gate.counters(rt));
+}
+
+/// Four callers.
+#[derive(Drop)]
+struct Four<M: Naming> {
+    first: Caller<M>,
+    second: Caller<M>,
+    third: Caller<M>,
+    fourth: Caller<M>,
+}
+
+fn four_callers<M: Naming, R: Abort>(rt: &R, alloc: Global, book: &mut Book<Aimd, M>) -> Four<M> {
+    Four {
+        first: a_caller(rt, alloc, book, 1),
+        second: a_caller(rt, alloc, book, 2),
+        third: a_caller(rt, alloc, book, 3),
+        fourth: a_caller(rt, alloc, book, 4),
+    }
+}
+
+fn a_caller<M: Naming, R: Abort>(
+    rt: &R,
+    alloc: Global,
+    book: &mut Book<Aimd, M>,
+    seed: u64,
+) -> Caller<M> {
+    let pass = Pass::of(book.pass().expect(rt, "a pass"));
+    Caller::new(rt, alloc, pass, seed)
+}
+
+fn by_four_threads<M: Naming + Send + Sync, R: Threads + Wait + Abort + Sync>(
+    rt: &R,
+    gate: &SharedGate<Aimd, M>,
+    callers: Four<M>,
+) -> Four<M> {
+    let Four {
+        first,
+        second,
+        third,
+        fourth,
+    } = callers;
+    let (one, two) = join(
+        rt,
+        || by_two_threads(rt, gate, first, second),
+        || by_two_threads(rt, gate, third, fourth),
+    );
+    Four {
+        first: one.0,
+        second: one.1,
+        third: two.0,
+        fourth: two.1,
+    }
+}
+
+fn by_two_threads<M: Naming + Send + Sync, R: Threads + Wait + Abort + Sync>(
+    rt: &R,
+    gate: &SharedGate<Aimd, M>,
+    one: Caller<M>,
+    two: Caller<M>,
+) -> (Caller<M>, Caller<M>) {
+    join(
+        rt,
+        || call_at_random(rt, gate, one),
+        || call_at_random(rt, gate, two),
+    )
+}
+
+/// What all four were told, in order of number.
+fn all_told<M: Naming, R: Abort>(rt: &R, alloc: Global, callers: &Four<M>) -> Vec<Told> {
+    let mut told = Vec::new(alloc);
+    for caller in [
+        &callers.first,
+        &callers.second,
+        &callers.third,
+        &callers.fourth,
+    ] {
+        told.extend_from_slice(caller.told())
+            .expect(rt, "memory for what is told");
+    }
+    told.sort_unstable_by_key(|told| told.number);
+    told
+}
+
+/// One limiter, which is asked the same in order of number, answers the same and counts the same.
+fn is_told_to_one<R: Abort>(rt: &R, alloc: Global, told: &[Told], counters: Counters) {
+    assert!(rt; told.len() >= 40_000);
+    assert!(rt; summed(told) == counters);
+    let mut core = limiter(rt, alloc, classes(rt, alloc));
+    for told in told {
+        replay(rt, &mut core, *told);
+    }
+    assert!(rt; core.counters() == counters);
+    assert!(rt; (core.total(), core.waiting(), core.granted()) == (0, 0, 0));
+}
+
+/// A limiter gives an event the number and the reply that its caller was told.
+fn replay<L: Limit, R: Abort>(rt: &R, core: &mut Core<L>, told: Told) {
+    assert!(rt; core.next_number() == told.number);
+    let reply = reply_of(rt, core, told.event);
+    assert!(rt; reply == told.reply);
+}
+
+/// Asks an event that may come: an ending where more of its place are in flight than lie granted.
+fn reply_of<L: Limit, R: Abort>(rt: &R, core: &mut Core<L>, event: Event) -> Reply {
+    assert!(rt; core.next_number() < 1_000_000);
+    let Event::End { permit, .. } = event else {
+        return core.apply(event);
+    };
+    let place = core.table().place(permit.part);
+    assert!(rt; lying_at(core, place) < core.inflight(permit.part) as usize);
+    core.apply(event)
+}
+
+/// How many permits lie granted at a place.
+fn lying_at<L: Limit>(core: &Core<L>, place: usize) -> usize
+    ensures { result ≡ granted_at (gate_of L.rules core.now) (stands core.now) place }
+{
+    let mut found = 0;
+    for permit in core.granted_permits() {
+        if core.table().place(permit.part) == place {
+            found += 1;
+        }
+    }
+    found
+}
+
+/// How often receipts tell of each thing.
+fn summed(told: &[Told]) -> Counters {
+    let mut sums = Counters::default();
+    for told in told {
+        sums = with_reply(sums, told.reply);
+        sums = with_outcome(sums, told.event);
+    }
+    sums
+}
+
+fn with_reply(mut sums: Counters, reply: Reply) -> Counters {
+    match reply {
+        Reply::Admitted { .. } => sums.admitted = sums.admitted.saturating_add(1),
+        Reply::Bypassed => sums.bypassed = sums.bypassed.saturating_add(1),
+        Reply::Full => sums.full = sums.full.saturating_add(1),
+        Reply::BacklogFull => sums.backlog_full = sums.backlog_full.saturating_add(1),
+        Reply::Waiting => sums.waiting = sums.waiting.saturating_add(1),
+        Reply::TimedOut => sums.timed_out = sums.timed_out.saturating_add(1),
+        Reply::Ended { promoted } => {
+            sums.promoted = sums.promoted.saturating_add(u64::from(promoted))
+        }
+        _ => {}
+    }
+    sums
+}
+
+fn with_outcome(mut sums: Counters, event: Event) -> Counters {
+    let Event::End { outcome, .. } = event else {
+        return sums;
+    };
+    match outcome {
+        Outcome::Success => sums.success = sums.success.saturating_add(1),
+        Outcome::Ignored => sums.ignored = sums.ignored.saturating_add(1),
+        Outcome::Dropped => sums.dropped = sums.dropped.saturating_add(1),
+    }
+    sums
+}
