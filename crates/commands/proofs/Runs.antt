@@ -14,7 +14,7 @@ no_run name rows (OfText (Replay limit)) replay simulate load check serve is = r
 no_run name rows (OfText (Simulate limit)) replay simulate load check serve is = simulate is.0
 no_run name rows (Load limit workers) replay simulate load check serve is = load is.0
 no_run name rows (Check path) replay simulate load check serve is = check is.0
-no_run name rows (Serve path workers per_worker client_timeout) replay simulate load check serve is =
+no_run name rows (Serve path workers per_worker timeout) replay simulate load check serve is =
     serve is.0
 
 -- a path that isn't there

@@ -77,7 +77,8 @@ ends_more last b (x ∷ text) =
           ∙ ap (λ n. ends_of (x ∷ text) + n) (one_end b)
     ]
 
-pub progress_none : IsProgress [] (record { blank = true; third = 0; second = 0; last = 10; lines = 0 })
+pub progress_none : IsProgress []
+    (record { blank = true; third = 0; second = 0; last = 10; lines = 0 })
 unfolding line_ends
 progress_none = record {
   blank_is = refl;

@@ -1,5 +1,5 @@
 -- Bodies, as they are delimited.
-use Rattle.std.proofs.Common.{rules, ◌≡◌, ◌∙◌, sym, ap, refl, ℕ, List}
+use Rattle.std.proofs.Common.{rules, ◌≡◌, ap, refl, ℕ, List}
 use Rattle.std.specs.Prelude.{Option, Some, None, Result, Ok, Err}
 use Rattle.message_bytes.specs.declared.fault.ReadFault.{ReadFault}
 use Rattle.message_bytes.specs.declared.fault.ReadFault.TheVariants.{Memory, Read, TurnLimit, Bytes}

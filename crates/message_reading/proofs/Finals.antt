@@ -1,5 +1,5 @@
 -- Interim heads, one behind the other.
-use Rattle.std.proofs.Common.{rules, ◌≡◌, ◌+◌, ◌-◌, ◌⊎◌, ◌<◌, subst, refl, ℕ, true, false, List}
+use Rattle.std.proofs.Common.{rules, ◌≡◌, ◌+◌, ◌-◌, ◌⊎◌, ◌<◌, ℕ, true, false, List}
 use Rattle.std.specs.Prelude.{Option, Some, None, Result, Ok, Err, ⊤}
 use Rattle.message_bytes.specs.declared.fault.Fault.TheVariants.{Malformed}
 use Rattle.message_bytes.specs.declared.fault.ReadFault.{ReadFault}

@@ -1,11 +1,11 @@
 -- Phases, one behind the other.
-use Rattle.std.proofs.Common.{rules, ◌≡◌, ◌∙◌, sym, refl, ℕ, List}
+use Rattle.std.proofs.Common.{rules, ◌≡◌, refl, ℕ, List}
 use Rattle.std.specs.Prelude.{Option, Some, None, Result, Ok, Err}
 use Rattle.message_bytes.specs.declared.fault.Fault.{Fault}
 use Rattle.message_bytes.specs.declared.fault.Fault.TheVariants.{Malformed}
 use Rattle.message_bytes.specs.declared.fault.ReadFault.{ReadFault}
 use Rattle.message_bytes.specs.declared.fault.ReadFault.TheVariants.{Memory, Read, TurnLimit, Bytes}
-use Rattle.message_bytes.specs.Reading.{By, Gives, Reading, Then, checked}
+use Rattle.message_bytes.specs.Reading.{By, Gives, Reading, Then}
 use Rattle.message_bytes.specs.Head.{head_of}
 use Rattle.httparse.specs.Grammar.{RequestHead as RequestText, ResponseHead as ResponseText}
 use Rattle.message_heads.specs.declared.request.RequestHead.{RequestHead}
@@ -13,7 +13,7 @@ use Rattle.message_heads.specs.declared.response.ResponseHead.{ResponseHead}
 use Rattle.message_heads.specs.Whole.{HasNoWholeRequest, HasNoWholeResponse, IsRequestIn, IsResponseIn, IsWholeRequest, IsWholeResponse, request_head, response_head}
 use Rattle.message_reading.specs.declared.framing.Framing.{Framing}
 use Rattle.message_reading.specs.Framing.{request_framing}
-use Rattle.message_reading.specs.Heads.{IsCheckedHead, IsRequestHead, IsResponseHead, framed}
+use Rattle.message_reading.specs.Heads.{IsCheckedHead, IsRequestHead, IsResponseHead}
 
 module _ {X A : Type 0} (view : X → A) (First : List ℕ → Reading A → Type 0) where
   module _ {Y B : Type 0} (seen : Y → B) (Next : A → List ℕ → Reading B → Type 0) where

@@ -4,7 +4,7 @@ use Rattle.message_fields.specs.Lines.{asks_continue}
 use Rattle.message_bytes.specs.declared.fault.Fault.{Fault}
 use Rattle.message_heads.specs.declared.request.RequestHead.{RequestHead}
 use Rattle.message_reading.specs.declared.framing.Framing.{Framing}
-use Rattle.message_reading.specs.declared.framing.Framing.TheVariants.{Bodiless, Sized, Chunked, ToEnd}
+use Rattle.message_reading.specs.declared.framing.Framing.TheVariants.{Sized, Chunked}
 use Rattle.message_reading.specs.Heads.{IsCheckedHead}
 
 -- a body is to come: one in chunks, or of some bytes

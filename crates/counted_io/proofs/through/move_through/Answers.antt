@@ -25,7 +25,8 @@ returns-clause-bytes g c =
 
 pub returns-clause-end : goal.returns-clause-end
 returns-clause-end g c = λ zero room.
-    let none : length c.in-Ok.shown.now ≡ 0 = grind (arith, c.copy_through-count.ensures.some, zero, room) in
+    let none : length c.in-Ok.shown.now ≡ 0 =
+    grind (arith, c.copy_through-count.ensures.some, zero, room) in
     none_left _ _ c.in-Ok.ensures.end none
 
 pub returns-clause-stops : goal.returns-clause-stops

@@ -28,11 +28,13 @@ loop-piece-preserved g c =
     let added : c.add.new.self ≡ seen ++ part =
     c.in-Ok-false.ensures.bytes ∙ ap (λ xs. seen ++ xs) same in
     let more : ends_head (seen ++ part) ≡ false = search rules in
+    let old = left (inner_of c.args.reader.now) in
+    let new = left (inner_of c.read_line_part.new.reader) in
+    let on = goes_on_piece ends_head 65536 HeadTooLarge 10 head_ends_in_lf old
+    (left (inner_of c.loop-piece.reader)) new seen part c.loop-piece.invariant.on gave.gave some
+    gave.stops room more in
     record {
-      on = rw added (goes_on_piece ends_head 65536 HeadTooLarge 10 head_ends_in_lf
-          (left (inner_of c.args.reader.now)) (left (inner_of c.loop-piece.reader))
-          (left (inner_of c.read_line_part.new.reader)) seen part c.loop-piece.invariant.on gave.gave
-          some gave.stops room more);
+      on = rw added on;
       fits = rw added (rw length-append room);
       failures = gave.unfailing ∙ c.loop-piece.invariant.failures;
     }

@@ -1,4 +1,4 @@
-use Rattle.std.proofs.Common.{◌≡◌, ◌≤◌}
+use Rattle.std.proofs.Common.{◌≡◌}
 use Rattle.counted_io.specs.Counted.{inner_of, failures_of}
 use Rattle.message_reading.proofs.Finals.{GoOn}
 use Rattle.message_reading.proofs.response.read_final_head.Given as goal
