@@ -1,6 +1,6 @@
 -- What a journal adds to the entries that it shows, whether it rolls or not.
 use Rattle.std.proofs.Common.{◌≡◌, ℕ, ◌+◌, ◌≤◌, Bool, true, false, ◌&&◌, cond, leb, leb-true, List}
-use Rattle.std.proofs.Common.{[], ◌++◌, length, Some, refl, sym, ap, ◌∙◌, subst, arith}
+use Rattle.std.proofs.Common.{[], ◌++◌, length, Some, refl, sym, subst, arith}
 use Rattle.limit_laws.specs.Algorithm.{Algorithm}
 use Rattle.limiter_core.specs.declared.event.Event.{Event}
 use Rattle.limiter_core.specs.declared.event.Entry.{Entry}

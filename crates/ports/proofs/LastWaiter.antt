@@ -1,6 +1,6 @@
 -- Who was told to wait waits.
 use Rattle.std.proofs.Common.{◌≡◌, ℕ, ◌+◌, ◌==◌, Bool, true, false, ◌||◌, List, [], ◌∷◌, ◌++◌}
-use Rattle.std.proofs.Common.{length, Option, Some, option_to_list, refl, sym, ap, ◌∙◌, subst}
+use Rattle.std.proofs.Common.{length, option_to_list, refl, ap, subst}
 use Rattle.std.proofs.Common.{arith, rules}
 use Rattle.std.specs.List.{list_any}
 use Rattle.limit_laws.specs.Algorithm.{Algorithm}

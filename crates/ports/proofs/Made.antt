@@ -1,6 +1,6 @@
 -- What a step of a book adds and hands out, as its port sees it.
 use Rattle.std.proofs.Common.{◌≡◌, ℕ, ◌+◌, ◌≤◌, nat_lt, Bool, true, false, not, ◌&&◌, ◌||◌, cond}
-use Rattle.std.proofs.Common.{List, [], ◌∷◌, ◌++◌, length, Option, None, Some, map, option_to_list}
+use Rattle.std.proofs.Common.{List, [], ◌∷◌, ◌++◌, length, Option, None, Some, map}
 use Rattle.std.proofs.Common.{All, refl, sym, ap, ◌∙◌, subst, arith, rules, true≢false}
 use Rattle.limit_laws.specs.Algorithm.{Algorithm}
 use Rattle.limit_laws.specs.Facts.{moment}
@@ -28,7 +28,7 @@ use Rattle.gate_history.specs.Book.{Book}
 use Rattle.gate_history.specs.Handing.{Given, given, given_back, given_by, nothing, permit, ticket}
 use Rattle.gate_history.specs.Steps.{Steps}
 use Rattle.ports.specs.Ending.{IsPromotion}
-use Rattle.ports.specs.Shown.{Adds, shown_of}
+use Rattle.ports.specs.Shown.{shown_of}
 use Rattle.ports.specs.Solo.{Hands, HandsNothing, IsOfPort, Makes, MayExhaust, Queues, Records}
 use Rattle.ports.specs.Solo.{Waits}
 use Rattle.ports.proofs.Grown.{adds_map, grows, next_ready}

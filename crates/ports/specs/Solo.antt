@@ -1,5 +1,5 @@
 -- A port over a book of its own, and its steps.
-use Rattle.std.specs.Prelude.{◌≡◌, ℕ, List, [], ◌∷◌, length, Bool, true, false, Some, All}
+use Rattle.std.specs.Prelude.{◌≡◌, ℕ, List, [], ◌∷◌, length, true, false, Some, All}
 use Rattle.limit_laws.specs.Algorithm.{Algorithm}
 use Rattle.limit_laws.specs.Facts.{moment}
 use Rattle.limiter_core.specs.declared.event.Event.{Event}

@@ -1,5 +1,5 @@
 use Rattle.std.proofs.Common.{rules, refl}
-use Rattle.proxy.specs.Settling.{asked_for, class_by}
+use Rattle.proxy.specs.Settling.{class_by}
 use Rattle.proxy.proofs.Entries.{asks, serves_admitted, serves_bypassed, serves_refused}
 use Rattle.proxy.proofs.settling.settle.Goals as goal
 
