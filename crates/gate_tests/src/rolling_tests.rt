@@ -29,7 +29,12 @@ fn set_and_seen<M: Naming, R: Wait + Abort>(rt: &R, alloc: Global, blanks: Blank
     requires rows { M.rows ≡ [] }
     requires room { M.room ≡ 100 }
 {
-    let mut book = settable::<M, R>(rt, alloc, [1, 20, 100], blanks);
+    let book = settable::<M, R>(rt, alloc, [1, 20, 100], blanks);
+    is_seen(rt, book);
+}
+
+/// The limit that was set is seen by all looks behind it.
+fn is_seen<M: Naming, R: Wait + Abort>(rt: &R, mut book: Book<Settable, M>) {
     let mut pass = Pass::of(book.pass().expect(rt, "a pass"));
     book.seal();
     let gate = SharedGate::new(book);
@@ -51,7 +56,12 @@ fn set_and_reset<M: Naming, R: Wait + Abort>(rt: &R, alloc: Global, blanks: Blan
     requires rows { M.rows ≡ [] }
     requires room { M.room ≡ 100 }
 {
-    let mut book = settable::<M, R>(rt, alloc, [5, 10, 20], blanks);
+    let book = settable::<M, R>(rt, alloc, [5, 10, 20], blanks);
+    is_reset(rt, book);
+}
+
+/// The limit that is reset while a permit is out is the first one.
+fn is_reset<M: Naming, R: Wait + Abort>(rt: &R, mut book: Book<Settable, M>) {
     let mut pass = Pass::of(book.pass().expect(rt, "a pass"));
     book.seal();
     let gate = SharedGate::new(book);

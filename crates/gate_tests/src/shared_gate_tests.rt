@@ -3,7 +3,7 @@ ghost use Rattle.std.specs.Prelude.{◌≡◌, []};
 ghost use Rattle.gate_ledgers.specs.Names.{AreNamed, AreWhole};
 
 use crate::one_permit::single;
-use gate_history::{Blanks, Naming, Permit, Ticket};
+use gate_history::{Blanks, Book, Naming, Permit, Ticket};
 use limit_laws::Fixed;
 use limiter_core::{Outcome, Reply};
 use partitions::Part;
@@ -65,38 +65,82 @@ pub(crate) fn by_one_pass<M: Naming, R: Wait + Abort>(
     requires rows { M.rows ≡ [] }
     requires room { M.room ≡ 100 }
 {
-    let mut book = single::<M, R>(rt, alloc, kept, is_rolling, blanks);
+    let book = single::<M, R>(rt, alloc, kept, is_rolling, blanks);
+    promotes_the_newest(rt, book);
+}
+
+fn promotes_the_newest<M: Naming, R: Wait + Abort>(rt: &R, mut book: Book<Fixed, M>) {
     let mut pass = Pass::of(book.pass().expect(rt, "a pass"));
     book.seal();
     let gate = SharedGate::new(book);
-    let unknown = Part::Unknown;
-    let permit = admitted(rt, gate.acquire(rt, &mut pass, unknown, false, false, 0));
-    let first = queued(rt, gate.acquire(rt, &mut pass, unknown, false, true, 1));
-    let second = queued(rt, gate.acquire(rt, &mut pass, unknown, false, true, 2));
-    let ended = gate.end(rt, &mut pass, permit, Outcome::Success, 5);
-    assert!(rt; ended.reply() == Reply::Ended { promoted: 1 });
-    let first = match gate.claim(rt, &mut pass, first) {
-        Claimed::StillWaiting(_receipt, ticket) => ticket,
-        Claimed::Granted(_receipt, _permit) => rt.abort(),
-        Claimed::Lost(_receipt) => rt.abort(),
-        Claimed::Exhausted(_spent, _ticket) => rt.abort(),
-    };
-    let permit = match gate.give_up(rt, &mut pass, second) {
-        GaveUp::Granted(_receipt, permit) => permit,
-        GaveUp::TimedOut(_receipt) => rt.abort(),
-        GaveUp::Lost(_receipt) => rt.abort(),
-        GaveUp::Exhausted(_spent) => rt.abort(),
-    };
-    match gate.give_up(rt, &mut pass, first) {
-        GaveUp::TimedOut(_receipt) => {}
-        GaveUp::Granted(_receipt, _permit) => rt.abort(),
-        GaveUp::Lost(_receipt) => rt.abort(),
-        GaveUp::Exhausted(_spent) => rt.abort(),
-    }
+    let (first, second) = two_wait(rt, &gate, &mut pass);
+    let first = still_waits(rt, &gate, &mut pass, first);
+    let permit = promoted(rt, &gate, &mut pass, second);
+    let timed_out = times_out(rt, &gate, &mut pass, first);
+    assert!(rt; timed_out == 7);
     let ended = gate.end(rt, &mut pass, permit, Outcome::Ignored, 9);
     assert!(rt; (ended.number(), pass.count()) == (8, 8));
     let counters = gate.counters(rt);
     assert!(rt; (counters.admitted, counters.promoted, counters.timed_out) == (1, 1, 1));
+}
+
+/// Numbers 1 and 2 wait, and the ending of number 0 promotes one of them.
+fn two_wait<M: Naming, R: Wait + Abort>(
+    rt: &R,
+    gate: &SharedGate<Fixed, M>,
+    pass: &mut Pass<M>,
+) -> (Ticket<M>, Ticket<M>) {
+    let permit = admitted(rt, gate.acquire(rt, pass, Part::Unknown, false, false, 0));
+    let first = queued(rt, gate.acquire(rt, pass, Part::Unknown, false, true, 1));
+    let second = queued(rt, gate.acquire(rt, pass, Part::Unknown, false, true, 2));
+    let ended = gate.end(rt, pass, permit, Outcome::Success, 5);
+    assert!(rt; ended.reply() == Reply::Ended { promoted: 1 });
+    (first, second)
+}
+
+/// A claim hands the ticket back.
+fn still_waits<M: Naming, R: Wait + Abort>(
+    rt: &R,
+    gate: &SharedGate<Fixed, M>,
+    pass: &mut Pass<M>,
+    ticket: Ticket<M>,
+) -> Ticket<M> {
+    match gate.claim(rt, pass, ticket) {
+        Claimed::StillWaiting(_receipt, ticket) => ticket,
+        Claimed::Granted(_receipt, _permit) => rt.abort(),
+        Claimed::Lost(_receipt) => rt.abort(),
+        Claimed::Exhausted(_spent, _ticket) => rt.abort(),
+    }
+}
+
+/// A giving up gets the permit that the waiter was given.
+fn promoted<M: Naming, R: Wait + Abort>(
+    rt: &R,
+    gate: &SharedGate<Fixed, M>,
+    pass: &mut Pass<M>,
+    ticket: Ticket<M>,
+) -> Permit<M> {
+    match gate.give_up(rt, pass, ticket) {
+        GaveUp::Granted(_receipt, permit) => permit,
+        GaveUp::TimedOut(_receipt) => rt.abort(),
+        GaveUp::Lost(_receipt) => rt.abort(),
+        GaveUp::Exhausted(_spent) => rt.abort(),
+    }
+}
+
+/// A giving up without a permit, and its receipt's number.
+pub(crate) fn times_out<M: Naming, R: Wait + Abort>(
+    rt: &R,
+    gate: &SharedGate<Fixed, M>,
+    pass: &mut Pass<M>,
+    ticket: Ticket<M>,
+) -> u64 {
+    match gate.give_up(rt, pass, ticket) {
+        GaveUp::TimedOut(receipt) => receipt.number(),
+        GaveUp::Granted(_receipt, _permit) => rt.abort(),
+        GaveUp::Lost(_receipt) => rt.abort(),
+        GaveUp::Exhausted(_spent) => rt.abort(),
+    }
 }
 
 #[test]

@@ -3,12 +3,12 @@ ghost use Rattle.std.specs.Prelude.{◌≡◌, []};
 ghost use Rattle.gate_ledgers.specs.Names.{AreNamed, AreWhole};
 
 use crate::one_permit::single;
-use crate::shared_gate_tests::{Still, admitted, queued};
-use gate_history::{Blanks, Naming, Receipt, Spent, Ticket};
+use crate::shared_gate_tests::{Still, admitted, queued, times_out};
+use gate_history::{Blanks, Book, Naming, Receipt, Spent, Ticket};
 use limit_laws::Fixed;
 use limiter_core::{Counters, Event, Outcome, Reply};
 use partitions::Part;
-use shared_gate::{Claimed, Clock, GaveUp, Got, Pass, SharedGate, Waited};
+use shared_gate::{Claimed, Clock, Got, Pass, SharedGate, Waited};
 use std::alloc::Global;
 use std::marker::Brand;
 use std::process::Abort;
@@ -81,7 +81,17 @@ fn in_vain<M: Naming, R: Wait + SystemClock + Abort, C: Clock>(
     requires rows { M.rows ≡ [] }
     requires room { M.room ≡ 100 }
 {
-    let mut book = single::<M, R>(rt, alloc, 1_000, false, blanks);
+    let book = single::<M, R>(rt, alloc, 1_000, false, blanks);
+    waits_in_vain(rt, book, now, clock, deadline);
+}
+
+fn waits_in_vain<M: Naming, R: Wait + SystemClock + Abort, C: Clock>(
+    rt: &R,
+    mut book: Book<Fixed, M>,
+    now: u64,
+    clock: &C,
+    deadline: u64,
+) {
     let mut pass = Pass::of(book.pass().expect(rt, "a pass"));
     book.seal();
     let gate = SharedGate::new(book);
@@ -119,24 +129,39 @@ fn exhausted<M: Naming, R: Wait + SystemClock + Abort>(rt: &R, alloc: Global, bl
     requires rows { M.rows ≡ [] }
     requires room { M.room ≡ 100 }
 {
-    let mut book = single::<M, R>(rt, alloc, 2, false, blanks);
+    let book = single::<M, R>(rt, alloc, 2, false, blanks);
+    answers_what_is_owed(rt, book);
+}
+
+/// One is admitted and one waits; then nothing but a giving up and an ending is answered.
+fn answers_what_is_owed<M: Naming, R: Wait + SystemClock + Abort>(
+    rt: &R,
+    mut book: Book<Fixed, M>,
+) {
     let mut pass = Pass::of(book.pass().expect(rt, "a pass"));
     book.seal();
     let gate = SharedGate::new(book);
     let permit = admitted(rt, gate.acquire(rt, &mut pass, UNKNOWN, false, false, 0));
     let ticket = queued(rt, gate.acquire(rt, &mut pass, UNKNOWN, false, true, 1));
-    refuses_acquires(rt, &gate, &mut pass);
-    refuses_changes(rt, &gate, &mut pass);
-    let ticket = handed_back(rt, &gate, &mut pass, ticket);
-    is_as_before(rt, &gate, &pass);
-    match gate.give_up(rt, &mut pass, ticket) {
-        GaveUp::TimedOut(receipt) => assert!(rt; receipt.number() == 2),
-        GaveUp::Granted(_receipt, _permit) => rt.abort(),
-        GaveUp::Lost(_receipt) => rt.abort(),
-        GaveUp::Exhausted(_spent) => rt.abort(),
-    }
+    let ticket = refuses_the_rest(rt, &gate, &mut pass, ticket);
+    let timed_out = times_out(rt, &gate, &mut pass, ticket);
+    assert!(rt; timed_out == 2);
     let ended = gate.end(rt, &mut pass, permit, Outcome::Success, 3);
     assert!(rt; (ended.number(), pass.count()) == (3, 4));
+}
+
+/// No acquire, no change and no claim is answered, and the claim's ticket comes back.
+fn refuses_the_rest<M: Naming, R: Wait + SystemClock + Abort>(
+    rt: &R,
+    gate: &SharedGate<Fixed, M>,
+    pass: &mut Pass<M>,
+    ticket: Ticket<M>,
+) -> Ticket<M> {
+    refuses_acquires(rt, gate, pass);
+    refuses_changes(rt, gate, pass);
+    let ticket = handed_back(rt, gate, pass, ticket);
+    is_as_before(rt, gate, pass);
+    ticket
 }
 
 /// No acquire is answered.

@@ -3,7 +3,8 @@ ghost use Rattle.std.specs.Prelude.{◌≡◌, []};
 ghost use Rattle.gate_ledgers.specs.Names.{AreNamed, AreWhole};
 
 use crate::one_permit::{acquire, end, single};
-use gate_history::{Blanks, Call, Handed, Naming, Permit, Step, Ticket};
+use gate_history::{Blanks, Book, Call, Handed, Naming, Pass, Permit, Step, Ticket};
+use limit_laws::Fixed;
 use limiter_core::Reply;
 use partitions::Part;
 use std::alloc::Global;
@@ -71,27 +72,56 @@ fn past_what_it_keeps<N: Naming, R: Abort>(rt: &R, alloc: Global, blanks: Blanks
     requires rows { N.rows ≡ [] }
     requires room { N.room ≡ 100 }
 {
-    let mut book = single::<N, R>(rt, alloc, 2, false, blanks);
+    let book = single::<N, R>(rt, alloc, 2, false, blanks);
+    answers_what_is_owed(rt, book);
+}
+
+/// Two calls fill the history; then a giving up and an ending are answered.
+fn answers_what_is_owed<N: Naming, R: Abort>(rt: &R, mut book: Book<Fixed, N>) {
     let mut pass = book.pass().expect(rt, "a pass");
-    let admitted = book.step(&mut pass, acquire(false, 0));
-    let permit = permit_of(rt, admitted, 0, Reply::Admitted { inflight: 1 });
-    let waiting = book.step(&mut pass, acquire(true, 1));
-    let ticket = ticket_of(rt, waiting, 1, Reply::Waiting);
-    match spent(rt, book.step(&mut pass, acquire(false, 2))) {
-        Handed::Nothing => {}
-        Handed::Permit(_permit) => rt.abort(),
-        Handed::Ticket(_ticket) => rt.abort(),
-    }
-    let ticket = match spent(rt, book.step(&mut pass, Call::Claim { ticket })) {
-        Handed::Ticket(ticket) => ticket,
-        Handed::Permit(_permit) => rt.abort(),
-        Handed::Nothing => rt.abort(),
-    };
+    let (permit, ticket) = fill(rt, &mut book, &mut pass);
+    let ticket = refused(rt, &mut book, &mut pass, ticket);
     let timed_out = book.step(&mut pass, Call::GiveUp { ticket });
     nothing_of(rt, timed_out, 2, Reply::TimedOut);
     let ended = book.step(&mut pass, end(permit, 3));
     nothing_of(rt, ended, 3, Reply::Ended { promoted: 0 });
     assert!(rt; (pass.count(), book.calls()) == (4, 4));
+    has_four_entries(rt, book);
+}
+
+/// One is admitted and one waits.
+fn fill<N: Naming, R: Abort>(
+    rt: &R,
+    book: &mut Book<Fixed, N>,
+    pass: &mut Pass<N>,
+) -> (Permit<N>, Ticket<N>) {
+    let admitted = book.step(pass, acquire(false, 0));
+    let permit = permit_of(rt, admitted, 0, Reply::Admitted { inflight: 1 });
+    let waiting = book.step(pass, acquire(true, 1));
+    let ticket = ticket_of(rt, waiting, 1, Reply::Waiting);
+    (permit, ticket)
+}
+
+/// Neither an acquire nor a claim is answered, and the claim's ticket comes back.
+fn refused<N: Naming, R: Abort>(
+    rt: &R,
+    book: &mut Book<Fixed, N>,
+    pass: &mut Pass<N>,
+    ticket: Ticket<N>,
+) -> Ticket<N> {
+    match spent(rt, book.step(pass, acquire(false, 2))) {
+        Handed::Nothing => {}
+        Handed::Permit(_permit) => rt.abort(),
+        Handed::Ticket(_ticket) => rt.abort(),
+    }
+    match spent(rt, book.step(pass, Call::Claim { ticket })) {
+        Handed::Ticket(ticket) => ticket,
+        Handed::Permit(_permit) => rt.abort(),
+        Handed::Nothing => rt.abort(),
+    }
+}
+
+fn has_four_entries<N: Naming, R: Abort>(rt: &R, book: Book<Fixed, N>) {
     let history = book.into_journal().into_history();
     assert!(rt; (history.base, history.entries.len()) == (0, 4));
 }
@@ -107,33 +137,69 @@ fn one_waits_and_one_is_promoted<N: Naming, R: Abort>(rt: &R, alloc: Global, bla
     requires rows { N.rows ≡ [] }
     requires room { N.room ≡ 100 }
 {
-    let mut book = single::<N, R>(rt, alloc, 1000, false, blanks);
+    let book = single::<N, R>(rt, alloc, 1000, false, blanks);
+    promotes_the_newest(rt, book);
+}
+
+fn promotes_the_newest<N: Naming, R: Abort>(rt: &R, mut book: Book<Fixed, N>) {
     let mut pass = book.pass().expect(rt, "a pass");
-    let admitted = book.step(&mut pass, acquire(false, 0));
-    let permit = permit_of(rt, admitted, 0, Reply::Admitted { inflight: 1 });
-    let first = book.step(&mut pass, acquire(true, 1));
-    let first = ticket_of(rt, first, 1, Reply::Waiting);
-    let second = book.step(&mut pass, acquire(true, 2));
-    let second = ticket_of(rt, second, 2, Reply::Waiting);
-    let ended = book.step(&mut pass, end(permit, 5));
-    nothing_of(rt, ended, 3, Reply::Ended { promoted: 1 });
+    let (first, second) = two_wait(rt, &mut book, &mut pass);
     let claimed = book.step(&mut pass, Call::Claim { ticket: first });
     let first = ticket_of(rt, claimed, 5, Reply::StillWaiting);
+    let permit = promoted(rt, &mut book, &mut pass, second);
+    leave(rt, &mut book, &mut pass, first, permit);
+    assert!(rt; (pass.count(), book.calls()) == (8, 8));
+}
+
+/// Numbers 1 and 2 wait, and the ending of number 0 promotes one of them.
+fn two_wait<N: Naming, R: Abort>(
+    rt: &R,
+    book: &mut Book<Fixed, N>,
+    pass: &mut Pass<N>,
+) -> (Ticket<N>, Ticket<N>) {
+    let admitted = book.step(pass, acquire(false, 0));
+    let permit = permit_of(rt, admitted, 0, Reply::Admitted { inflight: 1 });
+    let first = book.step(pass, acquire(true, 1));
+    let first = ticket_of(rt, first, 1, Reply::Waiting);
+    let second = book.step(pass, acquire(true, 2));
+    let second = ticket_of(rt, second, 2, Reply::Waiting);
+    let ended = book.step(pass, end(permit, 5));
+    nothing_of(rt, ended, 3, Reply::Ended { promoted: 1 });
+    (first, second)
+}
+
+/// Number 2 gives up, and gets the permit that it was given at 5.
+fn promoted<N: Naming, R: Abort>(
+    rt: &R,
+    book: &mut Book<Fixed, N>,
+    pass: &mut Pass<N>,
+    ticket: Ticket<N>,
+) -> Permit<N> {
     let granted = Reply::Granted {
         part: Part::Unknown,
         start: 5,
         inflight: 1,
     };
-    let given_up = book.step(&mut pass, Call::GiveUp { ticket: second });
+    let given_up = book.step(pass, Call::GiveUp { ticket });
     let permit = permit_of(rt, given_up, 6, granted);
     let facts = permit.facts();
     assert!(rt; (facts.number, facts.start, facts.inflight) == (2, 5, 1));
-    let timed_out = book.step(&mut pass, Call::GiveUp { ticket: first });
+    permit
+}
+
+/// Number 1 gives up without a permit, and that of number 2 is ended.
+fn leave<N: Naming, R: Abort>(
+    rt: &R,
+    book: &mut Book<Fixed, N>,
+    pass: &mut Pass<N>,
+    ticket: Ticket<N>,
+    permit: Permit<N>,
+) {
+    let timed_out = book.step(pass, Call::GiveUp { ticket });
     nothing_of(rt, timed_out, 7, Reply::TimedOut);
     let permit = book.show(permit);
-    let ended = book.step(&mut pass, end(permit, 9));
+    let ended = book.step(pass, end(permit, 9));
     nothing_of(rt, ended, 8, Reply::Ended { promoted: 0 });
-    assert!(rt; (pass.count(), book.calls()) == (8, 8));
 }
 
 #[test]

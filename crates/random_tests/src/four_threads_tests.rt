@@ -193,11 +193,20 @@ fn is_told_to_one<R: Abort>(rt: &R, alloc: Global, told: &[Told], counters: Coun
     assert!(rt; told.len() >= 40_000);
     assert!(rt; summed(told) == counters);
     let mut core = limiter(rt, alloc, classes(rt, alloc));
+    replay_all(rt, &mut core, told);
+    has_ended(rt, &core, counters);
+}
+
+fn replay_all<L: Limit, R: Abort>(rt: &R, core: &mut Core<L>, told: &[Told]) {
     for told in told {
-        replay(rt, &mut core, *told);
+        replay(rt, core, *told);
     }
+}
+
+/// Nothing is left in flight, and all that was told is counted.
+fn has_ended<L: Limit, R: Abort>(rt: &R, core: &Core<L>, counters: Counters) {
     assert!(rt; core.counters() == counters);
-    assert!(rt; (core.total(), core.waiting(), core.granted()) == (0, 0, 0));
+    assert!(rt; core.total() == 0 && core.waiting() == 0 && core.granted() == 0);
 }
 
 /// A limiter gives an event the number and the reply that its caller was told.

@@ -55,6 +55,11 @@ fn stretches_of_a_hundred_entries_are_the_whole_history(rt: HostRuntime) {
 fn is_whole<R: Abort>(rt: &R, alloc: Global, kept: usize) {
     let mut both = begin(rt, alloc, kept);
     go_on(rt, alloc, &mut both);
+    is_joined(rt, &both, kept);
+}
+
+/// The stretches together are the entries of the one that keeps all, and much was asked.
+fn is_joined<R: Abort>(rt: &R, both: &Both, kept: usize) {
     assert!(rt; both.joined.as_slice() == both.whole.entries());
     assert!(rt; both.rolling.base() > 90_000);
     assert!(rt; both.rolling.entries().len().saturating_sub(1) <= kept);
