@@ -89,34 +89,36 @@ fn a_backend_that_fails_at_any_read_is_dropped(rt: HostRuntime) -> Result<(), Fa
     Ok(())
 }
 
+/// What is behind the head of an answer without lengths is its body.
+fn is_passed_on(rt: &impl Abort, alloc: Global, sent: &[u8], body: &str) -> Result<(), Fail> {
+    let said = format!(in alloc; "HTTP/1.1 200 OK|X: y||{body}")?;
+    let said = bytes_of(alloc, said.as_str())?;
+    let came = exchanged(alloc, Case::new(sent, Says::Bytes(said.as_slice())))?;
+    assert!(rt;
+        came.told.outcome == Some(Outcome::Success) && came.has(1, 2),
+        "{body}"
+    );
+    let length = body.len();
+    let wanted = format!(in alloc;
+        "HTTP/1.1 200 OK|X: y|Content-Length: {length}|Connection: close||{body}"
+    )?;
+    let wanted = bytes_of(alloc, wanted.as_str())?;
+    assert!(rt; came.written.as_slice() == wanted.as_slice(), "{body}");
+    Ok(())
+}
+
 #[test]
 fn an_answer_without_lengths_is_passed_on_as_far_as_it_came(rt: HostRuntime) -> Result<(), Fail> {
     let alloc = rt.alloc();
     let sent = bytes_of(alloc, GET)?;
+    for body in ["", "a", "ab", "abc"] {
+        is_passed_on(&rt, alloc, sent.as_slice(), body)?;
+    }
     let gone = bytes_of(alloc, GONE)?;
-    let head = "HTTP/1.1 200 OK|X: y||";
-    let said = bytes_of(alloc, head)?;
+    let said = bytes_of(alloc, "HTTP/1.1 200 OK|X: y||")?;
     for end in 0..said.len() {
         let came = exchanged(alloc, Case::new(sent.as_slice(), Says::Bytes(&said[..end])))?;
         assert!(rt; is_dropped(&came, gone.as_slice()), "{end}");
-    }
-    for body in ["", "a", "ab", "abc"] {
-        let said = format!(in alloc; "{head}{body}")?;
-        let said = bytes_of(alloc, said.as_str())?;
-        let wanted = format!(in alloc;
-            "HTTP/1.1 200 OK|X: y|Content-Length: {}|Connection: close||{body}",
-            body.len()
-        )?;
-        let wanted = bytes_of(alloc, wanted.as_str())?;
-        let came = exchanged(
-            alloc,
-            Case::new(sent.as_slice(), Says::Bytes(said.as_slice())),
-        )?;
-        assert!(rt; came.written.as_slice() == wanted.as_slice(), "{body}");
-        assert!(rt;
-            is_taken(&came, gone.as_slice(), Outcome::Success),
-            "{body}"
-        );
     }
     Ok(())
 }
@@ -170,35 +172,48 @@ fn a_client_that_fails_at_an_answer_of_the_gateways_own_changes_nothing_else(
     fails_at_each_write(&rt, alloc, Case::new(early, Says::Absent), 400)
 }
 
-/// A client's end that fails at one call alone is called no more.
+/// A client whose reads fail at one alone is read no more.
+fn fails_at_one_read(
+    rt: &impl Abort,
+    alloc: Global,
+    mut case: Case,
+    reads: u64,
+) -> Result<(), Fail> {
+    for only in 0..reads {
+        case.failing_reads = Fails::At(only);
+        let came = exchanged(alloc, case)?;
+        assert!(rt; came.reads == only.saturating_add(1), "{only}");
+        assert!(rt; came.told.answer.is_none() && came.has(0, 0), "{only}");
+    }
+    Ok(())
+}
+
+/// A client whose writes fail at one alone is written no more.
+fn fails_at_one_write(
+    rt: &impl Abort,
+    alloc: Global,
+    mut case: Case,
+    writes: u64,
+) -> Result<(), Fail> {
+    for only in 0..writes {
+        case.failing_writes = Fails::At(only);
+        let came = exchanged(alloc, case)?;
+        assert!(rt; came.writes == only.saturating_add(1), "{only}");
+        assert!(rt; came.told.written_fault == Some(WireFault::Write), "{only}");
+        assert!(rt; came.in_flight == 0 && came.counters.admitted == came.counters.success);
+    }
+    Ok(())
+}
+
+/// Each read and each write fails by itself.
 fn fails_once(rt: &impl Abort, alloc: Global, request: &str) -> Result<(), Fail> {
     let sent = bytes_of(alloc, request)?;
     let said = bytes_of(alloc, "HTTP/1.1 200 OK|Content-Length: 2||ok")?;
     let mut case = Case::new(sent.as_slice(), Says::Bytes(said.as_slice()));
     case.most = 1;
     let whole = exchanged(alloc, case)?;
-    for only in 0..whole.reads {
-        let mut failed = case;
-        failed.failing_reads = Fails::At(only);
-        let came = exchanged(alloc, failed)?;
-        assert!(rt; came.reads == only.saturating_add(1), "{request} {only}");
-        assert!(rt;
-            came.told.answer.is_none() && came.has(0, 0),
-            "{request} {only}"
-        );
-    }
-    for only in 0..whole.writes {
-        let mut failed = case;
-        failed.failing_writes = Fails::At(only);
-        let came = exchanged(alloc, failed)?;
-        assert!(rt; came.writes == only.saturating_add(1), "{request} {only}");
-        assert!(rt;
-            came.told.written_fault == Some(WireFault::Write),
-            "{request} {only}"
-        );
-        assert!(rt; came.in_flight == 0 && came.counters.admitted == came.counters.success);
-    }
-    Ok(())
+    fails_at_one_read(rt, alloc, case, whole.reads)?;
+    fails_at_one_write(rt, alloc, case, whole.writes)
 }
 
 #[test]
