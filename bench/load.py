@@ -1,0 +1,45 @@
+#!/usr/bin/env python3
+"""Times `admission load` by 1, 2 and 4 workers on the same traces.
+
+Usage: bench/load.py PROGRAM. Each trace goes through by each number of workers in turn, nine times. Printed are the
+calls a second, by the calls that the history has and the median time of the whole run: reading the trace, the
+calls, the audit and the two lines.
+"""
+import pathlib
+import re
+import statistics
+import subprocess
+import sys
+import time
+
+from traces import CALLS, calls, text_of
+
+TURNS = 9
+WORKERS = (1, 2, 4)
+TRACES = [
+    ("nobody waits", text_of(["limit fixed 20"], calls(["unknown"], 10, 100))),
+    ("who finds the one permit out waits", text_of(["limit fixed 1"], calls(["unknown"], 10, 100, " wait"))),
+]
+
+
+def rate(program, workers, text):
+    """The calls a second of a run."""
+    began = time.monotonic()
+    done = subprocess.run([program, "load", "--workers", str(workers)], input=text, capture_output=True, check=True)
+    took = time.monotonic() - began
+    return int(re.match(rb"audit ok calls (\d+)\n", done.stdout)[1]) / took
+
+
+def main():
+    if len(sys.argv) != 2:
+        sys.exit(__doc__)
+    program = str(pathlib.Path(sys.argv[1]).resolve())
+    print(f"| Trace of {CALLS:,} calls | {' | '.join(f'workers {workers}' for workers in WORKERS)} |")
+    print("|---" * (1 + len(WORKERS)) + "|")
+    for name, text in TRACES:
+        turns = [[rate(program, workers, text) for workers in WORKERS] for _ in range(TURNS)]
+        rates = [statistics.median(column) for column in zip(*turns)]
+        print(f"| {name} | {' | '.join(f'{it:,.0f}/s' for it in rates)} |", flush=True)
+
+
+main()

@@ -1,0 +1,38 @@
+"""Traces of 100,000 calls that come at random, for the benchmarks of `simulate` and `load`."""
+import random
+
+CALLS = 100_000
+MILLISECOND = 1_000_000
+# All entries of each trace are kept: no call adds more than five.
+KEEP = "keep 1000000"
+
+
+def calls(classes, between, duration, ending=""):
+    """Calls of these classes in turn, so many milliseconds apart and so long, both by chance."""
+    drawn, now = random.Random(1), 0.0
+    for place in range(CALLS):
+        now += drawn.expovariate(1 / (between * MILLISECOND))
+        took = int(drawn.expovariate(1 / (duration * MILLISECOND)))
+        outcome = "dropped" if drawn.random() < 0.02 else "success"
+        yield f"arrive {classes[place % len(classes)]} {int(now)} {took} {outcome}{ending}"
+
+
+def text_of(settings, lines):
+    return ("\n".join([KEEP, *settings, *lines]) + "\n").encode()
+
+
+TWO = ["class live 60", "class batch 20"]
+TRACES = [
+    ("10 in flight at a time, and room for 20",
+     text_of(["limit fixed 20"], calls(["unknown"], 10, 100))),
+    ("15 want in where 10 fit; the others are refused",
+     text_of(["limit fixed 10", *TWO], calls(["live", "batch", "unknown"], 10, 150))),
+    ("15 want in where 10 fit; the others wait for 50 ms",
+     text_of(["limit fixed 10", "timeout 50000000", *TWO],
+             calls(["live", "batch", "unknown"], 10, 150, " wait"))),
+    ("8,000 in flight at a time, and room for 10,000",
+     text_of(["limit fixed 10000"], calls(["unknown"], 0.0125, 100))),
+    ("8,000 wait behind 10",
+     text_of(["limit fixed 10", "backlog 10000", "timeout 100000000"],
+             calls(["unknown"], 0.0125, 100, " wait"))),
+]
