@@ -1,6 +1,9 @@
-// Refuses the allocation of the number in REFUSED; with COUNTED set, tells how many there were.
+// Refuses the allocation of the number in REFUSED, and the thread of that in THREAD_REFUSED; with COUNTED
+// set, tells how many allocations there were.
 #define _GNU_SOURCE
 #include <dlfcn.h>
+#include <errno.h>
+#include <pthread.h>
 #include <stdio.h>
 #include <stdlib.h>
 #include <unistd.h>
@@ -28,6 +31,17 @@ void *malloc(size_t size)
 void *realloc(void *old, size_t size)
 {
     return is_refused() ? NULL : inner_realloc(old, size);
+}
+
+int pthread_create(pthread_t *thread, const pthread_attr_t *how, void *(*run)(void *), void *given)
+{
+    static int started;
+    int (*inner)(pthread_t *, const pthread_attr_t *, void *(*)(void *), void *) =
+        dlsym(RTLD_NEXT, "pthread_create");
+    const char *number = getenv("THREAD_REFUSED");
+    if (number && ++started == atoi(number))
+        return EAGAIN;
+    return inner(thread, how, run, given);
 }
 
 __attribute__((destructor)) static void tell(void)
