@@ -53,21 +53,27 @@ pub(crate) struct Source<'a> {
 }
 
 impl<'a> Source<'a> {
-    // What the next read shows. It is a call.
-    fn shown(&mut self) -> Result<&'a [u8]> {
+    // One more call, which may fail.
+    fn count_call(&mut self) -> Result<()> {
         let call = self.calls;
         self.calls = call.saturating_add(1);
         self.course.mark(Deed::Read);
         if self.fails.has(call) {
             return Err(Error::from(ErrorKind::ConnectionReset));
         }
-        Ok(&self.left[..self.most.min(self.left.len())])
+        Ok(())
+    }
+
+    // What the next read shows.
+    fn shown(&self) -> &[u8] {
+        &self.left[..self.most.min(self.left.len())]
     }
 }
 
 impl<'a> Read for Source<'a> {
     fn read(&mut self, buf: &mut [u8]) -> Result<usize> {
-        let shown = self.shown()?;
+        self.count_call()?;
+        let shown = self.shown();
         let count = shown.len().min(buf.len());
         buf[..count].copy_from_slice(&shown[..count]);
         self.consume(count);
@@ -77,7 +83,8 @@ impl<'a> Read for Source<'a> {
 
 impl<'a> BufRead for Source<'a> {
     fn fill_buf(&mut self) -> Result<&[u8]> {
-        self.shown()
+        self.count_call()?;
+        Ok(self.shown())
     }
 
     fn consume(&mut self, amount: usize) {
