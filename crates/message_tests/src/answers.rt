@@ -29,83 +29,101 @@ fn add_row(bytes: &mut Vec<u8>, row: &str) -> Result<(), AllocError> {
 }
 
 /// The bytes that a row writes.
-pub fn bytes_of(alloc: Global, row: &str) -> Result<Vec<u8>, AllocError> {
+pub fn bytes_of(rt: &impl Abort, alloc: Global, row: &str) -> Vec<u8> {
     let mut bytes = Vec::new(alloc);
-    add_row(&mut bytes, row)?;
-    Ok(bytes)
+    assert!(rt; add_row(&mut bytes, row).is_ok());
+    bytes
 }
 
 /// The bytes of a row, of so many equal pieces, and of another row.
 pub fn repeated(
+    rt: &impl Abort,
     alloc: Global,
     front: &str,
     piece: &str,
     count: usize,
     back: &str,
-) -> Result<Vec<u8>, AllocError> {
-    let piece = bytes_of(alloc, piece)?;
-    let mut bytes = bytes_of(alloc, front)?;
+) -> Vec<u8> {
+    let piece = bytes_of(rt, alloc, piece);
+    let mut bytes = bytes_of(rt, alloc, front);
     for _ in 0..count {
-        bytes.extend_from_slice(piece.as_slice())?;
+        assert!(rt; bytes.extend_from_slice(piece.as_slice()).is_ok());
     }
-    add_row(&mut bytes, back)?;
-    Ok(bytes)
+    assert!(rt; add_row(&mut bytes, back).is_ok());
+    bytes
 }
 
-fn add_lines(text: &mut Vec<u8>, lines: &[Header]) -> Result<(), AllocError> {
+fn add_line(text: &mut Vec<u8>, line: &Header) -> Result<(), AllocError> {
+    text.extend_from_slice(line.name.as_slice())?;
+    text.extend_from_slice(b": ")?;
+    text.extend_from_slice(line.value.as_slice())?;
+    text.extend_from_slice(b"\r\n")
+}
+
+/// The lines, an empty one and the body.
+fn add_rest(text: &mut Vec<u8>, lines: &[Header], body: Option<&Bytes>) -> Result<(), AllocError> {
     for line in lines {
-        text.extend_from_slice(line.name.as_slice())?;
-        text.extend_from_slice(b": ")?;
-        text.extend_from_slice(line.value.as_slice())?;
-        text.extend_from_slice(b"\r\n")?;
+        add_line(text, line)?;
     }
     text.extend_from_slice(b"\r\n")?;
-    Ok(())
-}
-
-fn add_body(text: &mut Vec<u8>, body: Option<&Bytes>) -> Result<(), AllocError> {
-    if let Some(body) = body {
-        text.extend_from_slice(body.as_slice())?;
+    match body {
+        Some(body) => text.extend_from_slice(body.as_slice()),
+        None => Ok(()),
     }
-    Ok(())
 }
 
 /// A request as plainly as its parts can be written one after the other.
-fn plain_request(alloc: Global, request: &Request) -> Result<Vec<u8>, AllocError> {
-    let mut text = Vec::from_slice(alloc, request.method.as_str().as_bytes())?;
+fn add_request(text: &mut Vec<u8>, request: &Request) -> Result<(), AllocError> {
+    text.extend_from_slice(request.method.as_str().as_bytes())?;
     text.extend_from_slice(b" ")?;
     text.extend_from_slice(request.target.as_str().as_bytes())?;
-    match request.version {
-        Version::Http10 => text.extend_from_slice(b" HTTP/1.0\r\n")?,
-        Version::Http11 => text.extend_from_slice(b" HTTP/1.1\r\n")?,
-    }
-    add_lines(&mut text, request.headers.as_slice())?;
-    add_body(&mut text, request.body.as_ref())?;
-    Ok(text)
+    let version = match request.version {
+        Version::Http10 => b" HTTP/1.0\r\n",
+        Version::Http11 => b" HTTP/1.1\r\n",
+    };
+    text.extend_from_slice(version)?;
+    add_rest(text, request.headers.as_slice(), request.body.as_ref())
 }
 
-/// A response from its header lines on, as plainly as its parts can be written.
-fn plain_response(alloc: Global, response: &Response) -> Result<Vec<u8>, AllocError> {
-    let mut text = Vec::new(alloc);
-    add_lines(&mut text, response.headers().as_slice())?;
-    add_body(&mut text, response.body())?;
-    Ok(text)
+/// The request that a source gives; what is said to the client goes to `said`.
+pub fn request_from(
+    alloc: Global,
+    source: &mut Source,
+    said: &mut Vec<u8>,
+) -> Result<Request, WireFault> {
+    read_request(alloc, &mut Counted::new(source), &mut Counted::new(said))
+}
+
+/// The response that a source gives to a request of this method.
+pub fn response_from(
+    alloc: Global,
+    source: &mut Source,
+    method: &Method,
+) -> Result<Response, WireFault> {
+    read_response(alloc, &mut Counted::new(source), method)
+}
+
+/// The text is just the parts of the request.
+fn has_parts(alloc: Global, text: &[u8], request: &Request) -> bool {
+    let mut plain = Vec::new(alloc);
+    add_request(&mut plain, request).is_ok() && plain.as_slice() == text
 }
 
 /// A text that was forwarded is read back as a request of just these parts.
 fn check_request_read_back(rt: &impl Abort, alloc: Global, text: &[u8]) {
     let mut source = Source::new(text, usize::MAX);
     let mut said = Vec::new(alloc);
-    let read = read_request(
-        alloc,
-        &mut Counted::new(&mut source),
-        &mut Counted::new(&mut said),
-    );
+    let read = request_from(alloc, &mut source, &mut said);
     let request = read.ok().expect(rt, "what was written is read back");
-    let plain = plain_request(alloc, &request).expect(rt, "memory");
-    assert!(rt; plain.as_slice() == text);
-    assert!(rt; source.left.is_empty());
-    assert!(rt; said.is_empty());
+    assert!(rt; has_parts(alloc, text, &request));
+    assert!(rt; source.left.is_empty() && said.is_empty());
+}
+
+/// The text from its header lines on is just the parts of the response.
+fn ends_with_parts(alloc: Global, text: &[u8], response: &Response) -> bool {
+    let mut plain = Vec::new(alloc);
+    add_rest(&mut plain, response.headers().as_slice(), response.body()).is_ok()
+        && text.ends_with(plain.as_slice())
 }
 
 /// A text that was passed on is read back as a response of the status and of just these parts.
@@ -117,12 +135,19 @@ fn check_response_read_back(
     status: u16,
 ) {
     let mut source = Source::new(text, usize::MAX);
-    let read = read_response(alloc, &mut Counted::new(&mut source), method);
+    let read = response_from(alloc, &mut source, method);
     let response = read.ok().expect(rt, "what was written is read back");
-    let plain = plain_response(alloc, &response).expect(rt, "memory");
-    assert_eq!(rt; response.status(), status);
-    assert!(rt; text.ends_with(plain.as_slice()));
+    assert!(rt; response.status() == status);
+    assert!(rt; ends_with_parts(alloc, text, &response));
     assert!(rt; source.left.is_empty());
+}
+
+/// The text of a request as it is forwarded.
+fn request_text(rt: &impl Abort, alloc: Global, request: &Request) -> Vec<u8> {
+    let mut text = Vec::new(alloc);
+    let written = write_request(&mut Counted::new(&mut text), request, BACKEND);
+    assert!(rt; written.is_ok());
+    text
 }
 
 /// A client's request as it is forwarded, or the fault; what is said to the client goes to `said`.
@@ -132,12 +157,18 @@ pub fn forwarded(
     source: &mut Source,
     said: &mut Vec<u8>,
 ) -> Result<Vec<u8>, WireFault> {
-    let request = read_request(alloc, &mut Counted::new(source), &mut Counted::new(said))?;
-    let mut text = Vec::new(alloc);
-    let written = write_request(&mut Counted::new(&mut text), &request, BACKEND);
-    assert!(rt; written.is_ok());
+    let request = request_from(alloc, source, said)?;
+    let text = request_text(rt, alloc, &request);
     check_request_read_back(rt, alloc, text.as_slice());
     Ok(text)
+}
+
+/// The text of a response as it is passed on.
+fn response_text(rt: &impl Abort, alloc: Global, response: &Response, method: &Method) -> Vec<u8> {
+    let mut text = Vec::new(alloc);
+    let written = write_response(&mut Counted::new(&mut text), response, method);
+    assert!(rt; written.is_ok());
+    text
 }
 
 /// A backend's response to a request of this method as it is passed on, or the fault.
@@ -147,12 +178,15 @@ pub fn passed_on(
     source: &mut Source,
     method: &Method,
 ) -> Result<Vec<u8>, WireFault> {
-    let response = read_response(alloc, &mut Counted::new(source), method)?;
-    let mut text = Vec::new(alloc);
-    let written = write_response(&mut Counted::new(&mut text), &response, method);
-    assert!(rt; written.is_ok());
+    let response = response_from(alloc, source, method)?;
+    let text = response_text(rt, alloc, &response, method);
     check_response_read_back(rt, alloc, text.as_slice(), method, response.status());
     Ok(text)
+}
+
+/// What was passed on is the text that a row writes.
+pub fn is_text(rt: &impl Abort, alloc: Global, text: &[u8], row: &str) -> bool {
+    bytes_of(rt, alloc, row).as_slice() == text
 }
 
 /// The answer is the text of the row, or its fault.
@@ -163,36 +197,43 @@ pub fn check_answer(
     answer: &Result<Vec<u8>, WireFault>,
 ) {
     let (message, wanted) = row;
-    match (answer, wanted) {
-        (Ok(text), Ok(wanted)) => {
-            let wanted = bytes_of(alloc, wanted).expect(rt, "memory");
-            assert!(rt; text.as_slice() == wanted.as_slice(), "{message}");
-        }
-        (Ok(_), Err(wanted)) => assert_eq!(rt; None, Some(*wanted), "{message}"),
-        (Err(fault), Ok(_)) => assert_eq!(rt; Some(*fault), None, "{message}"),
-        (Err(fault), Err(wanted)) => assert_eq!(rt; *fault, *wanted, "{message}"),
+    let is_wanted = match (answer, wanted) {
+        (Ok(text), Ok(wanted)) => is_text(rt, alloc, text.as_slice(), wanted),
+        (Err(fault), Err(wanted)) => fault == wanted,
+        (Ok(_), Err(_)) => false,
+        (Err(_), Ok(_)) => false,
+    };
+    assert!(rt; is_wanted, "{message}");
+}
+
+/// A request is forwarded as its row says, and what follows it stays unread; or the fault is the
+/// row's. Nothing is said to the client.
+fn check_request(rt: &impl Abort, alloc: Global, row: &Row) {
+    let mut bytes = bytes_of(rt, alloc, row.0);
+    if row.1.is_ok() {
+        assert!(rt; bytes.extend_from_slice(b"NEXT").is_ok());
+    }
+    let mut source = Source::new(bytes.as_slice(), usize::MAX);
+    let mut said = Vec::new(alloc);
+    let answer = forwarded(rt, alloc, &mut source, &mut said);
+    check_answer(rt, alloc, row, &answer);
+    let is_next = answer.is_err() || source.left == b"NEXT".as_slice();
+    assert!(rt; is_next && said.is_empty(), "{}", row.0);
+}
+
+/// Each request is forwarded as its row says, or has the row's fault. Nothing is said.
+pub fn check_requests(rt: &impl Abort, alloc: Global, rows: &[Row]) {
+    for row in rows {
+        check_request(rt, alloc, row);
     }
 }
 
-/// Each request is forwarded as its row says, and what follows it stays unread; or the fault is the
-/// row's. Nothing is said to the client.
-pub fn check_requests(rt: &impl Abort, alloc: Global, rows: &[Row]) {
-    for row in rows {
-        let (message, wanted) = row;
-        let mut bytes = bytes_of(alloc, message).expect(rt, "memory");
-        if wanted.is_ok() {
-            assert!(rt; bytes.extend_from_slice(b"NEXT").is_ok());
-        }
-        let mut source = Source::new(bytes.as_slice(), usize::MAX);
-        let mut said = Vec::new(alloc);
-        let answer = forwarded(rt, alloc, &mut source, &mut said);
-        check_answer(rt, alloc, row, &answer);
-        assert!(rt;
-            answer.is_err() || source.left == b"NEXT".as_slice(),
-            "{message}"
-        );
-        assert!(rt; said.is_empty(), "{message}");
-    }
+/// The fault of a request to whose client nothing is said.
+fn fault_unsaid(rt: &impl Abort, alloc: Global, bytes: &[u8]) -> Option<WireFault> {
+    let mut said = Vec::new(alloc);
+    let answer = forwarded(rt, alloc, &mut Source::new(bytes, usize::MAX), &mut said);
+    assert!(rt; said.is_empty());
+    answer.err()
 }
 
 /// Each request, made of the front, the row and the back, has this fault. Nothing is said.
@@ -203,23 +244,23 @@ pub fn check_faults(
     ends: (&str, &str),
     rows: &[&str],
 ) {
-    let (front, back) = ends;
     for row in rows {
-        let bytes = repeated(alloc, front, row, 1, back).expect(rt, "memory");
-        let mut source = Source::new(bytes.as_slice(), usize::MAX);
-        let mut said = Vec::new(alloc);
-        let answer = forwarded(rt, alloc, &mut source, &mut said);
-        assert_eq!(rt; answer.err(), Some(fault), "{row}");
-        assert!(rt; said.is_empty(), "{row}");
+        let bytes = repeated(rt, alloc, ends.0, row, 1, ends.1);
+        let answer = fault_unsaid(rt, alloc, bytes.as_slice());
+        assert!(rt; answer == Some(fault), "{row}: {answer:?}");
     }
 }
 
 /// Each response to a request of this method is passed on as its row says, or has the row's fault.
 pub fn check_responses(rt: &impl Abort, alloc: Global, method: &Method, rows: &[Row]) {
     for row in rows {
-        let bytes = bytes_of(alloc, row.0).expect(rt, "memory");
-        let mut source = Source::new(bytes.as_slice(), usize::MAX);
-        let answer = passed_on(rt, alloc, &mut source, method);
+        let bytes = bytes_of(rt, alloc, row.0);
+        let answer = passed_on(
+            rt,
+            alloc,
+            &mut Source::new(bytes.as_slice(), usize::MAX),
+            method,
+        );
         check_answer(rt, alloc, row, &answer);
     }
 }

@@ -1,5 +1,5 @@
 // Messages that end after each of their bytes, and messages in reads of a few bytes.
-use super::answers::{bytes_of, forwarded, passed_on};
+use super::answers::{bytes_of, forwarded, is_text, passed_on};
 use super::devices::Source;
 use http::Method;
 use std::alloc::Global;
@@ -51,59 +51,86 @@ const RESPONSES: [&str; 5] = [
 
 const STEPS: [usize; 5] = [1, 2, 3, 7, usize::MAX];
 
-/// What a client's bytes are answered, read in steps, and what is said to the client.
-fn read_in_steps(
+/// What a client's bytes are answered, read in steps; what is said to the client goes to `said`.
+fn request_in_steps(
     rt: &impl Abort,
     alloc: Global,
     bytes: &[u8],
     most: usize,
-) -> (Result<Vec<u8>, WireFault>, Vec<u8>) {
-    let mut source = Source::new(bytes, most);
-    let mut said = Vec::new(alloc);
-    let answer = forwarded(rt, alloc, &mut source, &mut said);
-    (answer, said)
+    said: &mut Vec<u8>,
+) -> Result<Vec<u8>, WireFault> {
+    forwarded(rt, alloc, &mut Source::new(bytes, most), said)
 }
 
-/// Bytes that end inside a request are Early, in all steps; who waits is asked behind the head.
-fn check_cut(rt: &impl Abort, alloc: Global, message: &str, asked: usize, front: &[u8]) {
-    for most in STEPS {
-        let (answer, said) = read_in_steps(rt, alloc, front, most);
-        let is_asked = 0 < asked && asked <= front.len();
-        assert_eq!(rt;
-            answer.err(),
-            Some(WireFault::Early),
-            "{message} {}",
-            front.len()
+/// The fault of a front of a request, and whether its client was told anything.
+fn fault_and_told(
+    rt: &impl Abort,
+    alloc: Global,
+    front: &[u8],
+    most: usize,
+) -> (Option<WireFault>, bool) {
+    let mut said = Vec::new(alloc);
+    let answer = request_in_steps(rt, alloc, front, most, &mut said);
+    (answer.err(), !said.is_empty())
+}
+
+/// A request that is cut after any of its bytes is Early; who waits is asked behind the head.
+fn check_cuts(rt: &impl Abort, alloc: Global, message: &str, asked: usize, most: usize) {
+    let bytes = bytes_of(rt, alloc, message);
+    for end in 0..bytes.len() {
+        let is_asked = 0 < asked && asked <= end;
+        let found = fault_and_told(rt, alloc, &bytes[..end], most);
+        assert!(rt;
+            found == (Some(WireFault::Early), is_asked),
+            "{message} {end} {most}"
         );
-        assert_eq!(rt; !said.is_empty(), is_asked, "{message} {}", front.len());
     }
 }
 
 #[test]
 fn a_request_that_is_cut_after_any_byte_is_early(rt: HostRuntime) {
-    let alloc = rt.alloc();
     for (message, asked) in REQUESTS {
-        let bytes = bytes_of(alloc, message).expect(&rt, "memory");
-        for end in 0..bytes.len() {
-            check_cut(&rt, alloc, message, asked, &bytes[..end]);
+        for most in STEPS {
+            check_cuts(&rt, rt.alloc(), message, asked, most);
         }
     }
 }
 
+/// Bytes that are read in steps are forwarded as this text, and their client is told this.
+fn check_step(
+    rt: &impl Abort,
+    alloc: Global,
+    bytes: &[u8],
+    most: usize,
+    wanted: &[u8],
+    told: &[u8],
+) {
+    let mut said = Vec::new(alloc);
+    let answer = request_in_steps(rt, alloc, bytes, most, &mut said);
+    let answer = answer.ok().expect(rt, "a request");
+    assert!(rt;
+        answer.as_slice() == wanted && said.as_slice() == told,
+        "{most}"
+    );
+}
+
+/// A request is answered the same in all steps; whether its client was asked for the body.
+fn is_asked_in_all_steps(rt: &impl Abort, alloc: Global, bytes: &[u8]) -> bool {
+    let mut told = Vec::new(alloc);
+    let wanted = request_in_steps(rt, alloc, bytes, usize::MAX, &mut told);
+    let wanted = wanted.ok().expect(rt, "a request");
+    for most in STEPS {
+        check_step(rt, alloc, bytes, most, wanted.as_slice(), told.as_slice());
+    }
+    !told.is_empty()
+}
+
 #[test]
 fn a_request_is_answered_the_same_in_all_steps(rt: HostRuntime) {
-    let alloc = rt.alloc();
     for (message, asked) in REQUESTS {
-        let bytes = bytes_of(alloc, message).expect(&rt, "memory");
-        let (wanted, told) = read_in_steps(&rt, alloc, bytes.as_slice(), usize::MAX);
-        let wanted = wanted.ok().expect(&rt, "a request");
-        assert_eq!(rt; told.is_empty(), asked == 0, "{message}");
-        for most in STEPS {
-            let (answer, said) = read_in_steps(&rt, alloc, bytes.as_slice(), most);
-            let answer = answer.ok().expect(&rt, "a request");
-            assert!(rt; answer.as_slice() == wanted.as_slice(), "{message} {most}");
-            assert!(rt; said.as_slice() == told.as_slice(), "{message} {most}");
-        }
+        let bytes = bytes_of(&rt, rt.alloc(), message);
+        let is_asked = is_asked_in_all_steps(&rt, rt.alloc(), bytes.as_slice());
+        assert!(rt; is_asked == (asked > 0), "{message}");
     }
 }
 
@@ -117,30 +144,38 @@ fn response_in_steps(
     passed_on(rt, alloc, &mut Source::new(bytes, most), &Method::GET)
 }
 
+/// A response that is cut after any of its bytes is Early.
+fn check_response_cuts(rt: &impl Abort, alloc: Global, bytes: &[u8], most: usize) {
+    for end in 0..bytes.len() {
+        let answer = response_in_steps(rt, alloc, &bytes[..end], most);
+        assert!(rt; answer.err() == Some(WireFault::Early), "{end} {most}");
+    }
+}
+
 #[test]
 fn a_response_that_is_cut_after_any_byte_is_early(rt: HostRuntime) {
-    let alloc = rt.alloc();
     for message in RESPONSES {
-        let bytes = bytes_of(alloc, message).expect(&rt, "memory");
-        for end in 0..bytes.len() {
-            for most in STEPS {
-                let answer = response_in_steps(&rt, alloc, &bytes[..end], most);
-                assert_eq!(rt; answer.err(), Some(WireFault::Early), "{message} {end}");
-            }
+        let bytes = bytes_of(&rt, rt.alloc(), message);
+        for most in STEPS {
+            check_response_cuts(&rt, rt.alloc(), bytes.as_slice(), most);
         }
     }
+}
+
+/// What a backend's bytes are passed on as, read in steps.
+fn response_text(rt: &impl Abort, alloc: Global, bytes: &[u8], most: usize) -> Vec<u8> {
+    let answer = response_in_steps(rt, alloc, bytes, most);
+    answer.ok().expect(rt, "a response")
 }
 
 #[test]
 fn a_response_is_answered_the_same_in_all_steps(rt: HostRuntime) {
     let alloc = rt.alloc();
     for message in RESPONSES {
-        let bytes = bytes_of(alloc, message).expect(&rt, "memory");
-        let wanted = response_in_steps(&rt, alloc, bytes.as_slice(), usize::MAX);
-        let wanted = wanted.ok().expect(&rt, "a response");
+        let bytes = bytes_of(&rt, alloc, message);
+        let wanted = response_text(&rt, alloc, bytes.as_slice(), usize::MAX);
         for most in STEPS {
-            let answer = response_in_steps(&rt, alloc, bytes.as_slice(), most);
-            let answer = answer.ok().expect(&rt, "a response");
+            let answer = response_text(&rt, alloc, bytes.as_slice(), most);
             assert!(rt; answer.as_slice() == wanted.as_slice(), "{message} {most}");
         }
     }
@@ -166,22 +201,25 @@ const PASSED_ON: [&str; 11] = [
     "HTTP/1.1 200 OK|X: 1|Content-Length: 10|Connection: close||abcdefghij",
 ];
 
+/// The fronts behind the head, read in steps, are passed on as their rows say.
+fn check_fronts(rt: &impl Abort, alloc: Global, bytes: &[u8], most: usize) {
+    for (count, wanted) in PASSED_ON.iter().enumerate() {
+        let end = count.saturating_add(HEAD).min(bytes.len());
+        let answer = response_text(rt, alloc, &bytes[..end], most);
+        assert!(rt;
+            is_text(rt, alloc, answer.as_slice(), wanted),
+            "{end} {most}"
+        );
+    }
+}
+
 #[test]
 fn a_response_without_lengths_ends_where_its_bytes_end(rt: HostRuntime) {
     let alloc = rt.alloc();
-    let bytes = bytes_of(alloc, ENDLESS).expect(&rt, "memory");
-    assert_eq!(rt; bytes.len(), 35);
+    let bytes = bytes_of(&rt, alloc, ENDLESS);
+    assert!(rt; bytes.len() == 35);
     for most in STEPS {
-        for end in 0..HEAD {
-            let answer = response_in_steps(&rt, alloc, &bytes[..end], most);
-            assert_eq!(rt; answer.err(), Some(WireFault::Early), "{end} {most}");
-        }
-        for (count, wanted) in PASSED_ON.iter().enumerate() {
-            let wanted = bytes_of(alloc, wanted).expect(&rt, "memory");
-            let end = count.saturating_add(HEAD).min(bytes.len());
-            let answer = response_in_steps(&rt, alloc, &bytes[..end], most);
-            let answer = answer.ok().expect(&rt, "a response");
-            assert!(rt; answer.as_slice() == wanted.as_slice(), "{end} {most}");
-        }
+        check_response_cuts(&rt, alloc, &bytes[..HEAD.min(bytes.len())], most);
+        check_fronts(&rt, alloc, bytes.as_slice(), most);
     }
 }

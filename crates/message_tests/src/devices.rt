@@ -95,6 +95,11 @@ impl Sink {
         self.call
     }
 
+    /// The most bytes that it takes of a write.
+    pub fn most(&self) -> usize {
+        self.most
+    }
+
     /// What was taken.
     pub fn taken(&self) -> &[u8] {
         self.taken.as_slice()

@@ -1,13 +1,11 @@
 // Readers and writers that fail at each of their calls in turn.
-use super::answers::{BACKEND, bytes_of};
+use super::answers::{BACKEND, bytes_of, response_from};
 use super::devices::{Sink, Source};
 use counted_io::{Counted, WriteFault};
 use http::Method;
 use std::alloc::Global;
 use std::process::Abort;
-use wire::{
-    Request, Response, WireFault, read_request, read_response, write_request, write_response,
-};
+use wire::{Request, Response, WireFault, read_request, write_request, write_response};
 
 const REQUESTS: [&str; 4] = [
     "GET /a HTTP/1.1|Host: h|X-Class: live|Connection: x-y|X-Y: 1||",
@@ -30,11 +28,6 @@ fn request_of(alloc: Global, source: &mut Source, sink: &mut Sink) -> Result<Req
     read_request(alloc, &mut Counted::new(source), &mut Counted::new(sink))
 }
 
-/// The response that a source gives to GET.
-fn response_of(alloc: Global, source: &mut Source) -> Result<Response, WireFault> {
-    read_response(alloc, &mut Counted::new(source), &Method::GET)
-}
-
 /// How many reads a request takes.
 fn reads_of_request(rt: &impl Abort, alloc: Global, bytes: &[u8], most: usize) -> u64 {
     let mut source = Source::new(bytes, most);
@@ -43,19 +36,51 @@ fn reads_of_request(rt: &impl Abort, alloc: Global, bytes: &[u8], most: usize) -
     source.calls()
 }
 
+/// The fault of a request whose reader fails from this read on.
+fn fault_of_request(alloc: Global, bytes: &[u8], most: usize, failing: u64) -> Option<WireFault> {
+    let mut source = Source::failing(bytes, most, failing);
+    let mut sink = Sink::new(alloc, most, u64::MAX);
+    request_of(alloc, &mut source, &mut sink).err()
+}
+
+/// A request whose reader fails from each of its calls on.
+fn check_request_reads(rt: &impl Abort, alloc: Global, bytes: &[u8], most: usize) {
+    for failing in 0..reads_of_request(rt, alloc, bytes, most) {
+        let fault = fault_of_request(alloc, bytes, most, failing);
+        assert!(rt;
+            fault == Some(WireFault::Read),
+            "{most} {failing} {fault:?}"
+        );
+    }
+}
+
 #[test]
 fn a_request_whose_reader_fails_anywhere_is_unread(rt: HostRuntime) {
     let alloc = rt.alloc();
     for message in REQUESTS {
-        let bytes = bytes_of(alloc, message).expect(&rt, "memory");
+        let bytes = bytes_of(&rt, alloc, message);
         for most in STEPS {
-            for failing in 0..reads_of_request(&rt, alloc, bytes.as_slice(), most) {
-                let mut source = Source::failing(bytes.as_slice(), most, failing);
-                let mut sink = Sink::new(alloc, most, u64::MAX);
-                let fault = request_of(alloc, &mut source, &mut sink).err();
-                assert_eq!(rt; fault, Some(WireFault::Read), "{message} {most} {failing}");
-            }
+            check_request_reads(&rt, alloc, bytes.as_slice(), most);
         }
+    }
+}
+
+/// How many reads a response takes.
+fn reads_of_response(rt: &impl Abort, alloc: Global, bytes: &[u8], most: usize) -> u64 {
+    let mut source = Source::new(bytes, most);
+    assert!(rt; response_from(alloc, &mut source, &Method::GET).is_ok());
+    source.calls()
+}
+
+/// A response whose reader fails from each of its calls on.
+fn check_response_reads(rt: &impl Abort, alloc: Global, bytes: &[u8], most: usize) {
+    for failing in 0..reads_of_response(rt, alloc, bytes, most) {
+        let mut source = Source::failing(bytes, most, failing);
+        let fault = response_from(alloc, &mut source, &Method::GET).err();
+        assert!(rt;
+            fault == Some(WireFault::Read),
+            "{most} {failing} {fault:?}"
+        );
     }
 }
 
@@ -63,39 +88,56 @@ fn a_request_whose_reader_fails_anywhere_is_unread(rt: HostRuntime) {
 fn a_response_whose_reader_fails_anywhere_is_unread(rt: HostRuntime) {
     let alloc = rt.alloc();
     for message in RESPONSES {
-        let bytes = bytes_of(alloc, message).expect(&rt, "memory");
+        let bytes = bytes_of(&rt, alloc, message);
         for most in STEPS {
-            let mut whole = Source::new(bytes.as_slice(), most);
-            assert!(rt; response_of(alloc, &mut whole).is_ok());
-            for failing in 0..whole.calls() {
-                let mut source = Source::failing(bytes.as_slice(), most, failing);
-                let fault = response_of(alloc, &mut source).err();
-                assert_eq!(rt; fault, Some(WireFault::Read), "{message} {most} {failing}");
-            }
+            check_response_reads(&rt, alloc, bytes.as_slice(), most);
         }
     }
+}
+
+/// What a client is told whose request is read.
+fn told_whole(rt: &impl Abort, alloc: Global, bytes: &[u8], most: usize) -> Sink {
+    let mut sink = Sink::new(alloc, most, u64::MAX);
+    assert!(rt; request_of(alloc, &mut Source::new(bytes, most), &mut sink).is_ok());
+    sink
+}
+
+/// A client that can't be told anything from this call on.
+fn check_untold(rt: &impl Abort, alloc: Global, bytes: &[u8], whole: &Sink, failing: u64) {
+    let mut sink = Sink::new(alloc, whole.most(), failing);
+    let fault = request_of(alloc, &mut Source::new(bytes, whole.most()), &mut sink).err();
+    assert!(rt; fault == Some(WireFault::Write), "{failing} {fault:?}");
+    assert!(rt; whole.taken().starts_with(sink.taken()));
 }
 
 #[test]
 fn a_client_that_can_not_be_asked_is_a_fault_of_writing(rt: HostRuntime) {
     let alloc = rt.alloc();
-    let bytes = bytes_of(alloc, REQUESTS[1]).expect(&rt, "memory");
+    let bytes = bytes_of(&rt, alloc, REQUESTS[1]);
     for most in STEPS {
-        let mut whole = Sink::new(alloc, most, u64::MAX);
-        assert!(rt;
-            request_of(alloc, &mut Source::new(bytes.as_slice(), most), &mut whole).is_ok()
-        );
+        let whole = told_whole(&rt, alloc, bytes.as_slice(), most);
         assert!(rt; whole.calls() > 1);
         for failing in 0..whole.calls() {
-            let mut sink = Sink::new(alloc, most, failing);
-            let fault = request_of(
-                alloc,
-                &mut Source::new(bytes.as_slice(), most),
-                &mut sink,
-            ).err();
-            assert_eq!(rt; fault, Some(WireFault::Write), "{most} {failing}");
-            assert!(rt; whole.taken().starts_with(sink.taken()));
+            check_untold(&rt, alloc, bytes.as_slice(), &whole, failing);
         }
+    }
+}
+
+/// What a writer gets of a request.
+fn write_whole_request(rt: &impl Abort, alloc: Global, request: &Request, most: usize) -> Sink {
+    let mut whole = Sink::new(alloc, most, u64::MAX);
+    assert!(rt; write_request(&mut Counted::new(&mut whole), request, BACKEND).is_ok());
+    whole
+}
+
+/// A request whose writer fails from each of its calls on.
+fn check_request_writes(rt: &impl Abort, alloc: Global, request: &Request, most: usize) {
+    let whole = write_whole_request(rt, alloc, request, most);
+    for failing in 0..whole.calls() {
+        let mut sink = Sink::new(alloc, most, failing);
+        let fault = write_request(&mut Counted::new(&mut sink), request, BACKEND);
+        assert!(rt; fault == Err(WriteFault), "{most} {failing}");
+        assert!(rt; whole.taken().starts_with(sink.taken()));
     }
 }
 
@@ -103,21 +145,31 @@ fn a_client_that_can_not_be_asked_is_a_fault_of_writing(rt: HostRuntime) {
 fn a_request_whose_writer_fails_anywhere_is_unwritten(rt: HostRuntime) {
     let alloc = rt.alloc();
     for message in REQUESTS {
-        let bytes = bytes_of(alloc, message).expect(&rt, "memory");
+        let bytes = bytes_of(&rt, alloc, message);
         let mut said = Sink::new(alloc, 9, u64::MAX);
         let request = request_of(alloc, &mut Source::new(bytes.as_slice(), 9), &mut said);
         let request = request.ok().expect(&rt, "a request");
         for most in STEPS {
-            let mut whole = Sink::new(alloc, most, u64::MAX);
-            let written = write_request(&mut Counted::new(&mut whole), &request, BACKEND);
-            assert_eq!(rt; written, Ok(()), "{message} {most}");
-            for failing in 0..whole.calls() {
-                let mut sink = Sink::new(alloc, most, failing);
-                let fault = write_request(&mut Counted::new(&mut sink), &request, BACKEND);
-                assert_eq!(rt; fault, Err(WriteFault), "{message} {most} {failing}");
-                assert!(rt; whole.taken().starts_with(sink.taken()), "{message} {most}");
-            }
+            check_request_writes(&rt, alloc, &request, most);
         }
+    }
+}
+
+/// What a writer gets of a response.
+fn write_whole_response(rt: &impl Abort, alloc: Global, response: &Response, most: usize) -> Sink {
+    let mut whole = Sink::new(alloc, most, u64::MAX);
+    assert!(rt; write_response(&mut Counted::new(&mut whole), response, &Method::GET).is_ok());
+    whole
+}
+
+/// A response whose writer fails from each of its calls on.
+fn check_response_writes(rt: &impl Abort, alloc: Global, response: &Response, most: usize) {
+    let whole = write_whole_response(rt, alloc, response, most);
+    for failing in 0..whole.calls() {
+        let mut sink = Sink::new(alloc, most, failing);
+        let fault = write_response(&mut Counted::new(&mut sink), response, &Method::GET);
+        assert!(rt; fault == Err(WriteFault), "{most} {failing}");
+        assert!(rt; whole.taken().starts_with(sink.taken()));
     }
 }
 
@@ -125,19 +177,11 @@ fn a_request_whose_writer_fails_anywhere_is_unwritten(rt: HostRuntime) {
 fn a_response_whose_writer_fails_anywhere_is_unwritten(rt: HostRuntime) {
     let alloc = rt.alloc();
     for message in RESPONSES {
-        let bytes = bytes_of(alloc, message).expect(&rt, "memory");
-        let response = response_of(alloc, &mut Source::new(bytes.as_slice(), 9));
+        let bytes = bytes_of(&rt, alloc, message);
+        let response = response_from(alloc, &mut Source::new(bytes.as_slice(), 9), &Method::GET);
         let response = response.ok().expect(&rt, "a response");
         for most in STEPS {
-            let mut whole = Sink::new(alloc, most, u64::MAX);
-            let written = write_response(&mut Counted::new(&mut whole), &response, &Method::GET);
-            assert_eq!(rt; written, Ok(()), "{message} {most}");
-            for failing in 0..whole.calls() {
-                let mut sink = Sink::new(alloc, most, failing);
-                let fault = write_response(&mut Counted::new(&mut sink), &response, &Method::GET);
-                assert_eq!(rt; fault, Err(WriteFault), "{message} {most} {failing}");
-                assert!(rt; whole.taken().starts_with(sink.taken()), "{message} {most}");
-            }
+            check_response_writes(&rt, alloc, &response, most);
         }
     }
 }

@@ -1,12 +1,10 @@
 // Messages just as long as they may be, and one byte or one line longer.
-use super::answers::repeated;
+use super::answers::{repeated, request_from, response_from};
 use super::devices::Source;
-use counted_io::Counted;
 use http::Method;
 use std::alloc::Global;
 use std::process::Abort;
-use std::test::Fail;
-use wire::{WireFault, read_request, read_response};
+use wire::WireFault;
 
 /// A message: a front, so many equal pieces and a back; its fault; how much of it stays unread.
 type LongRow = (
@@ -128,21 +126,23 @@ const ENDLESS: [LongRow; 3] = [
     ),
 ];
 
-// What is read isn't written: the head of a request grows where it is forwarded.
+/// The fault of a request that is read, and how much stays unread. Nothing is said to its client.
+///
+/// What is read isn't written: the head of a request grows where it is forwarded.
+fn fault_and_left(rt: &impl Abort, alloc: Global, bytes: &[u8]) -> (Option<WireFault>, usize) {
+    let mut source = Source::new(bytes, usize::MAX);
+    let mut said = Vec::new(alloc);
+    let fault = request_from(alloc, &mut source, &mut said).err();
+    assert!(rt; said.is_empty());
+    (fault, source.left.len())
+}
+
 fn check_requests(rt: &impl Abort, alloc: Global, rows: &[LongRow]) {
     for row in rows {
         let (front, piece, count, back, fault, left) = *row;
-        let bytes = repeated(alloc, front, piece, count, back).expect(rt, "memory");
-        let mut source = Source::new(bytes.as_slice(), usize::MAX);
-        let mut said = Vec::new(alloc);
-        let read = read_request(
-            alloc,
-            &mut Counted::new(&mut source),
-            &mut Counted::new(&mut said),
-        );
-        assert_eq!(rt; read.err(), fault, "{front} {count} {back}");
-        assert_eq!(rt; source.left.len(), left, "{front} {count} {back}");
-        assert!(rt; said.is_empty(), "{front} {count} {back}");
+        let bytes = repeated(rt, alloc, front, piece, count, back);
+        let found = fault_and_left(rt, alloc, bytes.as_slice());
+        assert!(rt; found == (fault, left), "{front} {count} {back} {found:?}");
     }
 }
 
@@ -162,14 +162,13 @@ fn a_body_has_at_most_8_mib(rt: HostRuntime) {
 }
 
 #[test]
-fn a_response_without_lengths_has_at_most_8_mib(rt: HostRuntime) -> Result<(), Fail> {
+fn a_response_without_lengths_has_at_most_8_mib(rt: HostRuntime) {
     let alloc = rt.alloc();
     for (front, piece, count, back, fault, left) in ENDLESS {
-        let bytes = repeated(alloc, front, piece, count, back)?;
+        let bytes = repeated(&rt, alloc, front, piece, count, back);
         let mut source = Source::new(bytes.as_slice(), usize::MAX);
-        let read = read_response(alloc, &mut Counted::new(&mut source), &Method::GET);
-        assert_eq!(rt; read.err(), fault, "{front} {back}");
-        assert_eq!(rt; source.left.len(), left, "{front} {back}");
+        let found = response_from(alloc, &mut source, &Method::GET).err();
+        assert!(rt; found == fault, "{front} {back}");
+        assert!(rt; source.left.len() == left, "{front} {back}");
     }
-    Ok(())
 }

@@ -1,10 +1,11 @@
 // The gateway's own answers.
-use super::answers::{bytes_of, passed_on};
+use super::answers::{is_text, passed_on};
 use super::devices::{Sink, Source};
 use counted_io::{Counted, WriteFault};
 use http::Method;
 use message_text::write_local_answer;
-use std::test::Fail;
+use std::alloc::Global;
+use std::process::Abort;
 
 const ANSWERS: [(u16, &str); 8] = [
     (
@@ -38,25 +39,38 @@ const ANSWERS: [(u16, &str); 8] = [
     (299, "HTTP/1.1 299 |Content-Length: 0|Connection: close||"),
 ];
 
+/// What a writer gets of an answer.
+fn write_whole(rt: &impl Abort, alloc: Global, status: u16) -> Sink {
+    assert!(rt; 100 <= status && status <= 999);
+    let mut whole = Sink::new(alloc, 9, u64::MAX);
+    assert!(rt; write_local_answer(&mut Counted::new(&mut whole), status).is_ok());
+    whole
+}
+
+/// A writer fails from each of its calls on.
+fn check_failing(rt: &impl Abort, alloc: Global, status: u16, calls: u64) {
+    assert!(rt; 100 <= status && status <= 999);
+    for failing in 0..calls {
+        let mut broken = Sink::new(alloc, 9, failing);
+        let fault = write_local_answer(&mut Counted::new(&mut broken), status);
+        assert!(rt; fault == Err(WriteFault), "{status} {failing}");
+    }
+}
+
+/// What was written is read back.
+fn check_read_back(rt: &impl Abort, alloc: Global, text: &[u8]) {
+    let read = passed_on(rt, alloc, &mut Source::new(text, 9), &Method::GET);
+    let read = read.ok().expect(rt, "what was written is read back");
+    assert!(rt; read.as_slice() == text);
+}
+
 #[test]
-fn an_answer_of_the_gateways_own_has_no_body(rt: HostRuntime) -> Result<(), Fail> {
+fn an_answer_of_the_gateways_own_has_no_body(rt: HostRuntime) {
     let alloc = rt.alloc();
     for (status, wanted) in ANSWERS {
-        assert!(rt; 100 <= status && status <= 999);
-        let wanted = bytes_of(alloc, wanted)?;
-        let mut sink = Sink::new(alloc, 9, u64::MAX);
-        let written = write_local_answer(&mut Counted::new(&mut sink), status);
-        assert_eq!(rt; written, Ok(()));
-        assert!(rt; sink.taken() == wanted.as_slice(), "{status}");
-        let mut source = Source::new(sink.taken(), 9);
-        let read = passed_on(&rt, alloc, &mut source, &Method::GET);
-        let read = read.ok().expect(&rt, "what was written is read back");
-        assert!(rt; read.as_slice() == wanted.as_slice(), "{status}");
-        for failing in 0..sink.calls() {
-            let mut broken = Sink::new(alloc, 9, failing);
-            let fault = write_local_answer(&mut Counted::new(&mut broken), status);
-            assert_eq!(rt; fault, Err(WriteFault), "{status} {failing}");
-        }
+        let whole = write_whole(&rt, alloc, status);
+        assert!(rt; is_text(&rt, alloc, whole.taken(), wanted), "{status}");
+        check_read_back(&rt, alloc, whole.taken());
+        check_failing(&rt, alloc, status, whole.calls());
     }
-    Ok(())
 }

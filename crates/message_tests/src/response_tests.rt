@@ -1,8 +1,9 @@
 // Responses as they are passed on, and the faults of their parts.
-use super::answers::{Row, check_answer, check_responses, passed_on, repeated};
+use super::answers::{Row, bytes_of, check_answer, check_responses, passed_on, repeated};
 use super::devices::Source;
 use http::Method;
-use std::test::Fail;
+use std::alloc::Global;
+use std::process::Abort;
 use wire::WireFault;
 
 const PASSED_ON: [Row; 16] = [
@@ -140,107 +141,94 @@ const TO_HEAD: [Row; 9] = [
     ("HTTP/1.1 200 OK|X : a||", Err(WireFault::Malformed)),
 ];
 
-const FAULTS: [Row; 40] = [
-    (
-        "HTTP/1.1 101 Switching Protocols||",
-        Err(WireFault::Malformed),
-    ),
-    (
-        "HTTP/1.1 100 Continue||HTTP/1.1 101 A||",
-        Err(WireFault::Malformed),
-    ),
-    ("HTTP/1.1 099 A||", Err(WireFault::Malformed)),
-    ("HTTP/1.1 000 A||", Err(WireFault::Malformed)),
-    ("HTTP/1.1 20 A||", Err(WireFault::Malformed)),
-    ("HTTP/1.1 2000 A||", Err(WireFault::Malformed)),
-    ("HTTP/1.1 +20 A||", Err(WireFault::Malformed)),
-    ("HTTP/1.1 2x0 A||", Err(WireFault::Malformed)),
-    ("HTTP/1.1  200 A||", Err(WireFault::Malformed)),
-    ("HTTP/1.1\t200 A||", Err(WireFault::Malformed)),
-    ("HTTP/1.2 200 A||", Err(WireFault::Malformed)),
-    ("HTTP/2.0 200 A||", Err(WireFault::Malformed)),
-    ("HTTP/2 200 A||", Err(WireFault::Malformed)),
-    ("http/1.1 200 A||", Err(WireFault::Malformed)),
-    ("ICY 200 OK||", Err(WireFault::Malformed)),
-    (" HTTP/1.1 200 A||", Err(WireFault::Malformed)),
-    ("X: a|HTTP/1.1 200 A||", Err(WireFault::Malformed)),
-    ("HTTP/1.1 200 A\0||", Err(WireFault::Malformed)),
-    ("HTTP/1.1 200 A\rB||", Err(WireFault::Malformed)),
-    ("HTTP/1.1 200 A|X : a||", Err(WireFault::Malformed)),
-    ("HTTP/1.1 200 A|X: a| b||", Err(WireFault::Malformed)),
-    ("HTTP/1.1 200 A| X: a||", Err(WireFault::Malformed)),
-    ("HTTP/1.1 200 A|: a||", Err(WireFault::Malformed)),
-    (
-        "HTTP/1.1 200 A|Transfer-Encoding : chunked||0||",
-        Err(WireFault::Malformed),
-    ),
-    (
-        "HTTP/1.1 200 A|Content-Length: 3|Content-Length: 4||abcd",
-        Err(WireFault::Malformed),
-    ),
-    (
-        "HTTP/1.1 200 A|Content-Length: +3||abc",
-        Err(WireFault::Malformed),
-    ),
-    (
-        "HTTP/1.1 200 A|Content-Length:||",
-        Err(WireFault::Malformed),
-    ),
-    (
-        "HTTP/1.0 200 A|Transfer-Encoding: chunked||3|abc|0||",
-        Err(WireFault::Malformed),
-    ),
-    (
-        "HTTP/1.1 200 A|Transfer-Encoding: chunked|Content-Length: 3||3|abc|0||",
-        Err(WireFault::BothLengths),
-    ),
-    (
-        "HTTP/1.0 200 A|Content-Length: 3|Transfer-Encoding: chunked||abc",
-        Err(WireFault::BothLengths),
-    ),
-    (
-        "HTTP/1.1 200 A|Transfer-Encoding: gzip, chunked||0||",
-        Err(WireFault::Coding),
-    ),
-    (
-        "HTTP/1.1 200 A|Transfer-Encoding: chunked|Transfer-Encoding: chunked||0||",
-        Err(WireFault::Coding),
-    ),
-    (
-        "HTTP/1.1 200 A|Content-Length: 8388609||",
-        Err(WireFault::BodyTooLarge),
-    ),
-    (
-        "HTTP/1.1 200 A|Transfer-Encoding: chunked||3|abc|7ffffe|",
-        Err(WireFault::BodyTooLarge),
-    ),
-    (
-        "HTTP/1.1 200 A|Transfer-Encoding: chunked||3|abcd",
-        Err(WireFault::Malformed),
-    ),
-    ("", Err(WireFault::Early)),
-    ("HTTP/1.1 100 Continue||", Err(WireFault::Early)),
-    ("HTTP/1.1 200 A|", Err(WireFault::Early)),
-    (
-        "HTTP/1.1 200 A|Content-Length: 3||ab",
-        Err(WireFault::Early),
-    ),
-    (
-        "HTTP/1.1 200 A|Transfer-Encoding: chunked||3|abc|",
-        Err(WireFault::Early),
-    ),
+const MALFORMED: [&str; 29] = [
+    "HTTP/1.1 101 Switching Protocols||",
+    "HTTP/1.1 100 Continue||HTTP/1.1 101 A||",
+    "HTTP/1.1 099 A||",
+    "HTTP/1.1 000 A||",
+    "HTTP/1.1 20 A||",
+    "HTTP/1.1 2000 A||",
+    "HTTP/1.1 +20 A||",
+    "HTTP/1.1 2x0 A||",
+    "HTTP/1.1  200 A||",
+    "HTTP/1.1\t200 A||",
+    "HTTP/1.2 200 A||",
+    "HTTP/2.0 200 A||",
+    "HTTP/2 200 A||",
+    "http/1.1 200 A||",
+    "ICY 200 OK||",
+    " HTTP/1.1 200 A||",
+    "X: a|HTTP/1.1 200 A||",
+    "HTTP/1.1 200 A\0||",
+    "HTTP/1.1 200 A\rB||",
+    "HTTP/1.1 200 A|X : a||",
+    "HTTP/1.1 200 A|X: a| b||",
+    "HTTP/1.1 200 A| X: a||",
+    "HTTP/1.1 200 A|: a||",
+    "HTTP/1.1 200 A|Transfer-Encoding : chunked||0||",
+    "HTTP/1.1 200 A|Content-Length: 3|Content-Length: 4||abcd",
+    "HTTP/1.1 200 A|Content-Length: +3||abc",
+    "HTTP/1.1 200 A|Content-Length:||",
+    "HTTP/1.0 200 A|Transfer-Encoding: chunked||3|abc|0||",
+    "HTTP/1.1 200 A|Transfer-Encoding: chunked||3|abcd",
+];
+
+const BOTH_LENGTHS: [&str; 2] = [
+    "HTTP/1.1 200 A|Transfer-Encoding: chunked|Content-Length: 3||3|abc|0||",
+    "HTTP/1.0 200 A|Content-Length: 3|Transfer-Encoding: chunked||abc",
+];
+
+const UNKNOWN_CODINGS: [&str; 2] = [
+    "HTTP/1.1 200 A|Transfer-Encoding: gzip, chunked||0||",
+    "HTTP/1.1 200 A|Transfer-Encoding: chunked|Transfer-Encoding: chunked||0||",
+];
+
+const TOO_LARGE: [&str; 2] = [
+    "HTTP/1.1 200 A|Content-Length: 8388609||",
+    "HTTP/1.1 200 A|Transfer-Encoding: chunked||3|abc|7ffffe|",
+];
+
+const CUT: [&str; 5] = [
+    "",
+    "HTTP/1.1 100 Continue||",
+    "HTTP/1.1 200 A|",
+    "HTTP/1.1 200 A|Content-Length: 3||ab",
+    "HTTP/1.1 200 A|Transfer-Encoding: chunked||3|abc|",
 ];
 
 #[test]
 fn a_response_is_passed_on_in_its_one_form(rt: HostRuntime) {
     check_responses(&rt, rt.alloc(), &Method::GET, &PASSED_ON);
+}
+
+#[test]
+fn a_response_of_some_statuses_has_no_body(rt: HostRuntime) {
     check_responses(&rt, rt.alloc(), &Method::POST, &WITHOUT_BODY);
+}
+
+#[test]
+fn a_response_to_head_has_no_body(rt: HostRuntime) {
     check_responses(&rt, rt.alloc(), &Method::HEAD, &TO_HEAD);
+}
+
+/// Each response to GET has this fault.
+fn check_response_faults(rt: &impl Abort, alloc: Global, fault: WireFault, rows: &[&str]) {
+    for row in rows {
+        let bytes = bytes_of(rt, alloc, row);
+        let mut source = Source::new(bytes.as_slice(), usize::MAX);
+        let answer = passed_on(rt, alloc, &mut source, &Method::GET).err();
+        assert!(rt; answer == Some(fault), "{row}: {answer:?}");
+    }
 }
 
 #[test]
 fn a_response_has_its_first_fault(rt: HostRuntime) {
-    check_responses(&rt, rt.alloc(), &Method::GET, &FAULTS);
+    let alloc = rt.alloc();
+    check_response_faults(&rt, alloc, WireFault::Malformed, &MALFORMED);
+    check_response_faults(&rt, alloc, WireFault::BothLengths, &BOTH_LENGTHS);
+    check_response_faults(&rt, alloc, WireFault::Coding, &UNKNOWN_CODINGS);
+    check_response_faults(&rt, alloc, WireFault::BodyTooLarge, &TOO_LARGE);
+    check_response_faults(&rt, alloc, WireFault::Early, &CUT);
 }
 
 const AFTER_16: Row = (
@@ -251,14 +239,13 @@ const AFTER_16: Row = (
 const AFTER_17: Row = ("17 heads in front", Err(WireFault::Malformed));
 
 #[test]
-fn at_most_16_heads_stand_in_front_of_a_response(rt: HostRuntime) -> Result<(), Fail> {
+fn at_most_16_heads_stand_in_front_of_a_response(rt: HostRuntime) {
     let alloc = rt.alloc();
     for (count, row) in [(16, AFTER_16), (17, AFTER_17)] {
         let last = "HTTP/1.1 200 OK|Content-Length: 0||";
-        let bytes = repeated(alloc, "", "HTTP/1.1 103 Early Hints||", count, last)?;
+        let bytes = repeated(&rt, alloc, "", "HTTP/1.1 103 Early Hints||", count, last);
         let mut source = Source::new(bytes.as_slice(), usize::MAX);
         let answer = passed_on(&rt, alloc, &mut source, &Method::GET);
         check_answer(&rt, alloc, &row, &answer);
     }
-    Ok(())
 }

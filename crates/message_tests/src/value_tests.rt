@@ -1,47 +1,61 @@
 // Values of messages keep what they are given.
 use http::Method;
 use message_parts::*;
-use std::test::Fail;
+use std::alloc::Global;
+use std::process::Abort;
 use wire::*;
 
-#[test]
-fn a_request_keeps_its_parts(rt: HostRuntime) -> Result<(), Fail> {
+/// A request with one header line.
+fn request_of(rt: &impl Abort, alloc: Global) -> Request {
     let line = Header {
-        name: Bytes::from_slice(rt.alloc(), b"Host")?,
-        value: Bytes::new(b"h".to_vec(rt.alloc())?),
+        name: Bytes::from_slice(alloc, b"Host").expect(rt, "memory"),
+        value: Bytes::new(b"h".to_vec(alloc).expect(rt, "memory")),
     };
-    let request = Request {
+    Request {
         method: Method::GET,
-        target: Text::copy_of(rt.alloc(), "/a?b")?,
-        path: Text::new(String::from_str(rt.alloc(), "/a")?),
+        target: Text::copy_of(alloc, "/a?b").expect(rt, "memory"),
+        path: Text::new(String::from_str(alloc, "/a").expect(rt, "memory")),
         version: Version::Http11,
-        headers: Headers::new(vec![in rt.alloc(); line]?),
+        headers: Headers::new(vec![in alloc; line].expect(rt, "memory")),
         body: None,
-    };
-    assert_eq!(rt; request.method.as_str(), "GET");
-    assert_eq!(rt; request.target.as_str(), "/a?b");
-    assert!(rt; request.version == Version::Http11);
-    assert_eq!(rt; request.headers.len(), 1);
-    assert!(rt; !request.headers.is_empty());
-    for line in request.headers.as_slice() {
-        assert!(rt; line.name.as_slice() == b"Host".as_slice());
-        assert_eq!(rt; line.value.len(), 1);
-        assert!(rt; !line.value.is_empty());
     }
-    let Request { path, headers, .. } = request;
-    assert_eq!(rt; path.into_string().as_str(), "/a");
-    assert_eq!(rt; headers.into_vec().len(), 1);
-    Ok(())
+}
+
+fn check_lines(rt: &impl Abort, lines: &Headers) {
+    assert!(rt; lines.len() == 1 && !lines.is_empty());
+    for line in lines.as_slice() {
+        assert!(rt; line.name.as_slice() == b"Host".as_slice());
+        assert!(rt; line.value.len() == 1 && !line.value.is_empty());
+    }
 }
 
 #[test]
-fn a_response_keeps_its_parts(rt: HostRuntime) -> Result<(), Fail> {
-    let body = Bytes::from_slice(rt.alloc(), b"no")?;
-    let response = Response::new(503, Headers::new(Vec::new(rt.alloc())), Some(body));
-    assert_eq!(rt; response.status(), 503);
-    assert!(rt; response.headers().is_empty());
-    assert!(rt; response.body().is_some());
-    let bytes = Bytes::from_slice(rt.alloc(), b"no")?;
+fn a_request_keeps_its_parts(rt: HostRuntime) {
+    let request = request_of(&rt, rt.alloc());
+    assert!(rt; request.method.as_str() == "GET");
+    assert!(rt; request.target.as_str() == "/a?b");
+    assert!(rt; request.version == Version::Http11);
+    check_lines(&rt, &request.headers);
+}
+
+#[test]
+fn a_request_gives_up_its_parts(rt: HostRuntime) {
+    let Request { path, headers, .. } = request_of(&rt, rt.alloc());
+    assert!(rt; path.into_string().as_str() == "/a");
+    assert!(rt; headers.into_vec().len() == 1);
+}
+
+#[test]
+fn a_response_keeps_its_parts(rt: HostRuntime) {
+    let alloc = rt.alloc();
+    let body = Bytes::from_slice(alloc, b"no").expect(&rt, "memory");
+    let response = Response::new(503, Headers::new(Vec::new(alloc)), Some(body));
+    assert!(rt; response.status() == 503);
+    assert!(rt; response.headers().is_empty() && response.body().is_some());
+}
+
+#[test]
+fn bytes_give_up_their_row(rt: HostRuntime) {
+    let bytes = Bytes::from_slice(rt.alloc(), b"no").expect(&rt, "memory");
     assert!(rt; bytes.into_vec().as_slice() == b"no".as_slice());
-    Ok(())
 }
