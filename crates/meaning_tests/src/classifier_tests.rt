@@ -58,8 +58,8 @@ fn class(
     classify(rules, &table, &request)
 }
 
-fn by_header(alloc: Global) -> Result<Resolver, AllocError> {
-    Ok(Resolver::Header(bytes(alloc, "X-Class")?))
+fn by_header(rt: &impl Abort, alloc: Global) -> Resolver {
+    Resolver::Header(bytes(alloc, "X-Class").expect(rt, "a name"))
 }
 
 fn by_route(rt: &impl Abort, alloc: Global) -> Resolver {
@@ -70,9 +70,10 @@ fn by_route(rt: &impl Abort, alloc: Global) -> Resolver {
 }
 
 #[test]
-fn names_of_classes_are_compared_byte_for_byte(rt: HostRuntime) -> Result<(), Fail> {
+fn names_of_classes_are_compared_byte_for_byte(rt: HostRuntime) {
     let alloc = rt.alloc();
-    let rules = Rules::new(vec![in alloc; by_header(alloc)?]?, Vec::new(alloc));
+    let resolvers = vec![in alloc; by_header(&rt, alloc)].expect(&rt, "resolvers");
+    let rules = Rules::new(resolvers, Vec::new(alloc));
     let cases = [
         ("X-Class", "live", LIVE),
         ("x-cLASS", "batch", BATCH),
@@ -83,16 +84,16 @@ fn names_of_classes_are_compared_byte_for_byte(rt: HostRuntime) -> Result<(), Fa
     for (name, value, part) in cases {
         assert!(rt; class(&rt, alloc, &rules, "/", name, value).part == part);
     }
-    Ok(())
 }
 
 #[test]
-fn the_first_resolver_that_knows_decides(rt: HostRuntime) -> Result<(), Fail> {
+fn the_first_resolver_that_knows_decides(rt: HostRuntime) {
     let alloc = rt.alloc();
     let last = Resolver::Method(Method::GET, LIVE);
-    let resolvers = vec![in alloc; by_header(alloc)?, by_route(&rt, alloc), last]?;
+    let listed = vec![in alloc; by_header(&rt, alloc), by_route(&rt, alloc), last];
+    let resolvers = listed.expect(&rt, "resolvers");
     let rules = Rules::new(resolvers, Vec::new(alloc));
-    assert_eq!(rt; rules.resolvers().len(), 3);
+    assert!(rt; rules.resolvers().len() == 3);
     let cases = [
         ("/jobs/7", "live", LIVE),
         ("/jobs/7", "other", BATCH),
@@ -102,7 +103,6 @@ fn the_first_resolver_that_knows_decides(rt: HostRuntime) -> Result<(), Fail> {
     for (path, value, part) in cases {
         assert!(rt; class(&rt, alloc, &rules, path, "X-Class", value).part == part);
     }
-    Ok(())
 }
 
 #[test]
@@ -113,7 +113,7 @@ fn any_bypass_rule_bypasses_and_the_part_is_resolved(rt: HostRuntime) -> Result<
     let bypass = vec![in alloc; Bypass::Method(Method::PUT), prefix, equals]?;
     let live = vec![in alloc; Resolver::Method(Method::GET, LIVE)]?;
     let rules = Rules::new(live, bypass);
-    assert_eq!(rt; rules.bypass().len(), 3);
+    assert!(rt; rules.bypass().len() == 3);
     let cases = [
         ("/healthy", "X-Probe", "0", true),
         ("/a", "x-probe", "1", true),
@@ -127,16 +127,12 @@ fn any_bypass_rule_bypasses_and_the_part_is_resolved(rt: HostRuntime) -> Result<
 }
 
 #[test]
-fn each_rule_is_asked_by_itself(rt: HostRuntime) -> Result<(), Fail> {
+fn each_rule_is_asked_by_itself(rt: HostRuntime) {
     let alloc = rt.alloc();
-    let headers = header(alloc, "A", "b")?;
-    let asked = request(alloc, Method::PUT, "/", headers)?;
-    let table = PartitionTable::unknown_only();
+    let headers = header(alloc, "A", "b").expect(&rt, "headers");
+    let asked = request(alloc, Method::PUT, "/", headers).expect(&rt, "a request");
     assert!(rt; Bypass::Method(Method::PUT).holds(&asked));
-    assert!(rt;
-        Resolver::Method(Method::PUT, LIVE)
-            .part(&table, &asked)
-            .is_none()
-    );
-    Ok(())
+    let table = PartitionTable::unknown_only();
+    let part = Resolver::Method(Method::PUT, LIVE).part(&table, &asked);
+    assert!(rt; part.is_none());
 }

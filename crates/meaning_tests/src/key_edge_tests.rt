@@ -1,5 +1,5 @@
 // Both ends of each range of the keys, names that need quotes, and a request's class.
-use super::gate_config_tests::{ADDRESSES, FIXED, LIVE, answer};
+use super::gate_config_tests::{ADDRESSES, FIXED, LIVE, answer, check, settings_of};
 use classifier::classify;
 use gate_config::*;
 use http::Method;
@@ -7,7 +7,6 @@ use message_parts::{Bytes, Header, Headers, Text};
 use partitions::Part;
 use std::alloc::{AllocError, Global};
 use std::process::Abort;
-use std::test::Fail;
 use wire::{Request, Version};
 
 /// A key that holds a number: the lines before it and after it, its name, its path, and its range.
@@ -162,49 +161,54 @@ fn each_range_has_both_its_ends(rt: HostRuntime) {
     check_ends(&rt, alloc, &OTHERS);
 }
 
+const UNKNOWN_KEYS: [(&str, &str); 11] = [
+    ("Zebra_9-z = 1\n", "unknown Zebra_9-z"),
+    ("\"\" = 1\n", "unknown \"\""),
+    ("\"x y\" = 1\n", "unknown \"x y\""),
+    ("\"a.b\" = 1\n", "unknown \"a.b\""),
+    ("\"a\\nb\" = 1\n", "unknown \"a\\nb\""),
+    ("\"a\\\"b\\\\c\" = 1\n", "unknown \"a\\\"b\\\\c\""),
+    ("\"\\b\\t\\f\\r\" = 1\n", "unknown \"\\b\\t\\f\\r\""),
+    (
+        "\"\\u0000\\u001b\\u007f\\u009f\" = 1\n",
+        "unknown \"\\u0000\\u001B\\u007F\\u009F\"",
+    ),
+    ("\"\u{e9}\" = 1\n", "unknown \"\u{e9}\""),
+    (
+        "\"x\\nadmission: config: toml\" = 1\n",
+        "unknown \"x\\nadmission: config: toml\"",
+    ),
+    ("\"b\" = 1\n\"a b\" = 1\n", "unknown \"a b\""),
+];
+
+const UNKNOWN_KEY_OF_THE_LIMIT: [(&str, &str); 1] = [("\"x y\" = 1\n", "unknown limit.\"x y\"")];
+
 #[test]
 fn an_unknown_key_is_one_line(rt: HostRuntime) {
     let alloc = rt.alloc();
-    let cases = [
-        ("Zebra_9-z = 1\n", "unknown Zebra_9-z"),
-        ("\"\" = 1\n", "unknown \"\""),
-        ("\"x y\" = 1\n", "unknown \"x y\""),
-        ("\"a.b\" = 1\n", "unknown \"a.b\""),
-        ("\"a\\nb\" = 1\n", "unknown \"a\\nb\""),
-        ("\"a\\\"b\\\\c\" = 1\n", "unknown \"a\\\"b\\\\c\""),
-        ("\"\\b\\t\\f\\r\" = 1\n", "unknown \"\\b\\t\\f\\r\""),
-        (
-            "\"\\u0000\\u001b\\u007f\\u009f\" = 1\n",
-            "unknown \"\\u0000\\u001B\\u007F\\u009F\"",
-        ),
-        ("\"\u{e9}\" = 1\n", "unknown \"\u{e9}\""),
-        (
-            "\"x\\nadmission: config: toml\" = 1\n",
-            "unknown \"x\\nadmission: config: toml\"",
-        ),
-        ("\"b\" = 1\n\"a b\" = 1\n", "unknown \"a b\""),
-    ];
-    for (lines, expected) in cases {
-        let text = format!(in alloc; "{ADDRESSES}{lines}{FIXED}").expect(&rt, "memory");
-        assert_eq!(rt; answer(&rt, alloc, text.as_str()).as_str(), expected);
+    check(&rt, alloc, ADDRESSES, FIXED, &UNKNOWN_KEYS);
+    let before = format!(in alloc; "{ADDRESSES}{FIXED}").expect(&rt, "memory");
+    check(&rt, alloc, before.as_str(), "", &UNKNOWN_KEY_OF_THE_LIMIT);
+}
+
+/// The fault of a text.
+fn fault_of(rt: &impl Abort, alloc: Global, text: &str) -> ConfigFault {
+    match read(alloc, text.as_bytes()) {
+        Ok(_) => panic!(rt; "no fault"),
+        Err(fault) => fault,
     }
-    let text = format!(in alloc; "{ADDRESSES}{FIXED}\"x y\" = 1\n").expect(&rt, "memory");
-    assert_eq!(rt;
-        answer(&rt, alloc, text.as_str()).as_str(),
-        "unknown limit.\"x y\""
-    );
 }
 
 #[test]
-fn a_faults_pieces_are_its_text(rt: HostRuntime) -> Result<(), Fail> {
+fn a_faults_pieces_are_its_text(rt: HostRuntime) {
     let alloc = rt.alloc();
-    let text = format!(in alloc; "{ADDRESSES}{FIXED}ratio = 1\n")?;
-    let fault = read(alloc, text.as_bytes()).err().expect(&rt, "a fault");
-    assert_eq!(rt; fault.pieces().0, "unknown ");
-    assert_eq!(rt; fault.pieces().1, "limit.ratio");
-    assert_eq!(rt; ConfigFault::Kind(Key::WindowSize).pieces().1, "window.");
-    assert_eq!(rt; ConfigFault::Kind(Key::WindowSize).pieces().2, "size");
-    Ok(())
+    let text = format!(in alloc; "{ADDRESSES}{FIXED}ratio = 1\n").expect(&rt, "memory");
+    let fault = fault_of(&rt, alloc, text.as_str());
+    let (says, path, _) = fault.pieces();
+    assert!(rt; says == "unknown " && path == "limit.ratio");
+    let size = ConfigFault::Kind(Key::WindowSize);
+    let (_, table, key) = size.pieces();
+    assert!(rt; table == "window." && key == "size");
 }
 
 /// A request whose header `X-Class` has the value.
@@ -221,21 +225,18 @@ fn request_of(alloc: Global, value: &[u8]) -> Result<Request, AllocError> {
     })
 }
 
+/// The class of such a request by these settings.
+fn part_of(rt: &impl Abort, alloc: Global, settings: &Settings, value: &[u8]) -> Part {
+    let request = request_of(alloc, value).expect(rt, "a request");
+    classify(&settings.rules, &settings.table, &request).part
+}
+
 #[test]
-fn the_samples_class_is_compared_byte_for_byte(rt: HostRuntime) -> Result<(), Fail> {
+fn the_samples_class_is_compared_byte_for_byte(rt: HostRuntime) {
     let alloc = rt.alloc();
     let resolver = "[[resolver]]\nkind = \"header\"\nheader = \"X-Class\"\n";
-    let text = format!(in alloc; "{ADDRESSES}{FIXED}{LIVE}{resolver}")?;
-    let settings = read(alloc, text.as_bytes())?;
-    let live = request_of(alloc, b"live")?;
-    let other = request_of(alloc, b"Live")?;
-    assert_eq!(rt;
-        classify(&settings.rules, &settings.table, &live).part,
-        Part::Known(0)
-    );
-    assert_eq!(rt;
-        classify(&settings.rules, &settings.table, &other).part,
-        Part::Unknown
-    );
-    Ok(())
+    let text = format!(in alloc; "{ADDRESSES}{FIXED}{LIVE}{resolver}").expect(&rt, "memory");
+    let settings = settings_of(&rt, alloc, text.as_str());
+    assert!(rt; part_of(&rt, alloc, &settings, b"live") == Part::Known(0));
+    assert!(rt; part_of(&rt, alloc, &settings, b"Live") == Part::Unknown);
 }
