@@ -4,7 +4,7 @@ use config_check::{check_reader, check_text};
 use counted_io::Counted;
 use std::alloc::Global;
 use std::io::{Error, ErrorKind, Read, Result as IoResult, Write};
-use std::test::Fail;
+use std::process::Abort;
 
 /// The sample configuration of docs/FORMATS.md, in the pieces that rows change.
 const VERSION: &str = "version = 1\n";
@@ -120,23 +120,28 @@ pub fn checked(alloc: Global, text: &[u8]) -> Left {
     }
 }
 
+/// The text of these pieces.
+fn joined(rt: &impl Abort, alloc: Global, pieces: &[&str]) -> String {
+    let mut text = String::new(alloc);
+    for piece in pieces {
+        text.push_str(piece).expect(rt, "memory");
+    }
+    text
+}
+
 #[test]
-fn configurations_are_answered_by_one_line(rt: HostRuntime) -> Result<(), Fail> {
+fn configurations_are_answered_by_one_line(rt: HostRuntime) {
     for row in &ROWS {
-        let mut text = String::new(rt.alloc());
-        for piece in row.text {
-            text.push_str(piece)?;
-        }
+        let text = joined(&rt, rt.alloc(), &row.text);
         let status = if row.fault.is_empty() { 0 } else { 1 };
         let left = checked(rt.alloc(), text.as_bytes());
         left.check(&rt, status, row.output, row.fault);
     }
-    Ok(())
 }
 
 /// What the check of the sample leaves, whose output goes nowhere: its status and its fault line.
-fn unwritten_sample<W: Write + Drop>(alloc: Global, writer: W) -> Result<(u8, Vec<u8>), Fail> {
-    let text = format!(in alloc; "{VERSION}{LISTEN}{BACKEND}{LIMIT}{REST}")?;
+fn unwritten_sample<W: Write + Drop>(rt: &impl Abort, alloc: Global, writer: W) -> (u8, Vec<u8>) {
+    let text = joined(rt, alloc, &[VERSION, LISTEN, BACKEND, LIMIT, REST]);
     let mut fault = Vec::new(alloc);
     let status = check_text(
         alloc,
@@ -144,14 +149,13 @@ fn unwritten_sample<W: Write + Drop>(alloc: Global, writer: W) -> Result<(u8, Ve
         &mut Counted::new(writer),
         &mut Counted::new(&mut fault),
     );
-    Ok((status, fault))
+    (status, fault)
 }
 
 #[test]
-fn a_line_that_cannot_be_written_is_told(rt: HostRuntime) -> Result<(), Fail> {
-    let (status, fault) = unwritten_sample(rt.alloc(), Broken)?;
+fn a_line_that_cannot_be_written_is_told(rt: HostRuntime) {
+    let (status, fault) = unwritten_sample(&rt, rt.alloc(), Broken);
     assert!(rt; status == 1 && fault.as_slice() == b"admission: write\n".as_slice());
-    Ok(())
 }
 
 #[test]
@@ -240,10 +244,9 @@ impl Write for Unflushed {
 }
 
 #[test]
-fn a_flush_that_fails_is_told(rt: HostRuntime) -> Result<(), Fail> {
-    let (status, fault) = unwritten_sample(rt.alloc(), Unflushed)?;
+fn a_flush_that_fails_is_told(rt: HostRuntime) {
+    let (status, fault) = unwritten_sample(&rt, rt.alloc(), Unflushed);
     assert!(rt; status == 1 && fault.as_slice() == b"admission: write\n".as_slice());
     let (status, fault) = unwritten(rt.alloc(), Unflushed);
     assert!(rt; status == 1 && fault.as_slice() == b"admission: write\n".as_slice());
-    Ok(())
 }

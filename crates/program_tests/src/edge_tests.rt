@@ -2,7 +2,6 @@
 use counted_io::Counted;
 use load_driver::{DriverFault, replay};
 use std::io::{Error, ErrorKind, Read, Result, Write};
-use std::test::Fail;
 
 // Gives `left` number signs, which are one comment line.
 #[derive(Drop)]
@@ -73,23 +72,18 @@ const LAST_LINES: &str = "
 ";
 
 #[test]
-fn after_100_000_entries_only_what_is_owed_is_answered(
-    rt: HostRuntime,
-) -> std::result::Result<(), Fail> {
+fn after_100_000_entries_only_what_is_owed_is_answered(rt: HostRuntime) {
     let mut script = String::new(rt.alloc());
-    script
-        .push_str("acquire unknown 0\n")
-        .map_err(|_| "memory")?;
+    script.push_str("acquire unknown 0\n").expect(&rt, "memory");
     for _ in 0..100_000 {
-        script.push_str("look unknown\n").map_err(|_| "memory")?;
+        script.push_str("look unknown\n").expect(&rt, "memory");
     }
-    script.push_str("end 0 success 5\n").map_err(|_| "memory")?;
+    script.push_str("end 0 success 5\n").expect(&rt, "memory");
     let mut written = Vec::new(rt.alloc());
     let mut reader = Counted::new(script.as_bytes());
     let answer = replay(rt.alloc(), &mut reader, &mut Counted::new(&mut written), 20);
     assert!(rt; answer == Ok(()));
     assert!(rt; written.as_slice().ends_with(LAST_LINES.as_bytes()));
-    Ok(())
 }
 
 #[test]

@@ -3,7 +3,6 @@ use counted_io::Counted;
 use load_driver::replay;
 use std::alloc::Global;
 use std::process::Abort;
-use std::test::Fail;
 
 const NEWEST_WAITER_FIRST: &str = "\
 limit fixed 1
@@ -246,17 +245,16 @@ fn check_rows(rt: &impl Abort, alloc: Global, rows: &[(&str, &str)]) {
 }
 
 #[test]
-fn each_class_gets_its_share(rt: HostRuntime) -> Result<(), Fail> {
+fn each_class_gets_its_share(rt: HostRuntime) {
     let rows = [
         (ONE_CLASS, ONE_CLASS_TEXT),
         (SHARES_OF_TWO_CLASSES, SHARES_OF_TWO_CLASSES_TEXT),
     ];
     check_rows(&rt, rt.alloc(), &rows);
-    Ok(())
 }
 
 #[test]
-fn the_limit_learns_and_is_set_by_hand(rt: HostRuntime) -> Result<(), Fail> {
+fn the_limit_learns_and_is_set_by_hand(rt: HostRuntime) {
     let rows = [
         (RAISED_BY_A_SUCCESS, RAISED_BY_A_SUCCESS_TEXT),
         (IGNORED, IGNORED_TEXT),
@@ -266,11 +264,10 @@ fn the_limit_learns_and_is_set_by_hand(rt: HostRuntime) -> Result<(), Fail> {
         (WINDOW_OF_ONE, RAISED_BY_A_SUCCESS_TEXT),
     ];
     check_rows(&rt, rt.alloc(), &rows);
-    Ok(())
 }
 
 #[test]
-fn waiters_are_promoted_claimed_and_given_up_as_the_rules_say(rt: HostRuntime) -> Result<(), Fail> {
+fn waiters_are_promoted_claimed_and_given_up_as_the_rules_say(rt: HostRuntime) {
     let rows = [
         (NEWEST_WAITER_FIRST, NEWEST_WAITER_FIRST_TEXT),
         (CLAIMED_AND_GIVEN_UP, CLAIMED_AND_GIVEN_UP_TEXT),
@@ -280,5 +277,4 @@ fn waiters_are_promoted_claimed_and_given_up_as_the_rules_say(rt: HostRuntime) -
         (KEEPS_TWO, KEEPS_TWO_TEXT),
     ];
     check_rows(&rt, rt.alloc(), &rows);
-    Ok(())
 }

@@ -3,7 +3,6 @@ use counted_io::Counted;
 use load_driver::replay;
 use std::alloc::Global;
 use std::process::Abort;
-use std::test::Fail;
 
 const A_LIMIT_SET_BY_HAND: &str = "\
 limit settable 1 20 100
@@ -107,16 +106,10 @@ const WINDOW_OF_ONE_TEXT: &str = "\
 ";
 
 // A script with this line before it is answered by the text.
-fn check_with(
-    rt: &impl Abort,
-    alloc: Global,
-    line: &str,
-    script: &str,
-    wanted: &str,
-) -> Result<(), Fail> {
+fn check_with(rt: &impl Abort, alloc: Global, line: &str, script: &str, wanted: &str) {
     let mut whole = String::new(alloc);
-    whole.push_str(line).map_err(|_| "memory")?;
-    whole.push_str(script).map_err(|_| "memory")?;
+    whole.push_str(line).expect(rt, "memory");
+    whole.push_str(script).expect(rt, "memory");
     let mut written = Vec::new(alloc);
     let answer = replay(
         alloc,
@@ -126,13 +119,10 @@ fn check_with(
     );
     assert!(rt; answer.is_ok());
     assert!(rt; written.as_slice() == wanted.as_bytes(), "{line}{script}");
-    Ok(())
 }
 
 #[test]
-fn however_often_a_history_rolls_its_text_is_that_of_one_kept_whole(
-    rt: HostRuntime,
-) -> Result<(), Fail> {
+fn however_often_a_history_rolls_its_text_is_that_of_one_kept_whole(rt: HostRuntime) {
     let rows = [
         (A_LIMIT_SET_BY_HAND, A_LIMIT_SET_BY_HAND_TEXT),
         (
@@ -155,10 +145,9 @@ fn however_often_a_history_rolls_its_text_is_that_of_one_kept_whole(
     ];
     for line in lines {
         for (script, wanted) in rows {
-            check_with(&rt, rt.alloc(), line, script, wanted)?;
+            check_with(&rt, rt.alloc(), line, script, wanted);
         }
     }
-    Ok(())
 }
 
 const LAST_LINES: &str = "
@@ -167,19 +156,18 @@ const LAST_LINES: &str = "
 ";
 
 #[test]
-fn a_history_that_rolls_is_never_exhausted_by_what_it_keeps(rt: HostRuntime) -> Result<(), Fail> {
+fn a_history_that_rolls_is_never_exhausted_by_what_it_keeps(rt: HostRuntime) {
     let mut script = String::new(rt.alloc());
     script
         .push_str("keep 100 rolling\nacquire unknown 0\n")
-        .map_err(|_| "memory")?;
+        .expect(&rt, "memory");
     for _ in 0..100_000 {
-        script.push_str("look unknown\n").map_err(|_| "memory")?;
+        script.push_str("look unknown\n").expect(&rt, "memory");
     }
-    script.push_str("end 0 success 5\n").map_err(|_| "memory")?;
+    script.push_str("end 0 success 5\n").expect(&rt, "memory");
     let mut written = Vec::new(rt.alloc());
     let mut reader = Counted::new(script.as_bytes());
     let answer = replay(rt.alloc(), &mut reader, &mut Counted::new(&mut written), 20);
-    assert_eq!(rt; answer, Ok(()));
+    assert!(rt; answer == Ok(()));
     assert!(rt; written.as_slice().ends_with(LAST_LINES.as_bytes()));
-    Ok(())
 }

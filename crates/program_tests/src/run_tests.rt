@@ -4,7 +4,6 @@ use counted_io::Counted;
 use std::alloc::Global;
 use std::io::{Error, ErrorKind, Read, Result as IoResult, Write};
 use std::process::Abort;
-use std::test::Fail;
 
 /// What a command leaves behind: its status, its output and its fault line.
 #[derive(Drop)]
@@ -154,12 +153,11 @@ look unknown
 ];
 
 #[test]
-fn scripts_are_answered_with_their_text_status_and_fault_line(rt: HostRuntime) -> Result<(), Fail> {
+fn scripts_are_answered_with_their_text_status_and_fault_line(rt: HostRuntime) {
     for row in &ROWS {
         let left = replayed(&rt, rt.alloc(), row.limit, row.script);
         left.check(&rt, row.status, row.output, row.fault);
     }
-    Ok(())
 }
 
 /// Fails at each call.
