@@ -5,20 +5,26 @@ use Rattle.clap.specs.Words.{App, Row, Rule, Text, app_of, first_of, new_app, ne
 use Rattle.limit_laws.specs.Algorithm.{greatest_limit}
 use Rattle.clap.specs.declared.builder.command.Command.{Command}
 use Rattle.clap.specs.declared.builder.command.Command.TheViews.{out-Command}
+use Rattle.clap.specs.declared.builder.value_parser.ValueParser.{ValueParser}
 use Rattle.clap.specs.declared.builder.value_parser.ValueParser.TheVariants as Parser
 use Rattle.commands.specs.declared.command_line.Run.{Run}
 use Rattle.commands.specs.declared.command_line.Run.TheVariants.{Text as OfText, Load, Check, Serve}
 use Rattle.commands.specs.declared.command_line.TextTask.{TextTask}
 use Rattle.commands.specs.declared.command_line.TextTask.TheVariants.{Replay, Simulate}
 
--- an option of this name that takes a whole number from low to high
-abbrev pub number_rule : Text → Text → ℕ → ℕ → Rule
-number_rule name default low high = record (new_rule name) {
+-- an option of this name, with one value that this parser reads
+abbrev pub option_rule : Text → Text → ValueParser → Rule
+option_rule name default parser = record (new_rule name) {
   long = Some name;
   value_names = 1;
   defaults = default ∷ [];
-  parser = Some (Parser.Signed (pos low) (pos high));
+  parser = Some parser;
 }
+
+-- an option of this name that takes a whole number from low to high
+abbrev pub number_rule : Text → Text → ℕ → ℕ → Rule
+number_rule name default low high =
+    option_rule name default (Parser.Signed (pos low) (pos high))
 
 -- `--limit N`, 20 where it isn't given
 abbrev pub limit_rule : Rule

@@ -8,7 +8,7 @@ ghost use Rattle.commands.specs.declared.command_line.Run.{Run as RunValue};
 use super::interface::command;
 use clap::error::ErrorKind;
 use clap::{ArgMatches, Error};
-use std::alloc::Global;
+use std::alloc::{AllocError, Global};
 
 /// What the words ask for: a command, with its path and its numbers.
 #[derive(Clone, Copy, Debug, PartialEq, Eq)]
@@ -151,6 +151,24 @@ fn named_run<'a>(matches: &ArgMatches<'a>) -> Option<Run<'a>>
     run_of(name, found)
 }
 
+/// The run of the words, where the subcommand that they name has one.
+fn run_among<'a>(alloc: Global, list: &'a [String]) -> Result<Option<Run<'a>>, Error>
+    ensures run { IfOk result (λ run.
+        IfSome run (IsRunOf (subcommand_of admission_app (map string_bytes list.now)))) }
+    ensures none { IfOk result (λ run. IsNone run
+        → NamesNoRun (subcommand_of admission_app (map string_bytes list.now))) }
+    ensures faultless { OnOk result (fault_of admission_app (map string_bytes list.now) ≡ []) }
+    ensures refused { IfErr result (HasKind (fault_of admission_app (map string_bytes list.now))) }
+{
+    let matches = command(alloc)?.try_get_matches_from(list)?;
+    Ok(named_run(&matches))
+}
+
+/// The error of words that name no run.
+fn unnamed(alloc: Global) -> Result<Error, AllocError> {
+    command(alloc)?.error(ErrorKind::MissingSubcommand, "no command is named")
+}
+
 /// Reads the words, the program's name first.
 ///
 /// An error is clap's: its text says which word is wrong, and its exit code is 2, or 0 where help
@@ -166,9 +184,8 @@ pub fn words<'a>(alloc: Global, list: &'a [String]) -> Result<Run<'a>, Error>
         HasKind (fault_of admission_app (map string_bytes list.now)) error
         ⊎ NamesNoRun (subcommand_of admission_app (map string_bytes list.now))) }
 {
-    let matches = command(alloc)?.try_get_matches_from(list)?;
-    match named_run(&matches) {
+    match run_among(alloc, list)? {
         Some(run) => Ok(run),
-        None => Err(command(alloc)?.error(ErrorKind::MissingSubcommand, "no command is named")?),
+        None => Err(unnamed(alloc)?),
     }
 }

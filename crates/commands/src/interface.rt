@@ -1,26 +1,44 @@
 // The commands, and the words that each takes.
 ghost use Rattle.std.specs.Prelude.{◌≡◌, false, IfOk};
-ghost use Rattle.clap.specs.Words.{app_of, rule_of};
-ghost use Rattle.commands.specs.CommandLine.{IsLeaf, IsWithoutGlobals, admission_app, check_app, client_timeout_rule, config_rule, limit_rule, load_app, offline_app, per_worker_rule, replay_app, serve_app, serving_app, simulate_app, text_app, workers_rule};
+ghost use Rattle.clap.specs.Words.{app_of, new_app, rule_of};
+ghost use Rattle.commands.specs.CommandLine.{IsLeaf, IsWithoutGlobals, admission_app, check_app, client_timeout_rule, config_rule, limit_rule, load_app, offline_app, option_rule, per_worker_rule, replay_app, serve_app, serving_app, simulate_app, text_app, workers_rule};
 
 use super::help::{
     ABOUT, CHECK_ABOUT, CHECK_HELP, LOAD_ABOUT, LOAD_HELP, REPLAY_ABOUT, REPLAY_HELP, SERVE_ABOUT,
     SERVE_HELP, SIMULATE_ABOUT, SIMULATE_HELP,
 };
+use clap::builder::ValueParser;
 use clap::{Arg, Command, value_parser};
 use std::alloc::{AllocError, Global};
+
+/// An option of this name that takes a number, which help calls `shown`.
+fn number_option<'a>(
+    alloc: Global,
+    name: &'a str,
+    shown: &'a str,
+    help: &'a str,
+    numbers: ValueParser<'a>,
+    default: &'a str,
+) -> Arg<'a>
+    ensures rule { rule_of result ≡ option_rule name.now default.now numbers.entry }
+    ensures local { result.global ≡ false }
+{
+    Arg::new(alloc, name)
+        .long(name)
+        .value_name(shown)
+        .help(help)
+        .value_parser(numbers)
+        .default_value(default)
+}
 
 /// `--limit N`.
 fn limit_option<'a>(alloc: Global) -> Arg<'a>
     ensures rule { rule_of result ≡ limit_rule }
     ensures local { result.global ≡ false }
 {
-    Arg::new(alloc, "limit")
-        .long("limit")
-        .value_name("N")
-        .help("The limit of a text without a limit line, 1 to 10000 permits")
-        .value_parser(value_parser!(u32).range(1..=10_000))
-        .default_value("20")
+    let help = "The limit of a text without a limit line, 1 to 10000 permits";
+    let numbers = value_parser!(u32).range(1..=10_000);
+    number_option(alloc, "limit", "N", help, numbers, "20")
 }
 
 /// `--workers W`.
@@ -28,12 +46,9 @@ fn workers_option<'a>(alloc: Global) -> Arg<'a>
     ensures rule { rule_of result ≡ workers_rule }
     ensures local { result.global ≡ false }
 {
-    Arg::new(alloc, "workers")
-        .long("workers")
-        .value_name("W")
-        .help("How many threads work, 1 to 64")
-        .value_parser(value_parser!(u32).range(1..=64))
-        .default_value("4")
+    let help = "How many threads work, 1 to 64";
+    let numbers = value_parser!(u32).range(1..=64);
+    number_option(alloc, "workers", "W", help, numbers, "4")
 }
 
 /// `--per-worker M`.
@@ -41,12 +56,9 @@ fn per_worker_option<'a>(alloc: Global) -> Arg<'a>
     ensures rule { rule_of result ≡ per_worker_rule }
     ensures local { result.global ≡ false }
 {
-    Arg::new(alloc, "per-worker")
-        .long("per-worker")
-        .value_name("M")
-        .help("Connections of each worker, 1 to 1000000000")
-        .value_parser(value_parser!(u32).range(1..=1_000_000_000))
-        .default_value("1000000000")
+    let help = "Connections of each worker, 1 to 1000000000";
+    let numbers = value_parser!(u32).range(1..=1_000_000_000);
+    number_option(alloc, "per-worker", "M", help, numbers, "1000000000")
 }
 
 /// `--client-timeout-ms T`.
@@ -54,12 +66,9 @@ fn client_timeout_option<'a>(alloc: Global) -> Arg<'a>
     ensures rule { rule_of result ≡ client_timeout_rule }
     ensures local { result.global ≡ false }
 {
-    Arg::new(alloc, "client-timeout-ms")
-        .long("client-timeout-ms")
-        .value_name("T")
-        .help("Milliseconds that a client may take, 1 to 3600000")
-        .value_parser(value_parser!(u32).range(1..=3_600_000))
-        .default_value("10000")
+    let help = "Milliseconds that a client may take, 1 to 3600000";
+    let numbers = value_parser!(u32).range(1..=3_600_000);
+    number_option(alloc, "client-timeout-ms", "T", help, numbers, "10000")
 }
 
 /// `CONFIG`.
@@ -73,33 +82,32 @@ fn config_argument<'a>(alloc: Global) -> Arg<'a>
         .required(true)
 }
 
+/// A command of this name, with its texts in help.
+fn described<'a>(alloc: Global, name: &'a str, about: &'a str, help: &'a str) -> Command<'a>
+    ensures { IsWithoutGlobals (new_app name.now) result }
+{
+    Command::new(alloc, name).about(about).after_help(help)
+}
+
 /// `replay [--limit N]`.
 fn replay_command<'a>(alloc: Global) -> Result<Command<'a>, AllocError>
     ensures { IfOk result (IsLeaf replay_app) }
 {
-    Command::new(alloc, "replay")
-        .about(REPLAY_ABOUT)
-        .after_help(REPLAY_HELP)
-        .arg(limit_option(alloc))
+    described(alloc, "replay", REPLAY_ABOUT, REPLAY_HELP).arg(limit_option(alloc))
 }
 
 /// `simulate [--limit N]`.
 fn simulate_command<'a>(alloc: Global) -> Result<Command<'a>, AllocError>
     ensures { IfOk result (IsLeaf simulate_app) }
 {
-    Command::new(alloc, "simulate")
-        .about(SIMULATE_ABOUT)
-        .after_help(SIMULATE_HELP)
-        .arg(limit_option(alloc))
+    described(alloc, "simulate", SIMULATE_ABOUT, SIMULATE_HELP).arg(limit_option(alloc))
 }
 
 /// `load [--limit N] [--workers W]`.
 fn load_command<'a>(alloc: Global) -> Result<Command<'a>, AllocError>
     ensures { IfOk result (IsLeaf load_app) }
 {
-    Command::new(alloc, "load")
-        .about(LOAD_ABOUT)
-        .after_help(LOAD_HELP)
+    described(alloc, "load", LOAD_ABOUT, LOAD_HELP)
         .arg(limit_option(alloc))?
         .arg(workers_option(alloc))
 }
@@ -108,19 +116,14 @@ fn load_command<'a>(alloc: Global) -> Result<Command<'a>, AllocError>
 fn check_command<'a>(alloc: Global) -> Result<Command<'a>, AllocError>
     ensures { IfOk result (IsLeaf check_app) }
 {
-    Command::new(alloc, "check")
-        .about(CHECK_ABOUT)
-        .after_help(CHECK_HELP)
-        .arg(config_argument(alloc))
+    described(alloc, "check", CHECK_ABOUT, CHECK_HELP).arg(config_argument(alloc))
 }
 
 /// `serve CONFIG [--workers W]`.
 fn serving_command<'a>(alloc: Global) -> Result<Command<'a>, AllocError>
     ensures { IfOk result (IsWithoutGlobals serving_app) }
 {
-    Command::new(alloc, "serve")
-        .about(SERVE_ABOUT)
-        .after_help(SERVE_HELP)
+    described(alloc, "serve", SERVE_ABOUT, SERVE_HELP)
         .arg(config_argument(alloc))?
         .arg(workers_option(alloc))
 }
