@@ -1,8 +1,8 @@
 #!/usr/bin/env python3
-"""Times `admission serve` beside nginx and HAProxy, in one run: bench/proxy.py PROGRAM [--seconds S] [--rounds N] [CLIENTS ..]
+"""Times `admission serve` beside nginx and HAProxy, in one run: bench/proxy.py PROGRAM [--seconds S] [--rounds N] [--workers W] [CLIENTS ..]
 
-An origin (nginx, which answers 13 bytes from memory), nginx and HAProxy as proxies, and PROGRAM (the built
-program) with 64 workers stand on loopback ports below the ephemeral range; every request has a connection of
+An origin (nginx, which answers 13 bytes from memory), nginx and HAProxy as proxies, and PROGRAM (built, with 64
+workers unless W is given) stand on loopback ports below the ephemeral range; every request has a connection of
 its own on both sides. Everything runs on one processor, since on a shared machine a program with more threads
 takes more of it. For each number of clients every round visits each of them once, in turns, for some seconds of
 `wrk`; printed are the medians of requests a second, of the ratio to nginx round by round with its spread, of the
@@ -21,7 +21,6 @@ import tempfile
 import time
 
 TICK = os.sysconf("SC_CLK_TCK")
-WORKERS = 64
 PACKAGES = {"nginx": "nginx-light", "haproxy": "haproxy", "wrk": "wrk", "taskset": "util-linux"}
 NGINX = """daemon off; worker_processes {workers}; pid {room}/{name}.pid; error_log {room}/{name}.log;
 events {{ worker_connections 8192; }}
@@ -157,7 +156,7 @@ def tell(clients, found):
             print(f"  {name}: {fault}", file=sys.stderr)
 
 
-def targets_of(servers, program, port):
+def targets_of(servers, program, port, workers):
     """The proxies by name, each with its port and its process."""
     origin = port
     servers.nginx("origin", origin, 'location / { return 200 "hello, world\\n"; }')
@@ -167,7 +166,7 @@ def targets_of(servers, program, port):
     file = servers.written("haproxy", HAPROXY.format(port=port + 2, origin=origin))
     found["HAProxy"] = (port + 2, servers.start("haproxy", "-f", file, "-db"))
     file = servers.written("admission.toml", ADMISSION.format(port=port + 3, origin=origin))
-    found["admission"] = (port + 3, servers.start(program, "serve", file, "--workers", str(WORKERS)))
+    found["admission"] = (port + 3, servers.start(program, "serve", file, "--workers", str(workers)))
     return found
 
 
@@ -176,6 +175,7 @@ def main():
     reader.add_argument("program", type=pathlib.Path)
     reader.add_argument("--seconds", type=int, default=3)
     reader.add_argument("--rounds", type=int, default=8)
+    reader.add_argument("--workers", type=int, default=64)
     reader.add_argument("clients", type=int, nargs="*", default=[16, 64, 256])
     given = reader.parse_intermixed_args()
     missing = [package for name, package in PACKAGES.items() if not shutil.which(name)]
@@ -186,7 +186,7 @@ def main():
         os.chmod(folder, 0o755)
         servers = Servers(pathlib.Path(folder), processor)
         try:
-            targets = targets_of(servers, str(given.program.resolve()), first_port())
+            targets = targets_of(servers, str(given.program.resolve()), first_port(), given.workers)
             time.sleep(1.5)
             gone = [name for name, (_, process) in targets.items() if process.poll() is not None]
             if gone:
