@@ -10,11 +10,11 @@ impl fmt::Display for DriverFault {
 
     fn fmt<W: fmt::Write>(&self, f: &mut fmt::Formatter<W>) -> fmt::Result {
         match self {
-            DriverFault::Memory => write!(f, "memory"),
-            DriverFault::Read => write!(f, "read"),
-            DriverFault::TooLarge => write!(f, "too large"),
+            DriverFault::Memory => f.write_str("memory"),
+            DriverFault::Read => f.write_str("read"),
+            DriverFault::TooLarge => f.write_str("too large"),
             DriverFault::Line(fault) => write!(f, "{fault}"),
-            DriverFault::Write => write!(f, "write"),
+            DriverFault::Write => f.write_str("write"),
         }
     }
 }

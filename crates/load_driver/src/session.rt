@@ -103,7 +103,7 @@ impl<L: Limit> Session<L> {
         ensures found { result ≡ open_in self.now number }
         ensures own { IfSome result (λ permit. permit.number ≡ number) }
     {
-        self.permits.get(&number).copied()
+        permit_of(&self.permits, number)
     }
 
     /// The entries that are held, in order.
@@ -158,6 +158,13 @@ impl<L: Limit> Session<L> {
             None => Ok(None),
         }
     }
+}
+
+/// The permit of a number.
+fn permit_of(permits: &HashMap<u64, PermitFacts>, number: u64) -> Option<PermitFacts>
+    ensures { result ≡ get nat_eq permits.now number }
+{
+    permits.get(&number).copied()
 }
 
 /// Keeps the permit that an entry hands out, or drops the one that it ends.

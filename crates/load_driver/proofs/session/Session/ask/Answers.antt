@@ -1,4 +1,5 @@
-use Rattle.std.proofs.Common.{refl, ap, ◌∙◌}
+use Rattle.std.proofs.Common.{refl, ap, ◌∙◌, arith, rules}
+use Rattle.std.proofs.lemmas.Grind.{common_steps}
 use Rattle.gate_journal.specs.Journal.{answered}
 use Rattle.load_driver.specs.Session.{Session}
 use Rattle.load_driver.proofs.Sessions.{may, goes_on, stays, journal_then, opens_then, opens_still}
@@ -57,3 +58,54 @@ returns-in-None-clause-opens g c =
     opens_still g.L.Limit.rules c.self.inside.journal c.self.inside.permits c.args.self.now
     c.self.view_is c.self.invariant c.args.event c.requires c.reserve.new.self c.apply.new.self
     c.in-None.ensures.exhausted c.reserve.ensures.entries.2
+
+pub returns-in-Some-clause-exhausted : goal.returns-in-Some-clause-exhausted
+returns-in-Some-clause-exhausted g c = search rules
+
+pub returns-in-Some-clause-number : goal.returns-in-Some-clause-number
+returns-in-Some-clause-number g c = search rules
+
+pub returns-in-Some-clause-inside : goal.returns-in-Some-clause-inside
+returns-in-Some-clause-inside g c = grind (arith, common_steps)
+
+pub returns-in-Some-clause-numbered : goal.returns-in-Some-clause-numbered
+returns-in-Some-clause-numbered g c = grind (arith, common_steps)
+
+pub returns-in-None-clause-exhausted : goal.returns-in-None-clause-exhausted
+returns-in-None-clause-exhausted g c = search rules
+
+pub returns-in-None-clause-number : goal.returns-in-None-clause-number
+returns-in-None-clause-number g c = search rules
+
+pub returns-in-None-clause-entries : goal.returns-in-None-clause-entries
+returns-in-None-clause-entries g c = search rules
+
+pub returns-in-None-clause-inside : goal.returns-in-None-clause-inside
+returns-in-None-clause-inside g c = search rules
+
+pub returns-in-None-clause-numbered : goal.returns-in-None-clause-numbered
+returns-in-None-clause-numbered g c = search rules
+
+pub returns-in-None-clause-journal : goal.returns-in-None-clause-journal
+returns-in-None-clause-journal g c = search rules
+
+pub returns-in_err-reserve-clause-exhausted : goal.returns-in_err-reserve-clause-exhausted
+returns-in_err-reserve-clause-exhausted g c = search rules
+
+pub returns-in_err-reserve-clause-number : goal.returns-in_err-reserve-clause-number
+returns-in_err-reserve-clause-number g c = search rules
+
+pub returns-in_err-reserve-clause-entries : goal.returns-in_err-reserve-clause-entries
+returns-in_err-reserve-clause-entries g c = search rules
+
+pub returns-in_err-reserve-clause-inside : goal.returns-in_err-reserve-clause-inside
+returns-in_err-reserve-clause-inside g c = search rules
+
+pub returns-in_err-reserve-clause-numbered : goal.returns-in_err-reserve-clause-numbered
+returns-in_err-reserve-clause-numbered g c = search rules
+
+pub returns-in_err-reserve-clause-journal : goal.returns-in_err-reserve-clause-journal
+returns-in_err-reserve-clause-journal g c = search rules
+
+pub returns-in_err-reserve-clause-opens : goal.returns-in_err-reserve-clause-opens
+returns-in_err-reserve-clause-opens g c = search rules
