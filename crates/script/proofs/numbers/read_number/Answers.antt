@@ -8,3 +8,9 @@ pub returns-in-Err : goal.returns-in-Err
 returns-in-Err c =
     let digits : list_all is_ascii_digit c.args.word.now ≡ true = search rules in
     absurd (c.in-Err.ensures.cases.0 (digits_are_text c.args.word.now digits))
+
+pub returns-then-word-gt20 : goal.returns-then-word-gt20
+returns-then-word-gt20 c = search rules
+
+pub returns-in-Ok : goal.returns-in-Ok
+returns-in-Ok c = search rules

@@ -6,3 +6,6 @@ returns-in_default c = search rules
 
 pub returns : goal.returns
 returns c = search rules
+
+pub returns-then-is_some : goal.returns-then-is_some
+returns-then-is_some c = search rules

@@ -6,3 +6,6 @@ returns-in-Ok c = search rules
 
 pub returns-in-Err-Memory : goal.returns-in-Err-Memory
 returns-in-Err-Memory c = search rules
+
+pub returns-in-Err : goal.returns-in-Err
+returns-in-Err c = search rules

@@ -1,0 +1,11 @@
+use Rattle.std.proofs.Common.{rules}
+use Rattle.script.proofs.limit_line.read_fixed.Goals as goal
+
+pub returns-in_err-n : goal.returns-in_err-n
+returns-in_err-n c = search rules
+
+pub returns-then-is_some : goal.returns-then-is_some
+returns-then-is_some c = search rules
+
+pub returns : goal.returns
+returns c = search rules
