@@ -1,13 +1,12 @@
 // The worked numbers of AIMD.
 use aimd::Aimd;
 use limit_laws::{Limit, MakeFault, Sample, SetFault};
-use std::test::Fail;
 
 /// One hour in nanoseconds: 60 * 60 * 1,000,000,000.
 const ONE_HOUR: u64 = 3_600_000_000_000;
 
 #[test]
-fn a_drop_or_a_slow_answer_decreases_and_half_in_use_raises(rt: HostRuntime) -> Result<(), Fail> {
+fn a_drop_or_a_slow_answer_decreases_and_half_in_use_raises(rt: HostRuntime) {
     let rows = [
         (1000u64, 10u32, true, 18u32),
         (1000, 9, false, 20),
@@ -15,26 +14,24 @@ fn a_drop_or_a_slow_answer_decreases_and_half_in_use_raises(rt: HostRuntime) -> 
         (1001, 10, false, 18),
     ];
     for (rtt, inflight, dropped, limit) in rows {
-        let mut aimd = Aimd::new(1, 20, 100, 900, 1000)?;
+        let mut aimd = Aimd::new(1, 20, 100, 900, 1000).expect(&rt, "a limit");
         aimd.on_sample(&Sample::of_rtt(0, rtt, inflight, dropped));
         assert!(rt; aimd.limit() == limit, "{rtt} ns, {inflight} in flight");
     }
-    Ok(())
 }
 
 #[test]
-fn the_limit_stays_between_its_bounds(rt: HostRuntime) -> Result<(), Fail> {
-    let mut least = Aimd::new(20, 20, 100, 500, ONE_HOUR)?;
+fn the_limit_stays_between_its_bounds(rt: HostRuntime) {
+    let mut least = Aimd::new(20, 20, 100, 500, ONE_HOUR).expect(&rt, "a limit");
     least.on_sample(&Sample::of_rtt(0, 5, 1, true));
     assert!(rt; least.limit() == 20);
-    let mut most = Aimd::new(1, 10_000, 10_000, 999, 1)?;
+    let mut most = Aimd::new(1, 10_000, 10_000, 999, 1).expect(&rt, "a limit");
     most.on_sample(&Sample::of_rtt(0, 1, u32::MAX, false));
     assert!(rt; most.limit() == 10_000);
-    Ok(())
 }
 
 #[test]
-fn the_first_fault_is_answered(rt: HostRuntime) -> Result<(), Fail> {
+fn the_first_fault_is_answered(rt: HostRuntime) {
     let rows = [
         ((1u32, 20u32, 10u32, 400u32, 0u64), MakeFault::Range),
         ((0, 5, 10, 900, 1000), MakeFault::Range),
@@ -49,27 +46,23 @@ fn the_first_fault_is_answered(rt: HostRuntime) -> Result<(), Fail> {
     for ((lo, first, hi, ratio, timeout), fault) in rows {
         assert!(rt; Aimd::new(lo, first, hi, ratio, timeout) == Err(fault));
     }
-    Ok(())
 }
 
 #[test]
-fn numbers_at_the_ends_of_their_ranges_are_taken(rt: HostRuntime) -> Result<(), Fail> {
+fn numbers_at_the_ends_of_their_ranges_are_taken(rt: HostRuntime) {
     let rows = [
         (1u32, 1u32, 1u32, 500u32, 1u64),
         (10_000, 10_000, 10_000, 999, ONE_HOUR),
     ];
     for (lo, first, hi, ratio, timeout) in rows {
-        let aimd = Aimd::new(lo, first, hi, ratio, timeout)?;
+        let aimd = Aimd::new(lo, first, hi, ratio, timeout).expect(&rt, "a limit");
         assert!(rt; (aimd.lo(), aimd.limit(), aimd.hi()) == (lo, first, hi));
     }
-    Ok(())
 }
 
 #[test]
-fn a_reset_goes_back_to_the_first_limit_and_no_setting_is_taken(
-    rt: HostRuntime,
-) -> Result<(), Fail> {
-    let mut aimd = Aimd::new(1, 20, 100, 500, 1000)?;
+fn a_reset_goes_back_to_the_first_limit_and_no_setting_is_taken(rt: HostRuntime) {
+    let mut aimd = Aimd::new(1, 20, 100, 500, 1000).expect(&rt, "a limit");
     assert!(rt; (aimd.lo(), aimd.limit(), aimd.hi()) == (1, 20, 100));
     aimd.on_sample(&Sample::of_rtt(0, 5, 1, true));
     assert!(rt; aimd.set(30) == Err(SetFault::NotSettable));
@@ -77,5 +70,4 @@ fn a_reset_goes_back_to_the_first_limit_and_no_setting_is_taken(
     assert!(rt; aimd.copy() == aimd);
     aimd.reset();
     assert!(rt; aimd.limit() == 20);
-    Ok(())
 }

@@ -1,7 +1,6 @@
 // Fakes below a `Counted`, and its counts seen from outside.
 use counted_io::{Counted, ReadFault, WriteFault, read_all, write_all, write_and_flush};
 use std::io::{Error, ErrorKind, Read, Result, Write};
-use std::test::Fail;
 
 // Gives `left` bytes of value 7, at most `most` in a read, and fails from the call `failing` on.
 #[derive(Drop)]
@@ -112,10 +111,11 @@ fn only_a_write_of_some_bytes_may_not_take_none(rt: HostRuntime) {
 }
 
 #[test]
-fn all_is_read_however_it_is_cut(rt: HostRuntime) -> std::result::Result<(), Fail> {
+fn all_is_read_however_it_is_cut(rt: HostRuntime) {
     for (most, reads) in [(1, 40_001), (7, 5716), (16_384, 4), (40_000, 4)] {
         let mut reader = tap_of(40_000, most, u64::MAX);
-        let bytes = read_all(rt.alloc(), &mut reader, 40_000, 100_000).map_err(|_| "unread")?;
+        let read = read_all(rt.alloc(), &mut reader, 40_000, 100_000);
+        let bytes = read.expect(&rt, "all is read");
         assert!(rt; bytes.len() == 40_000, "in reads of {most}");
         assert!(rt; bytes.iter().all(|byte| *byte == 7), "in reads of {most}");
         assert!(rt;
@@ -123,7 +123,6 @@ fn all_is_read_however_it_is_cut(rt: HostRuntime) -> std::result::Result<(), Fai
             "in reads of {most}"
         );
     }
-    Ok(())
 }
 
 #[test]

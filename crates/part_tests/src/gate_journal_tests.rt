@@ -5,12 +5,11 @@ use limiter_core::{Core, Counters, Event, Outcome, PermitFacts, Reply};
 use partitions::{Part, PartitionTable};
 use std::alloc::Global;
 use std::process::Abort;
-use std::test::Fail;
 
 const UNKNOWN: Part = Part::Unknown;
 
 /// The permit of a number that was got as the only one in flight.
-const fn permit(number: u64, start: u64) -> PermitFacts {
+fn permit(number: u64, start: u64) -> PermitFacts {
     PermitFacts {
         number,
         part: UNKNOWN,
@@ -19,7 +18,7 @@ const fn permit(number: u64, start: u64) -> PermitFacts {
     }
 }
 
-const fn acquire(wait: bool, now: u64) -> Event {
+fn acquire(wait: bool, now: u64) -> Event {
     Event::Acquire {
         part: UNKNOWN,
         bypass: false,
@@ -28,7 +27,7 @@ const fn acquire(wait: bool, now: u64) -> Event {
     }
 }
 
-const fn end(number: u64, start: u64, now: u64) -> Event {
+fn end(number: u64, start: u64, now: u64) -> Event {
     Event::End {
         permit: permit(number, start),
         outcome: Outcome::Success,
@@ -37,9 +36,14 @@ const fn end(number: u64, start: u64, now: u64) -> Event {
 }
 
 /// A limiter of one permit, without classes.
-fn single(alloc: Global) -> Result<Core<Fixed>, Fail> {
-    let table = PartitionTable::unknown_only();
-    Ok(Core::new(alloc, Fixed::new(1)?, table, 100)?)
+fn single(rt: &impl Abort, alloc: Global) -> Core<Fixed> {
+    let limit = Fixed::new(1).expect(rt, "a limit");
+    Core::new(alloc, limit, PartitionTable::unknown_only(), 100).expect(rt, "a limiter")
+}
+
+/// A journal of a limiter, that keeps so many entries.
+fn keeping(rt: &impl Abort, alloc: Global, core: Core<Fixed>, kept: usize) -> Journal<Fixed> {
+    Journal::new(alloc, core, kept, false).expect(rt, "a journal")
 }
 
 /// Asks an event that may come.
@@ -73,10 +77,9 @@ fn held(journal: &Journal<Fixed>) -> (usize, u64, u64, usize) {
     )
 }
 
-#[test]
-fn past_what_it_keeps_only_what_is_owed_is_answered(rt: HostRuntime) -> Result<(), Fail> {
-    let mut journal = Journal::new(rt.alloc(), single(rt.alloc())?, 2, false)?;
-    let rows = [
+/// Two entries are kept, and then what is owed.
+fn past_two() -> [(Event, Option<(u64, Reply)>); 7] {
+    [
         (
             acquire(false, 0),
             Some((0, Reply::Admitted { inflight: 1 })),
@@ -87,10 +90,14 @@ fn past_what_it_keeps_only_what_is_owed_is_answered(rt: HostRuntime) -> Result<(
         (Event::GiveUp { number: 9 }, None),
         (Event::GiveUp { number: 1 }, Some((2, Reply::TimedOut))),
         (end(0, 0, 3), Some((3, Reply::Ended { promoted: 0 }))),
-    ];
-    check(&rt, &mut journal, &rows);
+    ]
+}
+
+#[test]
+fn past_what_it_keeps_only_what_is_owed_is_answered(rt: HostRuntime) {
+    let mut journal = keeping(&rt, rt.alloc(), single(&rt, rt.alloc()), 2);
+    check(&rt, &mut journal, &past_two());
     assert!(rt; held(&journal) == (4, 0, 4, 2));
-    Ok(())
 }
 
 const TWO_IS_HANDED_OUT: Reply = Reply::Granted {
@@ -118,11 +125,9 @@ fn learnt_and_counted(opening: &Image<Fixed>) -> (u32, u64, u64, u64) {
     (opening.algorithm().limit(), admitted, waiting, promoted)
 }
 
-#[test]
-fn it_opens_with_what_stands_and_numbers_go_on(rt: HostRuntime) -> Result<(), Fail> {
-    let mut before = Journal::new(rt.alloc(), single(rt.alloc())?, 9, false)?;
-    // One is in flight and two wait; the ending promotes 2 under the number 4.
-    let rows = [
+/// One is in flight and two wait; the ending promotes 2 under the number 4.
+fn before() -> [(Event, Option<(u64, Reply)>); 4] {
+    [
         (
             acquire(false, 0),
             Some((0, Reply::Admitted { inflight: 1 })),
@@ -130,16 +135,35 @@ fn it_opens_with_what_stands_and_numbers_go_on(rt: HostRuntime) -> Result<(), Fa
         (acquire(true, 1), Some((1, Reply::Waiting))),
         (acquire(true, 2), Some((2, Reply::Waiting))),
         (end(0, 0, 5), Some((3, Reply::Ended { promoted: 1 }))),
-    ];
-    check(&rt, &mut before, &rows);
-    let mut journal = Journal::new(rt.alloc(), before.into_core(), 9, false)?;
-    assert!(rt; held(&journal) == (0, 5, 5, 9));
-    check_opening(&rt, journal.opening());
-    let rows = [
+    ]
+}
+
+/// The permit of 2 is claimed and ended, which promotes 1.
+fn after() -> [(Event, Option<(u64, Reply)>); 2] {
+    [
         (Event::Claim { number: 2 }, Some((5, TWO_IS_HANDED_OUT))),
         (end(2, 5, 9), Some((6, Reply::Ended { promoted: 1 }))),
-    ];
-    check(&rt, &mut journal, &rows);
+    ]
+}
+
+/// A journal of a limiter that was asked before.
+fn opened(rt: &impl Abort, alloc: Global) -> Journal<Fixed> {
+    let mut asked = keeping(rt, alloc, single(rt, alloc), 9);
+    check(rt, &mut asked, &before());
+    keeping(rt, alloc, asked.into_core(), 9)
+}
+
+#[test]
+fn it_opens_with_what_stands(rt: HostRuntime) {
+    let journal = opened(&rt, rt.alloc());
+    assert!(rt; held(&journal) == (0, 5, 5, 9));
+    check_opening(&rt, journal.opening());
+}
+
+#[test]
+fn numbers_and_counts_go_on(rt: HostRuntime) {
+    let mut journal = opened(&rt, rt.alloc());
+    check(&rt, &mut journal, &after());
     let wanted = Counters {
         admitted: 1,
         waiting: 2,
@@ -149,19 +173,19 @@ fn it_opens_with_what_stands_and_numbers_go_on(rt: HostRuntime) -> Result<(), Fa
     };
     assert!(rt; journal.core().counters() == wanted);
     assert!(rt; journal.entries().len() == 3);
-    Ok(())
+}
+
+/// Why no journal keeps so many entries.
+fn fault(rt: &impl Abort, alloc: Global, kept: usize) -> Option<JournalFault> {
+    Journal::new(alloc, single(rt, alloc), kept, false).err()
 }
 
 #[test]
-fn from_one_to_a_million_entries_are_kept(rt: HostRuntime) -> Result<(), Fail> {
-    for (kept, fault) in [
-        (0, Some(JournalFault::Places)),
-        (1, None),
-        (1_000_000, None),
-        (1_000_001, Some(JournalFault::Places)),
-    ] {
-        let made = Journal::new(rt.alloc(), single(rt.alloc())?, kept, false);
-        assert!(rt; made.err() == fault);
+fn from_one_to_a_million_entries_are_kept(rt: HostRuntime) {
+    for kept in [0, 1_000_001] {
+        assert!(rt; fault(&rt, rt.alloc(), kept) == Some(JournalFault::Places));
     }
-    Ok(())
+    for kept in [1, 1_000_000] {
+        assert!(rt; fault(&rt, rt.alloc(), kept) == None);
+    }
 }

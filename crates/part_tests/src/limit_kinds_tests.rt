@@ -1,9 +1,8 @@
 // Each kind, over each sample and over windows.
 use aimd::Aimd;
 use limit_kinds::*;
-use limit_laws::{Fixed, Limit, MakeFault, Sample, SetFault, Settable};
+use limit_laws::{Fixed, Limit, Sample, SetFault, Settable};
 use std::process::Abort;
-use std::test::Fail;
 use vegas::Vegas;
 use windowed::Windowed;
 
@@ -20,38 +19,50 @@ struct Row {
     after_set: u32,
 }
 
-fn rows() -> Result<[Row; 4], MakeFault> {
-    let refused = Err(SetFault::NotSettable);
-    Ok([
-        Row {
-            limit: BaseLimit::Fixed(Fixed::new(20)?),
-            ends: (20, 20),
-            dropped: 20,
-            set: refused,
-            after_set: 20,
-        },
-        Row {
-            limit: BaseLimit::Settable(Settable::new(1, 20, 100)?),
-            ends: (1, 100),
-            dropped: 20,
-            set: Ok(()),
-            after_set: 30,
-        },
-        Row {
-            limit: BaseLimit::Aimd(Aimd::new(1, 20, 100, 900, 1_000)?),
-            ends: (1, 100),
-            dropped: 18,
-            set: refused,
-            after_set: 18,
-        },
-        Row {
-            limit: BaseLimit::Vegas(Vegas::new(1, 20, 100, 3, 6, 0)?),
-            ends: (1, 100),
-            dropped: 19,
-            set: refused,
-            after_set: 19,
-        },
-    ])
+const REFUSED: Result<(), SetFault> = Err(SetFault::NotSettable);
+
+fn fixed(rt: &impl Abort) -> Row {
+    Row {
+        limit: BaseLimit::Fixed(Fixed::new(20).expect(rt, "a limit")),
+        ends: (20, 20),
+        dropped: 20,
+        set: REFUSED,
+        after_set: 20,
+    }
+}
+
+fn settable(rt: &impl Abort) -> Row {
+    Row {
+        limit: BaseLimit::Settable(Settable::new(1, 20, 100).expect(rt, "a limit")),
+        ends: (1, 100),
+        dropped: 20,
+        set: Ok(()),
+        after_set: 30,
+    }
+}
+
+fn aimd(rt: &impl Abort) -> Row {
+    Row {
+        limit: BaseLimit::Aimd(Aimd::new(1, 20, 100, 900, 1_000).expect(rt, "a limit")),
+        ends: (1, 100),
+        dropped: 18,
+        set: REFUSED,
+        after_set: 18,
+    }
+}
+
+fn vegas(rt: &impl Abort) -> Row {
+    Row {
+        limit: BaseLimit::Vegas(Vegas::new(1, 20, 100, 3, 6, 0).expect(rt, "a limit")),
+        ends: (1, 100),
+        dropped: 19,
+        set: REFUSED,
+        after_set: 19,
+    }
+}
+
+fn rows(rt: &impl Abort) -> [Row; 4] {
+    [fixed(rt), settable(rt), aimd(rt), vegas(rt)]
 }
 
 /// Takes a limit through the calls of a row.
@@ -70,40 +81,39 @@ fn follows<L: Limit>(rt: &impl Abort, limit: &mut L, row: &Row) {
 }
 
 #[test]
-fn each_kind_passes_its_calls_on(rt: HostRuntime) -> Result<(), Fail> {
-    for row in rows()? {
+fn each_kind_passes_its_calls_on(rt: HostRuntime) {
+    for row in rows(&rt) {
         let mut limit = row.limit;
         follows(&rt, &mut limit, &row);
     }
-    Ok(())
 }
 
 #[test]
-fn each_kind_passes_its_calls_on_without_windows(rt: HostRuntime) -> Result<(), Fail> {
-    for row in rows()? {
+fn each_kind_passes_its_calls_on_without_windows(rt: HostRuntime) {
+    for row in rows(&rt) {
         let mut limit = AnyLimit::Plain(row.limit);
         follows(&rt, &mut limit, &row);
     }
-    Ok(())
+}
+
+/// Windows of one sample over a limit.
+fn over(rt: &impl Abort, limit: BaseLimit) -> AnyLimit {
+    let windowed = Windowed::new(limit, 1, 1, 1, 0).ok();
+    AnyLimit::Windowed(windowed.expect(rt, "windows"))
 }
 
 #[test]
-fn each_kind_passes_its_calls_on_from_windows(rt: HostRuntime) -> Result<(), Fail> {
-    for row in rows()? {
-        let windowed = Windowed::new(row.limit, 1, 1, 1, 0).map_err(|refusal| refusal.0)?;
-        let mut limit = AnyLimit::Windowed(windowed);
+fn each_kind_passes_its_calls_on_from_windows(rt: HostRuntime) {
+    for row in rows(&rt) {
+        let mut limit = over(&rt, row.limit);
         follows(&rt, &mut limit, &row);
     }
-    Ok(())
 }
 
 #[test]
-fn a_limit_is_called_by_its_kind_with_and_without_windows(rt: HostRuntime) -> Result<(), Fail> {
-    let [fixed, settable, aimd, vegas] = rows()?;
-    assert!(rt; fixed.limit.kind() == "fixed");
-    assert!(rt; AnyLimit::Plain(settable.limit).kind() == "settable");
-    assert!(rt; AnyLimit::Plain(vegas.limit).kind() == "vegas");
-    let windowed = Windowed::new(aimd.limit, 1, 1, 1, 0).map_err(|refusal| refusal.0)?;
-    assert!(rt; AnyLimit::Windowed(windowed).kind() == "aimd");
-    Ok(())
+fn a_limit_is_called_by_its_kind_with_and_without_windows(rt: HostRuntime) {
+    assert!(rt; fixed(&rt).limit.kind() == "fixed");
+    assert!(rt; AnyLimit::Plain(settable(&rt).limit).kind() == "settable");
+    assert!(rt; AnyLimit::Plain(vegas(&rt).limit).kind() == "vegas");
+    assert!(rt; over(&rt, aimd(&rt).limit).kind() == "aimd");
 }

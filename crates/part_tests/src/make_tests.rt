@@ -1,7 +1,7 @@
 // Limits made of plain numbers.
 use limit_kinds::*;
 use limit_laws::{Limit, MakeFault, Sample};
-use std::test::Fail;
+use std::process::Abort;
 
 /// 2^32: no number of a limit is as great, and its lower 32 bits are 0.
 const WIDE: u64 = 1 << 32;
@@ -15,30 +15,27 @@ fn limits(made: Result<BaseLimit, MakeFault>) -> Result<(u32, u32, u32), MakeFau
     Ok((limit.lo(), limit.limit(), limit.hi()))
 }
 
+/// The limit is made, has this kind, and shows these numbers.
+fn check_made(
+    rt: &impl Abort,
+    made: Result<BaseLimit, MakeFault>,
+    kind: &str,
+    ends: (u32, u32, u32),
+) {
+    let limit = made.expect(rt, "a limit");
+    assert!(rt; limit.kind() == kind && limits(made) == Ok(ends));
+}
+
 #[test]
-fn numbers_in_their_ranges_make_each_kind(rt: HostRuntime) -> Result<(), Fail> {
-    let rows = [
-        (BaseLimit::fixed(10_000)?, "fixed", (10_000, 10_000, 10_000)),
-        (
-            BaseLimit::settable(1, 5, 10_000)?,
-            "settable",
-            (1, 5, 10_000),
-        ),
-        (
-            BaseLimit::aimd(1, 20, 100, 999, HOUR)?,
-            "aimd",
-            (1, 20, 100),
-        ),
-        (
-            BaseLimit::vegas(1, 20, 100, 3, 100, 1_000_000)?,
-            "vegas",
-            (1, 20, 100),
-        ),
-    ];
-    for (limit, kind, ends) in rows {
-        assert!(rt; limit.kind() == kind && limits(Ok(limit)) == Ok(ends));
-    }
-    Ok(())
+fn numbers_in_their_ranges_make_each_kind(rt: HostRuntime) {
+    let widest = (10_000, 10_000, 10_000);
+    check_made(&rt, BaseLimit::fixed(10_000), "fixed", widest);
+    let settable = BaseLimit::settable(1, 5, 10_000);
+    check_made(&rt, settable, "settable", (1, 5, 10_000));
+    let aimd = BaseLimit::aimd(1, 20, 100, 999, HOUR);
+    check_made(&rt, aimd, "aimd", (1, 20, 100));
+    let vegas = BaseLimit::vegas(1, 20, 100, 3, 100, 1_000_000);
+    check_made(&rt, vegas, "vegas", (1, 20, 100));
 }
 
 #[test]
@@ -69,13 +66,18 @@ fn after_a_drop(mut limit: AnyLimit) -> u32 {
 }
 
 #[test]
-fn settings_put_windows_over_a_limit(rt: HostRuntime) -> Result<(), Fail> {
-    let plain = AnyLimit::new(BaseLimit::aimd(1, 20, 100, 900, 1_000)?, None);
+fn settings_put_windows_over_a_limit(rt: HostRuntime) {
+    let plain = AnyLimit::new(
+        BaseLimit::aimd(1, 20, 100, 900, 1_000).expect(&rt, "a limit"),
+        None,
+    );
     assert!(rt; after_a_drop(plain) == 18);
-    let settings = window_settings(1_000_000, 1, 1, 0)?;
+    let settings = window_settings(1_000_000, 1, 1, 0).expect(&rt, "windows");
     assert!(rt; settings.size() == 1_000_000);
-    let windowed = AnyLimit::new(BaseLimit::aimd(1, 20, 100, 900, 1_000)?, Some(settings));
+    let windowed = AnyLimit::new(
+        BaseLimit::aimd(1, 20, 100, 900, 1_000).expect(&rt, "a limit"),
+        Some(settings),
+    );
     assert!(rt; windowed.kind() == "aimd");
     assert!(rt; after_a_drop(windowed) == 20);
-    Ok(())
 }

@@ -2,7 +2,6 @@
 use partitions::{Part, PartitionTable, TableFault, is_name};
 use std::alloc::Global;
 use std::process::Abort;
-use std::test::Fail;
 
 const LIVE: &[u8] = b"live";
 
@@ -11,6 +10,10 @@ const BATCH: &[u8] = b"batch";
 /// What these rows answer, where they make no table.
 fn fault(alloc: Global, rows: &[(&[u8], u32)]) -> Option<TableFault> {
     PartitionTable::new(alloc, rows).err()
+}
+
+fn table_of(rt: &impl Abort, alloc: Global, rows: &[(&[u8], u32)]) -> PartitionTable {
+    PartitionTable::new(alloc, rows).expect(rt, "a table")
 }
 
 /// Rows that make no table, and why.
@@ -34,15 +37,14 @@ fn rows_at_fault_are_refused_with_their_first_fault(rt: HostRuntime) {
 }
 
 #[test]
-fn rows_at_the_ends_of_their_ranges_make_a_table(rt: HostRuntime) -> Result<(), Fail> {
+fn rows_at_the_ends_of_their_ranges_make_a_table(rt: HostRuntime) {
     let longest = [b'a'; 32];
     let four: [(&[u8], u32); 4] = [(&longest, 97), (b"0", 1), (b"-", 1), (b"_", 1)];
-    let table = PartitionTable::new(rt.alloc(), &four)?;
+    let table = table_of(&rt, rt.alloc(), &four);
     assert!(rt; table.len() == 4 && table.find(&longest) == Some(Part::Known(0)));
     assert!(rt; table.place(Part::Known(3)) == 3);
-    let whole = PartitionTable::new(rt.alloc(), &[(b"z", 100)])?;
+    let whole = table_of(&rt, rt.alloc(), &[(b"z", 100)]);
     assert!(rt; whole.share(Part::Known(0), 7) == 7);
-    Ok(())
 }
 
 #[test]
@@ -72,8 +74,8 @@ fn a_name_is_one_to_32_bytes_of_its_own(rt: HostRuntime) {
 }
 
 #[test]
-fn names_lead_to_parts_and_back(rt: HostRuntime) -> Result<(), Fail> {
-    let table = PartitionTable::new(rt.alloc(), &[(LIVE, 60), (BATCH, 40)])?;
+fn names_lead_to_parts_and_back(rt: HostRuntime) {
+    let table = table_of(&rt, rt.alloc(), &[(LIVE, 60), (BATCH, 40)]);
     assert!(rt; table.len() == 2);
     for (name, part) in [
         (BATCH, Some(Part::Known(1))),
@@ -86,17 +88,15 @@ fn names_lead_to_parts_and_back(rt: HostRuntime) -> Result<(), Fail> {
         let part = Part::Known(row);
         assert!(rt; table.name(part) == name && table.place(part) == place);
     }
-    Ok(())
 }
 
 #[test]
-fn a_copy_gives_the_same_shares(rt: HostRuntime) -> Result<(), Fail> {
-    let table = PartitionTable::new(rt.alloc(), &[(LIVE, 30)])?;
-    let copy = table.copy()?;
+fn a_copy_gives_the_same_shares(rt: HostRuntime) {
+    let table = table_of(&rt, rt.alloc(), &[(LIVE, 30)]);
+    let copy = table.copy().expect(&rt, "memory");
     check_shares(&rt, &table);
     check_shares(&rt, &copy);
     assert!(rt; copy.name(Part::Known(0)) == "live" && copy.most(10_000) == 13_000);
-    Ok(())
 }
 
 /// A class of 30 percent is promised these shares.
@@ -110,10 +110,9 @@ fn check_shares(rt: &impl Abort, table: &PartitionTable) {
 }
 
 #[test]
-fn a_table_without_partitions_promises_nothing(rt: HostRuntime) -> Result<(), Fail> {
-    let table = PartitionTable::unknown_only().copy()?;
+fn a_table_without_partitions_promises_nothing(rt: HostRuntime) {
+    let table = PartitionTable::unknown_only().copy().expect(&rt, "memory");
     assert!(rt; table.is_empty() && table.find(LIVE).is_none());
     assert!(rt; table.name(Part::Unknown) == "unknown");
     assert!(rt; (table.share(Part::Unknown, 100), table.most(100)) == (0, 100));
-    Ok(())
 }

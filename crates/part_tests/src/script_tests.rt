@@ -1,67 +1,78 @@
 // What lines of a script say.
 use limiter_core::Outcome;
 use script::{LimitLine, Line, LineFault, Request, Setting, Why, WindowLine, read_line};
-use std::test::Fail;
+use std::alloc::Global;
+use std::process::Abort;
+
+/// What a line says, where it says something.
+fn said(line: &[u8]) -> Option<Line<&[u8]>> {
+    read_line(line).ok()?
+}
 
 /// What a line asks, where it asks something.
 fn request_of(line: &[u8]) -> Option<Request<&[u8]>> {
-    match read_line(line) {
-        Ok(Some(Line::Request(request))) => Some(request),
-        _ => None,
+    match said(line)? {
+        Line::Request(request) => Some(request),
+        Line::Setting(_) => None,
     }
 }
 
 /// What a line sets, where it sets something.
 fn setting_of(line: &[u8]) -> Option<Setting<&[u8]>> {
-    match read_line(line) {
-        Ok(Some(Line::Setting(setting))) => Some(setting),
+    match said(line)? {
+        Line::Setting(setting) => Some(setting),
+        Line::Request(_) => None,
+    }
+}
+
+/// The class of an acquire, whether it waits, and its moment.
+fn acquire_of(line: &[u8]) -> Option<(&[u8], bool, u64)> {
+    match request_of(line)? {
+        Request::Acquire { class, wait, now } => Some((class, wait, now)),
         _ => None,
     }
 }
 
-#[test]
-fn an_acquire_names_its_class_and_may_wait(rt: HostRuntime) -> Result<(), Fail> {
-    let rows: [(&[u8], &[u8], bool, u64); 4] = [
-        (b"acquire live 5", b"live", false, 5),
-        (b"acquire live 5 wait", b"live", true, 5),
-        (b"  acquire   batch 0 ", b"batch", false, 0),
-        (
-            b"acquire unknown 18446744073709551615",
-            b"unknown",
-            false,
-            u64::MAX,
-        ),
-    ];
-    for (line, name, waits, at) in rows {
-        let Some(Request::Acquire { class, wait, now }) = request_of(line) else {
-            return Err(Fail::from("another request"));
-        };
-        assert!(rt; class == name && wait == waits && now == at);
-    }
-    Ok(())
-}
+const ACQUIRES: [(&[u8], (&[u8], bool, u64)); 4] = [
+    (b"acquire live 5", (b"live", false, 5)),
+    (b"acquire live 5 wait", (b"live", true, 5)),
+    (b"  acquire   batch 0 ", (b"batch", false, 0)),
+    (
+        b"acquire unknown 18446744073709551615",
+        (b"unknown", false, u64::MAX),
+    ),
+];
 
 #[test]
-fn an_ending_has_a_number_an_outcome_and_a_moment(rt: HostRuntime) -> Result<(), Fail> {
-    let rows: [(&[u8], Outcome); 3] = [
-        (b"end 7 success 9", Outcome::Success),
-        (b"end 7 ignored 9", Outcome::Ignored),
-        (b"end 0007 dropped 09", Outcome::Dropped),
-    ];
-    for (line, wanted) in rows {
-        let Some(
-            Request::End {
-                number: 7,
-                outcome,
-                now: 9,
-            },
-        ) = request_of(line)
-        else {
-            return Err(Fail::from("another request"));
-        };
-        assert!(rt; outcome == wanted);
+fn an_acquire_names_its_class_and_may_wait(rt: HostRuntime) {
+    for (line, wanted) in ACQUIRES {
+        assert!(rt; acquire_of(line) == Some(wanted));
     }
-    Ok(())
+}
+
+/// The outcome of an ending, its number and its moment.
+fn ending_of(line: &[u8]) -> Option<(Outcome, u64, u64)> {
+    match request_of(line)? {
+        Request::End {
+            number,
+            outcome,
+            now,
+        } => Some((outcome, number, now)),
+        _ => None,
+    }
+}
+
+const ENDINGS: [(&[u8], Outcome); 3] = [
+    (b"end 7 success 9", Outcome::Success),
+    (b"end 7 ignored 9", Outcome::Ignored),
+    (b"end 0007 dropped 09", Outcome::Dropped),
+];
+
+#[test]
+fn an_ending_has_a_number_an_outcome_and_a_moment(rt: HostRuntime) {
+    for (line, outcome) in ENDINGS {
+        assert!(rt; ending_of(line) == Some((outcome, 7, 9)));
+    }
 }
 
 /// The word of a line that asks with numbers alone, and its numbers, the second 0 where it has one.
@@ -76,21 +87,29 @@ fn numbers(line: &[u8]) -> Option<(&'static str, u64, u64)> {
     }
 }
 
+const OF_NUMBERS: [(&[u8], (&str, u64, u64)); 6] = [
+    (b"set 4294967295 1", ("set", 4_294_967_295, 1)),
+    (b"set 0 1", ("set", 0, 1)),
+    (b"bypass 3", ("bypass", 3, 0)),
+    (b"claim 07", ("claim", 7, 0)),
+    (b"giveup 7", ("giveup", 7, 0)),
+    (b"reset 8", ("reset", 8, 0)),
+];
+
+/// The class of a look.
+fn looked_at(line: &[u8]) -> Option<&[u8]> {
+    match request_of(line)? {
+        Request::Look { class } => Some(class),
+        _ => None,
+    }
+}
+
 #[test]
 fn the_other_requests_have_a_number_or_a_name(rt: HostRuntime) {
-    let rows: [(&[u8], (&str, u64, u64)); 6] = [
-        (b"set 4294967295 1", ("set", u64::from(u32::MAX), 1)),
-        (b"set 0 1", ("set", 0, 1)),
-        (b"bypass 3", ("bypass", 3, 0)),
-        (b"claim 07", ("claim", 7, 0)),
-        (b"giveup 7", ("giveup", 7, 0)),
-        (b"reset 8", ("reset", 8, 0)),
-    ];
-    for (line, wanted) in rows {
+    for (line, wanted) in OF_NUMBERS {
         assert!(rt; numbers(line) == Some(wanted));
     }
-    let look = request_of(b"look batch");
-    assert!(rt; matches!(look, Some(Request::Look { class }) if class == b"batch".as_slice()));
+    assert!(rt; looked_at(b"look batch") == Some(b"batch".as_slice()));
 }
 
 /// The word of a line that sets a fixed or settable limit, windows or the backlog, and its numbers,
@@ -120,23 +139,29 @@ fn set_numbers(line: &[u8]) -> Option<(&'static str, [u64; 4])> {
     }
 }
 
+const SETTINGS: [(&[u8], (&str, [u64; 4])); 6] = [
+    (b"limit fixed 0", ("fixed", [0, 0, 0, 0])),
+    (b"limit settable 3 2 1", ("settable", [3, 2, 1, 0])),
+    (b"window 1 2 3 4", ("window", [1, 2, 3, 4])),
+    (b"backlog 10001", ("backlog", [10_001, 0, 0, 0])),
+    (b"keep 0", ("keep", [0, 0, 0, 0])),
+    (b"keep 1 rolling", ("rolling", [1, 0, 0, 0])),
+];
+
+/// The name of a class and its percent.
+fn class_of(line: &[u8]) -> Option<(&[u8], u64)> {
+    match setting_of(line)? {
+        Setting::Class { name, percent } => Some((name, percent)),
+        _ => None,
+    }
+}
+
 #[test]
 fn a_setting_keeps_its_numbers_whichever_they_are(rt: HostRuntime) {
-    let rows: [(&[u8], (&str, [u64; 4])); 6] = [
-        (b"limit fixed 0", ("fixed", [0, 0, 0, 0])),
-        (b"limit settable 3 2 1", ("settable", [3, 2, 1, 0])),
-        (b"window 1 2 3 4", ("window", [1, 2, 3, 4])),
-        (b"backlog 10001", ("backlog", [10_001, 0, 0, 0])),
-        (b"keep 0", ("keep", [0, 0, 0, 0])),
-        (b"keep 1 rolling", ("rolling", [1, 0, 0, 0])),
-    ];
-    for (line, wanted) in rows {
+    for (line, wanted) in SETTINGS {
         assert!(rt; set_numbers(line) == Some(wanted));
     }
-    let class = setting_of(b"class live 101");
-    assert!(rt;
-        matches!(class, Some(Setting::Class { name, percent: 101 }) if name == b"live".as_slice())
-    );
+    assert!(rt; class_of(b"class live 101") == Some((b"live".as_slice(), 101)));
 }
 
 const ASKS_NOTHING: &str = "
@@ -194,37 +219,34 @@ set 4294967296 1
 set 18446744073709551615 1
 ";
 
+/// The words or the value of each line are at fault.
+fn check_faults(rt: &impl Abort, lines: &str, wanted: Why) {
+    for line in lines.lines() {
+        assert!(rt; read_line(line.as_bytes()).err() == Some(wanted), "{line}");
+    }
+}
+
 #[test]
 fn a_line_says_nothing_or_is_told_by_its_words_or_its_value(rt: HostRuntime) {
     for line in ASKS_NOTHING.lines() {
         assert!(rt; matches!(read_line(line.as_bytes()), Ok(None)), "{line}");
     }
-    for line in NO_FORMAT.lines() {
-        assert!(rt;
-            matches!(read_line(line.as_bytes()), Err(Why::Words)),
-            "{line}"
-        );
-    }
-    for line in PAST_32_BITS.lines() {
-        assert!(rt;
-            matches!(read_line(line.as_bytes()), Err(Why::Value)),
-            "{line}"
-        );
-    }
+    check_faults(&rt, NO_FORMAT, Why::Words);
+    check_faults(&rt, PAST_32_BITS, Why::Value);
+}
+
+/// A fault of the seventh line is told in these words.
+fn check_told(rt: &impl Abort, alloc: Global, why: Why, wanted: &str) {
+    let fault = LineFault { line: 7, why };
+    let text = format!(in alloc; "{fault}").expect(rt, "memory");
+    assert!(rt; text.as_str() == wanted);
 }
 
 #[test]
-fn a_line_at_fault_is_told_by_its_number_and_a_word(rt: HostRuntime) -> Result<(), Fail> {
-    let rows = [
-        (Why::Words, "line 7: words"),
-        (Why::Late, "line 7: late"),
-        (Why::Twice, "line 7: twice"),
-        (Why::Value, "line 7: value"),
-        (Why::Class, "line 7: class"),
-    ];
-    for (why, wanted) in rows {
-        let text = format!(in rt.alloc(); "{}", LineFault { line: 7, why })?;
-        assert!(rt; text.as_str() == wanted);
-    }
-    Ok(())
+fn a_line_at_fault_is_told_by_its_number_and_a_word(rt: HostRuntime) {
+    check_told(&rt, rt.alloc(), Why::Words, "line 7: words");
+    check_told(&rt, rt.alloc(), Why::Late, "line 7: late");
+    check_told(&rt, rt.alloc(), Why::Twice, "line 7: twice");
+    check_told(&rt, rt.alloc(), Why::Value, "line 7: value");
+    check_told(&rt, rt.alloc(), Why::Class, "line 7: class");
 }

@@ -1,19 +1,28 @@
 // What setting lines give, and why they are refused.
 use limit_laws::{Limit, Sample, SetFault};
-use partitions::Part;
-use script::{Line, Settings, Why, read_line};
-use std::alloc::{AllocError, Global};
-use std::test::Fail;
+use partitions::{Part, PartitionTable};
+use script::{Line, Setting, Settings, Why, read_line};
+use std::alloc::Global;
+use std::process::Abort;
+
+/// What a line sets, where it is one of the settings' own.
+fn setting_of(line: &str) -> Result<Option<Setting<&[u8]>>, Why> {
+    match read_line(line.as_bytes())? {
+        Some(Line::Setting(setting)) => Ok(Some(setting)),
+        _ => Ok(None),
+    }
+}
 
 /// What the settings answer to a line, where it is one of theirs.
 fn take<'a>(
+    rt: &impl Abort,
     settings: &mut Settings<'a>,
     line: &'a str,
-) -> Result<Option<Result<(), Why>>, AllocError> {
-    match read_line(line.as_bytes()) {
-        Ok(Some(Line::Setting(setting))) => Ok(Some(settings.take(setting)?)),
-        Ok(_) => Ok(None),
-        Err(why) => Ok(Some(Err(why))),
+) -> Option<Result<(), Why>> {
+    match setting_of(line) {
+        Ok(Some(setting)) => Some(settings.take(setting).expect(rt, "memory")),
+        Ok(None) => None,
+        Err(why) => Some(Err(why)),
     }
 }
 
@@ -121,91 +130,103 @@ keep 1000001 rolling
 keep 18446744073709551615
 ";
 
-#[test]
-fn a_line_sets_nothing_or_is_taken_or_told_by_its_words_or_its_value(
-    rt: HostRuntime,
-) -> Result<(), Fail> {
-    let rows = [
-        (NO_SETTING, None),
-        (IN_RANGE, Some(Ok(()))),
-        (NO_FORMAT, Some(Err(Why::Words))),
-        (OUT_OF_RANGE, Some(Err(Why::Value))),
-    ];
-    for (lines, answer) in rows {
-        for line in lines.lines() {
-            let mut settings = Settings::new(rt.alloc());
-            assert!(rt; take(&mut settings, line)? == answer, "{line}");
-        }
+/// New settings answer each line so.
+fn check_lines(rt: &impl Abort, alloc: Global, lines: &str, answer: Option<Result<(), Why>>) {
+    for line in lines.lines() {
+        let mut settings = Settings::new(alloc);
+        assert!(rt; take(rt, &mut settings, line) == answer, "{line}");
     }
-    Ok(())
 }
 
-/// The settings of a script, and what its last line is answered.
-fn read_all(
-    alloc: Global,
-    script: &str,
-) -> Result<(Settings<'_>, Option<Result<(), Why>>), AllocError> {
-    let mut settings = Settings::new(alloc);
+#[test]
+fn a_line_sets_nothing_or_is_taken_or_told_by_its_words_or_its_value(rt: HostRuntime) {
+    check_lines(&rt, rt.alloc(), NO_SETTING, None);
+    check_lines(&rt, rt.alloc(), IN_RANGE, Some(Ok(())));
+    check_lines(&rt, rt.alloc(), NO_FORMAT, Some(Err(Why::Words)));
+    check_lines(&rt, rt.alloc(), OUT_OF_RANGE, Some(Err(Why::Value)));
+}
+
+/// Takes the lines of a script, and tells what the last is answered.
+fn take_all<'a>(
+    rt: &impl Abort,
+    settings: &mut Settings<'a>,
+    script: &'a str,
+) -> Option<Result<(), Why>> {
     let mut last = None;
     for line in script.lines() {
-        last = take(&mut settings, line)?;
+        last = take(rt, settings, line);
     }
-    Ok((settings, last))
+    last
 }
 
-#[test]
-fn a_limit_and_windows_are_set_once_and_classes_while_they_make_a_table(
-    rt: HostRuntime,
-) -> Result<(), Fail> {
-    let taken = Some(Ok(()));
-    let twice = Some(Err(Why::Twice));
-    let words = Some(Err(Why::Words));
-    let value = Some(Err(Why::Value));
-    let rows = [
-        ("limit fixed 1\nlimit fixed 2", twice),
-        ("limit fixed 1\nlimit aimd 0 0 0 0 0", twice),
-        ("limit fixed 1\nlimit fixed x", words),
-        ("window 1 1 1 0\nwindow 0 0 0 0", twice),
-        ("window 1 1 1 0\nlimit fixed 1", taken),
-        ("backlog 5\nbacklog 5", twice),
-        ("backlog 5\nbacklog 10001", twice),
-        ("backlog 5\nbacklog x", words),
-        ("backlog 5\nlimit fixed 1", taken),
-        ("keep 5\nkeep 5", twice),
-        ("keep 5\nkeep 0", twice),
-        ("keep 5\nkeep 5 rolling", twice),
-        ("keep 5 rolling\nkeep 0", twice),
-        ("keep 5\nbacklog 5", taken),
-        ("class a 60\nclass b 40", taken),
-        ("class a 60\nclass b 41", value),
-        ("class a 60\nclass a 10", value),
-        ("class a 1\nclass b 1\nclass c 1\nclass d 1", taken),
-        (
-            "class a 1\nclass b 1\nclass c 1\nclass d 1\nclass e 1",
-            value,
-        ),
-    ];
-    for (script, answer) in rows {
-        let (_settings, last) = read_all(rt.alloc(), script)?;
-        assert!(rt; last == answer, "{script}");
+/// New settings answer the last line of each script so.
+fn check_last(rt: &impl Abort, alloc: Global, scripts: &[&str], answer: Result<(), Why>) {
+    for script in scripts {
+        let mut settings = Settings::new(alloc);
+        let last = take_all(rt, &mut settings, script);
+        assert!(rt; last == Some(answer), "{script}");
     }
-    Ok(())
 }
 
+const SET_TWICE: [&str; 9] = [
+    "limit fixed 1\nlimit fixed 2",
+    "limit fixed 1\nlimit aimd 0 0 0 0 0",
+    "window 1 1 1 0\nwindow 0 0 0 0",
+    "backlog 5\nbacklog 5",
+    "backlog 5\nbacklog 10001",
+    "keep 5\nkeep 5",
+    "keep 5\nkeep 0",
+    "keep 5\nkeep 5 rolling",
+    "keep 5 rolling\nkeep 0",
+];
+
+const NO_FORMAT_AFTER: [&str; 2] = ["limit fixed 1\nlimit fixed x", "backlog 5\nbacklog x"];
+
+const TAKEN: [&str; 5] = [
+    "window 1 1 1 0\nlimit fixed 1",
+    "backlog 5\nlimit fixed 1",
+    "keep 5\nbacklog 5",
+    "class a 60\nclass b 40",
+    "class a 1\nclass b 1\nclass c 1\nclass d 1",
+];
+
+const NO_TABLE: [&str; 3] = [
+    "class a 60\nclass b 41",
+    "class a 60\nclass a 10",
+    "class a 1\nclass b 1\nclass c 1\nclass d 1\nclass e 1",
+];
+
 #[test]
-fn a_line_at_fault_changes_nothing(rt: HostRuntime) -> Result<(), Fail> {
-    let script =
-        "limit settable 2 5 9\nclass a 60\nclass b 41\nlimit fixed 7\nclass b 40\nclass c 1";
-    let (settings, last) = read_all(rt.alloc(), script)?;
-    assert!(rt; last == Some(Err(Why::Value)));
+fn a_limit_and_windows_are_set_once_and_classes_while_they_make_a_table(rt: HostRuntime) {
+    check_last(&rt, rt.alloc(), &SET_TWICE, Err(Why::Twice));
+    check_last(&rt, rt.alloc(), &NO_FORMAT_AFTER, Err(Why::Words));
+    check_last(&rt, rt.alloc(), &TAKEN, Ok(()));
+    check_last(&rt, rt.alloc(), &NO_TABLE, Err(Why::Value));
+}
+
+const A_AND_B: &str =
+    "limit settable 2 5 9\nclass a 60\nclass b 41\nlimit fixed 7\nclass b 40\nclass c 1";
+
+/// The limit is the settable one, from 2 over 5 to 9.
+fn check_limit(rt: &impl Abort, settings: &Settings) {
     let limit = settings.limit(20);
     assert!(rt; (limit.lo(), limit.limit(), limit.hi()) == (2, 5, 9));
-    let table = settings.into_table();
+}
+
+/// The table has the classes `a` and `b` alone, and of `b` 40 percent.
+fn check_table(rt: &impl Abort, table: &PartitionTable) {
     assert!(rt; table.len() == 2);
     assert!(rt; table.find(b"a") == Some(Part::Known(0)));
     assert!(rt; table.find(b"b") == Some(Part::Known(1)));
     assert!(rt; table.share(Part::Known(1), 100) == 40);
-    Ok(())
+}
+
+#[test]
+fn a_line_at_fault_changes_nothing(rt: HostRuntime) {
+    let mut settings = Settings::new(rt.alloc());
+    assert!(rt; take_all(&rt, &mut settings, A_AND_B) == Some(Err(Why::Value)));
+    check_limit(&rt, &settings);
+    check_table(&rt, &settings.into_table());
 }
 
 /// The limits after a drop, after a setting, and after a reset.
@@ -218,30 +239,43 @@ fn walk<L: Limit>(limit: &mut L) -> (u32, Result<(), SetFault>, u32, u32) {
     (sampled, answer, set, limit.limit())
 }
 
-#[test]
-fn the_limit_is_of_the_kind_and_over_the_windows_that_the_lines_name(
-    rt: HostRuntime,
-) -> Result<(), Fail> {
-    let refused = Err(SetFault::NotSettable);
-    let rows = [
-        ("", (20, refused, 20, 20)),
-        ("limit fixed 10", (10, refused, 10, 10)),
-        ("limit settable 1 10 20", (10, Ok(()), 7, 10)),
-        ("limit aimd 1 10 20 500 1000", (5, refused, 5, 10)),
-        ("limit vegas 1 10 20 3 6 0", (10, refused, 10, 10)),
-        (
-            "window 1 1 1 0\nlimit aimd 1 10 20 500 1000",
-            (5, refused, 5, 10),
-        ),
-        (
-            "limit aimd 1 10 20 500 1000\nwindow 2 1 1 0",
-            (10, refused, 10, 10),
-        ),
-        ("window 2 1 1 0", (20, refused, 20, 20)),
-    ];
-    for (script, wanted) in rows {
-        let (settings, _last) = read_all(rt.alloc(), script)?;
+/// The limit of each script, or else 20, walks so.
+fn check_walks(
+    rt: &impl Abort,
+    alloc: Global,
+    scripts: &[&str],
+    wanted: (u32, Result<(), SetFault>, u32, u32),
+) {
+    for script in scripts {
+        let mut settings = Settings::new(alloc);
+        let _last = take_all(rt, &mut settings, script);
         assert!(rt; walk(&mut settings.limit(20)) == wanted, "{script}");
     }
-    Ok(())
+}
+
+const OF_TWENTY: [&str; 2] = ["", "window 2 1 1 0"];
+
+const OF_TEN: [&str; 3] = [
+    "limit fixed 10",
+    "limit vegas 1 10 20 3 6 0",
+    "limit aimd 1 10 20 500 1000\nwindow 2 1 1 0",
+];
+
+const HALVED: [&str; 2] = [
+    "limit aimd 1 10 20 500 1000",
+    "window 1 1 1 0\nlimit aimd 1 10 20 500 1000",
+];
+
+#[test]
+fn the_limit_is_of_the_kind_and_over_the_windows_that_the_lines_name(rt: HostRuntime) {
+    let refused = Err(SetFault::NotSettable);
+    check_walks(&rt, rt.alloc(), &OF_TWENTY, (20, refused, 20, 20));
+    check_walks(&rt, rt.alloc(), &OF_TEN, (10, refused, 10, 10));
+    check_walks(&rt, rt.alloc(), &HALVED, (5, refused, 5, 10));
+    check_walks(
+        &rt,
+        rt.alloc(),
+        &["limit settable 1 10 20"],
+        (10, Ok(()), 7, 10),
+    );
 }

@@ -1,6 +1,5 @@
 // The worked numbers of Vegas.
 use limit_laws::{Limit, MakeFault, Sample, SetFault};
-use std::test::Fail;
 use vegas::Vegas;
 
 /// The limit after each of these round trips, with so many permits in flight.
@@ -12,9 +11,7 @@ fn limit_after(vegas: &mut Vegas, rtts: &[u64], inflight: u32) -> u32 {
 }
 
 #[test]
-fn a_short_queue_raises_a_long_one_lowers_and_one_between_keeps(
-    rt: HostRuntime,
-) -> Result<(), Fail> {
+fn a_short_queue_raises_a_long_one_lowers_and_one_between_keeps(rt: HostRuntime) {
     let rows = [
         (1u32, 3u32, 125u64, 11u32),
         (1, 3, 150, 10),
@@ -23,34 +20,31 @@ fn a_short_queue_raises_a_long_one_lowers_and_one_between_keeps(
         (10, 3, 300, 10),
     ];
     for (lo, alpha, rtt, limit) in rows {
-        let mut vegas = Vegas::new(lo, 10, 100, alpha, 6, 0)?;
+        let mut vegas = Vegas::new(lo, 10, 100, alpha, 6, 0).expect(&rt, "a limit");
         assert!(rt; limit_after(&mut vegas, &[100], 8) == 10);
         assert!(rt; limit_after(&mut vegas, &[rtt], 8) == limit, "{rtt} ns");
     }
-    Ok(())
 }
 
 #[test]
-fn a_probe_measures_the_base_anew(rt: HostRuntime) -> Result<(), Fail> {
-    let mut vegas = Vegas::new(1, 10, 100, 3, 6, 2)?;
+fn a_probe_measures_the_base_anew(rt: HostRuntime) {
+    let mut vegas = Vegas::new(1, 10, 100, 3, 6, 2).expect(&rt, "a limit");
     assert!(rt; limit_after(&mut vegas, &[100], 8) == 10);
     assert!(rt; limit_after(&mut vegas, &[300], 8) == 10);
     assert!(rt; limit_after(&mut vegas, &[300], 8) == 11);
-    Ok(())
 }
 
 #[test]
-fn a_drop_lowers_and_less_than_half_in_use_keeps(rt: HostRuntime) -> Result<(), Fail> {
-    let mut vegas = Vegas::new(1, 10, 100, 3, 6, 0)?;
+fn a_drop_lowers_and_less_than_half_in_use_keeps(rt: HostRuntime) {
+    let mut vegas = Vegas::new(1, 10, 100, 3, 6, 0).expect(&rt, "a limit");
     assert!(rt; limit_after(&mut vegas, &[100, 100], 4) == 10);
     vegas.on_sample(&Sample::of(0, 100, 4, true));
     assert!(rt; vegas.limit() == 9);
     assert!(rt; limit_after(&mut vegas, &[90], 8) == 9);
-    Ok(())
 }
 
 #[test]
-fn the_first_fault_is_answered(rt: HostRuntime) -> Result<(), Fail> {
+fn the_first_fault_is_answered(rt: HostRuntime) {
     let rows = [
         ((1u32, 5u32, 10u32, 4u32, 3u32, 0u32), MakeFault::Alpha),
         ((1, 5, 10, 0, 3, 1_000_000), MakeFault::Alpha),
@@ -64,30 +58,27 @@ fn the_first_fault_is_answered(rt: HostRuntime) -> Result<(), Fail> {
     for ((lo, first, hi, alpha, beta, probe_every), fault) in rows {
         assert!(rt; Vegas::new(lo, first, hi, alpha, beta, probe_every) == Err(fault));
     }
-    Ok(())
 }
 
 #[test]
-fn numbers_at_the_ends_of_their_ranges_are_taken(rt: HostRuntime) -> Result<(), Fail> {
+fn numbers_at_the_ends_of_their_ranges_are_taken(rt: HostRuntime) {
     let rows = [
         (1u32, 1u32, 1u32, 1u32, 1u32, 0u32),
         (10_000, 10_000, 10_000, 100, 100, 1_000_000),
     ];
     for (lo, first, hi, alpha, beta, probe_every) in rows {
-        let vegas = Vegas::new(lo, first, hi, alpha, beta, probe_every)?;
+        let vegas = Vegas::new(lo, first, hi, alpha, beta, probe_every).expect(&rt, "a limit");
         assert!(rt; (vegas.lo(), vegas.limit(), vegas.hi()) == (lo, first, hi));
     }
-    Ok(())
 }
 
 #[test]
-fn a_reset_forgets_the_base_and_no_setting_is_taken(rt: HostRuntime) -> Result<(), Fail> {
-    let mut vegas = Vegas::new(1, 10, 100, 3, 6, 5)?;
+fn a_reset_forgets_the_base_and_no_setting_is_taken(rt: HostRuntime) {
+    let mut vegas = Vegas::new(1, 10, 100, 3, 6, 5).expect(&rt, "a limit");
     assert!(rt; (vegas.lo(), vegas.limit(), vegas.hi()) == (1, 10, 100));
     assert!(rt; limit_after(&mut vegas, &[100, 100], 8) == 11);
     assert!(rt; vegas.set(30) == Err(SetFault::NotSettable));
     assert!(rt; vegas.copy() == vegas);
     vegas.reset();
-    assert!(rt; vegas == Vegas::new(1, 10, 100, 3, 6, 5)?);
-    Ok(())
+    assert!(rt; vegas == Vegas::new(1, 10, 100, 3, 6, 5).expect(&rt, "a limit"));
 }

@@ -1,57 +1,65 @@
 // AIMD over windows, and over windows of windows, by worked numbers.
 use aimd::Aimd;
 use limit_laws::{Limit, Sample};
-use std::test::Fail;
+use std::process::Abort;
 use windowed::Windowed;
+
+/// Windows of at least so many samples and this length, and of round trips of so long at least.
+fn over<L: Limit>(rt: &impl Abort, inner: L, size: u32, length: u64, min_rtt: u64) -> Windowed<L> {
+    let made = Windowed::new(inner, size, length, length, min_rtt);
+    made.ok().expect(rt, "windows")
+}
+
+/// AIMD 1 to 100 from 20 that takes a round trip of more than this for a drop.
+fn aimd(rt: &impl Abort, timeout: u64) -> Aimd {
+    Aimd::new(1, 20, 100, 900, timeout).expect(rt, "a limit")
+}
 
 /// The limit of AIMD 1 to 100 from 20 over windows of a second, where a first window of one sample
 /// is followed by so many samples inside the second one and by one that ends it.
-fn limit_after(inside: u32) -> Result<u32, Fail> {
-    let aimd = Aimd::new(1, 20, 100, 900, 1_000_000_000)?;
+fn limit_after(rt: &impl Abort, inside: u32) -> u32 {
     let second = 1_000_000_000;
-    let mut windowed = Windowed::new(aimd, 10, second, second, 100_000).map_err(
-        |refusal| refusal.0,
-    )?;
+    let mut windowed = over(rt, aimd(rt, second), 10, second, 100_000);
     for _ in 0..=inside {
         windowed.on_sample(&Sample::of_rtt(0, 200_000, 10, false));
     }
     windowed.on_sample(&Sample::of_rtt(1_000_000_001, 200_000, 10, false));
-    Ok(windowed.limit())
+    windowed.limit()
 }
 
 #[test]
-fn a_window_of_ten_is_handed_on_and_one_of_nine_is_not(rt: HostRuntime) -> Result<(), Fail> {
-    assert!(rt; limit_after(9)? == 21);
-    assert!(rt; limit_after(8)? == 20);
-    Ok(())
+fn a_window_of_ten_is_handed_on_and_one_of_nine_is_not(rt: HostRuntime) {
+    assert!(rt; limit_after(&rt, 9) == 21);
+    assert!(rt; limit_after(&rt, 8) == 20);
 }
 
 /// The limit of AIMD 1 to 10 from 2 after one sample, over windows of this size.
-fn limit_of_size(size: u32) -> Result<u32, Fail> {
-    let aimd = Aimd::new(1, 2, 10, 900, 1)?;
-    let mut windowed = Windowed::new(aimd, size, 1, 1, 0).map_err(|refusal| refusal.0)?;
+fn limit_of_size(rt: &impl Abort, size: u32) -> u32 {
+    let aimd = Aimd::new(1, 2, 10, 900, 1).expect(rt, "a limit");
+    let mut windowed = over(rt, aimd, size, 1, 0);
     windowed.on_sample(&Sample::of(100, 50, 1, false));
-    Ok(windowed.limit())
+    windowed.limit()
 }
 
 #[test]
-fn one_sample_moves_the_limit_only_as_a_window_of_one(rt: HostRuntime) -> Result<(), Fail> {
-    assert!(rt; limit_of_size(2)? == 2);
-    assert!(rt; limit_of_size(1)? == 3);
-    Ok(())
+fn one_sample_moves_the_limit_only_as_a_window_of_one(rt: HostRuntime) {
+    assert!(rt; limit_of_size(&rt, 2) == 2);
+    assert!(rt; limit_of_size(&rt, 1) == 3);
 }
 
-#[test]
-fn the_mean_of_a_window_is_what_counts_as_slow(rt: HostRuntime) -> Result<(), Fail> {
-    for (timeout, limit) in [(199u64, 18u32), (200, 21)] {
-        let aimd = Aimd::new(1, 20, 100, 900, timeout)?;
-        let mut windowed = Windowed::new(aimd, 2, 1000, 1000, 0).map_err(|refusal| refusal.0)?;
-        for (start, rtt) in [(0u64, 100u64), (10, 100), (2000, 300)] {
-            windowed.on_sample(&Sample::of_rtt(start, rtt, 10, false));
-        }
-        assert!(rt; windowed.limit() == limit);
+/// The limit of AIMD with this timeout after a window of one sample and one of a mean of 200 ns.
+fn limit_with_timeout(rt: &impl Abort, timeout: u64) -> u32 {
+    let mut windowed = over(rt, aimd(rt, timeout), 2, 1000, 0);
+    for (start, rtt) in [(0u64, 100u64), (10, 100), (2000, 300)] {
+        windowed.on_sample(&Sample::of_rtt(start, rtt, 10, false));
     }
-    Ok(())
+    windowed.limit()
+}
+
+#[test]
+fn the_mean_of_a_window_is_what_counts_as_slow(rt: HostRuntime) {
+    assert!(rt; limit_with_timeout(&rt, 199) == 18);
+    assert!(rt; limit_with_timeout(&rt, 200) == 21);
 }
 
 /// A sample that began at this moment, in nanoseconds, with 10 permits in flight.
@@ -75,10 +83,9 @@ fn sample(start: u64, rtt: u64) -> Sample {
 /// Without the outer windows the inner ones would hold (200, 200, 10) by 406, a mean above 50;
 /// without the inner ones AIMD would learn of 200 ns: either way the limit falls to 18.
 #[test]
-fn windows_over_windows_hand_on_means_of_means(rt: HostRuntime) -> Result<(), Fail> {
-    let aimd = Aimd::new(1, 20, 100, 900, 50)?;
-    let inner = Windowed::new(aimd, 2, 300, 300, 0).map_err(|refusal| refusal.0)?;
-    let mut outer = Windowed::new(inner, 2, 200, 200, 0).map_err(|refusal| refusal.0)?;
+fn windows_over_windows_hand_on_means_of_means(rt: HostRuntime) {
+    let inner = over(&rt, aimd(&rt, 50), 2, 300, 0);
+    let mut outer = over(&rt, inner, 2, 200, 0);
     let before = [(0, 5), (5, 200), (6, 200), (396, 10), (397, 10), (597, 10)];
     for (start, rtt) in before {
         outer.on_sample(&sample(start, rtt));
@@ -86,21 +93,18 @@ fn windows_over_windows_hand_on_means_of_means(rt: HostRuntime) -> Result<(), Fa
     }
     outer.on_sample(&sample(598, 10));
     assert!(rt; outer.limit() == 21);
-    Ok(())
 }
 
 /// Windows of an hour that have to have a million samples, all within the hour after the first: the
 /// first sample is a window alone, and the millionth after it ends the next.
 #[test]
-fn a_window_ends_at_its_millionth_sample(rt: HostRuntime) -> Result<(), Fail> {
+fn a_window_ends_at_its_millionth_sample(rt: HostRuntime) {
     let hour = 3_600_000_000_000;
-    let aimd = Aimd::new(1, 20, 100, 900, 50)?;
-    let mut windowed = Windowed::new(aimd, 1_000_000, hour, hour, 0).map_err(|refusal| refusal.0)?;
+    let mut windowed = over(&rt, aimd(&rt, 50), 1_000_000, hour, 0);
     for _ in 0..1_000_000 {
         windowed.on_sample(&sample(0, 5));
     }
     assert!(rt; windowed.limit() == 20);
     windowed.on_sample(&sample(0, 5));
     assert!(rt; windowed.limit() == 21);
-    Ok(())
 }

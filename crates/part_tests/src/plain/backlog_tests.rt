@@ -5,10 +5,10 @@ ghost use Rattle.lifo_backlog.specs.declared.waiter.Waiter.{Waiter};
 
 use super::backlog::PlainBacklog;
 use super::random::{FIRST_RANDOM, next_random};
-use lifo_backlog::{Backlog, BacklogFault, Waiter};
+use lifo_backlog::{Backlog, Waiter};
 use partitions::Part;
 use std::alloc::Global;
-use std::test::Fail;
+use std::process::Abort;
 
 /// How many operations each room is driven with.
 const OPERATIONS: u32 = 100_000;
@@ -60,30 +60,43 @@ fn readers_agree(backlog: &Backlog, plain: &PlainBacklog) -> bool {
         && backlog.newest() == plain.newest()
 }
 
+/// Asks both the same: whether they reply alike.
+fn replies_agree(
+    backlog: &mut Backlog,
+    plain: &mut PlainBacklog,
+    random: u64,
+    pushes: u64,
+) -> bool {
+    if random % 8 < pushes {
+        push_agrees(backlog, plain, random / 8)
+    } else {
+        take_agrees(backlog, plain, random / 8)
+    }
+}
+
 /// Drives both by random pushes and takes, at times more of the one, at times of the other.
-fn both_agree(alloc: Global, room: u32) -> Result<bool, BacklogFault> {
-    let mut backlog = Backlog::new(alloc, room)?;
-    let mut plain = PlainBacklog::new(alloc, room as usize)?;
+fn both_agree(backlog: &mut Backlog, plain: &mut PlainBacklog) -> bool {
     let mut random = FIRST_RANDOM;
     for turn in 0..OPERATIONS {
         random = next_random(random);
         let pushes = if turn / 1_000 % 2 == 0 { 5 } else { 3 };
-        let replies_agree = if random % 8 < pushes {
-            push_agrees(&mut backlog, &mut plain, random / 8)
-        } else {
-            take_agrees(&mut backlog, &mut plain, random / 8)
-        };
-        if !replies_agree || !readers_agree(&backlog, &plain) {
-            return Ok(false);
+        if !replies_agree(backlog, plain, random, pushes) || !readers_agree(backlog, plain) {
+            return false;
         }
     }
-    Ok(true)
+    true
+}
+
+/// Both agree with this room.
+fn agree_with_room(rt: &impl Abort, alloc: Global, room: u32) {
+    let mut backlog = Backlog::new(alloc, room).expect(rt, "a backlog");
+    let mut plain = PlainBacklog::new(alloc, room as usize).expect(rt, "a plain backlog");
+    assert!(rt; both_agree(&mut backlog, &mut plain));
 }
 
 #[test]
-fn both_backlogs_agree_whatever_the_room(rt: HostRuntime) -> Result<(), Fail> {
+fn both_backlogs_agree_whatever_the_room(rt: HostRuntime) {
     for room in [0, 1, 3, 100] {
-        assert!(rt; both_agree(rt.alloc(), room)?);
+        agree_with_room(&rt, rt.alloc(), room);
     }
-    Ok(())
 }

@@ -8,7 +8,7 @@ use limit_laws::Limit;
 use limiter_core::{Core, Event, Outcome, PermitFacts, Reply};
 use partitions::{Part, PartitionTable};
 use std::alloc::Global;
-use std::test::Fail;
+use std::process::Abort;
 
 /// What is asked next.
 #[derive(Clone, Copy)]
@@ -80,17 +80,28 @@ struct Both {
 }
 
 /// Three classes.
-fn table(alloc: Global) -> Result<PartitionTable, Fail> {
-    let rows = [(b"a".as_slice(), 50), (b"b", 20), (b"c", 10)];
-    Ok(PartitionTable::new(alloc, &rows)?)
+const CLASSES: [(&[u8], u32); 3] = [(b"a", 50), (b"b", 20), (b"c", 10)];
+
+fn table(rt: &impl Abort, alloc: Global) -> PartitionTable {
+    PartitionTable::new(alloc, &CLASSES).expect(rt, "a table")
 }
 
-fn begin(alloc: Global, limit: Aimd, room: u32) -> Result<Both, Fail> {
-    Ok(Both {
-        core: Core::new(alloc, limit.copy(), table(alloc)?, room)?,
-        plain: PlainLimiter::new(alloc, limit, table(alloc)?, room as usize)?,
+fn core_of(rt: &impl Abort, alloc: Global, limit: Aimd, room: u32) -> Core<Aimd> {
+    Core::new(alloc, limit, table(rt, alloc), room).expect(rt, "a limiter")
+}
+
+fn plain_of(rt: &impl Abort, alloc: Global, limit: Aimd, room: u32) -> PlainLimiter {
+    let plain = PlainLimiter::new(alloc, limit, table(rt, alloc), room as usize);
+    plain.expect(rt, "a plain limiter")
+}
+
+/// Both limiters of one algorithm, where so many may wait.
+fn begin(rt: &impl Abort, alloc: Global, limit: &Aimd, room: u32) -> Both {
+    Both {
+        core: core_of(rt, alloc, limit.copy(), room),
+        plain: plain_of(rt, alloc, limit.copy(), room),
         open: Vec::new(alloc),
-    })
+    }
 }
 
 /// One of a list.
@@ -271,68 +282,79 @@ fn lists_agree(core: &Core<Aimd>, plain: &PlainLimiter, waiters: &[Waiter]) -> b
 }
 
 /// Those who wait, copied into a list of its own.
-fn waiters_of(alloc: Global, core: &Core<Aimd>) -> Result<Vec<Waiter>, Fail> {
-    let mut waiters = Vec::with_capacity(alloc, core.waiting() as usize)?;
+fn waiters_of(rt: &impl Abort, alloc: Global, core: &Core<Aimd>) -> Vec<Waiter> {
+    let waiting = core.waiting() as usize;
+    let mut waiters = Vec::with_capacity(alloc, waiting).expect(rt, "memory");
     core.copy_waiters(&mut waiters);
-    Ok(waiters)
+    waiters
 }
 
-/// Asks both the same: whether they reply alike, and show the same then.
-fn step_agrees(alloc: Global, both: &mut Both, event: Event) -> Result<bool, Fail> {
-    let number = both.plain.next;
+/// Whether both show the same after this event, which has this number.
+fn both_show(rt: &impl Abort, alloc: Global, both: &Both, number: u64, event: Event) -> bool {
+    let waiters = waiters_of(rt, alloc, &both.core);
+    counts_agree(&both.core, &both.plain)
+        && parts_agree(&both.core, &both.plain)
+        && numbers_agree(&both.core, &both.plain, named(event))
+        && numbers_agree(&both.core, &both.plain, number)
+        && lists_agree(&both.core, &both.plain, &waiters)
+}
+
+/// Asks both the same: whether they reply alike.
+fn replies_agree(both: &mut Both, number: u64, event: Event) -> bool {
     let wanted = both.plain.apply(event);
-    if reply_of(&mut both.core, event) != Some(wanted) {
-        return Ok(false);
-    }
     keep_open(&mut both.open, number, event, wanted);
-    let waiters = waiters_of(alloc, &both.core)?;
-    Ok(
-        counts_agree(&both.core, &both.plain)
-            && parts_agree(&both.core, &both.plain)
-            && numbers_agree(&both.core, &both.plain, named(event))
-            && numbers_agree(&both.core, &both.plain, number)
-            && lists_agree(&both.core, &both.plain, &waiters),
-    )
+    reply_of(&mut both.core, event) == Some(wanted)
 }
 
-/// Whether both agree all along 2,000 events of the script.
-fn agree_on_the_script(alloc: Global, both: &mut Both) -> Result<bool, Fail> {
+/// Asks both the same: they reply alike, and show the same then.
+fn check_step(rt: &impl Abort, alloc: Global, both: &mut Both, event: Event) {
+    let number = both.plain.next;
+    assert!(rt; replies_agree(both, number, event));
+    assert!(rt; both_show(rt, alloc, both, number, event));
+}
+
+/// Both agree all along 2,000 events of the script.
+fn agree_on_the_script(rt: &impl Abort, alloc: Global, both: &mut Both) {
     for turn in 0..2_000_u64 {
         let ask = ROUND[(turn % 16) as usize];
         let event = event_of(both, ask, turn / 3 + turn % 7, turn);
-        if !step_agrees(alloc, both, event)? {
-            return Ok(false);
-        }
+        check_step(rt, alloc, both, event);
     }
-    Ok(true)
 }
 
-/// Whether both agree all along 100,000 random events.
-fn agree_at_random(alloc: Global, both: &mut Both) -> Result<bool, Fail> {
+/// Both agree all along 100,000 random events.
+fn agree_at_random(rt: &impl Abort, alloc: Global, both: &mut Both) {
     let mut random = FIRST_RANDOM;
     for turn in 0..100_000_u64 {
         random = next_random(random);
         let ask = MIX[(random % 16) as usize];
         let event = event_of(both, ask, random / 16, turn);
-        if !step_agrees(alloc, both, event)? {
-            return Ok(false);
-        }
+        check_step(rt, alloc, both, event);
     }
-    Ok(true)
+}
+
+/// AIMD with these numbers, that drops to nine tenths.
+fn aimd(rt: &impl Abort, first: u32, hi: u32, timeout: u64) -> Aimd {
+    Aimd::new(1, first, hi, 900, timeout).expect(rt, "a limit")
 }
 
 #[test]
-fn both_limiters_agree_on_the_script(rt: HostRuntime) -> Result<(), Fail> {
-    let mut both = begin(rt.alloc(), Aimd::new(1, 3, 6, 900, 40)?, 3)?;
-    assert!(rt; agree_on_the_script(rt.alloc(), &mut both)?);
-    Ok(())
+fn both_limiters_agree_on_the_script(rt: HostRuntime) {
+    let limit = aimd(&rt, 3, 6, 40);
+    let mut both = begin(&rt, rt.alloc(), &limit, 3);
+    agree_on_the_script(&rt, rt.alloc(), &mut both);
+}
+
+/// Both agree at random, where so many may wait.
+fn agree_with_room(rt: &impl Abort, alloc: Global, room: u32) {
+    let limit = aimd(rt, 4, 20, 400);
+    let mut both = begin(rt, alloc, &limit, room);
+    agree_at_random(rt, alloc, &mut both);
 }
 
 #[test]
-fn both_limiters_agree_whatever_the_room(rt: HostRuntime) -> Result<(), Fail> {
+fn both_limiters_agree_whatever_the_room(rt: HostRuntime) {
     for room in [0, 1, 3, 100] {
-        let mut both = begin(rt.alloc(), Aimd::new(1, 4, 20, 900, 400)?, room)?;
-        assert!(rt; agree_at_random(rt.alloc(), &mut both)?);
+        agree_with_room(&rt, rt.alloc(), room);
     }
-    Ok(())
 }
