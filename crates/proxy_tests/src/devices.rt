@@ -9,11 +9,11 @@ use message_parts::Headers;
 use shared_gate::Clock;
 use std::alloc::{AllocError, Global};
 use std::io::{BufRead, Error, ErrorKind, Read, Result, Write};
+use std::process::Abort;
 use wire::{Request, Response, WireFault, read_response, write_request};
 
-/// The bytes that a row writes: `|` is the end of a line.
-pub(crate) fn bytes_of(alloc: Global, row: &str) -> std::result::Result<Vec<u8>, AllocError> {
-    let mut bytes = Vec::new(alloc);
+/// Adds the bytes that a row writes: `|` is the end of a line.
+fn add_row(bytes: &mut Vec<u8>, row: &str) -> std::result::Result<(), AllocError> {
     for byte in row.as_bytes() {
         if *byte == b'|' {
             bytes.extend_from_slice(b"\r\n")?;
@@ -21,7 +21,14 @@ pub(crate) fn bytes_of(alloc: Global, row: &str) -> std::result::Result<Vec<u8>,
             bytes.push(*byte)?;
         }
     }
-    Ok(bytes)
+    Ok(())
+}
+
+/// The bytes that a row writes.
+pub(crate) fn bytes_of(rt: &impl Abort, alloc: Global, row: &str) -> Vec<u8> {
+    let mut bytes = Vec::new(alloc);
+    assert!(rt; add_row(&mut bytes, row).is_ok());
+    bytes
 }
 
 /// Which calls of a device fail.

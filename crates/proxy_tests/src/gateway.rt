@@ -14,7 +14,7 @@ use ports::{Admission, GatePort, SoloPort};
 use proxy::{Exchange, exchange};
 use std::alloc::Global;
 use std::marker::Brand;
-use std::test::Fail;
+use std::process::Abort;
 
 const LINES: &str = "version = 1\nlisten = \"127.0.0.1:8080\"\nbackend = \"127.0.0.1:9000\"\n";
 
@@ -97,34 +97,41 @@ impl Came {
     }
 }
 
-/// One exchange.
-pub(crate) fn exchanged(alloc: Global, case: Case) -> Result<Came, Fail> {
+/// The settings of a case.
+fn settings_of(rt: &impl Abort, alloc: Global, case: &Case) -> Settings {
     let classes = if case.has_classes { CLASSES } else { "" };
-    let text = format!(in alloc; "{LINES}wait = {}\n{TABLES}{classes}", case.waits)?;
-    let settings = read(alloc, text.as_bytes())?;
-    let table = settings.table.copy()?;
-    came_through::<Brand>(alloc, case, &settings, table, Blanks::new())
+    let text = format!(in alloc; "{LINES}wait = {}\n{TABLES}{classes}", case.waits);
+    let text = text.expect(rt, "memory");
+    read(alloc, text.as_bytes()).expect(rt, "settings")
 }
 
-fn came_through<N: Naming>(
+/// One exchange.
+pub(crate) fn exchanged<R: Abort>(rt: &R, alloc: Global, case: Case) -> Came {
+    let settings = settings_of(rt, alloc, &case);
+    let table = settings.table.copy().expect(rt, "memory");
+    came_through::<Brand, R>(rt, alloc, case, &settings, table, Blanks::new())
+}
+
+fn came_through<N: Naming, R: Abort>(
+    rt: &R,
     alloc: Global,
     case: Case,
     settings: &Settings,
     table: PartitionTable,
     blanks: Blanks,
-) -> Result<Came, Fail>
+) -> Came
     requires names { AreNamed N.calls N.place blanks }
     requires parts { AreWhole blanks }
     requires rows { table ≡ N.rows }
     requires room { N.room ≡ 100 }
 {
     let course = Course::new();
-    let port = open_port::<N>(alloc, case.limit, table, blanks)?;
+    let port = open_port::<N, R>(rt, alloc, case.limit, table, blanks);
     let mut watched = Watched {
         port,
         course: &course,
     };
-    Ok(came_by(alloc, &mut watched, case, settings))
+    came_by(alloc, &mut watched, case, settings)
 }
 
 /// One exchange through this port.
@@ -164,21 +171,24 @@ fn came_of(told: Told, entries: usize, core: &Core<Fixed>) -> Came {
 }
 
 /// A port over a gate of its own with this fixed limit.
-fn open_port<N: Naming>(
+fn open_port<N: Naming, R: Abort>(
+    rt: &R,
     alloc: Global,
     limit: u32,
     table: PartitionTable,
     blanks: Blanks,
-) -> Result<SoloPort<Fixed, N>, Fail>
+) -> SoloPort<Fixed, N>
     requires names { AreNamed N.calls N.place blanks }
     requires parts { AreWhole blanks }
     requires rows { table ≡ N.rows }
     requires room { N.room ≡ 100 }
 {
-    let core = Core::new(alloc, Fixed::new(limit)?, table, 100)?;
-    let mut book = Book::<Fixed, N>::new(Journal::new(alloc, core, 100, false)?, blanks);
-    let pass = book.pass().ok_or("a pass")?;
-    Ok(SoloPort::new(book, pass))
+    let limit = Fixed::new(limit).expect(rt, "a limit");
+    let core = Core::new(alloc, limit, table, 100).expect(rt, "a limiter");
+    let journal = Journal::new(alloc, core, 100, false).expect(rt, "a journal");
+    let mut book = Book::<Fixed, N>::new(journal, blanks);
+    let pass = book.pass().expect(rt, "a pass");
+    SoloPort::new(book, pass)
 }
 
 /// The one permit of a gate with the limit 1.

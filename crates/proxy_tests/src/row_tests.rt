@@ -6,7 +6,6 @@ use ports::Why;
 use proxy::Verdict;
 use std::alloc::Global;
 use std::process::Abort;
-use std::test::Fail;
 
 const GET: &str = "GET /a HTTP/1.1|Host: h||";
 
@@ -166,105 +165,116 @@ const UNREAD: [(&str, u16); 7] = [
 
 /// A row of bytes is the text.
 fn is_text(rt: &impl Abort, alloc: Global, bytes: &Vec<u8>, text: &str) {
-    let wanted = bytes_of(alloc, text).expect(rt, "memory");
+    let wanted = bytes_of(rt, alloc, text);
     assert!(rt; bytes.as_slice() == wanted.as_slice(), "{text}");
 }
 
 /// What comes of a request, and of what the backend sends, in reads of so many bytes.
-fn came_of(alloc: Global, request: &str, response: &str, most: usize) -> Result<Came, Fail> {
-    let sent = bytes_of(alloc, request)?;
-    let said = bytes_of(alloc, response)?;
+fn came_of(rt: &impl Abort, alloc: Global, request: &str, response: &str, most: usize) -> Came {
+    let sent = bytes_of(rt, alloc, request);
+    let said = bytes_of(rt, alloc, response);
     let mut case = Case::new(sent.as_slice(), Says::Bytes(said.as_slice()));
     case.most = most;
-    exchanged(alloc, case)
+    exchanged(rt, alloc, case)
 }
 
-#[test]
-fn a_request_is_forwarded_and_answered(rt: HostRuntime) -> Result<(), Fail> {
-    let alloc = rt.alloc();
-    for (request, response, forwarded, answer, outcome) in FORWARDED {
-        for most in [1, 7, usize::MAX] {
-            let came = came_of(alloc, request, response, most)?;
-            is_text(&rt, alloc, &came.forwarded, forwarded);
-            is_text(&rt, alloc, &came.written, answer);
-            assert!(rt; came.told.outcome == Some(outcome), "{request}");
-            assert!(rt; came.told.admission == Verdict::Admitted);
-            assert!(rt; came.told.written_fault.is_none());
-            assert!(rt; came.has(1, 2));
-        }
+/// A request is forwarded and answered as its row says, in reads of so many bytes.
+fn check_row(rt: &impl Abort, alloc: Global, row: &Row, most: usize) {
+    let came = came_of(rt, alloc, row.0, row.1, most);
+    is_text(rt, alloc, &came.forwarded, row.2);
+    is_text(rt, alloc, &came.written, row.3);
+    assert!(rt; came.told.outcome == Some(row.4), "{}", row.0);
+    assert!(rt; came.told.admission == Verdict::Admitted);
+    assert!(rt; came.told.written_fault.is_none());
+    assert!(rt; came.has(1, 2));
+}
+
+fn check_rows(rt: &impl Abort, alloc: Global, rows: &[Row], most: usize) {
+    for row in rows {
+        check_row(rt, alloc, row, most);
     }
-    Ok(())
 }
 
 #[test]
-fn a_request_that_is_not_read_is_neither_asked_for_nor_forwarded(
-    rt: HostRuntime,
-) -> Result<(), Fail> {
-    let alloc = rt.alloc();
+fn a_request_is_forwarded_and_answered(rt: HostRuntime) {
+    for most in [1, 7, usize::MAX] {
+        check_rows(&rt, rt.alloc(), &FORWARDED, most);
+    }
+}
+
+/// A request is refused with this status, unread.
+fn check_unread(rt: &impl Abort, alloc: Global, request: &str, status: u16) {
+    let came = came_of(rt, alloc, request, OK, usize::MAX);
+    assert!(rt; came.told.answer == Some(status), "{request}");
+    assert!(rt; came.told.admission == Verdict::NotAsked);
+    assert!(rt; came.told.class.is_none());
+    assert!(rt; came.has(0, 0));
+}
+
+#[test]
+fn a_request_that_is_not_read_is_neither_asked_for_nor_forwarded(rt: HostRuntime) {
     for (request, status) in UNREAD {
-        let came = came_of(alloc, request, OK, usize::MAX)?;
-        assert!(rt; came.told.answer == Some(status), "{request}");
-        assert!(rt; came.told.admission == Verdict::NotAsked);
-        assert!(rt; came.told.class.is_none());
-        assert!(rt; came.has(0, 0));
+        check_unread(&rt, rt.alloc(), request, status);
     }
-    let cut = came_of(alloc, UNREAD[1].0, OK, usize::MAX)?;
+    let cut = came_of(&rt, rt.alloc(), UNREAD[1].0, OK, usize::MAX);
     let bad = "HTTP/1.1 400 Bad Request|Content-Length: 0|Connection: close||";
-    is_text(&rt, alloc, &cut.written, bad);
-    Ok(())
+    is_text(&rt, rt.alloc(), &cut.written, bad);
 }
 
-#[test]
-fn a_full_gate_refuses_and_lets_bypassed_requests_through(rt: HostRuntime) -> Result<(), Fail> {
-    let alloc = rt.alloc();
-    let said = bytes_of(alloc, OK)?;
-    let sent = bytes_of(alloc, GET)?;
+const BUSY: &str = "HTTP/1.1 429 Too Many Requests|Content-Length: 0|Connection: close||";
+
+/// What comes of a request to a full gate, that waits or not, whose classes have shares or not.
+fn came_of_full(
+    rt: &impl Abort,
+    alloc: Global,
+    request: &str,
+    waits: bool,
+    has_classes: bool,
+) -> Came {
+    let sent = bytes_of(rt, alloc, request);
+    let said = bytes_of(rt, alloc, OK);
     let mut case = Case::new(sent.as_slice(), Says::Bytes(said.as_slice()));
     case.limit = 1;
-    let refused = exchanged(alloc, case)?;
-    let busy = "HTTP/1.1 429 Too Many Requests|Content-Length: 0|Connection: close||";
-    is_text(&rt, alloc, &refused.written, busy);
-    assert!(rt; refused.told.admission == Verdict::Refused(Why::Full));
-    assert!(rt; refused.told.outcome.is_none());
-    assert!(rt; refused.has(0, 1));
-    let health = bytes_of(alloc, "GET /health HTTP/1.1|Host: h||")?;
-    let mut case = Case::new(health.as_slice(), Says::Bytes(said.as_slice()));
-    case.limit = 1;
-    let bypassed = exchanged(alloc, case)?;
-    is_text(&rt, alloc, &bypassed.written, TOLD_OK);
+    case.waits = waits;
+    case.has_classes = has_classes;
+    exchanged(rt, alloc, case)
+}
+
+/// It was refused for this cause, and nothing was forwarded.
+fn check_refused(rt: &impl Abort, alloc: Global, came: &Came, why: Why, entries: usize) {
+    is_text(rt, alloc, &came.written, BUSY);
+    assert!(rt; came.told.admission == Verdict::Refused(why));
+    assert!(rt; came.told.outcome.is_none());
+    assert!(rt; came.has(0, entries));
+}
+
+#[test]
+fn a_full_gate_refuses(rt: HostRuntime) {
+    let refused = came_of_full(&rt, rt.alloc(), GET, false, false);
+    check_refused(&rt, rt.alloc(), &refused, Why::Full, 1);
+}
+
+#[test]
+fn a_full_gate_lets_bypassed_requests_through(rt: HostRuntime) {
+    let health = "GET /health HTTP/1.1|Host: h||";
+    let bypassed = came_of_full(&rt, rt.alloc(), health, false, false);
+    is_text(&rt, rt.alloc(), &bypassed.written, TOLD_OK);
     assert!(rt; bypassed.told.admission == Verdict::Bypassed);
     assert!(rt; bypassed.told.outcome == Some(Outcome::Success));
     assert!(rt; bypassed.has(1, 1));
-    Ok(())
 }
 
 #[test]
-fn a_request_that_waits_in_vain_gives_up_and_is_refused(rt: HostRuntime) -> Result<(), Fail> {
-    let alloc = rt.alloc();
-    let sent = bytes_of(alloc, GET)?;
-    let mut case = Case::new(sent.as_slice(), Says::Absent);
-    case.limit = 1;
-    case.waits = true;
-    let refused = exchanged(alloc, case)?;
-    let busy = "HTTP/1.1 429 Too Many Requests|Content-Length: 0|Connection: close||";
-    is_text(&rt, alloc, &refused.written, busy);
-    assert!(rt; refused.told.admission == Verdict::Refused(Why::TimedOut));
-    assert!(rt; refused.told.outcome.is_none());
-    assert!(rt; refused.has(0, 2));
-    Ok(())
+fn a_request_that_waits_in_vain_gives_up_and_is_refused(rt: HostRuntime) {
+    let refused = came_of_full(&rt, rt.alloc(), GET, true, false);
+    check_refused(&rt, rt.alloc(), &refused, Why::TimedOut, 2);
 }
 
 #[test]
-fn a_class_below_its_share_is_let_through_a_full_gate(rt: HostRuntime) -> Result<(), Fail> {
-    let alloc = rt.alloc();
-    let said = bytes_of(alloc, OK)?;
-    let sent = bytes_of(alloc, "GET /a HTTP/1.1|Host: h|X-Class: live||")?;
-    let mut case = Case::new(sent.as_slice(), Says::Bytes(said.as_slice()));
-    case.limit = 1;
-    case.has_classes = true;
-    let came = exchanged(alloc, case)?;
-    is_text(&rt, alloc, &came.written, TOLD_OK);
+fn a_class_below_its_share_is_let_through_a_full_gate(rt: HostRuntime) {
+    let live = "GET /a HTTP/1.1|Host: h|X-Class: live||";
+    let came = came_of_full(&rt, rt.alloc(), live, false, true);
+    is_text(&rt, rt.alloc(), &came.written, TOLD_OK);
     assert!(rt; came.told.admission == Verdict::Admitted);
     assert!(rt; came.has(1, 2));
-    Ok(())
 }
