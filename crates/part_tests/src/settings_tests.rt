@@ -7,9 +7,10 @@ use std::process::Abort;
 
 /// What a line sets, where it is one of the settings' own.
 fn setting_of(line: &str) -> Result<Option<Setting<&[u8]>>, Why> {
-    match read_line(line.as_bytes())? {
-        Some(Line::Setting(setting)) => Ok(Some(setting)),
-        _ => Ok(None),
+    match read_line(line.as_bytes()) {
+        Ok(Some(Line::Setting(setting))) => Ok(Some(setting)),
+        Ok(_) => Ok(None),
+        Err(why) => Err(why),
     }
 }
 
