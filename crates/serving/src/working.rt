@@ -13,6 +13,7 @@ use ports::GatePort;
 use proxy::{Exchange, exchange};
 use shared_gate::Clock;
 use std::alloc::{AllocError, Global};
+use std::io::{BufRead, Write};
 use timed_io::{Connection, Lent, TimedReader, TimedWriter};
 
 /// How many bytes are read or written at once.
@@ -99,14 +100,31 @@ pub fn serve_client<T: Connection, P: GatePort, B: Backend, C: Clock, L, S>(
     let (clock, time) = (shift.clock, shift.client_time);
     let from = TimedReader::new(Lent::new(stream), clock, time);
     let to = TimedWriter::new(Lent::new(stream), clock, time);
-    let mut reader = Counted::new(BufferedRead::new(from, &mut buffers.ahead));
-    let mut writer = Counted::new(BufferedWrite::new(to, &mut buffers.behind));
+    let reader = BufferedRead::new(from, &mut buffers.ahead);
+    let writer = BufferedWrite::new(to, &mut buffers.behind);
+    exchange_over(shift, settings, port, backend, reader, writer)
+}
+
+/// One exchange over a reader and a writer, whatever they are.
+fn exchange_over<R: BufRead + Drop, W: Write + Drop, P: GatePort, B: Backend, C: Clock, L, S>(
+    shift: &Shift<'_, L, C, S>,
+    settings: &Settings,
+    port: &mut P,
+    backend: &mut B,
+    from: R,
+    to: W,
+) -> Exchange
+    ensures forwarded { B.forwarded backend.new ≡ (if is_through result.admission
+        then raised (B.forwarded backend.old) else B.forwarded backend.old) }
+{
+    let mut reader = Counted::new(from);
+    let mut writer = Counted::new(to);
     exchange(
         shift.alloc,
         port,
         backend,
         settings,
-        clock,
+        shift.clock,
         &mut reader,
         &mut writer,
     )

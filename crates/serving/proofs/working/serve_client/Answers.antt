@@ -1,5 +1,5 @@
-use Rattle.serving.proofs.Forwards.{exchanged_once}
+use Rattle.std.proofs.Common.{rules}
 use Rattle.serving.proofs.working.serve_client.Goals as goal
 
 pub returns : goal.returns
-returns g c = record { forwarded = exchanged_once _ _ _ _ _ _ c.exchange.ensures.exchanged }
+returns g c = search rules
