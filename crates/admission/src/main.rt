@@ -3,7 +3,7 @@
 //! fault, or with 2 and the text of a fault of the words.
 #![tactic(auto)]
 
-use commands::{Run, run_text, words};
+use commands::{Run, words};
 use config_check::check_file;
 use counted_io::Counted;
 use fault_lines::tell_unread_words;
@@ -12,6 +12,7 @@ use serve_command::{Service, serve_file};
 use std::env;
 use std::io::Error;
 use std::process::ExitCode;
+use text_commands::run_text;
 
 fn main(rt: HostRuntime) -> ExitCode {
     let alloc = rt.alloc();

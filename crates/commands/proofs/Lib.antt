@@ -1,3 +1,2 @@
 mod Numbers
 mod Runs
-mod Stops

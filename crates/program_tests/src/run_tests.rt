@@ -1,9 +1,10 @@
 // Commands over texts, with streams in memory.
-use commands::{TextTask, run_text};
+use commands::TextTask;
 use counted_io::Counted;
 use std::alloc::Global;
 use std::io::{Error, ErrorKind, Read, Result as IoResult, Write};
 use std::process::Abort;
+use text_commands::run_text;
 
 /// What a command leaves behind: its status, its output and its fault line.
 #[derive(Drop)]

@@ -1,9 +1,9 @@
 use Rattle.std.proofs.Common.{sym, subst, None, IfErr, OnOk}
 use Rattle.counted_io.specs.Effects.{IfLeft, Wrote}
 use Rattle.commands.specs.declared.command_line.TextTask.{TextTask}
-use Rattle.commands.specs.Scripts.{IsAnswerOf, IsStop}
-use Rattle.commands.proofs.Stops.{simulation_stops}
-use Rattle.commands.proofs.scripts.carry_out.Goals as goal
+use Rattle.text_commands.specs.Scripts.{IsAnswerOf, IsStop}
+use Rattle.text_commands.proofs.Stops.{simulation_stops}
+use Rattle.text_commands.proofs.scripts.carry_out.Goals as goal
 
 pub returns-in-Simulate-clause-done : goal.returns-in-Simulate-clause-done
 returns-in-Simulate-clause-done g c =

@@ -10,7 +10,7 @@ use Rattle.load_driver.specs.Driver.{IfLine, OnAnswer}
 use Rattle.load_driver.specs.Limits.{most_reads, most_script}
 use Rattle.virtual_time.specs.Simulation.{IsSimulated}
 use Rattle.commands.specs.declared.command_line.TextTask.TheVariants.{Simulate}
-use Rattle.commands.specs.Scripts.{IsStop}
+use Rattle.text_commands.specs.Scripts.{IsStop}
 
 one_of_three : {A B C P : Type 0} → (A → P) → (B → P) → (C → P) → A ⊎ B ⊎ C → P
 one_of_three first second third (inl a) = first a

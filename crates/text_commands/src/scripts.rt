@@ -6,9 +6,9 @@ ghost use Rattle.limit_laws.specs.Algorithm.{greatest_limit};
 ghost use Rattle.load_driver.specs.Driver.{fault_text};
 ghost use Rattle.commands.specs.CommandLine.{limit_of};
 ghost use Rattle.fault_lines.specs.FaultLine.{IsTold, fault_line};
-ghost use Rattle.commands.specs.Scripts.{IsAnswerOf, IsStop};
+ghost use Rattle.text_commands.specs.Scripts.{IsAnswerOf, IsStop};
 
-use super::command_line::TextTask;
+use commands::TextTask;
 use counted_io::Counted;
 use fault_lines::{DONE, FAULT, tell_fault};
 use itoa::Buffer;
