@@ -18,15 +18,16 @@ use std::time::Clock as SystemClock;
 
 const UNKNOWN: Part = Part::Unknown;
 
-/// A clock that goes on by a second at each look.
+/// A clock that goes on by a step at each look.
 #[derive(Drop)]
 struct GoesOn {
     nanos: AtomicU64,
+    step: u64,
 }
 
 impl Clock for GoesOn {
     fn now(&self) -> u64 {
-        self.nanos.fetch_add(1_000_000_000, Ordering::SeqCst)
+        self.nanos.fetch_add(self.step, Ordering::SeqCst)
     }
 }
 
@@ -39,22 +40,48 @@ impl Clock for Late {
     }
 }
 
+/// What a clock tells after a wait in vain, that told `first` before and goes on by `step`.
+fn told_after<R: Wait + SystemClock + Abort>(
+    rt: &R,
+    alloc: Global,
+    first: u64,
+    step: u64,
+    deadline: u64,
+) -> u64 {
+    let clock = GoesOn {
+        nanos: AtomicU64::new(first),
+        step,
+    };
+    in_vain::<Brand, R, GoesOn>(rt, alloc, Blanks::new(), 0, &clock, deadline);
+    clock.now()
+}
+
+const SECOND: u64 = 1_000_000_000;
+
 #[test]
 fn who_waits_gives_up_at_the_deadline(rt: HostRuntime) {
-    let clock = GoesOn {
-        nanos: AtomicU64::new(0),
-    };
-    in_vain::<Brand, _, _>(&rt, rt.alloc(), Blanks::new(), 0, &clock, 3_000_000_000);
-    assert_eq!(rt; clock.now(), 4_000_000_000);
+    let told = told_after(&rt, rt.alloc(), 0, SECOND, 3 * SECOND);
+    assert_eq!(rt; told, 4 * SECOND);
 }
 
 #[test]
 fn after_the_deadline_one_look_at_the_clock_is_enough(rt: HostRuntime) {
-    let clock = GoesOn {
-        nanos: AtomicU64::new(9_000_000_000),
-    };
-    in_vain::<Brand, _, _>(&rt, rt.alloc(), Blanks::new(), 0, &clock, 3_000_000_000);
-    assert_eq!(rt; clock.now(), 10_000_000_000);
+    let told = told_after(&rt, rt.alloc(), 9 * SECOND, SECOND, 3 * SECOND);
+    assert_eq!(rt; told, 10 * SECOND);
+}
+
+// Whoever slept until the deadline would sleep for an hour, and a test has a minute.
+#[test]
+fn a_far_deadline_is_looked_for_meanwhile(rt: HostRuntime) {
+    let told = told_after(&rt, rt.alloc(), 0, 1_000 * SECOND, 3_000 * SECOND);
+    assert_eq!(rt; told, 4_000 * SECOND);
+}
+
+// A thousand pauses of 100 ms would take 100 seconds, and a test has a minute.
+#[test]
+fn a_near_deadline_is_waited_for_in_short_pauses(rt: HostRuntime) {
+    let told = told_after(&rt, rt.alloc(), 0, 1_000, 1_000_000);
+    assert_eq!(rt; told, 1_001_000);
 }
 
 #[test]

@@ -22,6 +22,14 @@ use std::alloc::Global;
 use std::sync::{Condvar, Mutex, Wait};
 use std::time::{Clock as SystemClock, Duration};
 
+/// The most nanoseconds from one look at the clock of a waiter to the next: 100 ms, since the clock
+/// that it looks at need not go as the system's does.
+const LONGEST_PAUSE: u64 = 100_000_000;
+
+/// The fewest that it asks to sleep: 1 ms, so that a clock that stands still before the deadline
+/// keeps no processor busy.
+const SHORTEST_PAUSE: u64 = 1_000_000;
+
 /// A gate that threads share. A call that takes the lock keeps its promise if it returns. Every
 /// moment is in nanoseconds; one above 2^62 is taken as 2^62.
 #[derive(Drop)]
@@ -132,11 +140,16 @@ impl<L: Limit, M: Naming> SharedGate<L, M> {
     ) {
         let mut locked = self.book.lock(rt);
         for _ in rt.forever() {
-            if locked.book.journal().core().is_granted(number) || clock.now() >= deadline {
+            if locked.book.journal().core().is_granted(number) {
                 return;
             }
-            let longest = Duration::from_millis(100);
-            locked = self.freed.wait_timeout(rt, locked, longest).0;
+            let now = clock.now();
+            if now >= deadline {
+                return;
+            }
+            let nanos = (deadline - now).clamp(SHORTEST_PAUSE, LONGEST_PAUSE);
+            let pause = Duration::from_nanos(nanos);
+            locked = self.freed.wait_timeout(rt, locked, pause).0;
         }
     }
 

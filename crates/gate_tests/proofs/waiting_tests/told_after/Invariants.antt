@@ -1,6 +1,6 @@
 use Rattle.std.specs.Prelude.{[]}
 use Rattle.gate_ledgers.specs.Names.{places_of}
-use Rattle.gate_tests.proofs.waiting_tests.who_waits_gives_up_at_the_deadline.Given as goal
+use Rattle.gate_tests.proofs.waiting_tests.told_after.Given as goal
 
 -- the ledgers that were just made, over a table without classes
 abbrev pub ghosts-in_vain : goal.ghosts-in_vain

@@ -1,8 +1,0 @@
-use Rattle.std.specs.Prelude.{[]}
-use Rattle.gate_ledgers.specs.Names.{places_of}
-use Rattle.gate_tests.proofs.waiting_tests.after_the_deadline_one_look_at_the_clock_is_enough.Given as goal
-
--- the ledgers that were just made, over a table without classes
-abbrev pub ghosts-in_vain : goal.ghosts-in_vain
-ghosts-in_vain g a =
-    record { calls = a.blanks.calls.name; place = places_of a.blanks; rows = []; room = 100 }
