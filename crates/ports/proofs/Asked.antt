@@ -1,6 +1,6 @@
 -- What the steps of one asking add together.
-use Rattle.std.proofs.Common.{◌≡◌, ℕ, ◌≤◌, List, [], ◌∷◌, ◌++◌, Some, Bool, sym}
-use Rattle.std.proofs.Common.{ap, ◌∙◌, subst, append_assoc, arith, rules}
+use Rattle.std.proofs.Common.{◌≡◌, ℕ, ◌≤◌, List, [], ◌∷◌, ◌++◌, Some, Bool, true, false, sym}
+use Rattle.std.proofs.Common.{refl, ap, ◌∙◌, subst, append_assoc, arith, rules}
 use Rattle.limiter_core.specs.declared.event.Event.{Event}
 use Rattle.limiter_core.specs.declared.event.Event.TheVariants.{Acquire, GiveUp}
 use Rattle.limiter_core.specs.declared.event.Reply.{Reply}
@@ -12,7 +12,7 @@ use Rattle.ports.specs.declared.port.Admission.{Admission}
 use Rattle.ports.specs.declared.port.Admission.TheVariants.{Refused}
 use Rattle.ports.specs.declared.port.Why.TheVariants.{Exhausted}
 use Rattle.ports.specs.Asking.{Ask, IsAsked, acquire, answered, gave_up, says, spent}
-use Rattle.ports.specs.Shown.{Adds, Shown}
+use Rattle.ports.specs.Shown.{Adds, Shown, is_exhausted, next_of}
 use Rattle.ports.specs.Solo.{Records}
 
 module _ (ask : Ask) (now : ℕ) where
@@ -22,21 +22,21 @@ module _ (ask : Ask) (now : ℕ) where
   same_event wait same = ap (λ (w : Bool). Acquire ask.part ask.bypass w now) same
 
   -- nothing was added
-  pub asked_in_vain : (old new : Shown) → new ≡ old
+  pub asked_in_vain : (old new : Shown) → is_exhausted old ≡ true → new ≡ old
       → Adds (Some old) (Some new)
-      (λ number added. IsAsked ask number now added (Refused Exhausted))
-  asked_in_vain old new same =
+      (λ before added. IsAsked ask before now added (Refused Exhausted))
+  asked_in_vain old new over same =
       subst (λ (s : Shown). Adds (Some old) (Some s)
-      (λ number added. IsAsked ask number now added (Refused Exhausted))) (sym same)
-      (omega arith, λ is. ([], search rules, spent))
+      (λ before added. IsAsked ask before now added (Refused Exhausted))) (sym same)
+      (omega arith, λ is. ([], search rules, spent over), refl, refl)
 
   -- one step was made
   pub asked_once : (number : ℕ) (old new : Shown) (e : Event) (r : Reply)
       (told : Admission PermitFacts) → e ≡ acquire ask now
-      → Adds (Some old) (Some new) (λ n added. (number ≡ n) × Records e r added)
-      → says ask number now r ≡ Some told
-      → Adds (Some old) (Some new) (λ n added. IsAsked ask n now added told)
-  asked_once number old new e r told event adds says_so = (
+      → Adds (Some old) (Some new) (λ s added. (number ≡ next_of s) × Records e r added)
+      → is_exhausted old ≡ false → says ask number now r ≡ Some told
+      → Adds (Some old) (Some new) (λ s added. IsAsked ask s now added told)
+  asked_once number old new e r told event adds served says_so = (
     adds.0,
     λ (same : new.base ≡ old.base).
         let one = adds.1 same in
@@ -44,21 +44,24 @@ module _ (ask : Ask) (now : ℕ) where
         subst (λ (x : Event). Records x r one.0) event one.2.1 in (
           one.0,
           one.1,
-          subst (λ (m : ℕ). IsAsked ask m now one.0 told) one.2.0
-              (subst (λ (xs : List Entry). IsAsked ask number now xs told) (sym records)
-              (answered r told says_so)),
+          subst (λ (xs : List Entry). IsAsked ask old now xs told) (sym records)
+              (answered served r told
+              (subst (λ (m : ℕ). says ask m now r ≡ Some told) one.2.0 says_so)),
         ),
+    adds.2,
+    adds.3,
   )
 
   -- an acquire that waits, and its giving up
   pub asked_twice : (number waiter second : ℕ) (old mid new : Shown) (e : Event) (first r : Reply)
       (told : Admission PermitFacts) → e ≡ acquire ask now → first ≡ reply.Waiting
-      → Adds (Some old) (Some mid) (λ n added. (number ≡ n) × Records e first added)
-      → Adds (Some mid) (Some new) (λ n added. (second ≡ n) × Records (GiveUp waiter) r added)
-      → waiter ≡ number → says ask number now r ≡ Some told
-      → Adds (Some old) (Some new) (λ n added. IsAsked ask n now added told)
+      → Adds (Some old) (Some mid) (λ s added. (number ≡ next_of s) × Records e first added)
+      → Adds (Some mid) (Some new)
+      (λ s added. (second ≡ next_of s) × Records (GiveUp waiter) r added)
+      → waiter ≡ number → is_exhausted old ≡ false → says ask number now r ≡ Some told
+      → Adds (Some old) (Some new) (λ s added. IsAsked ask s now added told)
   asked_twice number waiter second old mid new e first r told event waiting adds more named
-      says_so =
+      served says_so =
       let low : old.base ≤ mid.base = adds.0 in
       let high : mid.base ≤ new.base = more.0 in (
         omega arith,
@@ -71,15 +74,17 @@ module _ (ask : Ask) (now : ℕ) where
             subst (λ (x : Reply). Records (acquire ask now) x one.0) waiting
             (subst (λ (x : Event). Records x first one.0) event one.2.1) in
             let both : one.0 ++ two.0
-            ≡ Call (acquire ask now) reply.Waiting ∷ Call (GiveUp number) r ∷ [] =
+            ≡ Call (acquire ask now) reply.Waiting ∷ Call (GiveUp (next_of old)) r ∷ [] =
             ap (λ (xs : List Entry). xs ++ two.0) asks
             ∙ ap (λ (xs : List Entry). Call (acquire ask now) reply.Waiting ∷ xs)
-            (two.2.1 ∙ ap (λ (w : ℕ). Call (GiveUp w) r ∷ []) named) in (
+            (two.2.1 ∙ ap (λ (w : ℕ). Call (GiveUp w) r ∷ []) (named ∙ one.2.0)) in (
               one.0 ++ two.0,
               two.1 ∙ ap (λ (xs : List Entry). xs ++ two.0) one.1
                   ∙ append_assoc old.entries one.0 two.0,
-              subst (λ (m : ℕ). IsAsked ask m now (one.0 ++ two.0) told) one.2.0
-                  (subst (λ (xs : List Entry). IsAsked ask number now xs told) (sym both)
-                  (gave_up r told says_so)),
+              subst (λ (xs : List Entry). IsAsked ask old now xs told) (sym both)
+                  (gave_up served r told
+                  (subst (λ (m : ℕ). says ask m now r ≡ Some told) one.2.0 says_so)),
             ),
+        more.2 ∙ adds.2,
+        more.3 ∙ adds.3,
       )

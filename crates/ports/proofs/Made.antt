@@ -28,7 +28,7 @@ use Rattle.gate_history.specs.Book.{Book}
 use Rattle.gate_history.specs.Handing.{Given, given, given_back, given_by, nothing, permit, ticket}
 use Rattle.gate_history.specs.Steps.{Steps}
 use Rattle.ports.specs.Ending.{IsPromotion}
-use Rattle.ports.specs.Shown.{shown_of}
+use Rattle.ports.specs.Shown.{Shown, next_of, shown_of}
 use Rattle.ports.specs.Solo.{Hands, HandsNothing, IsOfPort, Makes, MayExhaust, Queues, Records}
 use Rattle.ports.specs.Solo.{Waits}
 use Rattle.ports.proofs.Grown.{adds_map, grows, next_ready}
@@ -249,16 +249,18 @@ makes {S} {N} rules old new before after e (Done told got) port some same did =
     → Queues rules told.number x new.journal)) r
     (reply_fits rules j N new.journal told.number did.number same e port) in
     record {
+      served = did.served;
       adds = adds_map (shown_of j) (shown_of new.journal)
-          (λ n more. (told.number ≡ n) × (more ≡ answered rules j e))
-          (λ n more. (told.number ≡ n) × Records e told.reply more)
+          (λ s more. (told.number ≡ next_of s) × (more ≡ answered rules j e))
+          (λ s more. (told.number ≡ next_of s) × Records e told.reply more)
           (grows rules j new.journal e told.number did.journal (same e) did.number some)
-          (λ (n : ℕ) (more : List Entry) both.
+          (λ (s : Shown) (more : List Entry) both.
           (both.0, records rules j e port told.reply r more both.1));
       hands = fits.0 got did.gives;
       queues = fits.1 did.journal r;
     }
 makes rules old new before after e (Exhausted refusal got) port some same did = record {
+  over = did.exhausted;
   same = ap (λ (b : Book _). b.journal) did.same;
   nothing = none_back rules old.journal e port got did.gives;
   may = may rules old.journal e did.exhausted;

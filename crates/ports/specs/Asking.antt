@@ -1,5 +1,5 @@
 -- Asking for a permit.
-use Rattle.std.specs.Prelude.{◌≡◌, ℕ, List, [], ◌∷◌, Bool, false, Option, None, Some, is_some}
+use Rattle.std.specs.Prelude.{◌≡◌, ℕ, List, [], ◌∷◌, Bool, true, false, Option, None, Some, is_some}
 use Rattle.std.specs.Prelude.{if◌then◌else◌}
 use Rattle.limit_laws.specs.Facts.{moment}
 use Rattle.partitions.specs.declared.part.Part.{Part}
@@ -14,7 +14,7 @@ use Rattle.limiter_core.specs.History.{permit_of}
 use Rattle.ports.specs.declared.port.Why.TheVariants as why
 use Rattle.ports.specs.declared.port.Admission.{Admission}
 use Rattle.ports.specs.declared.port.Admission.TheVariants.{Admitted, Bypassed, Refused}
-use Rattle.ports.specs.Shown.{Shown, Adds}
+use Rattle.ports.specs.Shown.{Shown, Adds, is_exhausted, next_of}
 
 -- what is asked for
 pub record Ask : Type 0 where
@@ -48,16 +48,20 @@ says ask number now reply.TimedOut = Some (Refused why.TimedOut)
 says ask number now reply.Lost = Some (Refused why.Lost)
 says ask number now _ = None
 
--- THE ENTRIES OF AN ASKING that begins with this number, and what its caller is told: none, and
--- that the history is exhausted; or an acquire, and what its reply says; or an acquire that waits
--- and the giving up of its number, and what the reply to that says
-pub data IsAsked (ask : Ask) (number now : ℕ) : List Entry → Admission PermitFacts → Type 0 where
-  spent : IsAsked ask number now [] (Refused why.Exhausted)
-  answered : (r : Reply) (told : Admission PermitFacts) → says ask number now r ≡ Some told
-      → IsAsked ask number now (Call (acquire ask now) r ∷ []) told
-  gave_up : (r : Reply) (told : Admission PermitFacts) → says ask number now r ≡ Some told
-      → IsAsked ask number now
-      (Call (acquire ask now) reply.Waiting ∷ Call (GiveUp number) r ∷ []) told
+-- THE ENTRIES OF AN ASKING where this was shown before, and what its caller is told. Just where
+-- the history was exhausted there are none, and that is told; else there is an acquire, and what
+-- its reply says; or an acquire that waits and the giving up of its number, and what the reply to
+-- that says
+pub data IsAsked (ask : Ask) (old : Shown) (now : ℕ) : List Entry → Admission PermitFacts
+    → Type 0 where
+  spent : is_exhausted old ≡ true → IsAsked ask old now [] (Refused why.Exhausted)
+  answered : is_exhausted old ≡ false
+      → (r : Reply) (told : Admission PermitFacts) → says ask (next_of old) now r ≡ Some told
+      → IsAsked ask old now (Call (acquire ask now) r ∷ []) told
+  gave_up : is_exhausted old ≡ false
+      → (r : Reply) (told : Admission PermitFacts) → says ask (next_of old) now r ≡ Some told
+      → IsAsked ask old now
+      (Call (acquire ask now) reply.Waiting ∷ Call (GiveUp (next_of old)) r ∷ []) told
 
 -- what is answered, with its permit's facts in the permit's place
 abbrev pub told : {P : Type 0} → (P → PermitFacts) → Admission P → Admission PermitFacts
@@ -70,4 +74,4 @@ abbrev pub Admits : {P : Type 0} → Part → Bool → Option ℕ → ℕ → Op
     → (P → PermitFacts) → Admission P → Type 0
 Admits part bypass deadline now old new facts answer =
     Adds old new
-    (λ number added. IsAsked (ask_of part bypass deadline) number now added (told facts answer))
+    (λ before added. IsAsked (ask_of part bypass deadline) before now added (told facts answer))

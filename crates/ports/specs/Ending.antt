@@ -20,4 +20,4 @@ IsEnding permit outcome now added =
 
 -- A PORT ENDS a permit: the entries of an ending are added
 abbrev pub Ends : PermitFacts → Outcome → ℕ → Option Shown → Option Shown → Type 0
-Ends permit outcome now old new = Adds old new (λ number added. IsEnding permit outcome now added)
+Ends permit outcome now old new = Adds old new (λ before added. IsEnding permit outcome now added)

@@ -10,7 +10,7 @@ use Rattle.limiter_core.specs.declared.event.Entry.{Entry}
 use Rattle.limiter_core.specs.declared.event.Entry.TheVariants.{Call}
 use Rattle.limiter_core.specs.History.{permit_of}
 use Rattle.limiter_core.specs.Answer.{waits}
-use Rattle.gate_journal.specs.Journal.{Journal, image}
+use Rattle.gate_journal.specs.Journal.{Journal, image, is_over}
 use Rattle.gate_history.specs.declared.step.Handed.{Handed}
 use Rattle.gate_history.specs.declared.step.Handed.TheVariants.{Nothing, Permit, Ticket}
 use Rattle.gate_history.specs.declared.step.Step.{Step}
@@ -18,7 +18,7 @@ use Rattle.gate_history.specs.declared.step.Step.TheVariants.{Done, Exhausted}
 use Rattle.gate_history.specs.Book.{Book}
 use Rattle.gate_history.specs.Told.{Told}
 use Rattle.ports.specs.Ending.{IsPromotion}
-use Rattle.ports.specs.Shown.{Adds, shown_of}
+use Rattle.ports.specs.Shown.{Adds, next_of, shown_of}
 
 -- a port: its book, and how many calls were made by its pass
 pub record Solo (S : Type 0) : Type 0 where
@@ -75,17 +75,20 @@ module _ {S : Type 0} (rules : Algorithm S) where
   MayExhaust (GiveUp number) j = Waits number j → ⊥
   MayExhaust _ j = Unit {0}
 
-  -- DONE: the entries of the event are added, and its reply hands out what it says
+  -- DONE, where the history isn't exhausted: the entries of the event are added, and its reply
+  -- hands out what it says
   pub record IsDone {N : Type 0} (old new : Journal S) (e : Event) (told : Told) (got : Handed N)
       : Type 0 where
+    pub served : is_over rules old e ≡ false
     pub adds : Adds (Some (shown_of old)) (Some (shown_of new))
-        (λ number added. (told.number ≡ number) × Records e told.reply added)
+        (λ before added. (told.number ≡ next_of before) × Records e told.reply added)
     pub hands : Hands told.number e told.reply got
     pub queues : Queues told.number told.reply new
 
-  -- EXHAUSTED: nothing changes, and nothing is handed out
+  -- EXHAUSTED, where the history is: nothing changes, and nothing is handed out
   pub record IsExhausted {N : Type 0} (old new : Journal S) (e : Event) (got : Handed N)
       : Type 0 where
+    pub over : is_over rules old e ≡ true
     pub same : new ≡ old
     pub nothing : HandsNothing got
     pub may : MayExhaust e old

@@ -50,7 +50,8 @@ pub trait GatePort {
     ghost facts: { Self.Permit → PermitFacts };
 
     /// Asks for a permit. With a deadline it waits for one where there is no room, until then;
-    /// with `bypass` it is let through without one, and never waits.
+    /// with `bypass` it is let through without one, and never waits. A port that shows its entries
+    /// answers `Exhausted` just where they were exhausted before.
     fn admit(
         &mut self,
         part: Part,

@@ -19,9 +19,10 @@ use Rattle.proxy.specs.Settling.{Serves, asked_for}
 use Rattle.proxy.specs.Table.{outcome_of}
 
 -- one stretch of entries, and then another
-adds_then : (old mid new : Option Shown) (P : ℕ → List Entry → Type 0) (Q : List Entry → Type 0)
-    (R : ℕ → List Entry → Type 0) → Adds old mid P → Adds mid new (λ number added. Q added)
-    → ((n : ℕ) (a b : List Entry) → P n a → Q b → R n (a ++ b)) → Adds old new R
+adds_then : (old mid new : Option Shown) (P : Shown → List Entry → Type 0)
+    (Q : List Entry → Type 0) (R : Shown → List Entry → Type 0)
+    → Adds old mid P → Adds mid new (λ before added. Q added)
+    → ((s : Shown) (a b : List Entry) → P s a → Q b → R s (a ++ b)) → Adds old new R
 adds_then None mid new P Q R p q f = tt
 adds_then (Some o) None new P Q R p q f = absurd p
 adds_then (Some o) (Some m) None P Q R p q f = absurd q
@@ -37,19 +38,23 @@ adds_then (Some o) (Some m) (Some n) P Q R p q f =
             one.0 ++ two.0,
             two.1 ∙ ap (λ (xs : List Entry). xs ++ two.0) one.1
                 ∙ append_assoc o.entries one.0 two.0,
-            f (o.base + length o.entries) one.0 two.0 one.2 two.2,
+            f o one.0 two.0 one.2 two.2,
           ),
+      q.2 ∙ p.2,
+      q.3 ∙ p.3,
     )
 
-adds_map : (old new : Option Shown) (P R : ℕ → List Entry → Type 0) → Adds old new P
-    → ((n : ℕ) (a : List Entry) → P n a → R n a) → Adds old new R
+adds_map : (old new : Option Shown) (P R : Shown → List Entry → Type 0) → Adds old new P
+    → ((s : Shown) (a : List Entry) → P s a → R s a) → Adds old new R
 adds_map None new P R p f = tt
 adds_map (Some o) None P R p f = absurd p
 adds_map (Some o) (Some n) P R p f = (
   p.0,
   λ (same : n.base ≡ o.base).
       let one = p.1 same in
-      (one.0, one.1, f (o.base + length o.entries) one.0 one.2),
+      (one.0, one.1, f o one.0 one.2),
+  p.2,
+  p.3,
 )
 
 -- a deadline is given where the settings let callers wait
@@ -63,12 +68,12 @@ pub asks : {P : Type 0} (s : Settings) (class class' : Class) (deadline : Option
     (old new : Option Shown) (facts : P → PermitFacts) (answer a : Admission P)
     → deadline ≡ cond s.wait (Some until) None → answer ≡ a → class ≡ class'
     → Admits class.part class.bypass deadline now old new facts answer
-    → Adds old new (λ number added. IsAsked (asked_for s class') number now added (told facts a))
+    → Adds old new (λ before added. IsAsked (asked_for s class') before now added (told facts a))
 asks {P} s class class' deadline until now old new facts answer a waits is same p =
     let asked : Class → Bool → Admission P → Type 0 =
-    λ (k : Class) (w : Bool) (x : Admission P). Adds old new (λ number added.
+    λ (k : Class) (w : Bool) (x : Admission P). Adds old new (λ before added.
     IsAsked (record { part = k.part; bypass = k.bypass; wait = cond k.bypass false w })
-    number now added (told facts x)) in
+    before now added (told facts x)) in
     subst (λ (k : Class). asked k s.wait a) same
     (subst (λ (x : Admission P). asked class s.wait x) is
     (subst (λ (w : Bool). asked class w answer) (waits_so s.wait until deadline waits) p))
@@ -77,14 +82,14 @@ module _ (ask : Ask) (now : ℕ) where
   -- who was admitted is asked for, and then ended
   pub serves_admitted : (old mid new : Option Shown) (permit : PermitFacts) (answer : Answer)
       (outcome : Outcome) (end : ℕ)
-      → Adds old mid (λ number added. IsAsked ask number now added (admission.Admitted permit))
+      → Adds old mid (λ before added. IsAsked ask before now added (admission.Admitted permit))
       → outcome ≡ outcome_of answer → Ends permit outcome end mid new
       → Adds old new (Serves ask verdict.Admitted (Some answer))
   serves_admitted old mid new permit answer outcome end p same q =
-      adds_then old mid new (λ n a. IsAsked ask n now a (admission.Admitted permit))
+      adds_then old mid new (λ s a. IsAsked ask s now a (admission.Admitted permit))
       (IsEnding permit (outcome_of answer) end) (Serves ask verdict.Admitted (Some answer)) p
       (subst (λ (o : Outcome). Ends permit o end mid new) same q)
-      (λ (n : ℕ) (a b : List Entry) asked ended. record {
+      (λ (s : Shown) (a b : List Entry) asked ended. record {
         now = now;
         asked = a;
         ended = b;
@@ -97,12 +102,12 @@ module _ (ask : Ask) (now : ℕ) where
 
   -- nobody else is ended
   pub serves_bypassed : (old new : Option Shown) (answer : Answer)
-      → Adds old new (λ number added. IsAsked ask number now added admission.Bypassed)
+      → Adds old new (λ before added. IsAsked ask before now added admission.Bypassed)
       → Adds old new (Serves ask verdict.Bypassed (Some answer))
   serves_bypassed old new answer p =
-      adds_map old new (λ n a. IsAsked ask n now a admission.Bypassed)
+      adds_map old new (λ s a. IsAsked ask s now a admission.Bypassed)
       (Serves ask verdict.Bypassed (Some answer)) p
-      (λ (n : ℕ) (a : List Entry) asked. record {
+      (λ (s : Shown) (a : List Entry) asked. record {
         now = now;
         asked = a;
         ended = [];
@@ -114,12 +119,12 @@ module _ (ask : Ask) (now : ℕ) where
       })
 
   pub serves_refused : (old new : Option Shown) (why : Why)
-      → Adds old new (λ number added. IsAsked ask number now added (admission.Refused why))
+      → Adds old new (λ before added. IsAsked ask before now added (admission.Refused why))
       → Adds old new (Serves ask (verdict.Refused why) None)
   serves_refused old new why p =
-      adds_map old new (λ n a. IsAsked ask n now a (admission.Refused why))
+      adds_map old new (λ s a. IsAsked ask s now a (admission.Refused why))
       (Serves ask (verdict.Refused why) None) p
-      (λ (n : ℕ) (a : List Entry) asked. record {
+      (λ (s : Shown) (a : List Entry) asked. record {
         now = now;
         asked = a;
         ended = [];

@@ -56,15 +56,15 @@ Closes (admission.Admitted permit) (Some answer) ended =
 Closes (admission.Admitted permit) None ended = ⊥
 Closes _ answer ended = ended ≡ []
 
--- THE ENTRIES of one asking, and of the ending of what it got
-pub record Serves (ask : Ask) (said : Verdict) (answer : Option Answer) (number : ℕ)
+-- THE ENTRIES of one asking where this was shown before, and of the ending of what it got
+pub record Serves (ask : Ask) (said : Verdict) (answer : Option Answer) (old : Shown)
     (added : List Entry) : Type 0 where
   pub now : ℕ
   pub asked : List Entry
   pub ended : List Entry
   pub admission : Admission PermitFacts
   pub both : added ≡ asked ++ ended
-  pub asking : IsAsked ask number now asked admission
+  pub asking : IsAsked ask old now asked admission
   pub verdict : said ≡ verdict_of admission
   pub ending : Closes admission answer ended
 

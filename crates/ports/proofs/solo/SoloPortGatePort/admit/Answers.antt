@@ -5,7 +5,8 @@ use Rattle.ports.proofs.solo.SoloPortGatePort.admit.Goals as goal
 
 pub returns-in-Nothing : goal.returns-in-Nothing
 returns-in-Nothing g c =
-    asked_in_vain (ask_of c.args.part c.args.bypass c.args.deadline) c.args.now _ _ (search rules)
+    asked_in_vain (ask_of c.args.part c.args.bypass c.args.deadline) c.args.now _ _
+    c.in-Exhausted.ensures.over (search rules)
 
 pub returns-in-Permit-handed : goal.returns-in-Permit-handed
 returns-in-Permit-handed g c =
@@ -13,7 +14,7 @@ returns-in-Permit-handed g c =
     c.in-Done.receipt.number _ _ _ c.in-Done.receipt.reply _
     (same_event (ask_of c.args.part c.args.bypass c.args.deadline) c.args.now
     c.would_wait-wait.result c.would_wait-wait.ensures)
-    c.in-Done.ensures.adds (search rules)
+    c.in-Done.ensures.adds c.in-Done.ensures.served (search rules)
 
 pub returns-in-Bypassed : goal.returns-in-Bypassed
 returns-in-Bypassed g c =
@@ -21,7 +22,7 @@ returns-in-Bypassed g c =
     c.in-Done.receipt.number _ _ _ c.in-Done.receipt.reply _
     (same_event (ask_of c.args.part c.args.bypass c.args.deadline) c.args.now
     c.would_wait-wait.result c.would_wait-wait.ensures)
-    c.in-Done.ensures.adds (search rules)
+    c.in-Done.ensures.adds c.in-Done.ensures.served (search rules)
 
 pub returns-in-Full : goal.returns-in-Full
 returns-in-Full g c =
@@ -29,7 +30,7 @@ returns-in-Full g c =
     c.in-Done.receipt.number _ _ _ c.in-Done.receipt.reply _
     (same_event (ask_of c.args.part c.args.bypass c.args.deadline) c.args.now
     c.would_wait-wait.result c.would_wait-wait.ensures)
-    c.in-Done.ensures.adds (search rules)
+    c.in-Done.ensures.adds c.in-Done.ensures.served (search rules)
 
 pub returns-in-BacklogFull : goal.returns-in-BacklogFull
 returns-in-BacklogFull g c =
@@ -37,7 +38,7 @@ returns-in-BacklogFull g c =
     c.in-Done.receipt.number _ _ _ c.in-Done.receipt.reply _
     (same_event (ask_of c.args.part c.args.bypass c.args.deadline) c.args.now
     c.would_wait-wait.result c.would_wait-wait.ensures)
-    c.in-Done.ensures.adds (search rules)
+    c.in-Done.ensures.adds c.in-Done.ensures.served (search rules)
 
 pub returns-in-Permit-handed-3 : goal.returns-in-Permit-handed-3
 returns-in-Permit-handed-3 g c =
@@ -47,7 +48,7 @@ returns-in-Permit-handed-3 g c =
     (same_event (ask_of c.args.part c.args.bypass c.args.deadline) c.args.now
     c.would_wait-wait.result c.would_wait-wait.ensures)
     (search rules) c.in-Done.ensures.adds c.in-Done-step.ensures.adds (search rules)
-    (search rules)
+    c.in-Done.ensures.served (search rules)
 
 pub returns-in-TimedOut : goal.returns-in-TimedOut
 returns-in-TimedOut g c =
@@ -57,7 +58,7 @@ returns-in-TimedOut g c =
     (same_event (ask_of c.args.part c.args.bypass c.args.deadline) c.args.now
     c.would_wait-wait.result c.would_wait-wait.ensures)
     (search rules) c.in-Done.ensures.adds c.in-Done-step.ensures.adds (search rules)
-    (search rules)
+    c.in-Done.ensures.served (search rules)
 
 pub returns-in-Lost : goal.returns-in-Lost
 returns-in-Lost g c =
@@ -67,4 +68,4 @@ returns-in-Lost g c =
     (same_event (ask_of c.args.part c.args.bypass c.args.deadline) c.args.now
     c.would_wait-wait.result c.would_wait-wait.ensures)
     (search rules) c.in-Done.ensures.adds c.in-Done-step.ensures.adds (search rules)
-    (search rules)
+    c.in-Done.ensures.served (search rules)
