@@ -10,10 +10,12 @@ times of an answer, of processor time an exchange, and of overflows of the accep
 ended. Needs Debian's nginx-light, haproxy and wrk.
 """
 import argparse
+import contextlib
 import os
 import pathlib
 import re
 import shutil
+import socket
 import statistics
 import subprocess
 import sys
@@ -51,8 +53,13 @@ initial = 64
 
 
 def first_port():
-    """A port below the ephemeral range, with five free ones behind it for this run."""
-    return 20_000 + os.getpid() * 7 % 10_000
+    """The first of four free ports in a row, below the ephemeral range as it mostly is."""
+    for first in range(20_000 + os.getpid() * 7 % 10_000, 32_000, 4):
+        with contextlib.suppress(OSError), contextlib.ExitStack() as held:
+            for port in range(first, first + 4):
+                held.enter_context(socket.create_server(("127.0.0.1", port)))
+            return first
+    sys.exit("proxy.py: no four ports in a row are free")
 
 
 class Servers:
@@ -186,11 +193,12 @@ def main():
         os.chmod(folder, 0o755)
         servers = Servers(pathlib.Path(folder), processor)
         try:
-            targets = targets_of(servers, str(given.program.resolve()), first_port(), given.workers)
+            first = first_port()
+            targets = targets_of(servers, str(given.program.resolve()), first, given.workers)
             time.sleep(1.5)
             gone = [name for name, (_, process) in targets.items() if process.poll() is not None]
             if gone:
-                sys.exit(f"proxy.py: {', '.join(gone)} didn't start; is a port from {first_port()} on taken?")
+                sys.exit(f"proxy.py: {', '.join(gone)} didn't start; is a port from {first} on taken?")
             for clients in given.clients:
                 found = {name: [] for name in targets}
                 for turn in range(given.rounds):

@@ -2,11 +2,9 @@
 between them. All of it stands on loopback, and everything that is started is ended.
 """
 import asyncio
-import collections
 import contextlib
 import dataclasses
 import multiprocessing
-import os
 import pathlib
 import resource
 import signal
@@ -91,22 +89,21 @@ class Gateway:
 
     def __enter__(self):
         self.process = subprocess.Popen(self.words, stdout=subprocess.DEVNULL, stderr=subprocess.PIPE, text=True)
+        said = ""
         for line in self.process.stderr:
             if "listening" in line:
                 return self
-        self.process.wait()
-        raise RuntimeError(f"the gateway ended with status {self.process.returncode}")
+            said = f": {line.strip()}"
+        status = self.process.wait()
+        self.process.stderr.close()
+        self.room.cleanup()
+        raise RuntimeError(f"the gateway ended with status {status}{said}")
 
     def __exit__(self, *_):
         self.process.terminate()
         self.process.wait()
         self.process.stderr.close()
         self.room.cleanup()
-
-    def resident(self):
-        """What it holds in memory, in bytes."""
-        pages = pathlib.Path(f"/proc/{self.process.pid}/statm").read_text().split()[1]
-        return int(pages) * os.sysconf("SC_PAGE_SIZE")
 
 
 @dataclasses.dataclass
@@ -150,10 +147,6 @@ async def offer(port, rate, seconds, names=("unknown",), patience=1.0):
 def percentile(values, part):
     ordered = sorted(values)
     return ordered[min(len(ordered) - 1, int(len(ordered) * part))] if ordered else float("nan")
-
-
-def statuses(calls):
-    return collections.Counter(it.status for it in calls)
 
 
 @contextlib.contextmanager
