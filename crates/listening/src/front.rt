@@ -11,24 +11,14 @@ pub struct Front {
 }
 
 impl Front {
-    /// Binds the address, with port 0 for one that the system picks. As many clients may wait to
-    /// be accepted as the system allows, 4,096 by default; std's own number is 128, and a client
-    /// that finds the queue full tries again a second later.
+    /// Binds the address; the fault is the system's, mostly that another program has it. As many
+    /// clients may wait to be accepted as the system allows, 4,096 by default; std's own number is
+    /// 128, and a client that finds the queue full tries again a second later.
     pub fn bind<R: Net>(rt: &R, address: SocketAddr) -> Result<Front> {
         let queue = mio::net::TcpListener::bind(rt, address)?;
         let listener = TcpListener::from(queue.as_fd().try_clone_to_owned()?);
         listener.set_nonblocking(false)?;
         Ok(Front { listener })
-    }
-
-    /// The clients of an address that is bound already, with the queue that it has.
-    pub fn over(listener: TcpListener) -> Front {
-        Front { listener }
-    }
-
-    /// The address that is bound.
-    pub fn address(&self) -> Result<SocketAddr> {
-        self.listener.local_addr()
     }
 }
 

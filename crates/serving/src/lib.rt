@@ -8,6 +8,7 @@
 #![tactic(auto)]
 
 mod fault;
+mod lingering;
 mod opening;
 mod workers;
 mod working;

@@ -26,6 +26,7 @@ pub(crate) fn open_book<M: Naming>(
     ensures rolls { IfOk result (λ book. book.journal.is_rolling ≡ true) }
     ensures kept { IfOk result (λ book. book.journal.kept ≡ settings.now.keep) }
     ensures empty { IfOk result (λ book. book.journal.entries ≡ []) }
+    ensures limit { IfOk result (λ book. book.journal.opening.state ≡ settings.now.limit) }
     ensures unsealed { IfOk result (λ book. book.is_sealed ≡ false) }
 {
     let Ok(table) = settings.table.copy() else {

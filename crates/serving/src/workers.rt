@@ -102,12 +102,12 @@ where
     let passes = make_passes(alloc, &mut book, backends.len())?;
     book.seal();
     let gate = SharedGate::new(book);
-    let counter = Counter {
+    let post = Post {
         rt,
         shift,
         gate: &gate,
     };
-    let workers = hire(&counter, passes, backends)?;
+    let workers = hire(&post, passes, backends)?;
     run_all(rt, alloc, workers)?;
     Ok(gate.counters(rt))
 }
@@ -137,7 +137,7 @@ where
 
 /// The gate, as its workers find it.
 #[derive(Drop)]
-struct Counter<'a, M: Naming, R, L, C, S> {
+struct Post<'a, M: Naming, R, L, C, S> {
     rt: &'a R,
     shift: &'a Shift<'a, L, C, S>,
     gate: &'a SharedGate<AnyLimit, M>,
@@ -146,7 +146,7 @@ struct Counter<'a, M: Naming, R, L, C, S> {
 /// One worker: what it shares, and what it owns.
 #[derive(Drop)]
 struct Worker<'a, M: Naming, R, L, B, C, S> {
-    counter: &'a Counter<'a, M, R, L, C, S>,
+    post: &'a Post<'a, M, R, L, C, S>,
     pass: Pass<M>,
     backend: B,
     buffers: Buffers,
@@ -154,7 +154,7 @@ struct Worker<'a, M: Naming, R, L, B, C, S> {
 
 /// A worker for each pass and backend.
 fn hire<'a, M, R, L, B, C, S>(
-    counter: &'a Counter<'a, M, R, L, C, S>,
+    post: &'a Post<'a, M, R, L, C, S>,
     passes: Vec<Pass<M>>,
     backends: Vec<B>,
 ) -> Result<Vec<Worker<'a, M, R, L, B, C, S>>, ServeFault>
@@ -162,12 +162,12 @@ where
     M: Naming,
     B: Drop,
 {
-    let alloc = counter.shift.alloc;
+    let alloc = post.shift.alloc;
     let mut workers = Vec::with_capacity(alloc, backends.len())?;
     for (pass, backend) in passes.into_iter().zip(backends) {
         let buffers = Buffers::new(alloc)?;
         let worker = Worker {
-            counter,
+            post,
             pass,
             backend,
             buffers,
@@ -193,18 +193,18 @@ where
 
     fn run(self) -> bool {
         let Worker {
-            counter,
+            post,
             pass,
             mut backend,
             mut buffers,
         } = self;
-        run_one(counter, pass, &mut backend, &mut buffers).is_ok()
+        run_one(post, pass, &mut backend, &mut buffers).is_ok()
     }
 }
 
 /// One worker's whole run, over settings and a port of its own.
 fn run_one<M, R, L, B, C, S>(
-    counter: &Counter<'_, M, R, L, C, S>,
+    post: &Post<'_, M, R, L, C, S>,
     pass: Pass<M>,
     backend: &mut B,
     buffers: &mut Buffers,
@@ -217,9 +217,9 @@ where
     C: Clock,
     S: Source,
 {
-    let shift = counter.shift;
+    let shift = post.shift;
     let settings = shift.source.settings(shift.alloc)?;
-    let mut port = Port::new(counter.rt, counter.gate, pass, shift.clock);
-    work(shift, &settings, &mut port, backend, buffers);
+    let mut port = Port::new(post.rt, post.gate, pass, shift.clock);
+    work(post.rt, shift, &settings, &mut port, backend, buffers);
     Ok(())
 }

@@ -4,6 +4,7 @@ ghost use Rattle.counted_io.specs.Count.{raised};
 ghost use Rattle.gate_config.specs.declared.settings.Settings.{Settings as SettingsValue};
 ghost use Rattle.proxy.specs.Settling.{is_through};
 
+use crate::lingering::linger;
 use backend::Backend;
 use counted_io::Counted;
 use gate_config::Settings;
@@ -14,10 +15,15 @@ use proxy::{Exchange, exchange};
 use shared_gate::Clock;
 use std::alloc::{AllocError, Global};
 use std::io::{BufRead, Write};
+use std::thread;
+use std::time::{Clock as SystemClock, Duration};
 use timed_io::{Connection, Lent, TimedReader, TimedWriter};
 
 /// How many bytes are read or written at once.
 const PIECE: usize = 16_384;
+
+/// How long a worker rests that could have no connection, in milliseconds.
+const WITHOUT_A_CLIENT: u64 = 10;
 
 /// The buffers that a worker keeps for all its clients.
 #[derive(Drop)]
@@ -67,8 +73,10 @@ pub struct Shift<'a, L, C, S> {
 }
 
 /// Accepts as many connections as the shift says, one after the other, and serves each by one
-/// exchange. A connection that can't be had counts as one. None is forwarded twice.
-pub fn work<P: GatePort, B: Backend, C: Clock, L: Listener, S>(
+/// exchange. A connection that can't be had counts as one, and the next one is tried a while later:
+/// what was wanting, such as a free descriptor, isn't there at once. None is forwarded twice.
+pub fn work<R: SystemClock, P: GatePort, B: Backend, C: Clock, L: Listener, S>(
+    rt: &R,
     shift: &Shift<'_, L, C, S>,
     settings: &Settings,
     port: &mut P,
@@ -78,14 +86,19 @@ pub fn work<P: GatePort, B: Backend, C: Clock, L: Listener, S>(
     ensures once { B.forwarded backend.new ≤ B.forwarded backend.old + shift.now.per_worker }
 {
     for _ in 0..shift.per_worker {
-        if let Some(stream) = shift.listener.accept() {
-            serve_client(shift, settings, &stream, port, backend, buffers);
+        match shift.listener.accept() {
+            Some(stream) => {
+                serve_client(shift, settings, &stream, port, backend, buffers);
+            }
+            None => thread::sleep(rt, Duration::from_millis(WITHOUT_A_CLIENT)),
         }
     }
 }
 
 /// Serves one client over its connection, by readers and writers that last as long as it may take.
-/// It is forwarded once where its request was let through, and else not at all.
+/// It is forwarded once where its request was let through, and else not at all. Where it is
+/// answered before its whole request was read, what it still sends is dropped, so that it gets to
+/// read the answer.
 pub fn serve_client<T: Connection, P: GatePort, B: Backend, C: Clock, L, S>(
     shift: &Shift<'_, L, C, S>,
     settings: &Settings,
@@ -102,7 +115,9 @@ pub fn serve_client<T: Connection, P: GatePort, B: Backend, C: Clock, L, S>(
     let to = TimedWriter::new(Lent::new(stream), clock, time);
     let reader = BufferedRead::new(from, &mut buffers.ahead);
     let writer = BufferedWrite::new(to, &mut buffers.behind);
-    exchange_over(shift, settings, port, backend, reader, writer)
+    let served = exchange_over(shift, settings, port, backend, reader, writer);
+    linger(&served, stream, clock, time);
+    served
 }
 
 /// One exchange over a reader and a writer, whatever they are.

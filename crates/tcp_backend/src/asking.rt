@@ -7,12 +7,17 @@ use counted_io::Counted;
 use lent_io::{BufferedRead, BufferedWrite, ReadBuffer, WriteBuffer};
 use std::alloc::Global;
 use std::io::{Read, Write};
+use std::net::OpenStream;
+use std::time::Duration;
 use wire::{Request, Response, WireFault, read_response, write_request};
 
 /// How many reads the end of a connection may take, behind an answer that was read whole.
 const LAST_READS: u32 = 16;
 
-// Writes the request, reads its answer, and then to the end of the connection.
+/// How long each of them may take, in milliseconds.
+const LAST_MILLIS: u64 = 20;
+
+// Writes the request and reads its answer.
 pub(crate) fn ask<S: Read + Write>(
     alloc: Global,
     stream: &mut S,
@@ -24,16 +29,19 @@ pub(crate) fn ask<S: Read + Write>(
     let mut writer = Counted::new(BufferedWrite::new(&mut *stream, behind));
     write_request(&mut writer, request, host)?;
     let mut reader = Counted::new(BufferedRead::new(&mut *stream, ahead));
-    let response = read_response(alloc, &mut reader, &request.method)?;
-    read_on(&mut reader);
-    Ok(response)
+    read_response(alloc, &mut reader, &request.method)
 }
 
-// Reads and drops what follows. A fault or too much of it changes nothing.
-fn read_on<R: Read>(reader: &mut R) {
+// Reads and drops what follows an answer, so that a backend which closes its connection does so
+// first. One that keeps it open holds nobody for longer, and a fault changes nothing.
+pub(crate) fn read_on<S: Read + OpenStream>(stream: &mut S) {
+    let most = Duration::from_millis(LAST_MILLIS);
+    if stream.set_read_timeout(Some(most)).is_err() {
+        return;
+    }
     let mut dropped = [0u8; 1024];
     for _ in 0..LAST_READS {
-        match reader.read(&mut dropped) {
+        match stream.read(&mut dropped) {
             Ok(0) | Err(_) => return,
             Ok(_) => {}
         }

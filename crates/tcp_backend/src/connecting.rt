@@ -3,7 +3,7 @@ ghost use Rattle.std.specs.Prelude.{◌≡◌, IfOk};
 ghost use Rattle.std.specs.Net.Text.{socket_v4_text};
 ghost use Rattle.tcp_backend.specs.Connecting.{count_of, host_of};
 
-use crate::asking::{answer_of, ask};
+use crate::asking::{answer_of, ask, read_on};
 use arrayvec::ArrayString;
 use backend::{Answer, Backend};
 use itoa::Buffer;
@@ -75,14 +75,18 @@ impl<R: Net> Backend for TcpBackend<R> {
             Ok(stream) => stream,
             Err(_) => return Answer::NotConnected,
         };
-        answer_of(ask(
+        let asked = ask(
             self.alloc,
             &mut stream,
             &mut self.ahead,
             &mut self.behind,
             request,
             self.host.as_str(),
-        ))
+        );
+        if asked.is_ok() {
+            read_on(&mut stream);
+        }
+        answer_of(asked)
     }
 
     fn forwards(&self) -> u64 {

@@ -2,7 +2,8 @@
 //!
 //! [`TcpBackend`] makes one connection for each request: it writes the request, reads one response
 //! and then the connection to its end, so that the backend closes first and the gateway's own
-//! ports are free again. Its buffers are made with it and serve all its connections.
+//! ports are free again. A backend that keeps the connection open isn't waited for. Buffers are
+//! made once and serve all connections.
 #![tactic(auto)]
 
 mod asking;

@@ -4,7 +4,7 @@ ghost use Rattle.std.specs.Io.{ReadsAtMost, WritesAtMost};
 use crate::reading::LimitedRead;
 use crate::writing::LimitedWrite;
 use std::io::{Read, Result, Write};
-use std::net::TcpStream;
+use std::net::{Shutdown, TcpStream};
 use std::time::Duration;
 
 /// A connection, as a socket is one: reading and writing it doesn't change its owner's value.
@@ -22,6 +22,9 @@ pub trait Connection {
 
     /// From now on a write waits for no longer than this, which is more than nothing.
     fn limit_writes(&self, most: Duration) -> Result<()>;
+
+    /// Nothing more is sent: the other side finds the end behind what was. It may go on sending.
+    fn finish(&self) -> Result<()>;
 }
 
 impl Connection for TcpStream {
@@ -41,6 +44,10 @@ impl Connection for TcpStream {
 
     fn limit_writes(&self, most: Duration) -> Result<()> {
         self.set_write_timeout(Some(most))
+    }
+
+    fn finish(&self) -> Result<()> {
+        self.shutdown(Shutdown::Write)
     }
 }
 
