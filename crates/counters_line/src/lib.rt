@@ -1,4 +1,4 @@
-//! The line of a gate's counters, as `serve` and `load` write it at their end.
+//! The line of a gate's counters, as `serve` writes it at its end.
 //!
 //! [`write_counters`] writes it without memory; `specs/Line.antt` has its text.
 #![tactic(auto)]

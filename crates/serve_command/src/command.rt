@@ -36,10 +36,10 @@ pub struct Service<'a> {
     pub path: &'a str,
     /// How many workers serve clients, each on a thread of its own: 1 to 64.
     pub workers: u32,
-    /// How many connections each worker accepts before it ends.
+    /// How many connections each worker accepts before it ends: 1 to 1,000,000,000.
     pub per_worker: u32,
     /// How long a client may take to send its request, and again to take its answer, in
-    /// milliseconds.
+    /// milliseconds: 1 to 3,600,000.
     pub client_timeout_ms: u32,
 }
 

@@ -15,7 +15,8 @@ pub enum ServiceFault {
     Config(CheckFault),
     /// The address can't be bound.
     Listen,
-    /// A growth was refused before a worker was started.
+    /// A growth was refused: before any worker was started, or to one that was, for its settings.
+    /// The workers that were started have ended.
     Memory,
     /// A thread couldn't be started; the workers that were have ended.
     Thread,
