@@ -11,12 +11,12 @@ use Rattle.limiter_core.specs.declared.event.PermitFacts.{PermitFacts}
 use Rattle.limiter_core.specs.History.{permit_of}
 use Rattle.limiter_core.specs.Open.{handed_out}
 use Rattle.limiter_core.specs.declared.event.Reply.TheVariants as reply
-use Rattle.gate_history.specs.Told.{Told, Refusal}
+use Rattle.gate_history.specs.Told.{IsSpent, Refusal, Told}
 use Rattle.shared_gate.specs.declared.answers.Waited.TheVariants.{Lost}
 use Rattle.shared_gate.specs.Calls.{Waits}
 use Rattle.trace.specs.declared.arrival.Arrival.{Arrival}
 use Rattle.load_run.specs.Worker.{asked, ending, handed, waits, Ends, Makes}
-use Rattle.load_run.specs.Worker.Makes.{at_once, gave_up, stuck}
+use Rattle.load_run.specs.Worker.Makes.{at_once, exhausted, gave_up, stuck}
 
 abbrev is_waiting : Reply → Bool
 is_waiting Waiting = true
@@ -41,9 +41,9 @@ ends_nothing : (a : Arrival) (o : Option PermitFacts) → o ≡ None → Ends a 
 ends_nothing a o none = subst (λ (x : Option PermitFacts). Ends a x []) (sym none) refl
 
 -- the event of an arrival that doesn't wait, and of one that does, which goes not past the limit
-pub asks_at_once : (a : Arrival) (t : Told) → waits a ≡ false
-    → t.event ≡ Acquire a.part a.bypass false a.at → t.event ≡ asked a
-asks_at_once a t unwaiting event =
+pub asks_at_once : (a : Arrival) {e : Event} → waits a ≡ false
+    → e ≡ Acquire a.part a.bypass false a.at → e ≡ asked a
+asks_at_once a unwaiting event =
     event ∙ ap (λ (w : Bool). Acquire a.part a.bypass w a.at) (sym unwaiting)
 
 goes_by : (wait bypass : Bool) → (wait && not bypass) ≡ true → bypass ≡ false
@@ -51,9 +51,9 @@ goes_by wait false waiting = refl
 goes_by true true waiting = sym waiting
 goes_by false true waiting = sym waiting
 
-pub asks_waiting : (a : Arrival) (t : Told) → waits a ≡ true
-    → t.event ≡ Acquire a.part false true a.at → t.event ≡ asked a
-asks_waiting a t waiting event =
+pub asks_waiting : (a : Arrival) {e : Event} → waits a ≡ true
+    → e ≡ Acquire a.part false true a.at → e ≡ asked a
+asks_waiting a waiting event =
     event ∙ ap (λ (w : Bool). Acquire a.part false w a.at) (sym waiting)
     ∙ ap (λ (b : Bool). Acquire a.part b (waits a) a.at) (sym (goes_by a.wait a.bypass waiting))
 
@@ -61,7 +61,7 @@ asks_waiting a t waiting event =
 pub makes_admitted : (a : Arrival) (t e : Told) (permit : PermitFacts) → t.event ≡ asked a
     → t.reply ≡ Admitted permit.inflight
     → permit ≡ permit_of t.number a.part (moment a.at) permit.inflight
-    → e.event ≡ ending a permit → Makes a (t ∷ e ∷ [])
+    → e.event ≡ ending a permit → Makes a (t ∷ e ∷ []) []
 makes_admitted a t e permit event reply own ended =
     at_once t (e ∷ []) event (not_waiting t.reply (Admitted permit.inflight) reply refl)
     (ends_it a (handed t) permit e
@@ -69,16 +69,21 @@ makes_admitted a t e permit event reply own ended =
 
 -- refused or let through at once
 pub makes_one : (a : Arrival) (t : Told) (r : Reply) → t.event ≡ asked a → t.reply ≡ r
-    → is_waiting r ≡ false → handed_out t.number (Call (asked a) r) ≡ None → Makes a (t ∷ [])
+    → is_waiting r ≡ false → handed_out t.number (Call (asked a) r) ≡ None → Makes a (t ∷ []) []
 makes_one a t r event reply other none =
     at_once t [] event (not_waiting t.reply r reply other)
     (ends_nothing a (handed t) (handed_by t (asked a) r event reply ∙ none))
+
+-- not answered
+pub makes_none : (a : Arrival) (r : Refusal) → r.event ≡ asked a
+    → IsSpent r.held r.kept r.is_rolling r.next → Makes a [] (r ∷ [])
+makes_none a r event why = exhausted r (record { event = event; spent = why })
 
 -- waited, got a permit, and ended it
 pub makes_promoted : (a : Arrival) (t g e : Told) (permit : PermitFacts) → t.event ≡ asked a
     → t.reply ≡ Waiting → g.event ≡ GiveUp t.number
     → g.reply ≡ Granted permit.part permit.start permit.inflight → permit.number ≡ t.number
-    → e.event ≡ ending a permit → Makes a (t ∷ g ∷ e ∷ [])
+    → e.event ≡ ending a permit → Makes a (t ∷ g ∷ e ∷ []) []
 makes_promoted a t g e permit event waits gives reply own ended =
     gave_up t g (e ∷ []) event waits gives
     (ends_it a (handed g) permit e
@@ -88,7 +93,7 @@ makes_promoted a t g e permit event waits gives reply own ended =
 -- waited, and got none
 pub makes_two : (a : Arrival) (t g : Told) (r : Reply) → t.event ≡ asked a → t.reply ≡ Waiting
     → g.event ≡ GiveUp t.number → g.reply ≡ r
-    → handed_out g.number (Call (GiveUp t.number) r) ≡ None → Makes a (t ∷ g ∷ [])
+    → handed_out g.number (Call (GiveUp t.number) r) ≡ None → Makes a (t ∷ g ∷ []) []
 makes_two a t g r event waits gives reply none =
     gave_up t g [] event waits gives
     (ends_nothing a (handed g) (handed_by g (GiveUp t.number) r gives reply ∙ none))
@@ -96,15 +101,17 @@ makes_two a t g r event waits gives reply none =
 -- waited, and then its number was lost, or the giving up exhausted
 module _ (M : Type 0) (before after : ℕ) (a : Arrival) (first : Told) (r : Result Told Refusal)
     (waiting : waits a ≡ true) (told : Waits {M = M} before after a.part a.at (Lost first r)) where
-  pub makes_lost : (second : Told) → r ≡ Ok second → Makes a (first ∷ second ∷ [])
+  pub makes_lost : (second : Told) → r ≡ Ok second → Makes a (first ∷ second ∷ []) []
   makes_lost second is =
       let w = subst (λ (x : Result Told Refusal).
       Waits {M = M} before after a.part a.at (Lost first x)) is told in
-      makes_two a first second reply.Lost (asks_waiting a first waiting w.0.0.event) w.0.1
+      makes_two a first second reply.Lost (asks_waiting a waiting w.0.0.event) w.0.1
       w.1.event w.2 refl
 
-  pub makes_stuck : (spent : Refusal) → r ≡ Err spent → Makes a (first ∷ [])
-  makes_stuck spent is =
+  pub makes_stuck : (spent : Refusal) → IsSpent spent.held spent.kept spent.is_rolling spent.next
+      → r ≡ Err spent → Makes a (first ∷ []) (spent ∷ [])
+  makes_stuck spent why is =
       let w = subst (λ (x : Result Told Refusal).
       Waits {M = M} before after a.part a.at (Lost first x)) is told in
-      stuck first (asks_waiting a first waiting w.0.0.event) w.0.1
+      stuck first spent (asks_waiting a waiting w.0.0.event) w.0.1
+      (record { event = w.1.event; spent = why })

@@ -1,16 +1,16 @@
 -- One arrival more of a worker, and one worker more.
-use Rattle.std.proofs.Common.{◌≡◌, ◌≢◌, ℕ, zero, suc, ◌+◌, ◌<◌, ◌%◌, [], ◌∷◌, ◌++◌, List, Some, length, take, get_or, false, refl, sym, ap, ◌∙◌, subst, arith, inl, inr, ◌⊎◌}
-use Rattle.std.specs.Prelude.{slice_get, Vec}
+use Rattle.std.proofs.Common.{◌≡◌, ◌≢◌, ℕ, zero, suc, ◌+◌, ◌<◌, ◌%◌, [], ◌∷◌, ◌++◌, List, Some, length, take, get_or, false, refl, sym, ap, Result, Ok, Err, ◌∙◌, subst, arith, inl, inr, ◌⊎◌}
+use Rattle.std.specs.Prelude.{slice_get, OnOk, Vec}
 use Rattle.std.specs.declared.alloc.Global.{Global}
 use Rattle.std.proofs.lemmas.List.{length-take-le, take_more}
 use Rattle.std.proofs.lemmas.Option.{same_Some, none-some}
 use Rattle.partitions.specs.declared.part.Part.TheVariants.{Unknown}
 use Rattle.limiter_core.specs.declared.event.Outcome.TheVariants.{Success}
-use Rattle.gate_history.specs.Told.{Told}
+use Rattle.gate_history.specs.Told.{Refusal, Told}
 use Rattle.trace.specs.declared.arrival.Arrival.{Arrival}
 use Rattle.load_run.specs.Worker.{IsWork, Makes}
-use Rattle.load_run.specs.Worker.IsWork.{leaves, takes}
-use Rattle.load_run.specs.Workers.{AreWork}
+use Rattle.load_run.specs.Worker.IsWork.{begins, leaves, takes}
+use Rattle.load_run.specs.Workers.{AreWork, HasWorked}
 
 -- some arrival: what a list is said to have where it has none
 nobody : Arrival
@@ -34,23 +34,43 @@ module _ (workers worker : ℕ) (arrivals : List Arrival) (place : ℕ)
       ap (λ (x : Arrival). take place arrivals ++ x ∷ []) is
       ∙ sym (take_more arrivals place d within)
 
-  pub leaves_one : (told : List Told) → IsWork workers worker (take place arrivals) told
-      → place % workers ≢ worker → IsWork workers worker (take (place + 1) arrivals) told
-  leaves_one told work other =
-      subst (λ (xs : List Arrival). IsWork workers worker xs told)
+  pub leaves_one : (told : List Told) (refused : List Refusal)
+      → IsWork workers worker (take place arrivals) told refused
+      → place % workers ≢ worker → IsWork workers worker (take (place + 1) arrivals) told refused
+  leaves_one told refused work other =
+      subst (λ (xs : List Arrival). IsWork workers worker xs told refused)
       (longer (get_or arrivals place nobody) nobody refl)
-      (leaves (take place arrivals) told (get_or arrivals place nobody) work
+      (leaves (take place arrivals) told refused (get_or arrivals place nobody) work
       (λ same. other (ap (λ (n : ℕ). n % workers) (sym long) ∙ same)))
 
   pub takes_one : (a d : Arrival) → a ≡ get_or arrivals place d → (told all own : List Told)
-      → IsWork workers worker (take place arrivals) told
-      → place % workers ≡ worker → Makes a own → all ≡ told ++ own
-      → IsWork workers worker (take (place + 1) arrivals) all
-  takes_one a d is told all own work same makes joined =
-      subst (λ (ts : List Told). IsWork workers worker (take (place + 1) arrivals) ts) (sym joined)
-      (subst (λ (xs : List Arrival). IsWork workers worker xs (told ++ own)) (longer a d is)
-      (takes (take place arrivals) told a own work
-      (ap (λ (n : ℕ). n % workers) long ∙ same) makes))
+      (refused every spent : List Refusal)
+      → IsWork workers worker (take place arrivals) told refused
+      → place % workers ≡ worker → Makes a own spent
+      → all ≡ told ++ own → every ≡ refused ++ spent
+      → IsWork workers worker (take (place + 1) arrivals) all every
+  takes_one a d is told all own refused every spent work same makes joined added =
+      subst (λ (ts : List Told). IsWork workers worker (take (place + 1) arrivals) ts every)
+      (sym joined)
+      (subst (λ (rs : List Refusal).
+      IsWork workers worker (take (place + 1) arrivals) (told ++ own) rs) (sym added)
+      (subst (λ (xs : List Arrival). IsWork workers worker xs (told ++ own) (refused ++ spent))
+      (longer a d is)
+      (takes (take place arrivals) told own refused spent a work
+      (ap (λ (n : ℕ). n % workers) long ∙ same) makes)))
+
+-- no arrivals yet
+pub begins_with : (workers worker : ℕ) (told : List Told) (refused : List Refusal) → told ≡ []
+    → refused ≡ [] → IsWork workers worker [] told refused
+begins_with workers worker told refused none nothing =
+    subst (λ (ts : List Told). IsWork workers worker [] ts refused) (sym none)
+    (subst (λ (rs : List Refusal). IsWork workers worker [] [] rs) (sym nothing) begins)
+
+-- a fact that follows from two clauses of a call that returned
+pub from_both : {T E P Q R : Type 0} (r : Result T E) → (P → Q → R) → OnOk r P → OnOk r Q
+    → OnOk r R
+from_both (Ok x) both p q = both p q
+from_both (Err e) both p q = p
 
 -- where an item of joined lists stands
 placed : {X : Type 0} (xs : List X) (y : X) (n : ℕ) (x : X) → slice_get (xs ++ y ∷ []) n ≡ Some x
@@ -65,7 +85,7 @@ placed (z ∷ xs) y (suc n) x here = elim (placed xs y n x here) [
 
 pub one_worker_more : (workers number : ℕ) (arrivals : List Arrival)
     (before all : List (Vec Told Global)) (own : Vec Told Global)
-    → AreWork workers arrivals before → IsWork workers number arrivals own.items
+    → AreWork workers arrivals before → HasWorked workers number arrivals own.items
     → length before ≡ number → all ≡ before ++ own ∷ [] → AreWork workers arrivals all
 one_worker_more workers number arrivals before all own work mine count same place list here =
     let there : slice_get (before ++ own ∷ []) place ≡ Some list =
@@ -73,6 +93,6 @@ one_worker_more workers number arrivals before all own work mine count same plac
     elim (placed before own place list there) [
       | inl earlier ↦ work place list earlier
       | inr last ↦
-          subst (λ (n : ℕ). IsWork workers n arrivals list.items) (sym (last.0 ∙ count))
-          (subst (λ (l : Vec Told Global). IsWork workers number arrivals l.items) last.1 mine)
+          subst (λ (n : ℕ). HasWorked workers n arrivals list.items) (sym (last.0 ∙ count))
+          (subst (λ (l : Vec Told Global). HasWorked workers number arrivals l.items) last.1 mine)
     ]

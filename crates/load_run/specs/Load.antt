@@ -26,8 +26,8 @@ pub record IsAccepted (rows : List Row) (room : ℕ) (kept : List (Vec Told Glob
   pub receipts : IsHistoryOf entries kept
   pub told : summary ≡ summary_of entries
 
--- A RUN by so many workers: an accepted history of their receipts, a list for each worker, which is
--- what it made of its arrivals
+-- A RUN by so many workers: an accepted history of their receipts, a list for each worker, which
+-- beside its refusals is what it made of its arrivals
 pub record IsRun (workers : ℕ) (settings : SettingFacts) (arrivals : List Arrival)
     (summary : Summary) : Type 0 where
   pub kept : List (Vec Told Global)

@@ -7,7 +7,7 @@ use Rattle.limiter_core.specs.declared.event.Reply.TheVariants.{Waiting}
 use Rattle.limiter_core.specs.declared.event.Entry.TheVariants.{Call}
 use Rattle.limiter_core.specs.declared.event.PermitFacts.{PermitFacts}
 use Rattle.limiter_core.specs.Open.{handed_out}
-use Rattle.gate_history.specs.Told.{Told}
+use Rattle.gate_history.specs.Told.{IsSpent, Refusal, Told}
 use Rattle.trace.specs.declared.arrival.Arrival.{Arrival}
 
 -- an arrival waits where it says so and doesn't go past the limit
@@ -31,25 +31,32 @@ abbrev pub Ends : Arrival → Option PermitFacts → List Told → Type 0
 Ends a None ended = ended ≡ []
 Ends a (Some permit) ended = (e : Told) × (ended ≡ e ∷ []) × (e.event ≡ ending a permit)
 
--- THE RECEIPTS OF AN ARRIVAL: none where it was exhausted; else that of its acquire, where that
--- waited that of the giving up of its number, unless this was exhausted, and where either handed a
--- permit out that of the one ending of this permit
-pub data Makes (a : Arrival) : List Told → Type 0 where
-  exhausted : Makes a []
+-- this event was asked and refused, since the history was spent
+pub record Refuses (e : Event) (refusal : Refusal) : Type 0 where
+  pub event : refusal.event ≡ e
+  pub spent : IsSpent refusal.held refusal.kept refusal.is_rolling refusal.next
+
+-- THE RECEIPTS AND REFUSALS OF AN ARRIVAL: a refusal of its acquire alone; or the receipt of that,
+-- where it waited that of the giving up of its number, or a refusal of this, and where either
+-- handed a permit out that of the one ending of this permit
+pub data Makes (a : Arrival) : List Told → List Refusal → Type 0 where
+  exhausted : (refusal : Refusal) → Refuses (asked a) refusal → Makes a [] (refusal ∷ [])
   at_once : (asks : Told) (ended : List Told) → asks.event ≡ asked a → asks.reply ≢ Waiting
-      → Ends a (handed asks) ended → Makes a (asks ∷ ended)
+      → Ends a (handed asks) ended → Makes a (asks ∷ ended) []
   gave_up : (asks gives : Told) (ended : List Told) → asks.event ≡ asked a → asks.reply ≡ Waiting
       → gives.event ≡ GiveUp asks.number → Ends a (handed gives) ended
-      → Makes a (asks ∷ gives ∷ ended)
-  stuck : (asks : Told) → asks.event ≡ asked a → asks.reply ≡ Waiting → Makes a (asks ∷ [])
+      → Makes a (asks ∷ gives ∷ ended) []
+  stuck : (asks : Told) (refusal : Refusal) → asks.event ≡ asked a → asks.reply ≡ Waiting
+      → Refuses (GiveUp asks.number) refusal → Makes a (asks ∷ []) (refusal ∷ [])
 
--- THE RECEIPTS OF A WORKER, one of so many: those of each arrival whose place, counted from 0,
--- leaves the worker's number when it is divided by how many there are, in their order
-pub data IsWork (workers worker : ℕ) : List Arrival → List Told → Type 0 where
-  begins : IsWork workers worker [] []
-  leaves : (before : List Arrival) (told : List Told) (a : Arrival)
-      → IsWork workers worker before told → length before % workers ≢ worker
-      → IsWork workers worker (before ++ a ∷ []) told
-  takes : (before : List Arrival) (told : List Told) (a : Arrival) (own : List Told)
-      → IsWork workers worker before told → length before % workers ≡ worker → Makes a own
-      → IsWork workers worker (before ++ a ∷ []) (told ++ own)
+-- THE RECEIPTS AND REFUSALS OF A WORKER, one of so many: those of each arrival whose place, counted
+-- from 0, leaves the worker's number when it is divided by how many there are, in their order
+pub data IsWork (workers worker : ℕ) : List Arrival → List Told → List Refusal → Type 0 where
+  begins : IsWork workers worker [] [] []
+  leaves : (before : List Arrival) (told : List Told) (refused : List Refusal) (a : Arrival)
+      → IsWork workers worker before told refused → length before % workers ≢ worker
+      → IsWork workers worker (before ++ a ∷ []) told refused
+  takes : (before : List Arrival) (told own : List Told) (refused spent : List Refusal)
+      (a : Arrival) → IsWork workers worker before told refused
+      → length before % workers ≡ worker → Makes a own spent
+      → IsWork workers worker (before ++ a ∷ []) (told ++ own) (refused ++ spent)

@@ -1,9 +1,9 @@
 // The calls of one arrival.
 ghost use Rattle.std.specs.Prelude.{◌≡◌, ◌++◌, true, false, OnOk};
 ghost use Rattle.load_run.specs.Worker.{Makes, ending, waits};
-ghost use Rattle.load_run.specs.Made.{made_of};
+ghost use Rattle.load_run.specs.Made.{made_of, refused_of};
 
-use gate_history::{Naming, Permit, Receipt};
+use gate_history::{Naming, Permit, Receipt, Spent};
 use limit_laws::{LAST_MOMENT, Limit};
 use shared_gate::{Clock, Got, Pass, SharedGate, Waited};
 use std::alloc::AllocError;
@@ -11,31 +11,42 @@ use std::sync::Wait;
 use std::time::Clock as SystemClock;
 use trace::Arrival;
 
-/// The receipts of an arrival, in the order of its calls.
+/// The receipts of an arrival, in the order of its calls, and the refusal that ended them.
 #[derive(Drop)]
 pub(crate) enum Made<M: Naming> {
-    Nothing,
+    Exhausted(Spent<M>),
     One(Receipt<M>),
+    Stuck(Receipt<M>, Spent<M>),
     Two(Receipt<M>, Receipt<M>),
     Three(Receipt<M>, Receipt<M>, Receipt<M>),
 }
 
 impl<M: Naming> Made<M> {
-    /// Puts them at the end of a list.
-    pub(crate) fn push_to(self, list: &mut Vec<Receipt<M>>) -> Result<(), AllocError>
-        ensures { OnOk result (list.new.items ≡ list.old.items ++ made_of self) }
+    /// Puts the receipts at the end of a list, and the refusal at the end of another.
+    pub(crate) fn push_to(
+        self,
+        receipts: &mut Vec<Receipt<M>>,
+        refusals: &mut Vec<Spent<M>>,
+    ) -> Result<(), AllocError>
+        ensures made { OnOk result (receipts.new.items ≡ receipts.old.items ++ made_of self) }
+        ensures refused { OnOk result (refusals.new.items
+            ≡ refusals.old.items ++ refused_of self) }
     {
         match self {
-            Made::Nothing => {}
-            Made::One(first) => list.push(first)?,
+            Made::Exhausted(spent) => refusals.push(spent)?,
+            Made::One(first) => receipts.push(first)?,
+            Made::Stuck(first, spent) => {
+                receipts.push(first)?;
+                refusals.push(spent)?;
+            }
             Made::Two(first, second) => {
-                list.push(first)?;
-                list.push(second)?;
+                receipts.push(first)?;
+                receipts.push(second)?;
             }
             Made::Three(first, second, third) => {
-                list.push(first)?;
-                list.push(second)?;
-                list.push(third)?;
+                receipts.push(first)?;
+                receipts.push(second)?;
+                receipts.push(third)?;
             }
         }
         Ok(())
@@ -65,7 +76,7 @@ fn call_once<L: Limit, M: Naming>(
     arrival: Arrival,
 ) -> Made<M>
     requires { waits arrival ≡ false }
-    ensures { Makes arrival (made_of result) }
+    ensures { Makes arrival (made_of result) (refused_of result) }
 {
     let Arrival {
         part,
@@ -81,7 +92,11 @@ fn call_once<L: Limit, M: Naming>(
         Got::Full(receipt) => Made::One(receipt),
         Got::BacklogFull(receipt) => Made::One(receipt),
         Got::Waiting(_receipt, _ticket) => unreachable!(),
-        Got::Exhausted(_spent) => Made::Nothing,
+        Got::Exhausted(spent) => {
+            // What was held tells why.
+            let _held = spent.held();
+            Made::Exhausted(spent)
+        }
     }
 }
 
@@ -95,7 +110,7 @@ fn call_and_wait<L: Limit, M: Naming, R: Wait + SystemClock, C: Clock>(
     timeout: u64,
 ) -> Made<M>
     requires { waits arrival ≡ true }
-    ensures { Makes arrival (made_of result) }
+    ensures { Makes arrival (made_of result) (refused_of result) }
 {
     let deadline = clock.now().saturating_add(timeout).min(LAST_MOMENT);
     match gate.acquire_wait(rt, pass, arrival.part, arrival.at, clock, deadline) {
@@ -109,9 +124,16 @@ fn call_and_wait<L: Limit, M: Naming, R: Wait + SystemClock, C: Clock>(
         Waited::BacklogFull(receipt) => Made::One(receipt),
         Waited::Lost(first, second) => match second {
             Ok(second) => Made::Two(first, second),
-            Err(_spent) => Made::One(first),
+            Err(spent) => {
+                // What was held tells why, here and below.
+                let _held = spent.held();
+                Made::Stuck(first, spent)
+            }
         },
-        Waited::Exhausted(_spent) => Made::Nothing,
+        Waited::Exhausted(spent) => {
+            let _held = spent.held();
+            Made::Exhausted(spent)
+        }
     }
 }
 
@@ -131,7 +153,7 @@ pub(crate) fn make_calls<L: Limit, M: Naming, R: Wait + SystemClock, C: Clock>(
     clock: &C,
     timeout: u64,
 ) -> Made<M>
-    ensures { Makes arrival (made_of result) }
+    ensures { Makes arrival (made_of result) (refused_of result) }
 {
     if waits(arrival) {
         call_and_wait(rt, gate, pass, arrival, clock, timeout)

@@ -36,6 +36,9 @@ pub(crate) fn open_book<M: Naming>(
     requires parts { AreWhole blanks }
     ensures passes { IfOk result (λ book. book.tally.passes ≡ 0) }
     ensures unsealed { IfOk result (λ book. book.is_sealed ≡ false) }
+    ensures limit { IfOk result (λ book. book.journal.opening.state ≡ making.limit) }
+    ensures kept { IfOk result (λ book. book.journal.kept ≡ making.kept) }
+    ensures rolls { IfOk result (λ book. book.journal.is_rolling ≡ making.is_rolling) }
 {
     let Making {
         limit,
@@ -56,12 +59,13 @@ pub(crate) fn open_book<M: Naming>(
     Ok(Book::new(journal, blanks))
 }
 
-/// So many workers of a new book, each with room for so many receipts.
+/// So many workers of a new book, each with room for so many turns: three receipts and one refusal
+/// each.
 pub(crate) fn hire<M: Naming>(
     alloc: Global,
     book: &mut Book<AnyLimit, M>,
     workers: usize,
-    receipts: usize,
+    turns: usize,
 ) -> Result<Vec<Worker<M>>, AllocError>
     requires few { workers ≤ 64 }
     requires none { book.old.tally.passes ≡ 0 }
@@ -73,9 +77,14 @@ pub(crate) fn hire<M: Naming>(
         let Some(pass) = book.pass() else {
             unreachable!()
         };
-        let list = Vec::with_capacity(alloc, receipts)?;
+        let receipts = Vec::with_capacity(alloc, turns.saturating_mul(3))?;
+        let refusals = Vec::with_capacity(alloc, turns)?;
         let pass = Pass::of(pass);
-        hired.push(Worker { pass, list })?;
+        hired.push(Worker {
+            pass,
+            receipts,
+            refusals,
+        })?;
     }
     Ok(hired)
 }

@@ -55,10 +55,8 @@ where
     ensures stops { IfErr result (StopsRun crew.workers settings.entry arrivals.items) }
 {
     let timeout = settings.timeout();
-    let receipts = (arrivals.len() / crew.workers)
-        .saturating_add(1)
-        .saturating_mul(3);
-    let (gate, hired) = open_gate::<M>(alloc, blanks, settings, crew, receipts)?;
+    let turns = (arrivals.len() / crew.workers).saturating_add(1);
+    let (gate, hired) = open_gate::<M>(alloc, blanks, settings, crew, turns)?;
     let shop = Shop {
         rt,
         gate: &gate,
@@ -71,13 +69,13 @@ where
     Ok(close(alloc, gate, worked)?)
 }
 
-/// The gate of a run, and its workers, each with room for so many receipts.
+/// The gate of a run, and its workers, each with room for so many turns.
 fn open_gate<M: Naming>(
     alloc: Global,
     blanks: Blanks,
     settings: Settings,
     crew: Crew,
-    receipts: usize,
+    turns: usize,
 ) -> Result<(SharedGate<AnyLimit, M>, Vec<Worker<M>>), AllocError>
     requires least { 1 ≤ crew.limit }
     requires most { crew.limit ≤ greatest_limit }
@@ -95,7 +93,7 @@ fn open_gate<M: Naming>(
         is_rolling: settings.is_rolling(),
     };
     let mut book = open_book::<M>(alloc, making, settings.into_table(), blanks)?;
-    let hired = hire(alloc, &mut book, crew.workers, receipts)?;
+    let hired = hire(alloc, &mut book, crew.workers, turns)?;
     book.seal();
     Ok((SharedGate::new(book), hired))
 }

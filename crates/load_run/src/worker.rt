@@ -3,7 +3,7 @@ ghost use Rattle.std.specs.Prelude.{◌<◌, ◌+◌, IfOk, OnOk, length, take};
 ghost use Rattle.load_run.specs.Worker.{IsWork};
 
 use crate::calls::make_calls;
-use gate_history::{Naming, Receipt};
+use gate_history::{Naming, Receipt, Spent};
 use limit_laws::Limit;
 use shared_gate::{Clock, Pass, SharedGate};
 use std::alloc::AllocError;
@@ -11,11 +11,12 @@ use std::sync::Wait;
 use std::time::Clock as SystemClock;
 use trace::Arrival;
 
-/// What a worker calls with: its pass, and a list with room for its receipts.
+/// What a worker calls with: its pass, and lists with room for its receipts and its refusals.
 #[derive(Drop)]
 pub(crate) struct Worker<M: Naming> {
     pub(crate) pass: Pass<M>,
-    pub(crate) list: Vec<Receipt<M>>,
+    pub(crate) receipts: Vec<Receipt<M>>,
+    pub(crate) refusals: Vec<Spent<M>>,
 }
 
 /// The gate and the trace that all workers share, with how long a caller waits, and how many
@@ -31,28 +32,29 @@ pub(crate) struct Shop<'a, L: Limit, M: Naming, R, C> {
 }
 
 /// Makes the calls of the arrival at a place, where it falls to the worker of this number, and
-/// keeps their receipts.
+/// keeps their receipts and refusals.
 fn take_turn<L: Limit, M: Naming, R: Wait + SystemClock, C: Clock>(
     shop: &Shop<L, M, R, C>,
     number: usize,
     place: usize,
     pass: &mut Pass<M>,
-    list: &mut Vec<Receipt<M>>,
+    receipts: &mut Vec<Receipt<M>>,
+    refusals: &mut Vec<Spent<M>>,
 ) -> Result<(), AllocError>
     requires some { 0 < shop.now.workers }
     requires inside { place < length shop.now.arrivals.now.items }
     ensures { OnOk result (
         IsWork shop.now.workers number
-        (take place shop.now.arrivals.now.items) list.old.items →
+        (take place shop.now.arrivals.now.items) receipts.old.items refusals.old.items →
         IsWork shop.now.workers number
-        (take (place + 1) shop.now.arrivals.now.items) list.new.items) }
+        (take (place + 1) shop.now.arrivals.now.items) receipts.new.items refusals.new.items) }
 {
     if place % shop.workers != number {
         return Ok(());
     }
     let arrival = shop.arrivals[place];
     let made = make_calls(shop.rt, shop.gate, pass, arrival, shop.clock, shop.timeout);
-    made.push_to(list)
+    made.push_to(receipts, refusals)
 }
 
 /// Makes the calls of the worker of this number, one arrival after the other.
@@ -63,12 +65,22 @@ pub(crate) fn work<L: Limit, M: Naming, R: Wait + SystemClock, C: Clock>(
 ) -> Result<Worker<M>, AllocError>
     requires { 0 < shop.now.workers }
     ensures { IfOk result (λ done.
-        IsWork shop.now.workers number shop.now.arrivals.now.items done.list.items) }
+        IsWork shop.now.workers number shop.now.arrivals.now.items
+        done.receipts.items done.refusals.items) }
 {
-    let Worker { mut pass, mut list } = worker;
-    list.clear();
+    let Worker {
+        mut pass,
+        mut receipts,
+        mut refusals,
+    } = worker;
+    receipts.clear();
+    refusals.clear();
     for place in 0..shop.arrivals.len() {
-        take_turn(shop, number, place, &mut pass, &mut list)?;
+        take_turn(shop, number, place, &mut pass, &mut receipts, &mut refusals)?;
     }
-    Ok(Worker { pass, list })
+    Ok(Worker {
+        pass,
+        receipts,
+        refusals,
+    })
 }

@@ -34,7 +34,7 @@ impl From<AllocError> for WorkFault {
     }
 }
 
-/// The passes and the lists of the workers, in order of their numbers.
+/// The passes and the receipts of the workers, in order of their numbers.
 #[derive(Drop)]
 pub(crate) struct Worked<M: Naming> {
     pub(crate) passes: Vec<Pass<M>>,
@@ -54,11 +54,12 @@ impl<M: Naming> Promise<Result<Worker<M>, AllocError>> for WorkOf {
     ghost use Rattle.load_run.specs.Worker.{IsWork};
 
     ghost kept_by = { λ p r. IfOk r (λ done.
-        IsWork p.workers p.number p.arrivals.value.items done.list.items) };
+        IsWork p.workers p.number p.arrivals.value.items
+        done.receipts.items done.refusals.items) };
 }
 
 /// Runs these workers, the last of them first: once all that were started have ended, their passes
-/// and lists.
+/// and receipts.
 fn run_from<'s, E, L: Limit + Send, M: Naming + Send + Sync, R, C>(
     scope: &Scope<'s, E>,
     alloc: Global,
@@ -90,7 +91,7 @@ where
         move || -> Result<Worker<M>, AllocError>
             requires { 0 < shop.now.workers }
             ensures { IfOk result (λ done. IsWork shop.entry.now.workers number
-                shop.entry.now.arrivals.now.items done.list.items) }
+                shop.entry.now.arrivals.now.items done.receipts.items done.refusals.items) }
         { work(shop, number, worker) },
     );
     let Ok(thread) = started else {
@@ -101,7 +102,7 @@ where
     Ok(before?.add(done?)?)
 }
 
-/// Runs all workers: once they have ended, their passes and lists.
+/// Runs all workers: once they have ended, their passes and receipts.
 pub(crate) fn run_all<L: Limit + Send, M: Naming + Send + Sync, R, C>(
     alloc: Global,
     shop: &Shop<L, M, R, C>,
@@ -132,15 +133,19 @@ impl<M: Naming> Worked<M> {
     /// With what one more worker brings back.
     fn add(self, worker: Worker<M>) -> Result<Worked<M>, AllocError>
         ensures { IfOk result (λ worked.
-            worked.kept.items ≡ self.kept.items ++ worker.list ∷ []) }
+            worked.kept.items ≡ self.kept.items ++ worker.receipts ∷ []) }
     {
         let Worked {
             mut passes,
             mut kept,
         } = self;
-        let Worker { pass, list } = worker;
+        let Worker {
+            pass,
+            receipts,
+            refusals: _refusals,
+        } = worker;
         passes.push(pass)?;
-        kept.push(list)?;
+        kept.push(receipts)?;
         Ok(Worked { passes, kept })
     }
 }

@@ -2,7 +2,8 @@ use Rattle.std.proofs.Common.{take}
 use Rattle.load_run.specs.Worker.{IsWork}
 use Rattle.load_run.proofs.worker.work.Given as goal
 
--- the receipts so far are those of the arrivals so far
+-- the receipts and refusals so far are those of the arrivals so far
 abbrev pub invariant-loop-place : goal.invariant-loop-place
 invariant-loop-place g l =
-    IsWork l.shop.workers l.number (take l.place l.shop.arrivals.now.items) l.list.items
+    IsWork l.shop.workers l.number (take l.place l.shop.arrivals.now.items) l.receipts.items
+    l.refusals.items

@@ -7,7 +7,7 @@ pub returns-clause-work : goal.returns-clause-work
 returns-clause-work g t c =
     let count : length c.in_ok-before.field-0.kept.items ≡ c.len-number.result = search rules in
     let own : IsWork c.args.shop.now.workers c.len-number.result c.args.shop.now.arrivals.now.items
-    c.in_ok-done.field-0.list.items = search rules in
+    c.in_ok-done.field-0.receipts.items c.in_ok-done.field-0.refusals.items = search rules in
     one_worker_more c.args.shop.now.workers c.len-number.result c.args.shop.now.arrivals.now.items
-    c.in_ok-before.field-0.kept.items c.in_ok-add.field-0.kept.items c.in_ok-done.field-0.list
-    c.in_ok-before.ensures.work own count c.in_ok-add.ensures
+    c.in_ok-before.field-0.kept.items c.in_ok-add.field-0.kept.items c.in_ok-done.field-0.receipts
+    c.in_ok-before.ensures.work (record { refused = _; work = own }) count c.in_ok-add.ensures
