@@ -1,4 +1,4 @@
-// The order of what is done in an exchange.
+// The order of what is done in an exchange, and when.
 use limiter_core::Outcome;
 use partitions::Part;
 use ports::{Admission, GatePort};
@@ -21,10 +21,15 @@ pub(crate) enum Deed {
     End,
 }
 
-/// The deeds of one exchange, in order; one that is done several times running stands once.
+/// When a gate is asked, until when it may wait, and when a permit is ended.
+pub(crate) type Moments = (Option<u64>, Option<u64>, Option<u64>);
+
+/// The deeds of one exchange, in order; one that is done several times running stands once. Its
+/// moments are as the gate's port is told them.
 #[derive(Drop)]
 pub(crate) struct Course {
     deeds: Cell<[Deed; 8]>,
+    moments: Cell<Moments>,
 }
 
 impl Course {
@@ -32,7 +37,27 @@ impl Course {
     pub(crate) fn new() -> Course {
         Course {
             deeds: Cell::new([Deed::Nothing; 8]),
+            moments: Cell::new((None, None, None)),
         }
+    }
+
+    /// When it was done.
+    pub(crate) fn moments(&self) -> Moments {
+        self.moments.get()
+    }
+
+    // The gate is asked now, and may wait until then.
+    fn ask(&self, now: u64, deadline: Option<u64>) {
+        let (_, _, ended) = self.moments.get();
+        self.moments.set((Some(now), deadline, ended));
+        self.mark(Deed::Admit);
+    }
+
+    // A permit is ended now.
+    fn end(&self, now: u64) {
+        let (asked, deadline, _) = self.moments.get();
+        self.moments.set((asked, deadline, Some(now)));
+        self.mark(Deed::End);
     }
 
     /// All that was done.
@@ -56,7 +81,7 @@ impl Course {
     }
 }
 
-/// A port that marks what it is asked.
+/// A port that marks what it is asked, and when.
 #[derive(Drop)]
 pub(crate) struct Watched<'a, P> {
     pub(crate) port: P,
@@ -79,12 +104,12 @@ impl<'a, P: GatePort> GatePort for Watched<'a, P> {
         deadline: Option<u64>,
         now: u64,
     ) -> Admission<P::Permit> {
-        self.course.mark(Deed::Admit);
+        self.course.ask(now, deadline);
         self.port.admit(part, bypass, deadline, now)
     }
 
     fn end(&mut self, permit: P::Permit, outcome: Outcome, now: u64) -> P::Receipt {
-        self.course.mark(Deed::End);
+        self.course.end(now);
         self.port.end(permit, outcome, now)
     }
 }

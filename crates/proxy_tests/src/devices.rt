@@ -8,6 +8,7 @@ use counted_io::Counted;
 use message_parts::Headers;
 use shared_gate::Clock;
 use std::alloc::{AllocError, Global};
+use std::cell::Cell;
 use std::io::{BufRead, Error, ErrorKind, Read, Result, Write};
 use std::process::Abort;
 use wire::{Request, Response, WireFault, read_response, write_request};
@@ -228,11 +229,28 @@ impl<'a> Backend for Keeping<'a> {
     }
 }
 
-/// A clock that stands still.
-pub(crate) struct Still;
+/// In nanoseconds.
+pub(crate) const SECOND: u64 = 1_000_000_000;
 
-impl Clock for Still {
+/// A clock that tells 7 seconds first, and goes on by a second at each look.
+#[derive(Drop)]
+pub(crate) struct Ticking {
+    nanos: Cell<u64>,
+}
+
+impl Ticking {
+    /// A clock that nobody has looked at.
+    pub(crate) fn new() -> Ticking {
+        Ticking {
+            nanos: Cell::new(7 * SECOND),
+        }
+    }
+}
+
+impl Clock for Ticking {
     fn now(&self) -> u64 {
-        7
+        let nanos = self.nanos.get();
+        self.nanos.set(nanos.saturating_add(SECOND));
+        nanos
     }
 }

@@ -2,13 +2,13 @@
 ghost use Rattle.std.specs.Prelude.{◌≡◌};
 ghost use Rattle.gate_ledgers.specs.Names.{AreNamed, AreWhole};
 
-use crate::course::{Course, Deed, Watched};
-use crate::devices::{Fails, Keeping, Says, Sink, Source, Still};
+use crate::course::{Course, Deed, Moments, Watched};
+use crate::devices::{Fails, Keeping, Says, Sink, Source, Ticking};
 use counted_io::Counted;
 use gate_config::{Settings, read};
-use gate_history::{Blanks, Book, Journal, Naming};
+use gate_history::{Blanks, Book, Journal, Naming, Pass};
 use limit_laws::Fixed;
-use limiter_core::{Core, Counters, Outcome};
+use limiter_core::{Core, Counters, Entry, Event, Outcome};
 use partitions::{Part, PartitionTable};
 use ports::{Admission, GatePort, SoloPort};
 use proxy::{Exchange, exchange};
@@ -38,8 +38,9 @@ pub(crate) struct Case<'a> {
     /// The reads and the writes at which the client's end fails.
     pub(crate) failing_reads: Fails,
     pub(crate) failing_writes: Fails,
-    /// Whether a refused request waits.
+    /// Whether a refused request waits, and for how many milliseconds at most.
     pub(crate) waits: bool,
+    pub(crate) timeout_ms: u32,
     /// Whether a header tells the class `live`, with a share of 60 percent.
     pub(crate) has_classes: bool,
 }
@@ -55,6 +56,7 @@ impl<'a> Case<'a> {
             failing_reads: Fails::From(u64::MAX),
             failing_writes: Fails::From(u64::MAX),
             waits: false,
+            timeout_ms: 1_000,
             has_classes: false,
         }
     }
@@ -75,9 +77,15 @@ pub(crate) struct Came {
     /// How many permits are out behind it, and what the gate has counted.
     pub(crate) in_flight: u32,
     pub(crate) counters: Counters,
-    /// What it did, in order.
+    /// When the last acquire and the last ending among the entries were.
+    pub(crate) shown: Shown,
+    /// What it did, in order, and when it asked and ended.
     pub(crate) deeds: [Deed; 8],
+    pub(crate) moments: Moments,
 }
+
+/// When a permit was asked for, and when one was ended.
+type Shown = (Option<u64>, Option<u64>);
 
 impl Came {
     /// So many forwards and entries, and no permit is out: each that was got is counted as ended.
@@ -100,7 +108,10 @@ impl Came {
 /// The settings of a case.
 fn settings_of(rt: &impl Abort, alloc: Global, case: &Case) -> Settings {
     let classes = if case.has_classes { CLASSES } else { "" };
-    let text = format!(in alloc; "{LINES}wait = {}\n{TABLES}{classes}", case.waits);
+    let (waits, timeout) = (case.waits, case.timeout_ms);
+    let text = format!(in alloc;
+        "{LINES}wait = {waits}\ntimeout_ms = {timeout}\n{TABLES}{classes}"
+    );
     let text = text.expect(rt, "memory");
     read(alloc, text.as_bytes()).expect(rt, "settings")
 }
@@ -126,9 +137,9 @@ fn came_through<N: Naming, R: Abort>(
     requires room { N.room ≡ 100 }
 {
     let course = Course::new();
-    let port = open_port::<N, R>(rt, alloc, case.limit, table, blanks);
+    let (book, pass) = open_book::<N, R>(rt, alloc, case.limit, table, blanks);
     let mut watched = Watched {
-        port,
+        port: SoloPort::new(book, pass),
         course: &course,
     };
     came_by(alloc, &mut watched, case, settings)
@@ -145,8 +156,25 @@ fn came_by<N: Naming>(
     let before = entries_of(&watched.port);
     let told = told_of(alloc, watched, watched.course, case, settings);
     let entries = entries_of(&watched.port).saturating_sub(before);
+    let shown = shown_of(watched.port.book().journal().entries());
     give_back(&mut watched.port, held);
-    came_of(told, entries, watched.port.book().journal().core())
+    came_of(told, entries, shown, watched.port.book().journal().core())
+}
+
+/// When the last acquire and the last ending among entries were.
+fn shown_of(entries: &[Entry]) -> Shown {
+    let mut asked = None;
+    let mut ended = None;
+    for entry in entries {
+        if let Entry::Call { event, .. } = entry {
+            match *event {
+                Event::Acquire { now, .. } => asked = Some(now),
+                Event::End { now, .. } => ended = Some(now),
+                _ => {}
+            }
+        }
+    }
+    (asked, ended)
 }
 
 /// How many entries the port's book has.
@@ -154,7 +182,7 @@ fn entries_of<N: Naming>(port: &SoloPort<Fixed, N>) -> usize {
     port.book().journal().entries().len()
 }
 
-fn came_of(told: Told, entries: usize, core: &Core<Fixed>) -> Came {
+fn came_of(told: Told, entries: usize, shown: Shown, core: &Core<Fixed>) -> Came {
     let deeds = told.deeds;
     Came {
         told: told.exchange,
@@ -166,18 +194,20 @@ fn came_of(told: Told, entries: usize, core: &Core<Fixed>) -> Came {
         entries,
         in_flight: core.total(),
         counters: core.counters(),
+        shown,
         deeds,
+        moments: told.moments,
     }
 }
 
-/// A port over a gate of its own with this fixed limit.
-fn open_port<N: Naming, R: Abort>(
+/// A book with this fixed limit, and a pass.
+pub(crate) fn open_book<N: Naming, R: Abort>(
     rt: &R,
     alloc: Global,
     limit: u32,
     table: PartitionTable,
     blanks: Blanks,
-) -> SoloPort<Fixed, N>
+) -> (Book<Fixed, N>, Pass<N>)
     requires names { AreNamed N.calls N.place blanks }
     requires parts { AreWhole blanks }
     requires rows { table ≡ N.rows }
@@ -188,11 +218,11 @@ fn open_port<N: Naming, R: Abort>(
     let journal = Journal::new(alloc, core, 100, false).expect(rt, "a journal");
     let mut book = Book::<Fixed, N>::new(journal, blanks);
     let pass = book.pass().expect(rt, "a pass");
-    SoloPort::new(book, pass)
+    (book, pass)
 }
 
 /// The one permit of a gate with the limit 1.
-fn hold<P: GatePort>(port: &mut P, limit: u32) -> Option<Admission<P::Permit>> {
+pub(crate) fn hold<P: GatePort>(port: &mut P, limit: u32) -> Option<Admission<P::Permit>> {
     if limit == 1 {
         Some(port.admit(Part::Unknown, false, None, 0))
     } else {
@@ -201,7 +231,7 @@ fn hold<P: GatePort>(port: &mut P, limit: u32) -> Option<Admission<P::Permit>> {
 }
 
 /// Ends the permit that was held.
-fn give_back<P: GatePort>(port: &mut P, held: Option<Admission<P::Permit>>) {
+pub(crate) fn give_back<P: GatePort>(port: &mut P, held: Option<Admission<P::Permit>>) {
     match held {
         Some(Admission::Admitted(permit)) => {
             port.end(permit, Outcome::Ignored, 9);
@@ -222,6 +252,7 @@ struct Told {
     reads: u64,
     writes: u64,
     deeds: [Deed; 8],
+    moments: Moments,
 }
 
 fn told_of<P: GatePort>(
@@ -256,7 +287,7 @@ fn told_of<P: GatePort>(
         port,
         &mut backend,
         settings,
-        &Still,
+        &Ticking::new(),
         &mut Counted::new(&mut source),
         &mut Counted::new(&mut sink),
     );
@@ -269,5 +300,6 @@ fn told_of<P: GatePort>(
         reads: source.calls,
         writes: sink.calls,
         deeds,
+        moments: course.moments(),
     }
 }

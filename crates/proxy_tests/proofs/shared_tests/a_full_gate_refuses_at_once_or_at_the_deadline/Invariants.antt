@@ -1,0 +1,8 @@
+use Rattle.std.specs.Prelude.{[]}
+use Rattle.gate_ledgers.specs.Names.{places_of}
+use Rattle.proxy_tests.proofs.shared_tests.a_full_gate_refuses_at_once_or_at_the_deadline.Given as goal
+
+-- the ledgers that were just made, over a table without classes
+abbrev pub ghosts-over_one_permit : goal.ghosts-over_one_permit
+ghosts-over_one_permit g a =
+    record { calls = a.blanks.calls.name; place = places_of a.blanks; rows = []; room = 100 }

@@ -1,0 +1,58 @@
+// A port over a gate that threads share, whose one permit is out.
+ghost use Rattle.std.specs.Prelude.{◌≡◌, []};
+ghost use Rattle.gate_ledgers.specs.Names.{AreNamed, AreWhole};
+
+use crate::devices::{SECOND, Ticking};
+use crate::gateway::{give_back, hold, open_book};
+use gate_history::{Blanks, Book, Naming};
+use limit_laws::Fixed;
+use partitions::{Part, PartitionTable};
+use ports::{Admission, GatePort, Port, Why};
+use shared_gate::{Pass, SharedGate};
+use std::alloc::Global;
+use std::marker::Brand;
+use std::process::Abort;
+use std::sync::Wait;
+use std::time::Clock as SystemClock;
+
+#[test]
+fn a_full_gate_refuses_at_once_or_at_the_deadline(rt: HostRuntime) {
+    over_one_permit::<Brand, _>(&rt, rt.alloc(), Blanks::new());
+}
+
+fn over_one_permit<N: Naming, R: Wait + SystemClock + Abort>(rt: &R, alloc: Global, blanks: Blanks)
+    requires names { AreNamed N.calls N.place blanks }
+    requires parts { AreWhole blanks }
+    requires rows { N.rows ≡ [] }
+    requires room { N.room ≡ 100 }
+{
+    let table = PartitionTable::unknown_only();
+    let (mut book, pass) = open_book::<N, R>(rt, alloc, 1, table, blanks);
+    book.seal();
+    refuses(rt, &SharedGate::new(book), Pass::of(pass));
+}
+
+/// Refused at once without a deadline, and else as timed out, once the clock has reached it.
+fn refuses<N: Naming, R: Wait + SystemClock + Abort>(
+    rt: &R,
+    gate: &SharedGate<Fixed, N>,
+    pass: Pass<N>,
+) {
+    let clock = Ticking::new();
+    let mut port = Port::new(rt, gate, pass, &clock);
+    let held = hold(&mut port, 1);
+    check_refused(rt, &mut port, None, Why::Full);
+    check_refused(rt, &mut port, Some(9 * SECOND), Why::TimedOut);
+    give_back(&mut port, held);
+    let counters = gate.counters(rt);
+    assert!(rt; (counters.full, counters.timed_out, counters.ignored) == (1, 1, 1));
+}
+
+/// An asking is refused for this cause.
+fn check_refused<P: GatePort>(rt: &impl Abort, port: &mut P, deadline: Option<u64>, why: Why) {
+    match port.admit(Part::Unknown, false, deadline, 0) {
+        Admission::Refused(told) => assert!(rt; told == why),
+        Admission::Admitted(_permit) => rt.abort(),
+        Admission::Bypassed => rt.abort(),
+    }
+}
