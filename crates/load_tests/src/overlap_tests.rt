@@ -3,6 +3,7 @@ use counted_io::Counted;
 use load_run::{load, load_with};
 use shared_gate::Clock;
 use std::alloc::Global;
+use std::hint;
 use std::process::Abort;
 use std::sync::Wait;
 use std::sync::atomic::{AtomicBool, AtomicU64, Ordering};
@@ -18,7 +19,7 @@ struct Holds {
 }
 
 /// How often the first reading looks for a second one before it goes on alone.
-const LOOKS: u64 = 2_000_000_000;
+const LOOKS: u64 = 100_000_000;
 
 impl Clock for Holds {
     fn now(&self) -> u64 {
@@ -28,6 +29,7 @@ impl Clock for Holds {
                     self.was_met.store(true, Ordering::SeqCst);
                     break;
                 }
+                hint::spin_loop();
             }
         }
         0
@@ -61,7 +63,7 @@ fn two_workers_call_at_the_same_time(rt: HostRuntime) -> Result<(), Fail> {
     Ok(())
 }
 
-/// So many calls, behind one line of settings.
+/// So many calls, behind the lines of the settings.
 fn calls_of(alloc: Global, settings: &str, count: usize, call: &str) -> Result<String, Fail> {
     let mut trace = String::new(alloc);
     trace.push_str(settings).map_err(|_| "memory")?;
@@ -105,16 +107,57 @@ where
     Ok(!text.contains(" full 0 "))
 }
 
+/// Whether one of so many tries finds it reached: that two of four workers are at their calls at
+/// once is up to the machine.
+fn meets_in<R>(rt: &R, alloc: Global, trace: &str, limit: u32, tries: u32) -> Result<bool, Fail>
+where
+    R: Threads + Wait + SystemClock + Abort + Sync,
+{
+    for _ in 0..tries {
+        if meets(rt, alloc, trace, limit)? {
+            return Ok(true);
+        }
+    }
+    Ok(false)
+}
+
+const SUCCESS: &str = "arrive unknown 0 1 success\n";
+
+const DROPPED: &str = "arrive unknown 0 1 dropped\n";
+
 #[test]
 fn where_no_line_has_a_limit_it_is_the_one_that_is_given(rt: HostRuntime) -> Result<(), Fail> {
-    let trace = calls_of(rt.alloc(), "", 10_000, "arrive unknown 0 1 success\n")?;
-    let mut is_met = false;
-    // That two of four workers are at their calls at once is up to the machine, so there are many
-    // tries.
-    for _ in 0..100 {
-        is_met = is_met || meets(&rt, rt.alloc(), &trace, 1)?;
-    }
-    assert!(rt; is_met);
-    assert!(rt; !meets(&rt, rt.alloc(), &trace, 4)?);
+    let trace = calls_of(rt.alloc(), "", 10_000, SUCCESS)?;
+    assert!(rt; meets_in(&rt, rt.alloc(), &trace, 1, 100)?);
+    assert!(rt; !meets_in(&rt, rt.alloc(), &trace, 4, 10)?);
+    Ok(())
+}
+
+#[test]
+fn the_limit_of_a_line_stands_in_place_of_the_one_that_is_given(
+    rt: HostRuntime,
+) -> Result<(), Fail> {
+    let trace = calls_of(rt.alloc(), "limit fixed 4\n", 10_000, SUCCESS)?;
+    assert!(rt; !meets_in(&rt, rt.alloc(), &trace, 1, 10)?);
+    Ok(())
+}
+
+/// A limit that falls from 4 to 1 by the first two drops.
+const FALLING: &str = "limit aimd 1 4 4 500 3600000000000\n";
+
+/// The same over windows of a million samples, none of which ends.
+const HELD: &str = "\
+limit aimd 1 4 4 500 3600000000000
+window 1000000 3600000000000 3600000000000 0
+";
+
+#[test]
+fn a_limit_that_falls_with_drops_is_met_and_a_window_over_it_holds_it(
+    rt: HostRuntime,
+) -> Result<(), Fail> {
+    let falling = calls_of(rt.alloc(), FALLING, 10_000, DROPPED)?;
+    assert!(rt; meets_in(&rt, rt.alloc(), &falling, 4, 100)?);
+    let held = calls_of(rt.alloc(), HELD, 10_000, DROPPED)?;
+    assert!(rt; !meets_in(&rt, rt.alloc(), &held, 1, 10)?);
     Ok(())
 }
