@@ -9,7 +9,7 @@ use Rattle.limiter_core.specs.declared.event.Entry.{Entry}
 use Rattle.virtual_time.specs.declared.deed.Deed.{Deed}
 use Rattle.virtual_time.specs.declared.calendar.Calendar.{Calendar}
 use Rattle.virtual_time.specs.Next.{Follows, IsLeast, promotes}
-use Rattle.virtual_time.specs.Calendar.{has, Has, queue_order, IsKept, Loses}
+use Rattle.virtual_time.specs.Calendar.{has, Has, queue_order, weight, deeds_left, IsKept, Loses}
 use Rattle.virtual_time.proofs.Orders.{derived, deeds_derived, deeds_apart, nothing_before}
 
 true_unless : (b : Bool) → (b ≡ false → ⊥) → b ≡ true
@@ -18,8 +18,9 @@ true_unless false h = absurd (h refl)
 
 -- what a removal does
 pub removed : (old new : tree.BTreeSet Deed) (d : Deed) → true ≡ tree.contains derived old d
-    → tree.Updates derived old new d false → Loses old new d
-removed old new d had updates =
+    → tree.Updates derived old new d false → deeds_left old ≡ weight d + deeds_left new
+    → Loses old new d
+removed old new d had updates fewer =
     let told : tree.Updates queue_order old new d false =
     subst (λ (order : Deed → Deed → Ordering). tree.Updates order old new d false)
     deeds_derived updates in
@@ -28,6 +29,7 @@ removed old new d had updates =
           deeds_derived);
       gone = told.1;
       others = λ e apart. told.2 e (deeds_apart d e apart);
+      left = fewer;
     }
 
 -- what an insertion does

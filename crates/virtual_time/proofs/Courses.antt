@@ -2,7 +2,6 @@
 use Rattle.std.proofs.Common.{◌≡◌, ◌≢◌, ℕ, ◌<◌, true, List, [], ◌∷◌, ◌++◌, length, Option, None}
 use Rattle.std.proofs.Common.{Some, is_some, slice_get, unwrap_or, sym, ap, ◌∙◌, subst, true≢false}
 use Rattle.std.proofs.Common.{⊎_elim, arith}
-use Rattle.std.specs.Prelude.{option_and_then}
 use Rattle.std.proofs.lemmas.Bool.{cases_eq}
 use Rattle.limiter_core.specs.declared.event.Entry.{Entry}
 use Rattle.trace.specs.declared.arrival.Arrival.{Arrival}
@@ -10,16 +9,15 @@ use Rattle.virtual_time.specs.declared.deed.Kind.TheVariants.{GivingUp}
 use Rattle.virtual_time.specs.declared.deed.Deed.{Deed}
 use Rattle.virtual_time.specs.declared.deed.Step.{Step}
 use Rattle.virtual_time.specs.declared.calendar.Calendar.{Calendar}
-use Rattle.virtual_time.specs.Pending.{IsPending, pending_at, pending_after, last_step, left}
+use Rattle.virtual_time.specs.Pending.{IsPending, pending_at, left}
 use Rattle.virtual_time.specs.Next.{IsNext, follows, leads}
 use Rattle.virtual_time.specs.Course.{Limiter, Course, IsCourse, more, answered, with_deed}
-use Rattle.virtual_time.specs.Course.{course_with, step_of, reply_of, weight, deeds_left}
+use Rattle.virtual_time.specs.Course.{course_with, step_of, reply_of}
 use Rattle.virtual_time.specs.Calendar.{has, Has, IsKept, IsHeld, Takes, Adds, Joins}
 use Rattle.virtual_time.proofs.Calendars.{had_before, follows_more}
 use Rattle.virtual_time.proofs.Pendings.{pending_within, pending_here, pending_elsewhere}
-use Rattle.virtual_time.proofs.Pendings.{left_place, left_number, left_answered, left_lighter}
+use Rattle.virtual_time.proofs.Pendings.{left_place, left_number, left_answered}
 use Rattle.virtual_time.proofs.Additions.{kept_grown, kept_added, joined}
-use Rattle.virtual_time.proofs.Measures.{fewer_left}
 
 -- the next deed is the same where the same deeds are pending
 pub next_same : (P Q : Deed → Type 0) (entries : List Entry) (d : Deed) → ((e : Deed) → P e → Q e)
@@ -119,19 +117,8 @@ module _ (arrivals : List Arrival) (timeout : ℕ) (steps : List Step) (entries 
         (held_without (sym is))
     held_after new (Some x) is adds = held_with x new (sym is) adds
 
-    -- fewer deeds can still come
-    pub left_falls : deeds_left timeout (steps ++ s ∷ []) 0 arrivals < deeds_left timeout steps 0
-        arrivals
-    left_falls =
-        let was : pending_after timeout a d.place (last_step steps d.place) ≡ Some taken
-        = sym (ap (option_and_then
-        (λ (b : Arrival). pending_after timeout b d.place (last_step steps d.place))) found)
-        ∙ was_pending in
-        fewer_left timeout steps s 0 d.place arrivals a (omega arith) found
-        (omega (arith, ap weight was, left_lighter timeout a s d.kind (reply_of told)))
-
--- A DEED MORE, the next one by a calendar: the course is one still, the calendar holds what is
--- pending then, and fewer deeds can still come
+-- A DEED MORE, the next one by a calendar: the course is one still, and the calendar holds what is
+-- pending then
 module _ (limiter : Limiter) (arrivals : List Arrival) (timeout : ℕ) (c : Course)
     (before mid : Calendar) (course : IsCourse limiter arrivals timeout c)
     (held : IsHeld arrivals timeout c.steps c.entries before)
@@ -156,9 +143,4 @@ module _ (limiter : Limiter) (arrivals : List Arrival) (timeout : ℕ) (c : Cour
       ≡ left timeout a (step_of d c.entries told) → Joins mid new x
       → IsHeld arrivals timeout after.steps after.entries new
   after_held = held_after arrivals timeout c.steps c.entries before mid held d takes told a found
-      kept
-
-  pub after_fewer : deeds_left timeout after.steps 0 arrivals < deeds_left timeout c.steps 0
-      arrivals
-  after_fewer = left_falls arrivals timeout c.steps c.entries before mid held d takes told a found
       kept

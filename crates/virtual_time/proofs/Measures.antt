@@ -1,59 +1,64 @@
--- Each step lowers the number of deeds that can still come.
-use Rattle.std.proofs.Common.{◌≡◌, ◌≢◌, ℕ, zero, suc, ◌+◌, ◌*◌, ◌<◌, List, [], ◌∷◌, ◌++◌, length}
-use Rattle.std.proofs.Common.{Option, Some, slice_get, unwrap_or, refl, ap, arith}
+-- Each deed that is done lowers the number of those that can still come.
+use Rattle.std.proofs.Common.{◌≡◌, ℕ, ◌+◌, ◌<◌, ◌≤◌, true, List, [], ◌∷◌, Option, None, Some}
+use Rattle.std.proofs.Common.{ap, arith}
+use Rattle.std.proofs.Common.{Less, Equal, Greater}
+use Rattle.std.specs.Prelude.{cond}
+use Rattle.std.specs.declared.cmp.Ordering.{Ordering}
+use Rattle.std.specs.Ordering.{match_ordering}
+use Rattle.std.specs.List.{sum_by}
+use Rattle.std.specs.BTreeMap.{is_at}
+use Rattle.std.specs.BTreeSet as tree
+use Rattle.std.specs.Set.{remove_key}
+use Rattle.std.proofs.lemmas.List.Sorted.{IsPermutation-refl}
+use Rattle.std.proofs.lemmas.List.Sums.{sum_by-cons}
+use Rattle.std.proofs.lemmas.Map.Made.{sum_by-remove_same}
 use Rattle.trace.specs.declared.arrival.Arrival.{Arrival}
+use Rattle.virtual_time.specs.declared.deed.Deed.{Deed}
 use Rattle.virtual_time.specs.declared.deed.Step.{Step}
-use Rattle.virtual_time.specs.Pending.{left, last_step, pending_after}
-use Rattle.virtual_time.specs.Course.{weight, deeds_left}
-use Rattle.virtual_time.proofs.Pendings.{last_elsewhere, after_here}
+use Rattle.virtual_time.specs.declared.calendar.Calendar.{Calendar}
+use Rattle.virtual_time.specs.Pending.{left}
+use Rattle.virtual_time.specs.Calendar.{weight, deeds_left, Takes, Joins}
+use Rattle.virtual_time.proofs.Orders.{derived, deeds_decide}
+use Rattle.virtual_time.proofs.Pendings.{left_lighter}
 
-module _ (timeout : ℕ) (steps : List Step) (s : Step) where
-  weight_elsewhere : (a : Arrival) (place : ℕ) → place ≢ s.deed.place
-      → weight (pending_after timeout a place (last_step (steps ++ s ∷ []) place))
-      ≡ weight (pending_after timeout a place (last_step steps place))
-  weight_elsewhere a place apart =
-      ap (λ (o : Option Step). weight (pending_after timeout a place o))
-      (last_elsewhere steps s place apart)
+-- a deed that joins adds its weight at most
+pub joined_weight : (order : Deed → Deed → Ordering) (ks : List Deed) (d : Deed)
+    → sum_by weight (tree.insert_key order ks d) ≤ weight d + sum_by weight ks
+joined_weight order [] d = omega arith
+joined_weight order (k ∷ ks) d = by (order d k) (joined_weight order ks d)
+  where
+    by : (o : Ordering) → sum_by weight (tree.insert_key order ks d)
+        ≤ weight d + sum_by weight ks
+        → sum_by weight (match_ordering o (d ∷ k ∷ ks) (k ∷ ks) (k ∷ tree.insert_key order ks d))
+        ≤ weight d + sum_by weight (k ∷ ks)
+    by Less h = omega (arith, sum_by-cons weight d (k ∷ ks))
+    by Equal h = omega arith
+    by Greater h = omega (
+      arith,
+      h,
+      sum_by-cons weight k ks,
+      sum_by-cons weight k
+          (tree.insert_key order ks d),
+    )
 
-  same_above : (place : ℕ) (arrivals : List Arrival) → s.deed.place < place
-      → deeds_left timeout (steps ++ s ∷ []) place arrivals
-      ≡ deeds_left timeout steps place arrivals
-  same_above place [] above = refl
-  same_above place (a ∷ rest) above =
-      omega (
-        arith,
-        weight_elsewhere a place (λ same. omega (arith, same, above)),
-        same_above
-            (place + 1) rest (omega (arith, above)),
-      )
+-- a deed that leaves takes its weight away
+pub left_weight : (old new : tree.BTreeSet Deed) (d : Deed) → true ≡ tree.contains derived old d
+    → remove_key (is_at (derived d)) old.keys ≡ new.keys
+    → deeds_left old ≡ weight d + deeds_left new
+left_weight old new d had gone =
+    let left = sum_by-remove_same weight deeds_decide d old.keys
+    (remove_key (is_at (derived d)) old.keys) (IsPermutation-refl _) in
+    omega (arith, left, ap (λ b. cond b (weight d) 0) had, ap (sum_by weight) gone)
 
-  -- the arrival k of these, the first of which has this place, has one deed less
-  pub fewer_left : (place k : ℕ) (arrivals : List Arrival) (a : Arrival) → s.deed.place ≡ place + k
-      → slice_get arrivals k ≡ Some a
-      → weight (left timeout a s) < weight
-      (pending_after timeout a s.deed.place (last_step steps s.deed.place))
-      → deeds_left timeout (steps ++ s ∷ []) place arrivals < deeds_left timeout steps place
-      arrivals
-  fewer_left place k [] a at found lighter = cc
-  fewer_left place zero (b ∷ rest) a at found lighter =
-      let here : place ≡ s.deed.place = omega (arith, at) in
-      let same : b ≡ a = ap (λ (o : Option Arrival). unwrap_or o a) found in
-      let now = ap weight (after_here steps s rest timeout b place here) in
-      let is = ap (λ (x : Arrival). weight (left timeout x s)) same in
-      let before = ap (λ (p : ℕ). weight (pending_after timeout b p (last_step steps p))) here in
-      let was = ap (λ (x : Arrival). weight
-      (pending_after timeout x s.deed.place (last_step steps s.deed.place))) same in
-      omega (arith, lighter, now, is, before, was, same_above (place + 1) rest (omega (arith, at)))
-  fewer_left place (suc k) (b ∷ rest) a at found lighter =
-      omega (
-        arith,
-        weight_elsewhere b place (λ same. omega (arith, same, at)),
-        fewer_left
-            (place + 1) k rest a (omega (arith, at)) found lighter,
-      )
-
--- before the first step each arrival has three deeds
-pub all_left : (timeout place : ℕ) (arrivals : List Arrival) → deeds_left timeout [] place arrivals
-    ≡ 3 * length arrivals
-all_left timeout place [] = refl
-all_left timeout place (a ∷ rest) = omega (arith, all_left timeout (place + 1) rest)
+-- what a step leaves weighs less than the deed that was taken for it
+pub fewer_left : (timeout : ℕ) (a : Arrival) (s : Step) (old mid new : Calendar)
+    → Takes old.deeds mid.deeds s.deed → (o : Option Deed) → left timeout a s ≡ o → Joins mid new o
+    → deeds_left new.deeds < deeds_left old.deeds
+fewer_left timeout a s old mid new takes None is same =
+    omega (arith, takes.loses.left, ap (λ (c : Calendar). deeds_left c.deeds) same)
+fewer_left timeout a s old mid new takes (Some x) is adds = omega (
+  arith,
+  takes.loses.left,
+  adds.left,
+  left_lighter timeout a s s.deed.kind s.reply x is,
+)

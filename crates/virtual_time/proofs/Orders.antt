@@ -1,9 +1,10 @@
 -- The order of the queue is that of deeds.
-use Rattle.std.proofs.Common.{◌≡◌, ◌≢◌, ℕ, Bool, true, false, refl, sym, ap, ◌∙◌, true≢false, inl}
-use Rattle.std.proofs.Common.{inr, ◌⊎◌, arith}
+use Rattle.std.proofs.Common.{◌≡◌, ◌≢◌, ℕ, Bool, true, false, refl, sym, ap, ◌∙◌, subst, true≢false}
+use Rattle.std.proofs.Common.{inl, inr, ◌⊎◌, arith}
 use Rattle.std.specs.declared.cmp.Ordering.{Ordering}
 use Rattle.std.proofs.Common.{Less, Equal, Greater}
 use Rattle.std.specs.Ordering.{is_eq, is_gt, is_lt, nat_cmp, ordering_then, ordering_reverse}
+use Rattle.std.specs.Bool.{Decides}
 use Rattle.std.specs.Cmp.{nat_cmp_total}
 use Rattle.std.proofs.lemmas.Cmp.{ranked, tied_itself}
 use Rattle.virtual_time.specs.declared.deed.Kind.{Kind}
@@ -121,6 +122,15 @@ tied_or a b true h = inl (deeds_tie a b h)
 tied_or a b false h = inr
     (λ same. true≢false (sym (ties_itself a)
     ∙ ap (λ (d : Deed). is_eq (queue_order a d)) (sym same) ∙ h))
+
+-- the order decides whether they are
+pub deeds_decide : (a b : Deed) → Decides (is_eq (derived a b)) (a ≡ b)
+deeds_decide = subst (λ (order : Deed → Deed → Ordering). (a b : Deed)
+    → Decides (is_eq (order a b)) (a ≡ b)) (sym deeds_derived)
+    (λ a b. (
+      deeds_tie a b,
+      λ same. ap (λ (d : Deed). is_eq (queue_order a d)) (sym same) ∙ ties_itself a,
+    ))
 
 -- deeds are the same, or they aren't
 pub deeds_cases : (a b : Deed) → (a ≡ b) ⊎ (b ≢ a)

@@ -20,7 +20,7 @@ use Rattle.virtual_time.specs.declared.deed.Step.{Step}
 use Rattle.virtual_time.specs.Order.{kind_rank}
 use Rattle.virtual_time.specs.Pending.{left_by, left, last_step, pending_after, pending_at}
 use Rattle.virtual_time.specs.Pending.{IsPending}
-use Rattle.virtual_time.specs.Course.{weight}
+use Rattle.virtual_time.specs.Calendar.{weight}
 
 last_appended : {X : Type 0} (o : Option X) (xs : List X) (x : X) → last_or o (xs ++ x ∷ [])
     ≡ Some x
@@ -122,12 +122,15 @@ left_answered timeout a s GivingUp None e h = cc
 left_answered timeout a s Ending None e h = cc
 
 -- what is left stands for fewer deeds
-pub left_lighter : (timeout : ℕ) (a : Arrival) (s : Step) (k : Kind) (r : Option Reply)
-    → weight (left_by timeout a s k r) ≤ kind_rank k
-left_lighter timeout a s Arriving (Some (Admitted inflight)) = omega arith
-left_lighter timeout a s Arriving (Some Waiting) = omega arith
-left_lighter timeout a s GivingUp (Some (Granted part start inflight)) = omega arith
-left_lighter timeout a s k r = omega arith
+pub left_lighter : (timeout : ℕ) (a : Arrival) (s : Step) (k : Kind) (r : Option Reply) (e : Deed)
+    → left_by timeout a s k r ≡ Some e → weight e ≤ kind_rank k
+left_lighter timeout a s Arriving (Some (Admitted inflight)) e h =
+    omega (arith, ap (λ (o : Option Deed). kind_rank (unwrap_or o e).kind) h)
+left_lighter timeout a s Arriving (Some Waiting) e h =
+    omega (arith, ap (λ (o : Option Deed). kind_rank (unwrap_or o e).kind) h)
+left_lighter timeout a s GivingUp (Some (Granted part start inflight)) e h =
+    omega (arith, ap (λ (o : Option Deed). kind_rank (unwrap_or o e).kind) h)
+left_lighter timeout a s k r e h = cc
 
 -- what stands past the end of a list of arrivals
 abbrev pub no_arrival : Arrival

@@ -1,6 +1,7 @@
 -- A calendar holds what is pending.
-use Rattle.std.specs.Prelude.{◌≡◌, ◌≢◌, ℕ, ◌<◌, ◌≤◌, Bool, true, false, IsTrue, List, Option, None}
-use Rattle.std.specs.Prelude.{Some, length, nat_eq}
+use Rattle.std.specs.Prelude.{◌≡◌, ◌≢◌, ℕ, ◌+◌, ◌<◌, ◌≤◌, Bool, true, false, IsTrue, List}
+use Rattle.std.specs.Prelude.{Option, None, Some, length, nat_eq}
+use Rattle.std.specs.List.{sum_by}
 use Rattle.std.specs.declared.cmp.Ordering.{Ordering}
 use Rattle.std.specs.Ordering.{nat_cmp, ordering_then}
 use Rattle.std.specs.BTreeSet as tree
@@ -28,6 +29,14 @@ has deeds d = tree.contains queue_order deeds d
 abbrev pub Has : tree.BTreeSet Deed → Deed → Type 0
 Has deeds d = IsTrue (has deeds d)
 
+-- how many deeds one stands for at most: an arrival three, a giving up two, an ending one
+abbrev pub weight : Deed → ℕ
+weight d = kind_rank d.kind + 1
+
+-- how many deeds can still come of those that are queued
+abbrev pub deeds_left : tree.BTreeSet Deed → ℕ
+deeds_left deeds = sum_by weight deeds.keys
+
 -- what a calendar keeps beside its queue: each queued giving up is found by its number, under which
 -- nothing else is found, and that number was given out; and no promotion among the entries that
 -- were read is followed by a giving up any more
@@ -45,6 +54,7 @@ pub record Loses (old new : tree.BTreeSet Deed) (d : Deed) : Type 0 where
   pub had : Has old d
   pub gone : has new d ≡ false
   pub others : (e : Deed) → e ≢ d → has new e ≡ has old e
+  pub left : deeds_left old ≡ weight d + deeds_left new
 
 -- the deed that was queued for this one left: it itself, or a later giving up
 pub record Takes (old new : tree.BTreeSet Deed) (d : Deed) : Type 0 where
@@ -60,6 +70,7 @@ pub record Adds (old new : Calendar) (d : Deed) : Type 0 where
   pub same : d.kind ≢ GivingUp → (n : ℕ) → hash.get nat_eq new.waiters n
       ≡ hash.get nat_eq old.waiters n
   pub read : new.read ≡ old.read
+  pub left : deeds_left new.deeds ≤ weight d + deeds_left old.deeds
 
 -- the same of a deed, if there is one
 abbrev pub Joins : Calendar → Calendar → Option Deed → Type 0

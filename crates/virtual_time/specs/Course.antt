@@ -1,6 +1,6 @@
 -- The course of a trace: its deeds, one after the other, the entries that they add, and what is
 -- written of them.
-use Rattle.std.specs.Prelude.{ℕ, ◌+◌, List, [], ◌∷◌, ◌++◌, length, Option, None, Some, slice_get}
+use Rattle.std.specs.Prelude.{ℕ, List, [], ◌∷◌, ◌++◌, length, Option, None, Some, slice_get}
 use Rattle.limit_laws.specs.Algorithm.{Algorithm}
 use Rattle.limiter_core.specs.declared.event.Event.TheVariants.{Acquire, GiveUp}
 use Rattle.limiter_core.specs.declared.event.Reply.{Reply}
@@ -15,8 +15,7 @@ use Rattle.virtual_time.specs.declared.deed.Kind.{Kind}
 use Rattle.virtual_time.specs.declared.deed.Kind.TheVariants.{Ending, GivingUp, Arriving}
 use Rattle.virtual_time.specs.declared.deed.Deed.{Deed}
 use Rattle.virtual_time.specs.declared.deed.Step.{Step}
-use Rattle.virtual_time.specs.Order.{kind_rank}
-use Rattle.virtual_time.specs.Pending.{last_step, pending_after, IsPending}
+use Rattle.virtual_time.specs.Pending.{IsPending}
 use Rattle.virtual_time.specs.Next.{IsNext}
 
 -- what is asked to do a deed of an arrival, under the permits that are open
@@ -98,15 +97,3 @@ pub record IsRun (limiter : Limiter) (arrivals : List Arrival) (timeout : ℕ) (
   pub entries : List Entry
   pub whole : IsWhole limiter arrivals timeout
       (record { steps = steps; entries = entries; out = out })
-
--- how many deeds a pending one stands for at most: an arrival three, a giving up two, an ending one
-abbrev pub weight : Option Deed → ℕ
-weight None = 0
-weight (Some d) = kind_rank d.kind + 1
-
--- how many deeds these arrivals, from a place on, can still have after the steps
-abbrev pub deeds_left : ℕ → List Step → ℕ → List Arrival → ℕ
-deeds_left timeout steps place [] = 0
-deeds_left timeout steps place (a ∷ rest) =
-    weight (pending_after timeout a place (last_step steps place))
-    + deeds_left timeout steps (place + 1) rest

@@ -101,13 +101,11 @@ pub(crate) fn run<L: Limit>(
 {
     let mut calendar = Calendar::new(alloc, arrivals)?;
     let mut entries = Vec::new(alloc);
-    let mut steps = Vec::new(alloc);
     let mut text = String::new(alloc);
     while let Some(deed) = calendar.next(&entries) {
         let arrival = &arrivals[deed.place];
         let step = carry_out(session, &mut text, &mut entries, arrival, deed)?;
         calendar.join(left(timeout, arrival, step))?;
-        steps.push(step)?;
     }
     Ok(text)
 }

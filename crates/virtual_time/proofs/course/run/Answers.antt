@@ -9,11 +9,12 @@ use Rattle.virtual_time.specs.declared.deed.Step.{Step}
 use Rattle.virtual_time.specs.declared.deed.Deed.{Deed}
 use Rattle.virtual_time.specs.Pending.{left}
 use Rattle.virtual_time.specs.Next.{IsNext}
-use Rattle.virtual_time.specs.Calendar.{Has, IsKept, IsHeld}
+use Rattle.virtual_time.specs.Calendar.{Has, Takes, IsKept, IsHeld}
 use Rattle.virtual_time.specs.Course.{Limiter, Course, IsCourse, begin, limiter_of, course_with}
-use Rattle.virtual_time.specs.Course.{journal_with, step_of, deeds_left}
+use Rattle.virtual_time.specs.Course.{journal_with, step_of}
 use Rattle.virtual_time.proofs.Pendings.{no_arrival}
-use Rattle.virtual_time.proofs.Courses.{taken_within, told, after_course, after_held, after_fewer}
+use Rattle.virtual_time.proofs.Courses.{taken_within, told, after_course, after_held}
+use Rattle.virtual_time.proofs.Measures.{fewer_left}
 use Rattle.virtual_time.proofs.course.run.Goals as goal
 use Rattle.virtual_time.proofs.course.run.Given.{Over}
 
@@ -22,16 +23,17 @@ loop-deed-init g c =
     let rules = g.L.Limit.rules in
     let start : ◌≡◌ {A = Course} (record { steps = []; entries = []; out = [] })
     (record {
-      steps = c.new-steps.result.items;
+      steps = [];
       entries = c.new-entries.result.items;
       out = string_bytes c.new-text.result;
     }) =
     λ i. record {
-      steps = sym c.new-steps.ensures.items i;
+      steps = [];
       entries = sym c.new-entries.ensures.items i;
       out = sym c.new-text.ensures.bytes i;
     } in
     record {
+      steps = [];
       course = subst (IsCourse (limiter_of rules c.args.session.now.journal) c.args.arrivals.now
           c.args.timeout) start begin;
       held = subst (λ (x : Course). IsHeld c.args.arrivals.now c.args.timeout x.steps x.entries
@@ -43,20 +45,20 @@ loop-deed-init g c =
 
 pub bounds-arrivals-deed : goal.bounds-arrivals-deed
 bounds-arrivals-deed g c =
-    taken_within c.args.arrivals.now c.args.timeout c.loop-deed.steps.items
+    taken_within c.args.arrivals.now c.args.timeout c.loop-deed.invariant.steps
     c.loop-deed.entries.items c.loop-deed.calendar c.next.new.self c.loop-deed.invariant.held
     c.in-Some.deed c.in-Some.ensures.takes
 
 pub offset_bounds-arrivals-deed : goal.offset_bounds-arrivals-deed
 offset_bounds-arrivals-deed g c =
     let within : c.in-Some.deed.place < length c.args.arrivals.now =
-    taken_within c.args.arrivals.now c.args.timeout c.loop-deed.steps.items
+    taken_within c.args.arrivals.now c.args.timeout c.loop-deed.invariant.steps
     c.loop-deed.entries.items c.loop-deed.calendar c.next.new.self c.loop-deed.invariant.held
     c.in-Some.deed c.in-Some.ensures.takes in
     omega arith
 
 -- what one turn of the loop does, by the limiter of the journal that was lent
-module _ (g : Over) (c : goal.In_ok-push g) where
+module _ (g : Over) (c : goal.In_ok-join g) where
   abbrev limiter : Limiter
   limiter = limiter_of g.L.Limit.rules c.args.session.now.journal
 
@@ -68,7 +70,7 @@ module _ (g : Over) (c : goal.In_ok-push g) where
 
   abbrev so_far : Course
   so_far = record {
-    steps = c.loop-deed.steps.items;
+    steps = c.loop-deed.invariant.steps;
     entries = c.loop-deed.entries.items;
     out = string_bytes c.loop-deed.text;
   }
@@ -76,7 +78,7 @@ module _ (g : Over) (c : goal.In_ok-push g) where
   found : slice_get c.args.arrivals.now c.in-Some.deed.place ≡ Some arrival
   found =
       slice_get-get_or c.args.arrivals.now c.in-Some.deed.place no_arrival
-      (taken_within c.args.arrivals.now c.args.timeout c.loop-deed.steps.items
+      (taken_within c.args.arrivals.now c.args.timeout c.loop-deed.invariant.steps
       c.loop-deed.entries.items c.loop-deed.calendar c.next.new.self c.loop-deed.invariant.held
       c.in-Some.deed c.in-Some.ensures.takes)
 
@@ -102,36 +104,28 @@ module _ (g : Over) (c : goal.In_ok-push g) where
   stepped : c.in_ok-step.step ≡ step_of d c.loop-deed.entries.items added
   stepped = c.in_ok-step.ensures.step j c.loop-deed.invariant.stands
 
-  grown_steps : c.push.new.self.items
-      ≡ c.loop-deed.steps.items ++ step_of d c.loop-deed.entries.items added ∷ []
-  grown_steps =
-      c.in_ok-push.ensures.items ∙ ap (λ (s : Step). c.loop-deed.steps.items ++ s ∷ []) stepped
-
   abbrev grown : Course
   grown = record {
-    steps = c.push.new.self.items;
+    steps = c.loop-deed.invariant.steps ++ step_of d c.loop-deed.entries.items added ∷ [];
     entries = c.carry_out.new.entries.items;
     out = string_bytes c.carry_out.new.text;
   }
 
   grows : course_with so_far d (limiter c.loop-deed.entries.items arrival d) ≡ grown
   grows = λ i. record {
-    steps = sym grown_steps i;
+    steps = grown.steps;
     entries = sym (c.in_ok-step.ensures.entries j c.loop-deed.invariant.stands) i;
     out = sym (c.in_ok-step.ensures.text j c.loop-deed.invariant.stands) i;
   }
 
-  fewer : deeds_left c.args.timeout c.push.new.self.items 0 c.args.arrivals.now
-      < deeds_left c.args.timeout c.loop-deed.steps.items 0 c.args.arrivals.now
-  fewer =
-      subst (λ (steps : List Step). deeds_left c.args.timeout steps 0 c.args.arrivals.now
-      < deeds_left c.args.timeout c.loop-deed.steps.items 0 c.args.arrivals.now) (sym grown_steps)
-      (after_fewer limiter c.args.arrivals.now c.args.timeout so_far c.loop-deed.calendar
-      c.next.new.self c.loop-deed.invariant.course c.loop-deed.invariant.held d arrival found
-      next c.in-Some.ensures.takes kept)
+  taken : Takes c.loop-deed.calendar.deeds c.next.new.self.deeds c.in_ok-step.step.deed
+  taken =
+      subst (Takes c.loop-deed.calendar.deeds c.next.new.self.deeds)
+      (sym (ap (λ (s : Step). s.deed) stepped)) c.in-Some.ensures.takes
 
 pub loop-deed-preserved : goal.loop-deed-preserved
 loop-deed-preserved g c = record {
+  steps = (grown g c).steps;
   course = subst (IsCourse (limiter g c) c.args.arrivals.now c.args.timeout) (grows g c)
       (after_course (limiter g c) c.args.arrivals.now c.args.timeout (so_far g c)
       c.loop-deed.calendar c.next.new.self c.loop-deed.invariant.course c.loop-deed.invariant.held
@@ -149,4 +143,6 @@ loop-deed-preserved g c = record {
 }
 
 pub loop-deed-smaller : goal.loop-deed-smaller
-loop-deed-smaller g c = fewer g c
+loop-deed-smaller g c =
+    fewer_left c.args.timeout (arrival g c) c.in_ok-step.step c.loop-deed.calendar c.next.new.self
+    c.join.new.self (taken g c) c.left.result (sym c.left.ensures) c.in_ok-join.ensures

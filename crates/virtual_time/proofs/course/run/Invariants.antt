@@ -1,21 +1,23 @@
-use Rattle.std.proofs.Common.{string_bytes}
+use Rattle.std.proofs.Common.{List, string_bytes}
 use Rattle.load_driver.specs.Stretches.{StandsFor}
-use Rattle.virtual_time.specs.Course.{IsCourse, limiter_of, journal_with, deeds_left}
-use Rattle.virtual_time.specs.Calendar.{IsHeld}
+use Rattle.virtual_time.specs.declared.deed.Step.{Step}
+use Rattle.virtual_time.specs.Course.{IsCourse, limiter_of, journal_with}
+use Rattle.virtual_time.specs.Calendar.{IsHeld, deeds_left}
 use Rattle.virtual_time.proofs.course.run.Given as goal
 
--- the steps so far are a course of the journal that was lent, the calendar holds what is pending
--- after them, and the session stands for all entries so far
+-- there are steps that are, with all entries and the text, a course of the journal that was lent;
+-- the calendar holds what is pending after them, and the session stands for all entries so far
 abbrev pub invariant-loop-deed : goal.invariant-loop-deed
 invariant-loop-deed g l = record {
+  steps : List Step;
   course : IsCourse (limiter_of g.L.Limit.rules l.fn.session.journal) l.arrivals l.timeout (record {
-    steps = l.steps.items;
+    steps = steps;
     entries = l.entries.items;
     out = string_bytes l.text;
   });
-  held : IsHeld l.arrivals l.timeout l.steps.items l.entries.items l.calendar;
+  held : IsHeld l.arrivals l.timeout steps l.entries.items l.calendar;
   stands : StandsFor g.L.Limit.rules (journal_with l.fn.session.journal l.entries.items) l.session;
 }
 
 abbrev pub decreases-loop-deed : goal.decreases-loop-deed
-decreases-loop-deed g l = deeds_left l.timeout l.steps.items 0 l.arrivals
+decreases-loop-deed g l = deeds_left l.calendar.deeds

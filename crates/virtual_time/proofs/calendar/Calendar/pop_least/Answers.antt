@@ -1,4 +1,7 @@
-use Rattle.std.proofs.Common.{sym}
+use Rattle.std.proofs.Common.{sym, ap, ◌∙◌}
+use Rattle.std.specs.List.{sum_by}
+use Rattle.std.proofs.lemmas.List.Sums.{sum_by-cons}
+use Rattle.virtual_time.specs.Calendar.{weight}
 use Rattle.virtual_time.proofs.Calendars.{removed, least_queued}
 use Rattle.virtual_time.proofs.calendar.Calendar.pop_least.Goals as goal
 
@@ -9,3 +12,5 @@ returns-clause-least c = least_queued c.args.self.now.deeds c.in_ok-deed.deed
 pub returns-clause-loses : goal.returns-clause-loses
 returns-clause-loses c = removed c.args.self.now.deeds c.pop_first.new.self c.in_ok-deed.deed
     (sym c.in_ok-deed.ensures.member) c.in_ok-deed.ensures.updates
+    (ap (sum_by weight) c.in_ok-deed.ensures.removal
+    ∙ sum_by-cons weight c.in_ok-deed.deed c.pop_first.new.self.keys)
