@@ -1,0 +1,14 @@
+use Rattle.std.proofs.Common.{rules}
+use Rattle.config_sections.proofs.limit.LimitKeys.keys.Goals as goal
+
+pub returns-in-Fixed : goal.returns-in-Fixed
+returns-in-Fixed c = search rules
+
+pub returns-in-Settable : goal.returns-in-Settable
+returns-in-Settable c = search rules
+
+pub returns-in-Aimd : goal.returns-in-Aimd
+returns-in-Aimd c = search rules
+
+pub returns-in-Vegas : goal.returns-in-Vegas
+returns-in-Vegas c = search rules
