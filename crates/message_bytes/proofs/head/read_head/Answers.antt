@@ -1,4 +1,5 @@
 use Rattle.std.proofs.Common.{rules, arith, refl, ap, ◌∙◌, ◌≡◌, ◌≤◌, ◌<◌, ◌+◌, ◌-◌, ◌++◌, true, false, length, take, length-append, length-take, length-take-le, Vec, Global, ℕ}
+use Rattle.std.proofs.lemmas.Grind.{common_steps}
 use Rattle.std.proofs.lemmas.List.{take-append-le}
 use Rattle.counted_io.specs.Counted.{inner_of}
 use Rattle.message_bytes.specs.declared.fault.Fault.TheVariants.{HeadTooLarge}
@@ -74,3 +75,63 @@ returns-clause-head g c =
     gathered_over ends_head 65536 HeadTooLarge (λ (head : Vec ℕ Global). head.items) limit_lines
     (left (inner_of c.args.reader.now)) (left (inner_of c.loop-piece.reader)) c.loop-piece.seen
     c.loop-piece.invariant.on full refl
+
+pub loop-piece-init : goal.loop-piece-init
+loop-piece-init g c = search rules
+
+pub returns-in_err-count-clause-head : goal.returns-in_err-count-clause-head
+returns-in_err-count-clause-head g c = search rules
+
+pub returns-in_err-count-clause-lines : goal.returns-in_err-count-clause-lines
+returns-in_err-count-clause-lines g c = search rules
+
+pub returns-in_err-count-clause-read : goal.returns-in_err-count-clause-read
+returns-in_err-count-clause-read g c = search rules
+
+pub returns-in_err-count-clause-unfailing : goal.returns-in_err-count-clause-unfailing
+returns-in_err-count-clause-unfailing g c = search rules
+
+pub returns-in_err-count-clause-turns : goal.returns-in_err-count-clause-turns
+returns-in_err-count-clause-turns g c = search rules
+
+pub returns-in-Err-clause-head : goal.returns-in-Err-clause-head
+returns-in-Err-clause-head g c = search rules
+
+pub returns-in-Err-clause-lines : goal.returns-in-Err-clause-lines
+returns-in-Err-clause-lines g c = search rules
+
+pub returns-in-Err-clause-read : goal.returns-in-Err-clause-read
+returns-in-Err-clause-read g c = search rules
+
+pub returns-in-Err-clause-unfailing : goal.returns-in-Err-clause-unfailing
+returns-in-Err-clause-unfailing g c = search rules
+
+pub returns-in-Err-clause-turns : goal.returns-in-Err-clause-turns
+returns-in-Err-clause-turns g c = search rules
+
+pub returns-in-Ok-true-clause-lines : goal.returns-in-Ok-true-clause-lines
+returns-in-Ok-true-clause-lines g c = search rules
+
+pub returns-in-Ok-true-clause-read : goal.returns-in-Ok-true-clause-read
+returns-in-Ok-true-clause-read g c = search rules
+
+pub returns-in-Ok-true-clause-unfailing : goal.returns-in-Ok-true-clause-unfailing
+returns-in-Ok-true-clause-unfailing g c = search rules
+
+pub returns-in-Ok-true-clause-turns : goal.returns-in-Ok-true-clause-turns
+returns-in-Ok-true-clause-turns g c = search rules
+
+pub loop-piece-smaller : goal.loop-piece-smaller
+loop-piece-smaller g c = grind (arith, common_steps)
+
+pub returns-clause-lines : goal.returns-clause-lines
+returns-clause-lines g c = search rules
+
+pub returns-clause-read : goal.returns-clause-read
+returns-clause-read g c = search rules
+
+pub returns-clause-unfailing : goal.returns-clause-unfailing
+returns-clause-unfailing g c = search rules
+
+pub returns-clause-turns : goal.returns-clause-turns
+returns-clause-turns g c = search rules

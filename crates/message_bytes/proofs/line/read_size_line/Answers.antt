@@ -38,3 +38,51 @@ returns-clause-line g c =
     gathered_over ends_line 4096 Malformed (λ (line : Vec ℕ Global). line.items) (λ r. r)
     (left (inner_of c.args.reader.now)) (left (inner_of c.loop.reader)) c.loop.line.items
     c.loop.invariant.on full refl
+
+pub loop-init : goal.loop-init
+loop-init g c = search rules
+
+pub returns-in_err-byte-clause-line : goal.returns-in_err-byte-clause-line
+returns-in_err-byte-clause-line g c = search rules
+
+pub returns-in_err-byte-clause-read : goal.returns-in_err-byte-clause-read
+returns-in_err-byte-clause-read g c = search rules
+
+pub returns-in_err-byte-clause-unfailing : goal.returns-in_err-byte-clause-unfailing
+returns-in_err-byte-clause-unfailing g c = search rules
+
+pub returns-in_err-byte-clause-turns : goal.returns-in_err-byte-clause-turns
+returns-in_err-byte-clause-turns g c = search rules
+
+pub returns-then-is_err-clause-line : goal.returns-then-is_err-clause-line
+returns-then-is_err-clause-line g c = search rules
+
+pub returns-then-is_err-clause-read : goal.returns-then-is_err-clause-read
+returns-then-is_err-clause-read g c = search rules
+
+pub returns-then-is_err-clause-unfailing : goal.returns-then-is_err-clause-unfailing
+returns-then-is_err-clause-unfailing g c = search rules
+
+pub returns-then-is_err-clause-turns : goal.returns-then-is_err-clause-turns
+returns-then-is_err-clause-turns g c = search rules
+
+pub returns-then-byte-eq10-clause-read : goal.returns-then-byte-eq10-clause-read
+returns-then-byte-eq10-clause-read g c = search rules
+
+pub returns-then-byte-eq10-clause-unfailing : goal.returns-then-byte-eq10-clause-unfailing
+returns-then-byte-eq10-clause-unfailing g c = search rules
+
+pub returns-then-byte-eq10-clause-turns : goal.returns-then-byte-eq10-clause-turns
+returns-then-byte-eq10-clause-turns g c = search rules
+
+pub loop-smaller : goal.loop-smaller
+loop-smaller g c = search rules
+
+pub returns-clause-read : goal.returns-clause-read
+returns-clause-read g c = search rules
+
+pub returns-clause-unfailing : goal.returns-clause-unfailing
+returns-clause-unfailing g c = search rules
+
+pub returns-clause-turns : goal.returns-clause-turns
+returns-clause-turns g c = search rules
