@@ -54,3 +54,87 @@ loop-turn-preserved g c =
       calls = search rules;
       failures = search rules;
     }
+
+pub returns-in-Err-clause-whole : goal.returns-in-Err-clause-whole
+returns-in-Err-clause-whole g c = search rules
+
+pub returns-in-Err-clause-gave : goal.returns-in-Err-clause-gave
+returns-in-Err-clause-gave g c = search rules
+
+pub returns-in-Err-clause-fits : goal.returns-in-Err-clause-fits
+returns-in-Err-clause-fits g c = search rules
+
+pub returns-in-Err-clause-unfailing : goal.returns-in-Err-clause-unfailing
+returns-in-Err-clause-unfailing g c = search rules
+
+pub returns-in-Err-clause-memory : goal.returns-in-Err-clause-memory
+returns-in-Err-clause-memory g c = search rules
+
+pub returns-in-Err-clause-read : goal.returns-in-Err-clause-read
+returns-in-Err-clause-read g c = search rules
+
+pub returns-in-Err-clause-too_large : goal.returns-in-Err-clause-too_large
+returns-in-Err-clause-too_large g c = search rules
+
+pub returns-in-Err-clause-too_large_unfailing : goal.returns-in-Err-clause-too_large_unfailing
+returns-in-Err-clause-too_large_unfailing g c = search rules
+
+pub returns-then-count-eq0-clause-gave : goal.returns-then-count-eq0-clause-gave
+returns-then-count-eq0-clause-gave g c = search rules
+
+pub returns-then-count-eq0-clause-fits : goal.returns-then-count-eq0-clause-fits
+returns-then-count-eq0-clause-fits g c = search rules
+
+pub returns-then-count-eq0-clause-unfailing : goal.returns-then-count-eq0-clause-unfailing
+returns-then-count-eq0-clause-unfailing g c = search rules
+
+pub returns-then-count-eq0-clause-memory : goal.returns-then-count-eq0-clause-memory
+returns-then-count-eq0-clause-memory g c = search rules
+
+pub returns-then-count-eq0-clause-read : goal.returns-then-count-eq0-clause-read
+returns-then-count-eq0-clause-read g c = search rules
+
+pub returns-then-count-eq0-clause-too_large : goal.returns-then-count-eq0-clause-too_large
+returns-then-count-eq0-clause-too_large g c = search rules
+
+pub returns-in_err-push_piece-clause-whole : goal.returns-in_err-push_piece-clause-whole
+returns-in_err-push_piece-clause-whole g c = search rules
+
+pub returns-in_err-push_piece-clause-gave : goal.returns-in_err-push_piece-clause-gave
+returns-in_err-push_piece-clause-gave g c = search rules
+
+pub returns-in_err-push_piece-clause-fits : goal.returns-in_err-push_piece-clause-fits
+returns-in_err-push_piece-clause-fits g c = search rules
+
+pub returns-in_err-push_piece-clause-unfailing : goal.returns-in_err-push_piece-clause-unfailing
+returns-in_err-push_piece-clause-unfailing g c = search rules
+
+pub returns-in_err-push_piece-clause-read : goal.returns-in_err-push_piece-clause-read
+returns-in_err-push_piece-clause-read g c = search rules
+
+pub loop-turn-smaller : goal.loop-turn-smaller
+loop-turn-smaller g c = search rules
+
+pub returns-clause-whole : goal.returns-clause-whole
+returns-clause-whole g c = search rules
+
+pub returns-clause-gave : goal.returns-clause-gave
+returns-clause-gave g c = search rules
+
+pub returns-clause-fits : goal.returns-clause-fits
+returns-clause-fits g c = search rules
+
+pub returns-clause-unfailing : goal.returns-clause-unfailing
+returns-clause-unfailing g c = search rules
+
+pub returns-clause-memory : goal.returns-clause-memory
+returns-clause-memory g c = search rules
+
+pub returns-clause-read : goal.returns-clause-read
+returns-clause-read g c = search rules
+
+pub returns-clause-too_large : goal.returns-clause-too_large
+returns-clause-too_large g c = search rules
+
+pub returns-clause-too_large_unfailing : goal.returns-clause-too_large_unfailing
+returns-clause-too_large_unfailing g c = search rules
