@@ -44,3 +44,39 @@ returns-clause-response g c =
     (left (inner_of c.read_final_head.new.reader)) (left (inner_of c.read_body.new.reader))
     c.in_ok-head.head c.in_ok-framing.framing c.in_ok-body.body c.new.result c.new.ensures
     c.in_ok-head.ensures.head framed c.in_ok-body.ensures.body
+
+pub returns-in_err-head-clause-read : goal.returns-in_err-head-clause-read
+returns-in_err-head-clause-read g c = search rules
+
+pub returns-in_err-head-clause-write : goal.returns-in_err-head-clause-write
+returns-in_err-head-clause-write g c = search rules
+
+pub returns-in_err-head-clause-turns : goal.returns-in_err-head-clause-turns
+returns-in_err-head-clause-turns g c = search rules
+
+pub returns-in_err-framing-clause-read : goal.returns-in_err-framing-clause-read
+returns-in_err-framing-clause-read g c = search rules
+
+pub returns-in_err-framing-clause-write : goal.returns-in_err-framing-clause-write
+returns-in_err-framing-clause-write g c = search rules
+
+pub returns-in_err-framing-clause-turns : goal.returns-in_err-framing-clause-turns
+returns-in_err-framing-clause-turns g c = search rules
+
+pub returns-in_err-body-clause-read : goal.returns-in_err-body-clause-read
+returns-in_err-body-clause-read g c = search rules
+
+pub returns-in_err-body-clause-write : goal.returns-in_err-body-clause-write
+returns-in_err-body-clause-write g c = search rules
+
+pub returns-in_err-body-clause-turns : goal.returns-in_err-body-clause-turns
+returns-in_err-body-clause-turns g c = search rules
+
+pub returns-clause-read : goal.returns-clause-read
+returns-clause-read g c = search rules
+
+pub returns-clause-write : goal.returns-clause-write
+returns-clause-write g c = search rules
+
+pub returns-clause-turns : goal.returns-clause-turns
+returns-clause-turns g c = search rules
