@@ -41,14 +41,8 @@ returns-clause-request g c =
     c.in_ok-head.head c.in_ok-head.framing c.in_ok-body.body c.request_of.result
     c.request_of.ensures c.in_ok-head.ensures.head c.in_ok-body.ensures.body
 
-pub returns-in_err-head-clause-unfailing : goal.returns-in_err-head-clause-unfailing
-returns-in_err-head-clause-unfailing g c = search rules
-
 pub returns-in_err-head-clause-read : goal.returns-in_err-head-clause-read
 returns-in_err-head-clause-read g c = search rules
-
-pub returns-in_err-head-clause-write : goal.returns-in_err-head-clause-write
-returns-in_err-head-clause-write g c = search rules
 
 pub returns-in_err-head-clause-turns : goal.returns-in_err-head-clause-turns
 returns-in_err-head-clause-turns g c = search rules
@@ -56,17 +50,8 @@ returns-in_err-head-clause-turns g c = search rules
 pub returns-in_err-path-clause-request : goal.returns-in_err-path-clause-request
 returns-in_err-path-clause-request g c = search rules
 
-pub returns-in_err-path-clause-said : goal.returns-in_err-path-clause-said
-returns-in_err-path-clause-said g c = search rules
-
-pub returns-in_err-path-clause-unfailing : goal.returns-in_err-path-clause-unfailing
-returns-in_err-path-clause-unfailing g c = search rules
-
 pub returns-in_err-path-clause-read : goal.returns-in_err-path-clause-read
 returns-in_err-path-clause-read g c = search rules
-
-pub returns-in_err-path-clause-write : goal.returns-in_err-path-clause-write
-returns-in_err-path-clause-write g c = search rules
 
 pub returns-in_err-path-clause-turns : goal.returns-in_err-path-clause-turns
 returns-in_err-path-clause-turns g c = search rules
@@ -74,41 +59,20 @@ returns-in_err-path-clause-turns g c = search rules
 pub returns-in_err-say_continue-clause-request : goal.returns-in_err-say_continue-clause-request
 returns-in_err-say_continue-clause-request g c = search rules
 
-pub returns-in_err-say_continue-clause-said : goal.returns-in_err-say_continue-clause-said
-returns-in_err-say_continue-clause-said g c = search rules
-
-pub returns-in_err-say_continue-clause-unfailing : goal.returns-in_err-say_continue-clause-unfailing
-returns-in_err-say_continue-clause-unfailing g c = search rules
-
 pub returns-in_err-say_continue-clause-read : goal.returns-in_err-say_continue-clause-read
 returns-in_err-say_continue-clause-read g c = search rules
-
-pub returns-in_err-say_continue-clause-write : goal.returns-in_err-say_continue-clause-write
-returns-in_err-say_continue-clause-write g c = search rules
 
 pub returns-in_err-say_continue-clause-turns : goal.returns-in_err-say_continue-clause-turns
 returns-in_err-say_continue-clause-turns g c = search rules
 
-pub returns-in_err-body-clause-unfailing : goal.returns-in_err-body-clause-unfailing
-returns-in_err-body-clause-unfailing g c = search rules
-
 pub returns-in_err-body-clause-read : goal.returns-in_err-body-clause-read
 returns-in_err-body-clause-read g c = search rules
-
-pub returns-in_err-body-clause-write : goal.returns-in_err-body-clause-write
-returns-in_err-body-clause-write g c = search rules
 
 pub returns-in_err-body-clause-turns : goal.returns-in_err-body-clause-turns
 returns-in_err-body-clause-turns g c = search rules
 
-pub returns-clause-unfailing : goal.returns-clause-unfailing
-returns-clause-unfailing g c = search rules
-
 pub returns-clause-read : goal.returns-clause-read
 returns-clause-read g c = search rules
-
-pub returns-clause-write : goal.returns-clause-write
-returns-clause-write g c = search rules
 
 pub returns-clause-turns : goal.returns-clause-turns
 returns-clause-turns g c = search rules
