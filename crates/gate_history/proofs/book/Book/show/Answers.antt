@@ -1,4 +1,4 @@
-use Rattle.std.proofs.Common.{◌≡◌, ◌<◌, ◌∙◌, sym, subst}
+use Rattle.std.proofs.Common.{rules, ◌≡◌, ◌<◌, ◌∙◌, sym, subst}
 use Rattle.partitions.specs.Table.{place_of}
 use Rattle.limiter_core.specs.declared.event.Outcome.TheVariants.{Success}
 use Rattle.gate_journal.specs.Journal.{gate, image}
@@ -21,3 +21,9 @@ returns-clause-in_flight g c =
       granted = c.self.invariant.agrees.granted;
     })
     c.check.ensures.sound.four c.args.permit Success 0 _ left c.show-mark.ensures.more)
+
+pub returns-clause-same : goal.returns-clause-same
+returns-clause-same g c = search rules
+
+pub returns-clause-permit : goal.returns-clause-permit
+returns-clause-permit g c = search rules

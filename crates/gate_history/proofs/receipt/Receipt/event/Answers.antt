@@ -1,0 +1,5 @@
+use Rattle.std.proofs.Common.{rules}
+use Rattle.gate_history.proofs.receipt.Receipt.event.Goals as goal
+
+pub returns : goal.returns
+returns g c = search rules
