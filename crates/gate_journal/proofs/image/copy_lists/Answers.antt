@@ -1,4 +1,4 @@
-use Rattle.std.proofs.Common.{◌≡◌, true, Result, Ok, Err, OnErr, is_err, true≢false}
+use Rattle.std.proofs.Common.{rules, ◌≡◌, true, Result, Ok, Err, OnErr, is_err, true≢false}
 use Rattle.std.proofs.Common.{length, sym, ap, ◌∙◌, arith}
 use Rattle.gate_journal.proofs.Room.{few_granted}
 use Rattle.gate_journal.proofs.image.copy_lists.Goals as goal
@@ -28,3 +28,15 @@ unreachable-requires g c = absurd (omega (
   ap length c.granted_permits.ensures.permits,
   few_granted _ _ c.check.ensures.sound,
 ))
+
+pub returns-clause-waiters : goal.returns-clause-waiters
+returns-clause-waiters g c = search rules
+
+pub returns-clause-waiters_room : goal.returns-clause-waiters_room
+returns-clause-waiters_room g c = search rules
+
+pub returns-clause-granted : goal.returns-clause-granted
+returns-clause-granted g c = search rules
+
+pub returns-clause-granted_room : goal.returns-clause-granted_room
+returns-clause-granted_room g c = search rules

@@ -1,4 +1,4 @@
-use Rattle.std.proofs.Common.{◌++◌, ◌∷◌, List, length, map, slice_get, ap, ◌∙◌, arith}
+use Rattle.std.proofs.Common.{rules, ◌++◌, ◌∷◌, List, length, map, slice_get, ap, ◌∙◌, arith}
 use Rattle.limiter_core.specs.declared.event.Promotion.{Promotion}
 use Rattle.limiter_core.specs.declared.event.Entry.{Entry}
 use Rattle.limiter_core.specs.declared.event.Entry.TheVariants.{Call}
@@ -63,3 +63,6 @@ returns-clause-entries g c =
     c.answers_by_image.ensures.answers c.apply-reply.result c.apply-reply.new.self.promoted
     c.apply-reply.ensures.entries c.apply-reply.new.self c.push_answer.new.entries.items
     c.apply-reply.ensures.gate (c.push_answer.ensures.items ∙ ap kept c.promotions.ensures)
+
+pub returns-clause-number : goal.returns-clause-number
+returns-clause-number g c = search rules

@@ -1,4 +1,4 @@
-use Rattle.std.proofs.Common.{slice_get, sym, ap, ◌∙◌, List}
+use Rattle.std.proofs.Common.{rules, slice_get, sym, ap, ◌∙◌, List}
 use Rattle.limiter_core.specs.declared.event.Entry.{Entry}
 use Rattle.gate_journal.specs.Journal.{Journal, with_answer}
 use Rattle.gate_journal.proofs.Ready.{may_ready, free_ready, answers_ready}
@@ -25,3 +25,27 @@ returns-clause-entries g c =
     c.answer.ensures.entries
     ∙ ap (λ (w : Journal g.row.L.Denot). with_answer g.L.Limit.rules w c.args.event)
     c.make_ready.ensures
+
+pub returns-then-is_exhausted-clause-exhausted : goal.returns-then-is_exhausted-clause-exhausted
+returns-then-is_exhausted-clause-exhausted g c = search rules
+
+pub returns-then-is_exhausted-clause-unchanged : goal.returns-then-is_exhausted-clause-unchanged
+returns-then-is_exhausted-clause-unchanged g c = search rules
+
+pub returns-then-is_exhausted-clause-number : goal.returns-then-is_exhausted-clause-number
+returns-then-is_exhausted-clause-number g c = search rules
+
+pub returns-then-is_exhausted-clause-reply : goal.returns-then-is_exhausted-clause-reply
+returns-then-is_exhausted-clause-reply g c = search rules
+
+pub returns-then-is_exhausted-clause-entries : goal.returns-then-is_exhausted-clause-entries
+returns-then-is_exhausted-clause-entries g c = search rules
+
+pub returns-clause-exhausted : goal.returns-clause-exhausted
+returns-clause-exhausted g c = search rules
+
+pub returns-clause-unchanged : goal.returns-clause-unchanged
+returns-clause-unchanged g c = search rules
+
+pub returns-clause-number : goal.returns-clause-number
+returns-clause-number g c = search rules

@@ -45,3 +45,15 @@ returns-in_err-entries-clause-places g c = search rules
 
 pub returns-then-kept-lt1-clause-places : goal.returns-then-kept-lt1-clause-places
 returns-then-kept-lt1-clause-places g c = search rules
+
+pub returns-then-kept-lt1-clause-made : goal.returns-then-kept-lt1-clause-made
+returns-then-kept-lt1-clause-made g c = search rules
+
+pub returns-in_err-opening-clause-made : goal.returns-in_err-opening-clause-made
+returns-in_err-opening-clause-made g c = search rules
+
+pub returns-in_err-entries-clause-made : goal.returns-in_err-entries-clause-made
+returns-in_err-entries-clause-made g c = search rules
+
+pub returns-clause-made : goal.returns-clause-made
+returns-clause-made g c = search rules
