@@ -1,4 +1,5 @@
-use Rattle.std.proofs.Common.{rules, ◌≡◌, option_map, Err, IsOk}
+use Rattle.std.proofs.Common.{arith, rules, ◌≡◌, option_map, Err, IsOk}
+use Rattle.std.proofs.lemmas.Grind.{common_steps}
 use Rattle.toml.specs.View.{table_view}
 use Rattle.config_sections.specs.Top.{top_values}
 use Rattle.gate_config.specs.Document.{bypasses_of, document_of, limit_member, resolvers_of, tables_and_rows, window_member}
@@ -100,3 +101,78 @@ returns-clause-said c = search rules
 
 pub returns-clause-fault : goal.returns-clause-fault
 returns-clause-fault c = search rules
+
+pub returns-in_err-top-clause-top : goal.returns-in_err-top-clause-top
+returns-in_err-top-clause-top c = search rules
+
+pub returns-in_err-top-clause-limit : goal.returns-in_err-top-clause-limit
+returns-in_err-top-clause-limit c = search rules
+
+pub returns-in_err-top-clause-window : goal.returns-in_err-top-clause-window
+returns-in_err-top-clause-window c = search rules
+
+pub returns-in_err-limit-clause-top : goal.returns-in_err-limit-clause-top
+returns-in_err-limit-clause-top c = search rules
+
+pub returns-in_err-limit-clause-limit : goal.returns-in_err-limit-clause-limit
+returns-in_err-limit-clause-limit c = search rules
+
+pub returns-in_err-limit-clause-window : goal.returns-in_err-limit-clause-window
+returns-in_err-limit-clause-window c = search rules
+
+pub returns-in_err-window-clause-top : goal.returns-in_err-window-clause-top
+returns-in_err-window-clause-top c = search rules
+
+pub returns-in_err-window-clause-limit : goal.returns-in_err-window-clause-limit
+returns-in_err-window-clause-limit c = search rules
+
+pub returns-in_err-window-clause-window : goal.returns-in_err-window-clause-window
+returns-in_err-window-clause-window c = search rules
+
+pub returns-in_err-classes-clause-top : goal.returns-in_err-classes-clause-top
+returns-in_err-classes-clause-top c = search rules
+
+pub returns-in_err-classes-clause-limit : goal.returns-in_err-classes-clause-limit
+returns-in_err-classes-clause-limit c = search rules
+
+pub returns-in_err-classes-clause-window : goal.returns-in_err-classes-clause-window
+returns-in_err-classes-clause-window c = search rules
+
+pub returns-in_err-resolvers-clause-top : goal.returns-in_err-resolvers-clause-top
+returns-in_err-resolvers-clause-top c = search rules
+
+pub returns-in_err-resolvers-clause-limit : goal.returns-in_err-resolvers-clause-limit
+returns-in_err-resolvers-clause-limit c = search rules
+
+pub returns-in_err-resolvers-clause-window : goal.returns-in_err-resolvers-clause-window
+returns-in_err-resolvers-clause-window c = search rules
+
+pub returns-in_err-resolvers-clause-said : goal.returns-in_err-resolvers-clause-said
+returns-in_err-resolvers-clause-said c = grind (arith, common_steps)
+
+pub returns-in_err-bypasses-clause-top : goal.returns-in_err-bypasses-clause-top
+returns-in_err-bypasses-clause-top c = search rules
+
+pub returns-in_err-bypasses-clause-limit : goal.returns-in_err-bypasses-clause-limit
+returns-in_err-bypasses-clause-limit c = search rules
+
+pub returns-in_err-bypasses-clause-window : goal.returns-in_err-bypasses-clause-window
+returns-in_err-bypasses-clause-window c = search rules
+
+pub returns-in_err-resolvers-2-clause-top : goal.returns-in_err-resolvers-2-clause-top
+returns-in_err-resolvers-2-clause-top c = search rules
+
+pub returns-in_err-resolvers-2-clause-limit : goal.returns-in_err-resolvers-2-clause-limit
+returns-in_err-resolvers-2-clause-limit c = search rules
+
+pub returns-in_err-resolvers-2-clause-window : goal.returns-in_err-resolvers-2-clause-window
+returns-in_err-resolvers-2-clause-window c = search rules
+
+pub returns-in_err-bypasses-2-clause-top : goal.returns-in_err-bypasses-2-clause-top
+returns-in_err-bypasses-2-clause-top c = search rules
+
+pub returns-in_err-bypasses-2-clause-limit : goal.returns-in_err-bypasses-2-clause-limit
+returns-in_err-bypasses-2-clause-limit c = search rules
+
+pub returns-in_err-bypasses-2-clause-window : goal.returns-in_err-bypasses-2-clause-window
+returns-in_err-bypasses-2-clause-window c = search rules

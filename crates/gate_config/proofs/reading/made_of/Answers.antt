@@ -15,3 +15,12 @@ returns-in_err-resolvers-clause-said c = search rules
 
 pub returns-in_err-bypass-clause-said : goal.returns-in_err-bypass-clause-said
 returns-in_err-bypass-clause-said c = search rules
+
+pub returns-in_err-table-clause-sound : goal.returns-in_err-table-clause-sound
+returns-in_err-table-clause-sound c = search rules
+
+pub returns-in_err-resolvers-clause-sound : goal.returns-in_err-resolvers-clause-sound
+returns-in_err-resolvers-clause-sound c = search rules
+
+pub returns-in_err-bypass-clause-sound : goal.returns-in_err-bypass-clause-sound
+returns-in_err-bypass-clause-sound c = search rules
