@@ -13,8 +13,21 @@ use wire::{
 /// The backend that rows name.
 pub const BACKEND: &str = "127.0.0.1:9000";
 
-/// A message, and the text that is passed on, or the fault.
-pub type Row = (&'static str, Result<&'static str, WireFault>);
+/// A message, and the text that is passed on.
+pub type Row = [&'static str; 2];
+
+/// Nothing in front of a row and nothing behind it.
+pub const WHOLE: (&str, &str) = ("", "");
+
+/// A fact of a row holds, or the row is told.
+pub fn check(rt: &impl Abort, fact: bool, row: &str) {
+    assert!(rt; fact, "{row}");
+}
+
+/// A fact of a row holds, or the row and two numbers of it are told.
+pub fn check_at(rt: &impl Abort, fact: bool, row: &str, first: u64, second: u64) {
+    assert!(rt; fact, "{row} {first} {second}");
+}
 
 /// Adds the bytes that a row writes.
 fn add_row(bytes: &mut Vec<u8>, row: &str) -> Result<(), AllocError> {
@@ -35,6 +48,21 @@ pub fn bytes_of(rt: &impl Abort, alloc: Global, row: &str) -> Vec<u8> {
     bytes
 }
 
+/// Adds the bytes of a row, of so many equal pieces, and of another row.
+fn add_repeated(
+    bytes: &mut Vec<u8>,
+    front: &str,
+    piece: &[u8],
+    count: usize,
+    back: &str,
+) -> Result<(), AllocError> {
+    add_row(bytes, front)?;
+    for _ in 0..count {
+        bytes.extend_from_slice(piece)?;
+    }
+    add_row(bytes, back)
+}
+
 /// The bytes of a row, of so many equal pieces, and of another row.
 pub fn repeated(
     rt: &impl Abort,
@@ -45,11 +73,9 @@ pub fn repeated(
     back: &str,
 ) -> Vec<u8> {
     let piece = bytes_of(rt, alloc, piece);
-    let mut bytes = bytes_of(rt, alloc, front);
-    for _ in 0..count {
-        assert!(rt; bytes.extend_from_slice(piece.as_slice()).is_ok());
-    }
-    assert!(rt; add_row(&mut bytes, back).is_ok());
+    let mut bytes = Vec::new(alloc);
+    let added = add_repeated(&mut bytes, front, piece.as_slice(), count, back);
+    check(rt, added.is_ok(), front);
     bytes
 }
 
@@ -110,13 +136,14 @@ fn has_parts(alloc: Global, text: &[u8], request: &Request) -> bool {
 }
 
 /// A text that was forwarded is read back as a request of just these parts.
-fn check_request_read_back(rt: &impl Abort, alloc: Global, text: &[u8]) {
+fn is_request_read_back(alloc: Global, text: &[u8]) -> bool {
     let mut source = Source::new(text, usize::MAX);
     let mut said = Vec::new(alloc);
-    let read = request_from(alloc, &mut source, &mut said);
-    let request = read.ok().expect(rt, "what was written is read back");
-    assert!(rt; has_parts(alloc, text, &request));
-    assert!(rt; source.left.is_empty() && said.is_empty());
+    let is_whole = match request_from(alloc, &mut source, &mut said) {
+        Ok(request) => has_parts(alloc, text, &request),
+        Err(_) => false,
+    };
+    is_whole && source.left.is_empty() && said.is_empty()
 }
 
 /// The text from its header lines on is just the parts of the response.
@@ -127,19 +154,13 @@ fn ends_with_parts(alloc: Global, text: &[u8], response: &Response) -> bool {
 }
 
 /// A text that was passed on is read back as a response of the status and of just these parts.
-fn check_response_read_back(
-    rt: &impl Abort,
-    alloc: Global,
-    text: &[u8],
-    method: &Method,
-    status: u16,
-) {
+fn is_response_read_back(alloc: Global, text: &[u8], method: &Method, status: u16) -> bool {
     let mut source = Source::new(text, usize::MAX);
-    let read = response_from(alloc, &mut source, method);
-    let response = read.ok().expect(rt, "what was written is read back");
-    assert!(rt; response.status() == status);
-    assert!(rt; ends_with_parts(alloc, text, &response));
-    assert!(rt; source.left.is_empty());
+    let is_whole = match response_from(alloc, &mut source, method) {
+        Ok(response) => response.status() == status && ends_with_parts(alloc, text, &response),
+        Err(_) => false,
+    };
+    is_whole && source.left.is_empty()
 }
 
 /// The text of a request as it is forwarded.
@@ -159,7 +180,11 @@ pub fn forwarded(
 ) -> Result<Vec<u8>, WireFault> {
     let request = request_from(alloc, source, said)?;
     let text = request_text(rt, alloc, &request);
-    check_request_read_back(rt, alloc, text.as_slice());
+    check(
+        rt,
+        is_request_read_back(alloc, text.as_slice()),
+        "read back",
+    );
     Ok(text)
 }
 
@@ -180,7 +205,8 @@ pub fn passed_on(
 ) -> Result<Vec<u8>, WireFault> {
     let response = response_from(alloc, source, method)?;
     let text = response_text(rt, alloc, &response, method);
-    check_response_read_back(rt, alloc, text.as_slice(), method, response.status());
+    let is_read_back = is_response_read_back(alloc, text.as_slice(), method, response.status());
+    check(rt, is_read_back, "read back");
     Ok(text)
 }
 
@@ -189,39 +215,33 @@ pub fn is_text(rt: &impl Abort, alloc: Global, text: &[u8], row: &str) -> bool {
     bytes_of(rt, alloc, row).as_slice() == text
 }
 
-/// The answer is the text of the row, or its fault.
+/// The answer is the text of the row.
 pub fn check_answer(
     rt: &impl Abort,
     alloc: Global,
     row: &Row,
     answer: &Result<Vec<u8>, WireFault>,
 ) {
-    let (message, wanted) = row;
-    let is_wanted = match (answer, wanted) {
-        (Ok(text), Ok(wanted)) => is_text(rt, alloc, text.as_slice(), wanted),
-        (Err(fault), Err(wanted)) => fault == wanted,
-        (Ok(_), Err(_)) => false,
-        (Err(_), Ok(_)) => false,
+    let is_wanted = match answer {
+        Ok(text) => is_text(rt, alloc, text.as_slice(), row[1]),
+        Err(_) => false,
     };
-    assert!(rt; is_wanted, "{message}");
+    check(rt, is_wanted, row[0]);
 }
 
-/// A request is forwarded as its row says, and what follows it stays unread; or the fault is the
-/// row's. Nothing is said to the client.
+/// A request is forwarded as its row says, and what follows it stays unread. Nothing is said to the
+/// client.
 fn check_request(rt: &impl Abort, alloc: Global, row: &Row) {
-    let mut bytes = bytes_of(rt, alloc, row.0);
-    if row.1.is_ok() {
-        assert!(rt; bytes.extend_from_slice(b"NEXT").is_ok());
-    }
+    let bytes = repeated(rt, alloc, row[0], "NEXT", 1, "");
     let mut source = Source::new(bytes.as_slice(), usize::MAX);
     let mut said = Vec::new(alloc);
     let answer = forwarded(rt, alloc, &mut source, &mut said);
     check_answer(rt, alloc, row, &answer);
-    let is_next = answer.is_err() || source.left == b"NEXT".as_slice();
-    assert!(rt; is_next && said.is_empty(), "{}", row.0);
+    let is_next = source.left == b"NEXT".as_slice();
+    check(rt, is_next && said.is_empty(), row[0]);
 }
 
-/// Each request is forwarded as its row says, or has the row's fault. Nothing is said.
+/// Each request is forwarded as its row says. Nothing is said.
 pub fn check_requests(rt: &impl Abort, alloc: Global, rows: &[Row]) {
     for row in rows {
         check_request(rt, alloc, row);
@@ -247,20 +267,16 @@ pub fn check_faults(
     for row in rows {
         let bytes = repeated(rt, alloc, ends.0, row, 1, ends.1);
         let answer = fault_unsaid(rt, alloc, bytes.as_slice());
-        assert!(rt; answer == Some(fault), "{row}: {answer:?}");
+        check(rt, answer == Some(fault), row);
     }
 }
 
-/// Each response to a request of this method is passed on as its row says, or has the row's fault.
+/// Each response to a request of this method is passed on as its row says.
 pub fn check_responses(rt: &impl Abort, alloc: Global, method: &Method, rows: &[Row]) {
     for row in rows {
-        let bytes = bytes_of(rt, alloc, row.0);
-        let answer = passed_on(
-            rt,
-            alloc,
-            &mut Source::new(bytes.as_slice(), usize::MAX),
-            method,
-        );
+        let bytes = bytes_of(rt, alloc, row[0]);
+        let mut source = Source::new(bytes.as_slice(), usize::MAX);
+        let answer = passed_on(rt, alloc, &mut source, method);
         check_answer(rt, alloc, row, &answer);
     }
 }

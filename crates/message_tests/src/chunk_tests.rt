@@ -68,66 +68,62 @@ const CUT: [&str; 14] = [
 ];
 
 const TAKEN: [Row; 13] = [
-    (
+    [
         "POST / HTTP/1.1|Host: h|Transfer-Encoding: chunked||3;a=b|abc|0||",
-        Ok("POST / HTTP/1.1|Host: h|Content-Length: 3|Via: 1.1 admission|Connection: close||abc"),
-    ),
-    (
+        "POST / HTTP/1.1|Host: h|Content-Length: 3|Via: 1.1 admission|Connection: close||abc",
+    ],
+    [
         "POST / HTTP/1.1|Host: h|Transfer-Encoding: chunked||3;a=\"b c\";d|abc|0;e||",
-        Ok("POST / HTTP/1.1|Host: h|Content-Length: 3|Via: 1.1 admission|Connection: close||abc"),
-    ),
-    (
+        "POST / HTTP/1.1|Host: h|Content-Length: 3|Via: 1.1 admission|Connection: close||abc",
+    ],
+    [
         "POST / HTTP/1.1|Host: h|Transfer-Encoding: chunked||3;\0\u{e9}|abc|0||",
-        Ok("POST / HTTP/1.1|Host: h|Content-Length: 3|Via: 1.1 admission|Connection: close||abc"),
-    ),
-    (
+        "POST / HTTP/1.1|Host: h|Content-Length: 3|Via: 1.1 admission|Connection: close||abc",
+    ],
+    [
         "POST / HTTP/1.1|Host: h|Transfer-Encoding: chunked||3 |abc|0\t||",
-        Ok("POST / HTTP/1.1|Host: h|Content-Length: 3|Via: 1.1 admission|Connection: close||abc"),
-    ),
-    (
+        "POST / HTTP/1.1|Host: h|Content-Length: 3|Via: 1.1 admission|Connection: close||abc",
+    ],
+    [
         "POST / HTTP/1.1|Host: h|Transfer-Encoding: chunked||3 \t;a|abc|0||",
-        Ok("POST / HTTP/1.1|Host: h|Content-Length: 3|Via: 1.1 admission|Connection: close||abc"),
-    ),
-    (
+        "POST / HTTP/1.1|Host: h|Content-Length: 3|Via: 1.1 admission|Connection: close||abc",
+    ],
+    [
         "POST / HTTP/1.1|Host: h|Transfer-Encoding: chunked||a|0123456789|A|abcdefghij|0||",
-        Ok(
-            "POST / HTTP/1.1|Host: h|Content-Length: 20|\
+        "POST / HTTP/1.1|Host: h|Content-Length: 20|\
                 Via: 1.1 admission|Connection: close||0123456789abcdefghij",
-        ),
-    ),
-    (
+    ],
+    [
         "POST / HTTP/1.1|Host: h|Transfer-Encoding: chunked||00b|0123456789A|0B|0123456789B|000||",
-        Ok(
-            "POST / HTTP/1.1|Host: h|Content-Length: 22|\
+        "POST / HTTP/1.1|Host: h|Content-Length: 22|\
                 Via: 1.1 admission|Connection: close||0123456789A0123456789B",
-        ),
-    ),
-    (
+    ],
+    [
         "POST / HTTP/1.1|Host: h|\
             Transfer-Encoding: chunked||0000000000000003|abc|0000000000000000||",
-        Ok("POST / HTTP/1.1|Host: h|Content-Length: 3|Via: 1.1 admission|Connection: close||abc"),
-    ),
-    (
+        "POST / HTTP/1.1|Host: h|Content-Length: 3|Via: 1.1 admission|Connection: close||abc",
+    ],
+    [
         "POST / HTTP/1.1|Host: h|Transfer-Encoding: chunked||6|a||b|0||",
-        Ok("POST / HTTP/1.1|Host: h|Content-Length: 6|Via: 1.1 admission|Connection: close||a||b"),
-    ),
-    (
+        "POST / HTTP/1.1|Host: h|Content-Length: 6|Via: 1.1 admission|Connection: close||a||b",
+    ],
+    [
         "POST / HTTP/1.1|Host: h|Transfer-Encoding: chunked||5|0|||0||",
-        Ok("POST / HTTP/1.1|Host: h|Content-Length: 5|Via: 1.1 admission|Connection: close||0||"),
-    ),
-    (
+        "POST / HTTP/1.1|Host: h|Content-Length: 5|Via: 1.1 admission|Connection: close||0||",
+    ],
+    [
         "POST / HTTP/1.1|Host: h|Transfer-Encoding: chunked||0||",
-        Ok("POST / HTTP/1.1|Host: h|Content-Length: 0|Via: 1.1 admission|Connection: close||"),
-    ),
-    (
+        "POST / HTTP/1.1|Host: h|Content-Length: 0|Via: 1.1 admission|Connection: close||",
+    ],
+    [
         "POST / HTTP/1.1|Host: h|Transfer-Encoding: chunked||3|abc|0|X: y|\
             Content-Length: 9|Transfer-Encoding: gzip||",
-        Ok("POST / HTTP/1.1|Host: h|Content-Length: 3|Via: 1.1 admission|Connection: close||abc"),
-    ),
-    (
+        "POST / HTTP/1.1|Host: h|Content-Length: 3|Via: 1.1 admission|Connection: close||abc",
+    ],
+    [
         "POST / HTTP/1.1|Host: h|Transfer-Encoding: chunked||3|abc|0|X y\n z|: |\0\n\n",
-        Ok("POST / HTTP/1.1|Host: h|Content-Length: 3|Via: 1.1 admission|Connection: close||abc"),
-    ),
+        "POST / HTTP/1.1|Host: h|Content-Length: 3|Via: 1.1 admission|Connection: close||abc",
+    ],
 ];
 
 const HEAD: &str = "POST / HTTP/1.1|Host: h|Transfer-Encoding: chunked||";

@@ -1,5 +1,5 @@
 // Messages that end after each of their bytes, and messages in reads of a few bytes.
-use super::answers::{bytes_of, forwarded, is_text, passed_on};
+use super::answers::{bytes_of, check, check_at, forwarded, is_text, passed_on};
 use super::devices::Source;
 use http::Method;
 use std::alloc::Global;
@@ -80,18 +80,16 @@ fn check_cuts(rt: &impl Abort, alloc: Global, message: &str, asked: usize, most:
     for end in 0..bytes.len() {
         let is_asked = 0 < asked && asked <= end;
         let found = fault_and_told(rt, alloc, &bytes[..end], most);
-        assert!(rt;
-            found == (Some(WireFault::Early), is_asked),
-            "{message} {end} {most}"
-        );
+        let is_early = found == (Some(WireFault::Early), is_asked);
+        check_at(rt, is_early, message, end as u64, most as u64);
     }
 }
 
 #[test]
 fn a_request_that_is_cut_after_any_byte_is_early(rt: HostRuntime) {
-    for (message, asked) in REQUESTS {
+    for (message, asked) in &REQUESTS {
         for most in STEPS {
-            check_cuts(&rt, rt.alloc(), message, asked, most);
+            check_cuts(&rt, rt.alloc(), message, *asked, most);
         }
     }
 }
@@ -108,18 +106,18 @@ fn check_step(
     let mut said = Vec::new(alloc);
     let answer = request_in_steps(rt, alloc, bytes, most, &mut said);
     let answer = answer.ok().expect(rt, "a request");
-    assert!(rt;
-        answer.as_slice() == wanted && said.as_slice() == told,
-        "{most}"
-    );
+    let is_same = answer.as_slice() == wanted && said.as_slice() == told;
+    check_at(rt, is_same, "a request", bytes.len() as u64, most as u64);
 }
 
 /// A request is answered the same in all steps; whether its client was asked for the body.
-fn is_asked_in_all_steps(rt: &impl Abort, alloc: Global, bytes: &[u8]) -> bool {
+fn is_asked_in_all_steps(rt: &impl Abort, alloc: Global, message: &str) -> bool {
+    let bytes = bytes_of(rt, alloc, message);
     let mut told = Vec::new(alloc);
-    let wanted = request_in_steps(rt, alloc, bytes, usize::MAX, &mut told);
+    let wanted = request_in_steps(rt, alloc, bytes.as_slice(), usize::MAX, &mut told);
     let wanted = wanted.ok().expect(rt, "a request");
     for most in STEPS {
+        let bytes = bytes.as_slice();
         check_step(rt, alloc, bytes, most, wanted.as_slice(), told.as_slice());
     }
     !told.is_empty()
@@ -127,10 +125,9 @@ fn is_asked_in_all_steps(rt: &impl Abort, alloc: Global, bytes: &[u8]) -> bool {
 
 #[test]
 fn a_request_is_answered_the_same_in_all_steps(rt: HostRuntime) {
-    for (message, asked) in REQUESTS {
-        let bytes = bytes_of(&rt, rt.alloc(), message);
-        let is_asked = is_asked_in_all_steps(&rt, rt.alloc(), bytes.as_slice());
-        assert!(rt; is_asked == (asked > 0), "{message}");
+    for (message, asked) in &REQUESTS {
+        let is_asked = is_asked_in_all_steps(&rt, rt.alloc(), message);
+        check(&rt, is_asked == (*asked > 0), message);
     }
 }
 
@@ -148,7 +145,8 @@ fn response_in_steps(
 fn check_response_cuts(rt: &impl Abort, alloc: Global, bytes: &[u8], most: usize) {
     for end in 0..bytes.len() {
         let answer = response_in_steps(rt, alloc, &bytes[..end], most);
-        assert!(rt; answer.err() == Some(WireFault::Early), "{end} {most}");
+        let is_early = answer.err() == Some(WireFault::Early);
+        check_at(rt, is_early, "a response", end as u64, most as u64);
     }
 }
 
@@ -168,15 +166,25 @@ fn response_text(rt: &impl Abort, alloc: Global, bytes: &[u8], most: usize) -> V
     answer.ok().expect(rt, "a response")
 }
 
+/// A response is passed on as this text, however it is cut.
+fn check_response_step(rt: &impl Abort, alloc: Global, bytes: &[u8], most: usize, wanted: &[u8]) {
+    let answer = response_text(rt, alloc, bytes, most);
+    check_at(
+        rt,
+        answer.as_slice() == wanted,
+        "a response",
+        bytes.len() as u64,
+        most as u64,
+    );
+}
+
 #[test]
 fn a_response_is_answered_the_same_in_all_steps(rt: HostRuntime) {
-    let alloc = rt.alloc();
     for message in RESPONSES {
-        let bytes = bytes_of(&rt, alloc, message);
-        let wanted = response_text(&rt, alloc, bytes.as_slice(), usize::MAX);
+        let bytes = bytes_of(&rt, rt.alloc(), message);
+        let wanted = response_text(&rt, rt.alloc(), bytes.as_slice(), usize::MAX);
         for most in STEPS {
-            let answer = response_text(&rt, alloc, bytes.as_slice(), most);
-            assert!(rt; answer.as_slice() == wanted.as_slice(), "{message} {most}");
+            check_response_step(&rt, rt.alloc(), bytes.as_slice(), most, wanted.as_slice());
         }
     }
 }
@@ -206,10 +214,7 @@ fn check_fronts(rt: &impl Abort, alloc: Global, bytes: &[u8], most: usize) {
     for (count, wanted) in PASSED_ON.iter().enumerate() {
         let end = count.saturating_add(HEAD).min(bytes.len());
         let answer = response_text(rt, alloc, &bytes[..end], most);
-        assert!(rt;
-            is_text(rt, alloc, answer.as_slice(), wanted),
-            "{end} {most}"
-        );
+        check(rt, is_text(rt, alloc, answer.as_slice(), wanted), wanted);
     }
 }
 

@@ -72,42 +72,42 @@ const CODINGS: [&str; 23] = [
 ];
 
 const TAKEN: [Row; 9] = [
-    (
+    [
         "POST / HTTP/1.1|Host: h|Content-Length: 3,3 ,\t3||abc",
-        Ok("POST / HTTP/1.1|Host: h|Content-Length: 3|Via: 1.1 admission|Connection: close||abc"),
-    ),
-    (
+        "POST / HTTP/1.1|Host: h|Content-Length: 3|Via: 1.1 admission|Connection: close||abc",
+    ],
+    [
         "POST / HTTP/1.1|Host: h|Content-Length: 003||abc",
-        Ok("POST / HTTP/1.1|Host: h|Content-Length: 3|Via: 1.1 admission|Connection: close||abc"),
-    ),
-    (
+        "POST / HTTP/1.1|Host: h|Content-Length: 3|Via: 1.1 admission|Connection: close||abc",
+    ],
+    [
         "POST / HTTP/1.1|Host: h|Content-Length: 003, 003||abc",
-        Ok("POST / HTTP/1.1|Host: h|Content-Length: 3|Via: 1.1 admission|Connection: close||abc"),
-    ),
-    (
+        "POST / HTTP/1.1|Host: h|Content-Length: 3|Via: 1.1 admission|Connection: close||abc",
+    ],
+    [
         "POST / HTTP/1.1|Host: h|content-length: 3|CONTENT-LENGTH: 3, 3||abc",
-        Ok("POST / HTTP/1.1|Host: h|Content-Length: 3|Via: 1.1 admission|Connection: close||abc"),
-    ),
-    (
+        "POST / HTTP/1.1|Host: h|Content-Length: 3|Via: 1.1 admission|Connection: close||abc",
+    ],
+    [
         "POST / HTTP/1.1|Host: h|Content-Length: 00000000000000000000000000003||abc",
-        Ok("POST / HTTP/1.1|Host: h|Content-Length: 3|Via: 1.1 admission|Connection: close||abc"),
-    ),
-    (
+        "POST / HTTP/1.1|Host: h|Content-Length: 3|Via: 1.1 admission|Connection: close||abc",
+    ],
+    [
         "POST / HTTP/1.0|Host: h|Content-Length: 3||abc",
-        Ok("POST / HTTP/1.1|Host: h|Content-Length: 3|Via: 1.0 admission|Connection: close||abc"),
-    ),
-    (
+        "POST / HTTP/1.1|Host: h|Content-Length: 3|Via: 1.0 admission|Connection: close||abc",
+    ],
+    [
         "POST / HTTP/1.1|Host: h|Transfer-Encoding: Chunked||3|abc|0||",
-        Ok("POST / HTTP/1.1|Host: h|Content-Length: 3|Via: 1.1 admission|Connection: close||abc"),
-    ),
-    (
+        "POST / HTTP/1.1|Host: h|Content-Length: 3|Via: 1.1 admission|Connection: close||abc",
+    ],
+    [
         "POST / HTTP/1.1|Host: h|TRANSFER-ENCODING:CHUNKED||3|abc|0||",
-        Ok("POST / HTTP/1.1|Host: h|Content-Length: 3|Via: 1.1 admission|Connection: close||abc"),
-    ),
-    (
+        "POST / HTTP/1.1|Host: h|Content-Length: 3|Via: 1.1 admission|Connection: close||abc",
+    ],
+    [
         "POST / HTTP/1.1|Host: h|Transfer-Encoding: \tchunked\t ||3|abc|0||",
-        Ok("POST / HTTP/1.1|Host: h|Content-Length: 3|Via: 1.1 admission|Connection: close||abc"),
-    ),
+        "POST / HTTP/1.1|Host: h|Content-Length: 3|Via: 1.1 admission|Connection: close||abc",
+    ],
 ];
 
 #[test]

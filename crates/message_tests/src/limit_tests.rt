@@ -1,5 +1,5 @@
 // Messages just as long as they may be, and one byte or one line longer.
-use super::answers::{repeated, request_from, response_from};
+use super::answers::{check_at, repeated, request_from, response_from};
 use super::devices::Source;
 use http::Method;
 use std::alloc::Global;
@@ -142,7 +142,13 @@ fn check_requests(rt: &impl Abort, alloc: Global, rows: &[LongRow]) {
         let (front, piece, count, back, fault, left) = *row;
         let bytes = repeated(rt, alloc, front, piece, count, back);
         let found = fault_and_left(rt, alloc, bytes.as_slice());
-        assert!(rt; found == (fault, left), "{front} {count} {back} {found:?}");
+        check_at(
+            rt,
+            found == (fault, left),
+            front,
+            count as u64,
+            back.len() as u64,
+        );
     }
 }
 
@@ -161,14 +167,26 @@ fn a_body_has_at_most_8_mib(rt: HostRuntime) {
     check_requests(&rt, rt.alloc(), &BODIES);
 }
 
+/// The fault of a response that is read, and how much stays unread.
+fn response_fault_and_left(alloc: Global, bytes: &[u8]) -> (Option<WireFault>, usize) {
+    let mut source = Source::new(bytes, usize::MAX);
+    let fault = response_from(alloc, &mut source, &Method::GET).err();
+    (fault, source.left.len())
+}
+
 #[test]
 fn a_response_without_lengths_has_at_most_8_mib(rt: HostRuntime) {
     let alloc = rt.alloc();
-    for (front, piece, count, back, fault, left) in ENDLESS {
+    for row in &ENDLESS {
+        let (front, piece, count, back, fault, left) = *row;
         let bytes = repeated(&rt, alloc, front, piece, count, back);
-        let mut source = Source::new(bytes.as_slice(), usize::MAX);
-        let found = response_from(alloc, &mut source, &Method::GET).err();
-        assert!(rt; found == fault, "{front} {back}");
-        assert!(rt; source.left.len() == left, "{front} {back}");
+        let found = response_fault_and_left(alloc, bytes.as_slice());
+        check_at(
+            &rt,
+            found == (fault, left),
+            front,
+            count as u64,
+            back.len() as u64,
+        );
     }
 }

@@ -82,100 +82,96 @@ const LINES: [&str; 46] = [
 ];
 
 const TAKEN: [Row; 22] = [
-    (
+    [
         "||GET / HTTP/1.1|Host: h||",
-        Ok("GET / HTTP/1.1|Host: h|Via: 1.1 admission|Connection: close||"),
-    ),
-    (
+        "GET / HTTP/1.1|Host: h|Via: 1.1 admission|Connection: close||",
+    ],
+    [
         "\n|\nGET / HTTP/1.1|Host: h||",
-        Ok("GET / HTTP/1.1|Host: h|Via: 1.1 admission|Connection: close||"),
-    ),
-    (
+        "GET / HTTP/1.1|Host: h|Via: 1.1 admission|Connection: close||",
+    ],
+    [
         "GET / HTTP/1.1\nHost: h\n\n",
-        Ok("GET / HTTP/1.1|Host: h|Via: 1.1 admission|Connection: close||"),
-    ),
-    (
+        "GET / HTTP/1.1|Host: h|Via: 1.1 admission|Connection: close||",
+    ],
+    [
         "GET / HTTP/1.1|Host: h\n|",
-        Ok("GET / HTTP/1.1|Host: h|Via: 1.1 admission|Connection: close||"),
-    ),
-    (
+        "GET / HTTP/1.1|Host: h|Via: 1.1 admission|Connection: close||",
+    ],
+    [
         "GET / HTTP/1.1\nHost: h|\n",
-        Ok("GET / HTTP/1.1|Host: h|Via: 1.1 admission|Connection: close||"),
-    ),
-    (
+        "GET / HTTP/1.1|Host: h|Via: 1.1 admission|Connection: close||",
+    ],
+    [
         "POST / HTTP/1.1\nHost: h\nContent-Length: 3\n\nabc",
-        Ok("POST / HTTP/1.1|Host: h|Content-Length: 3|Via: 1.1 admission|Connection: close||abc"),
-    ),
-    (
+        "POST / HTTP/1.1|Host: h|Content-Length: 3|Via: 1.1 admission|Connection: close||abc",
+    ],
+    [
         "POST / HTTP/1.1|Host:\th\t|Content-Length: \t3\t ||abc",
-        Ok("POST / HTTP/1.1|Host: h|Content-Length: 3|Via: 1.1 admission|Connection: close||abc"),
-    ),
-    (
+        "POST / HTTP/1.1|Host: h|Content-Length: 3|Via: 1.1 admission|Connection: close||abc",
+    ],
+    [
         "GET / HTTP/1.1|Host:h||",
-        Ok("GET / HTTP/1.1|Host: h|Via: 1.1 admission|Connection: close||"),
-    ),
-    (
+        "GET / HTTP/1.1|Host: h|Via: 1.1 admission|Connection: close||",
+    ],
+    [
         "GET / HTTP/1.1|Host: h|X:||",
-        Ok("GET / HTTP/1.1|Host: h|X: |Via: 1.1 admission|Connection: close||"),
-    ),
-    (
+        "GET / HTTP/1.1|Host: h|X: |Via: 1.1 admission|Connection: close||",
+    ],
+    [
         "GET / HTTP/1.1|Host: h|X: a \tb ||",
-        Ok("GET / HTTP/1.1|Host: h|X: a \tb|Via: 1.1 admission|Connection: close||"),
-    ),
-    (
+        "GET / HTTP/1.1|Host: h|X: a \tb|Via: 1.1 admission|Connection: close||",
+    ],
+    [
         "GET / HTTP/1.1|Host: h|X: : a||",
-        Ok("GET / HTTP/1.1|Host: h|X: : a|Via: 1.1 admission|Connection: close||"),
-    ),
-    (
+        "GET / HTTP/1.1|Host: h|X: : a|Via: 1.1 admission|Connection: close||",
+    ],
+    [
         "GET / HTTP/1.1|Host: h|X: \u{e9}||",
-        Ok("GET / HTTP/1.1|Host: h|X: \u{e9}|Via: 1.1 admission|Connection: close||"),
-    ),
-    (
+        "GET / HTTP/1.1|Host: h|X: \u{e9}|Via: 1.1 admission|Connection: close||",
+    ],
+    [
         "GET / HTTP/1.1|Host: h|!#$%&'*+-.^_`~9: a||",
-        Ok("GET / HTTP/1.1|Host: h|!#$%&'*+-.^_`~9: a|Via: 1.1 admission|Connection: close||"),
-    ),
-    (
+        "GET / HTTP/1.1|Host: h|!#$%&'*+-.^_`~9: a|Via: 1.1 admission|Connection: close||",
+    ],
+    [
         "POST / HTTP/1.1|Host: h|Content_Length: 3||",
-        Ok("POST / HTTP/1.1|Host: h|Content_Length: 3|Via: 1.1 admission|Connection: close||"),
-    ),
-    (
+        "POST / HTTP/1.1|Host: h|Content_Length: 3|Via: 1.1 admission|Connection: close||",
+    ],
+    [
         "POST / HTTP/1.1|Host: h|Transfer_Encoding: chunked||",
-        Ok(
-            "POST / HTTP/1.1|Host: h|Transfer_Encoding: chunked|\
+        "POST / HTTP/1.1|Host: h|Transfer_Encoding: chunked|\
                 Via: 1.1 admission|Connection: close||",
-        ),
-    ),
-    (
+    ],
+    [
         "POST / HTTP/1.1|Host: h|X-Transfer-Encoding: chunked||",
-        Ok(
-            "POST / HTTP/1.1|Host: h|X-Transfer-Encoding: chunked|\
+        "POST / HTTP/1.1|Host: h|X-Transfer-Encoding: chunked|\
                 Via: 1.1 admission|Connection: close||",
-        ),
-    ),
-    (
+    ],
+    [
         "get / HTTP/1.1|Host: h||",
-        Ok("get / HTTP/1.1|Host: h|Via: 1.1 admission|Connection: close||"),
-    ),
-    (
+        "get / HTTP/1.1|Host: h|Via: 1.1 admission|Connection: close||",
+    ],
+    [
         "trace / HTTP/1.1|Host: h||",
-        Ok("trace / HTTP/1.1|Host: h|Via: 1.1 admission|Connection: close||"),
-    ),
-    (
+        "trace / HTTP/1.1|Host: h|Via: 1.1 admission|Connection: close||",
+    ],
+    [
         "!#$%&'*+-.^_`~ / HTTP/1.1|Host: h||",
-        Ok("!#$%&'*+-.^_`~ / HTTP/1.1|Host: h|Via: 1.1 admission|Connection: close||"),
-    ),
-    (
+        "!#$%&'*+-.^_`~ / HTTP/1.1|Host: h|Via: 1.1 admission|Connection: close||",
+    ],
+    [
         "GET / HTTP/1.1|Host: h|Content-Length: 3||abc",
-        Ok("GET / HTTP/1.1|Host: h|Content-Length: 3|Via: 1.1 admission|Connection: close||abc"),
-    ),
-    (
+        "GET / HTTP/1.1|Host: h|Content-Length: 3|Via: 1.1 admission|Connection: close||abc",
+    ],
+    [
         "HEAD / HTTP/1.1|Host: h|Content-Length: 3||abc",
-        Ok("HEAD / HTTP/1.1|Host: h|Content-Length: 3|Via: 1.1 admission|Connection: close||abc"),
-    ),
-    (
+        "HEAD / HTTP/1.1|Host: h|Content-Length: 3|Via: 1.1 admission|Connection: close||abc",
+    ],
+    [
         "GET / HTTP/1.1|Host: h|Transfer-Encoding: chunked||3|abc|0||",
-        Ok("GET / HTTP/1.1|Host: h|Content-Length: 3|Via: 1.1 admission|Connection: close||abc"),
-    ),
+        "GET / HTTP/1.1|Host: h|Content-Length: 3|Via: 1.1 admission|Connection: close||abc",
+    ],
 ];
 
 #[test]

@@ -7,7 +7,9 @@ use http::Method;
 use std::alloc::Global;
 use std::io::{Result, Write};
 use std::process::Abort;
-use wire::{WireFault, read_request, read_response, write_request, write_response};
+use wire::{
+    Request, Response, WireFault, read_request, read_response, write_request, write_response,
+};
 
 /// Takes all that is written.
 #[derive(Drop)]
@@ -35,6 +37,14 @@ const CHUNKED: &[u8] = b"HTTP/1.1 103 Early Hints\r\nX: 1\r\n\r\nHTTP/1.1 200 OK
 
 const ENDLESS: &[u8] = b"HTTP/1.1 200 OK\r\nX: 1\r\n\r\n0123456789012345678901234567890123456789";
 
+fn is_request_written(request: &Request) -> bool {
+    write_request(&mut Counted::new(Drain), request, BACKEND).is_ok()
+}
+
+fn is_response_written(response: &Response) -> bool {
+    write_response(&mut Counted::new(Drain), response, &Method::GET).is_ok()
+}
+
 /// The fault of a request that is read, and forwarded without memory.
 fn fault_of_request(rt: &impl Abort, alloc: Global, bytes: &[u8]) -> Option<WireFault> {
     let mut source = Source::new(bytes, 7);
@@ -45,8 +55,7 @@ fn fault_of_request(rt: &impl Abort, alloc: Global, bytes: &[u8]) -> Option<Wire
     );
     match read {
         Ok(request) => {
-            let written = write_request(&mut Counted::new(Drain), &request, BACKEND);
-            assert!(rt; written.is_ok());
+            assert!(rt; is_request_written(&request));
             None
         }
         Err(fault) => Some(fault),
@@ -59,30 +68,34 @@ fn fault_of_response(rt: &impl Abort, alloc: Global, bytes: &[u8]) -> Option<Wir
     let read = read_response(alloc, &mut Counted::new(&mut source), &Method::GET);
     match read {
         Ok(response) => {
-            let written = write_response(&mut Counted::new(Drain), &response, &Method::GET);
-            assert!(rt; written.is_ok());
+            assert!(rt; is_response_written(&response));
             None
         }
         Err(fault) => Some(fault),
     }
 }
 
+/// There is no fault, or it is told.
+fn check_read(rt: &impl Abort, fault: Option<WireFault>) {
+    assert_eq!(rt; fault, None);
+}
+
 #[test]
 fn an_absolute_request_in_chunks_is_read(rt: HostRuntime) {
-    assert_eq!(rt; fault_of_request(&rt, rt.alloc(), ABSOLUTE), None);
+    check_read(&rt, fault_of_request(&rt, rt.alloc(), ABSOLUTE));
 }
 
 #[test]
 fn a_request_of_a_long_method_is_read(rt: HostRuntime) {
-    assert_eq!(rt; fault_of_request(&rt, rt.alloc(), SIZED), None);
+    check_read(&rt, fault_of_request(&rt, rt.alloc(), SIZED));
 }
 
 #[test]
 fn a_response_in_chunks_is_read(rt: HostRuntime) {
-    assert_eq!(rt; fault_of_response(&rt, rt.alloc(), CHUNKED), None);
+    check_read(&rt, fault_of_response(&rt, rt.alloc(), CHUNKED));
 }
 
 #[test]
 fn a_response_without_lengths_is_read(rt: HostRuntime) {
-    assert_eq!(rt; fault_of_response(&rt, rt.alloc(), ENDLESS), None);
+    check_read(&rt, fault_of_response(&rt, rt.alloc(), ENDLESS));
 }

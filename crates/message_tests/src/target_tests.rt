@@ -45,70 +45,70 @@ const HOSTS: [&str; 12] = [
 ];
 
 const TAKEN: [Row; 16] = [
-    (
+    [
         "GET / HTTP/1.1|Host: a, b||",
-        Ok("GET / HTTP/1.1|Host: a, b|Via: 1.1 admission|Connection: close||"),
-    ),
-    (
+        "GET / HTTP/1.1|Host: a, b|Via: 1.1 admission|Connection: close||",
+    ],
+    [
         "GET / HTTP/1.1|Host: u@h||",
-        Ok("GET / HTTP/1.1|Host: u@h|Via: 1.1 admission|Connection: close||"),
-    ),
-    (
+        "GET / HTTP/1.1|Host: u@h|Via: 1.1 admission|Connection: close||",
+    ],
+    [
         "GET / HTTP/1.1|Host:||",
-        Ok("GET / HTTP/1.1|Host: |Via: 1.1 admission|Connection: close||"),
-    ),
-    (
+        "GET / HTTP/1.1|Host: |Via: 1.1 admission|Connection: close||",
+    ],
+    [
         "GET / HTTP/1.1|HOST: H||",
-        Ok("GET / HTTP/1.1|HOST: H|Via: 1.1 admission|Connection: close||"),
-    ),
-    (
+        "GET / HTTP/1.1|HOST: H|Via: 1.1 admission|Connection: close||",
+    ],
+    [
         "GET /a#f HTTP/1.1|Host: h||",
-        Ok("GET /a#f HTTP/1.1|Host: h|Via: 1.1 admission|Connection: close||"),
-    ),
-    (
+        "GET /a#f HTTP/1.1|Host: h|Via: 1.1 admission|Connection: close||",
+    ],
+    [
         "GET http://h2#f HTTP/1.1|Host: h||",
-        Ok("GET / HTTP/1.1|Host: h2#f|Via: 1.1 admission|Connection: close||"),
-    ),
-    (
+        "GET / HTTP/1.1|Host: h2#f|Via: 1.1 admission|Connection: close||",
+    ],
+    [
         "GET http://h2/a#f HTTP/1.1|Host: h||",
-        Ok("GET /a#f HTTP/1.1|Host: h2|Via: 1.1 admission|Connection: close||"),
-    ),
-    (
+        "GET /a#f HTTP/1.1|Host: h2|Via: 1.1 admission|Connection: close||",
+    ],
+    [
         "GET http://h2/u@h HTTP/1.1|Host: h||",
-        Ok("GET /u@h HTTP/1.1|Host: h2|Via: 1.1 admission|Connection: close||"),
-    ),
-    (
+        "GET /u@h HTTP/1.1|Host: h2|Via: 1.1 admission|Connection: close||",
+    ],
+    [
         "GET http://h2?u@h HTTP/1.1|Host: h||",
-        Ok("GET /?u@h HTTP/1.1|Host: h2|Via: 1.1 admission|Connection: close||"),
-    ),
-    (
+        "GET /?u@h HTTP/1.1|Host: h2|Via: 1.1 admission|Connection: close||",
+    ],
+    [
         "GET http://h2//a HTTP/1.1|Host: h||",
-        Ok("GET //a HTTP/1.1|Host: h2|Via: 1.1 admission|Connection: close||"),
-    ),
-    (
+        "GET //a HTTP/1.1|Host: h2|Via: 1.1 admission|Connection: close||",
+    ],
+    [
         "GET //h2/a HTTP/1.1|Host: h||",
-        Ok("GET //h2/a HTTP/1.1|Host: h|Via: 1.1 admission|Connection: close||"),
-    ),
-    (
+        "GET //h2/a HTTP/1.1|Host: h|Via: 1.1 admission|Connection: close||",
+    ],
+    [
         "GET /http://u@h HTTP/1.1|Host: h||",
-        Ok("GET /http://u@h HTTP/1.1|Host: h|Via: 1.1 admission|Connection: close||"),
-    ),
-    (
+        "GET /http://u@h HTTP/1.1|Host: h|Via: 1.1 admission|Connection: close||",
+    ],
+    [
         "GET /a/../b HTTP/1.1|Host: h||",
-        Ok("GET /a/../b HTTP/1.1|Host: h|Via: 1.1 admission|Connection: close||"),
-    ),
-    (
+        "GET /a/../b HTTP/1.1|Host: h|Via: 1.1 admission|Connection: close||",
+    ],
+    [
         "GET /%2e%2E/%00 HTTP/1.1|Host: h||",
-        Ok("GET /%2e%2E/%00 HTTP/1.1|Host: h|Via: 1.1 admission|Connection: close||"),
-    ),
-    (
+        "GET /%2e%2E/%00 HTTP/1.1|Host: h|Via: 1.1 admission|Connection: close||",
+    ],
+    [
         "GET /\u{e9} HTTP/1.1|Host: h||",
-        Ok("GET /\u{e9} HTTP/1.1|Host: h|Via: 1.1 admission|Connection: close||"),
-    ),
-    (
+        "GET /\u{e9} HTTP/1.1|Host: h|Via: 1.1 admission|Connection: close||",
+    ],
+    [
         "OPTIONS http://h2?a HTTP/1.1|Host: h||",
-        Ok("OPTIONS /?a HTTP/1.1|Host: h2|Via: 1.1 admission|Connection: close||"),
-    ),
+        "OPTIONS /?a HTTP/1.1|Host: h2|Via: 1.1 admission|Connection: close||",
+    ],
 ];
 
 #[test]

@@ -21,28 +21,41 @@ fn request_of(rt: &impl Abort, alloc: Global) -> Request {
     }
 }
 
-fn check_lines(rt: &impl Abort, lines: &Headers) {
-    assert!(rt; lines.len() == 1 && !lines.is_empty());
+/// The name of a line is `Host`, and its value has one byte.
+fn is_host(line: &Header) -> bool {
+    line.name.as_slice() == b"Host".as_slice() && line.value.len() == 1 && !line.value.is_empty()
+}
+
+/// There is one line, of the host.
+fn has_host(lines: &Headers) -> bool {
     for line in lines.as_slice() {
-        assert!(rt; line.name.as_slice() == b"Host".as_slice());
-        assert!(rt; line.value.len() == 1 && !line.value.is_empty());
+        if !is_host(line) {
+            return false;
+        }
     }
+    lines.len() == 1 && !lines.is_empty()
+}
+
+fn keeps_its_parts(request: &Request) -> bool {
+    request.method.as_str() == "GET"
+        && request.target.as_str() == "/a?b"
+        && request.version == Version::Http11
+        && has_host(&request.headers)
 }
 
 #[test]
 fn a_request_keeps_its_parts(rt: HostRuntime) {
-    let request = request_of(&rt, rt.alloc());
-    assert!(rt; request.method.as_str() == "GET");
-    assert!(rt; request.target.as_str() == "/a?b");
-    assert!(rt; request.version == Version::Http11);
-    check_lines(&rt, &request.headers);
+    assert!(rt; keeps_its_parts(&request_of(&rt, rt.alloc())));
+}
+
+fn gives_up_its_parts(request: Request) -> bool {
+    let Request { path, headers, .. } = request;
+    path.into_string().as_str() == "/a" && headers.into_vec().len() == 1
 }
 
 #[test]
 fn a_request_gives_up_its_parts(rt: HostRuntime) {
-    let Request { path, headers, .. } = request_of(&rt, rt.alloc());
-    assert!(rt; path.into_string().as_str() == "/a");
-    assert!(rt; headers.into_vec().len() == 1);
+    assert!(rt; gives_up_its_parts(request_of(&rt, rt.alloc())));
 }
 
 #[test]
@@ -50,8 +63,12 @@ fn a_response_keeps_its_parts(rt: HostRuntime) {
     let alloc = rt.alloc();
     let body = Bytes::from_slice(alloc, b"no").expect(&rt, "memory");
     let response = Response::new(503, Headers::new(Vec::new(alloc)), Some(body));
-    assert!(rt; response.status() == 503);
-    assert!(rt; response.headers().is_empty() && response.body().is_some());
+    assert!(rt; is_busy(&response));
+}
+
+/// The status is 503, and there is a body without header lines.
+fn is_busy(response: &Response) -> bool {
+    response.status() == 503 && response.headers().is_empty() && response.body().is_some()
 }
 
 #[test]
