@@ -1,5 +1,6 @@
 // Fakes below a `Counted`, and its counts seen from outside.
 use counted_io::{Counted, ReadFault, WriteFault, read_all, write_all, write_and_flush};
+use std::alloc::Global;
 use std::io::{Error, ErrorKind, Read, Result, Write};
 
 // Gives `left` bytes of value 7, at most `most` in a read, and fails from the call `failing` on.
@@ -76,92 +77,128 @@ fn sink_of(most: usize, failing: u64) -> Sink {
     }
 }
 
+/// What the next read gives, or 9 where it fails.
+fn next_read(reader: &mut Counted<Tap>) -> usize {
+    reader.read(&mut [0u8; 4]).unwrap_or(9)
+}
+
 #[test]
 fn each_read_and_each_failure_counts(rt: HostRuntime) {
     let mut reader = tap_of(5, 2, 2);
-    let mut buf = [0u8; 4];
-    for count in [2, 2, 9] {
-        assert!(rt; reader.read(&mut buf).unwrap_or(9) == count);
-    }
-    assert!(rt; (reader.calls(), reader.failures()) == (3, 1));
+    assert!(rt; next_read(&mut reader) == 2 && next_read(&mut reader) == 2);
+    assert!(rt; next_read(&mut reader) == 9);
+    assert!(rt; reader.calls() == 3 && reader.failures() == 1);
+}
+
+/// What the next write takes, or 9 where it fails, and whether the flush behind it passes.
+fn next_write(writer: &mut Counted<Sink>, bytes: &[u8]) -> (usize, bool) {
+    let taken = writer.write(bytes).unwrap_or(9);
+    (taken, writer.flush().is_ok())
 }
 
 #[test]
 fn each_write_and_each_failure_counts(rt: HostRuntime) {
     let mut writer = Counted::new(sink_of(3, 2));
-    for (count, flushes) in [(3, true), (9, false)] {
-        assert!(rt; writer.write(b"four").unwrap_or(9) == count);
-        assert!(rt; writer.flush().is_ok() == flushes);
+    assert!(rt; next_write(&mut writer, b"four") == (3, true));
+    assert!(rt; next_write(&mut writer, b"four") == (9, false));
+    assert!(rt; writer.calls() == 2 && writer.failures() == 2);
+}
+
+/// Why a write fails, where it does.
+fn fault_of_write(writer: &mut Counted<Sink>, bytes: &[u8]) -> Option<ErrorKind> {
+    match writer.write(bytes) {
+        Ok(_) => None,
+        Err(error) => Some(error.kind()),
     }
-    assert!(rt; (writer.calls(), writer.failures()) == (2, 2));
 }
 
 #[test]
 fn only_a_write_of_some_bytes_may_not_take_none(rt: HostRuntime) {
     let mut writer = Counted::new(sink_of(0, 9));
     assert!(rt; writer.write(b"").unwrap_or(9) == 0);
-    assert!(rt; (writer.calls(), writer.failures()) == (1, 0));
-    let taken = writer.write(b"x");
-    assert!(rt;
-        taken
-            .err()
-            .is_some_and(|error| error.kind() == ErrorKind::WriteZero)
-    );
-    assert!(rt; (writer.calls(), writer.failures()) == (2, 1));
+    assert!(rt; writer.calls() == 1 && writer.failures() == 0);
+    assert!(rt; fault_of_write(&mut writer, b"x") == Some(ErrorKind::WriteZero));
+    assert!(rt; writer.calls() == 2 && writer.failures() == 1);
+}
+
+/// There are so many bytes, and each is 7.
+fn are_sevens(bytes: &[u8], count: usize) -> bool {
+    for byte in bytes {
+        if *byte != 7 {
+            return false;
+        }
+    }
+    bytes.len() == count
+}
+
+/// All of 40,000 bytes is read, in so many reads of at most so many bytes, and none fails.
+fn is_all_read(alloc: Global, most: usize, reads: u64) -> bool {
+    let mut reader = tap_of(40_000, most, u64::MAX);
+    match read_all(alloc, &mut reader, 40_000, 100_000) {
+        Ok(bytes) => {
+            are_sevens(&bytes, 40_000) && reader.calls() == reads && reader.failures() == 0
+        }
+        Err(_) => false,
+    }
 }
 
 #[test]
 fn all_is_read_however_it_is_cut(rt: HostRuntime) {
     for (most, reads) in [(1, 40_001), (7, 5716), (16_384, 4), (40_000, 4)] {
-        let mut reader = tap_of(40_000, most, u64::MAX);
-        let read = read_all(rt.alloc(), &mut reader, 40_000, 100_000);
-        let bytes = read.expect(&rt, "all is read");
-        assert!(rt; bytes.len() == 40_000, "in reads of {most}");
-        assert!(rt; bytes.iter().all(|byte| *byte == 7), "in reads of {most}");
-        assert!(rt;
-            (reader.calls(), reader.failures()) == (reads, 0),
-            "in reads of {most}"
-        );
+        assert!(rt; is_all_read(rt.alloc(), most, reads), "in reads of {most}");
     }
 }
+
+/// Why not all of so many bytes is read, in reads of three, where the reader fails from a call on.
+fn fault_of_reading(
+    alloc: Global,
+    (left, failing): (usize, u64),
+    most_bytes: usize,
+    most_reads: u64,
+) -> Option<ReadFault> {
+    read_all(alloc, &mut tap_of(left, 3, failing), most_bytes, most_reads).err()
+}
+
+/// How many bytes there are and which call fails, the most bytes and reads, and the fault.
+const READINGS: [((usize, u64), usize, u64, Option<ReadFault>); 6] = [
+    ((10, 9), 10, 5, None),
+    ((10, 9), 10, 4, Some(ReadFault::Read)),
+    ((10, 9), 9, 5, Some(ReadFault::TooLarge)),
+    ((10, 3), 10, 5, Some(ReadFault::Read)),
+    ((10, 3), 8, 5, Some(ReadFault::TooLarge)),
+    ((0, 9), 0, 0, Some(ReadFault::Read)),
+];
 
 #[test]
 fn reading_all_names_its_fault(rt: HostRuntime) {
-    let rows = [
-        (tap_of(10, 3, 9), 10, 5, None),
-        (tap_of(10, 3, 9), 10, 4, Some(ReadFault::Read)),
-        (tap_of(10, 3, 9), 9, 5, Some(ReadFault::TooLarge)),
-        (tap_of(10, 3, 3), 10, 5, Some(ReadFault::Read)),
-        (tap_of(10, 3, 3), 8, 5, Some(ReadFault::TooLarge)),
-        (tap_of(0, 3, 9), 0, 0, Some(ReadFault::Read)),
-    ];
-    for (mut reader, most_bytes, most_reads, fault) in rows {
-        let read = read_all(rt.alloc(), &mut reader, most_bytes, most_reads);
-        assert!(rt;
-            read.err() == fault,
-            "{most_bytes} bytes, {most_reads} reads"
-        );
+    for (tap, most_bytes, most_reads, fault) in READINGS {
+        let found = fault_of_reading(rt.alloc(), tap, most_bytes, most_reads);
+        assert!(rt; found == fault, "{most_bytes} bytes, {most_reads} reads");
     }
 }
 
+/// The fault of writing a text of ten bytes, how many were taken, and in how many writes.
+fn written(most: usize, failing: u64) -> (Option<WriteFault>, usize, u64) {
+    let mut sink = sink_of(most, failing);
+    let mut writer = Counted::new(&mut sink);
+    let fault = write_all(&mut writer, b"0123456789").err();
+    let calls = writer.calls();
+    (fault, sink.taken, calls)
+}
+
+/// The most bytes at a time and which call fails, and what becomes of a text of ten bytes.
+const WRITINGS: [(usize, u64, (Option<WriteFault>, usize, u64)); 5] = [
+    (4, 9, (None, 10, 3)),
+    (1, 10, (None, 10, 10)),
+    (1, 9, (Some(WriteFault), 9, 10)),
+    (4, 0, (Some(WriteFault), 0, 1)),
+    (0, 9, (Some(WriteFault), 0, 1)),
+];
+
 #[test]
 fn all_is_written_or_the_writer_failed(rt: HostRuntime) {
-    let rows = [
-        (4, 9, Ok(()), 10, 3),
-        (1, 10, Ok(()), 10, 10),
-        (1, 9, Err(WriteFault), 9, 10),
-        (4, 0, Err(WriteFault), 0, 1),
-        (0, 9, Err(WriteFault), 0, 1),
-    ];
-    for (most, failing, outcome, taken, calls) in rows {
-        let mut sink = sink_of(most, failing);
-        let mut writer = Counted::new(&mut sink);
-        assert!(rt;
-            write_all(&mut writer, b"0123456789") == outcome,
-            "{most} at a time"
-        );
-        assert!(rt; writer.calls() == calls, "{most} at a time");
-        assert!(rt; sink.taken == taken, "{most} at a time");
+    for (most, failing, wanted) in WRITINGS {
+        assert!(rt; written(most, failing) == wanted, "{most} at a time");
     }
 }
 
@@ -202,41 +239,58 @@ fn seen<W: Write>(writer: &Counted<W>) -> (u64, u64, bool) {
     (writer.calls(), writer.flushes(), writer.is_flushed())
 }
 
+/// Why a flush fails, where it does.
+fn fault_of_flush<W: Write>(writer: &mut Counted<W>) -> Option<ErrorKind> {
+    match writer.flush() {
+        Ok(()) => None,
+        Err(error) => Some(error.kind()),
+    }
+}
+
+/// A flush is answered so, reaches the writer inside once, and is seen outside.
+fn is_flushed_so(outcome: Option<ErrorKind>) -> bool {
+    let mut valve = valve_of(outcome);
+    let mut writer = Counted::new(&mut valve);
+    seen(&writer) == (0, 0, false)
+        && fault_of_flush(&mut writer) == outcome
+        && seen(&writer) == (0, 1, outcome.is_none())
+        && valve.flushed == 1
+}
+
 #[test]
 fn a_flush_reaches_the_writer_inside_and_its_failure_comes_back(rt: HostRuntime) {
-    for outcome in [None, Some(ErrorKind::BrokenPipe)] {
-        let mut valve = valve_of(outcome);
-        let mut writer = Counted::new(&mut valve);
-        assert!(rt; seen(&writer) == (0, 0, false));
-        let flushed = writer.flush().map_err(|error| error.kind());
-        assert!(rt; flushed.err() == outcome);
-        assert!(rt; seen(&writer) == (0, 1, outcome.is_none()));
-        assert!(rt; valve.flushed == 1);
-    }
+    assert!(rt; is_flushed_so(None));
+    assert!(rt; is_flushed_so(Some(ErrorKind::BrokenPipe)));
+}
+
+/// A text is written and flushed once, where a flush is answered by `outcome`.
+fn is_written_so(outcome: Option<ErrorKind>, fault: Option<WriteFault>) -> bool {
+    let mut valve = valve_of(outcome);
+    let mut writer = Counted::new(&mut valve);
+    write_and_flush(&mut writer, b"0123").err() == fault
+        && seen(&writer) == (1, 1, outcome.is_none())
+        && valve.taken == 4
+        && valve.flushed == 1
 }
 
 #[test]
 fn a_text_is_written_and_flushed_or_the_writer_failed(rt: HostRuntime) {
-    for (outcome, answer) in [
-        (None, Ok(())),
-        (Some(ErrorKind::BrokenPipe), Err(WriteFault)),
-    ] {
-        let mut valve = valve_of(outcome);
-        let mut writer = Counted::new(&mut valve);
-        assert!(rt; write_and_flush(&mut writer, b"0123") == answer);
-        assert!(rt; seen(&writer) == (1, 1, outcome.is_none()));
-        assert!(rt; (valve.taken, valve.flushed) == (4, 1));
-    }
+    assert!(rt; is_written_so(None, None));
+    assert!(rt; is_written_so(Some(ErrorKind::BrokenPipe), Some(WriteFault)));
+}
+
+/// A text is written and flushed, a write undoes that, and an empty text flushes again.
+fn flushes_anew(writer: &mut Counted<&mut Valve>) -> bool {
+    write_and_flush(writer, b"0") == Ok(())
+        && seen(writer) == (1, 1, true)
+        && write_all(writer, b"1") == Ok(())
+        && seen(writer) == (2, 1, false)
+        && write_and_flush(writer, b"") == Ok(())
+        && seen(writer) == (2, 2, true)
 }
 
 #[test]
 fn a_write_undoes_a_flush_and_a_failed_flush_does_not(rt: HostRuntime) {
     let mut valve = valve_of(None);
-    let mut writer = Counted::new(&mut valve);
-    assert!(rt; write_and_flush(&mut writer, b"0") == Ok(()));
-    assert!(rt; seen(&writer) == (1, 1, true));
-    assert!(rt; write_all(&mut writer, b"1") == Ok(()));
-    assert!(rt; seen(&writer) == (2, 1, false));
-    assert!(rt; write_and_flush(&mut writer, b"") == Ok(()));
-    assert!(rt; seen(&writer) == (2, 2, true));
+    assert!(rt; flushes_anew(&mut Counted::new(&mut valve)));
 }

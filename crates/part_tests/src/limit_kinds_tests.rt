@@ -7,7 +7,7 @@ use vegas::Vegas;
 use windowed::Windowed;
 
 /// A kind between 1 and 100 permits that begins at 20, and what becomes of it.
-#[derive(Clone, Copy, Debug)]
+#[derive(Clone, Copy)]
 struct Row {
     limit: BaseLimit,
     /// Its ends.
@@ -65,26 +65,30 @@ fn rows(rt: &impl Abort) -> [Row; 4] {
     [fixed(rt), settable(rt), aimd(rt), vegas(rt)]
 }
 
-/// Takes a limit through the calls of a row.
-fn follows<L: Limit>(rt: &impl Abort, limit: &mut L, row: &Row) {
-    assert!(rt; (limit.lo(), limit.hi()) == row.ends);
+/// Samples and a setting leave a limit where its row says.
+fn follows<L: Limit>(limit: &mut L, row: &Row) -> bool {
+    let ends = (limit.lo(), limit.hi());
     // The first sample gives Vegas its base.
     limit.on_sample(&Sample::of(0, 100, 1, false));
-    assert!(rt; limit.limit() == 20);
+    let sampled = limit.limit();
     limit.on_sample(&Sample::of(1_000, 1_100, 20, true));
-    assert!(rt; limit.limit() == row.dropped);
-    assert!(rt; limit.set(30) == row.set);
-    assert!(rt; limit.limit() == row.after_set);
-    assert!(rt; limit.copy().limit() == row.after_set);
+    let dropped = limit.limit();
+    ends == row.ends && sampled == 20 && dropped == row.dropped && is_set(limit, row)
+}
+
+/// A setting to 30 is answered as the row says, and a reset goes back to 20.
+fn is_set<L: Limit>(limit: &mut L, row: &Row) -> bool {
+    let answer = limit.set(30);
+    let (set, copied) = (limit.limit(), limit.copy().limit());
     limit.reset();
-    assert!(rt; limit.limit() == 20);
+    answer == row.set && set == row.after_set && copied == row.after_set && limit.limit() == 20
 }
 
 #[test]
 fn each_kind_passes_its_calls_on(rt: HostRuntime) {
     for row in rows(&rt) {
         let mut limit = row.limit;
-        follows(&rt, &mut limit, &row);
+        assert!(rt; follows(&mut limit, &row));
     }
 }
 
@@ -92,28 +96,34 @@ fn each_kind_passes_its_calls_on(rt: HostRuntime) {
 fn each_kind_passes_its_calls_on_without_windows(rt: HostRuntime) {
     for row in rows(&rt) {
         let mut limit = AnyLimit::Plain(row.limit);
-        follows(&rt, &mut limit, &row);
+        assert!(rt; follows(&mut limit, &row));
     }
 }
 
 /// Windows of one sample over a limit.
 fn over(rt: &impl Abort, limit: BaseLimit) -> AnyLimit {
-    let windowed = Windowed::new(limit, 1, 1, 1, 0).ok();
-    AnyLimit::Windowed(windowed.expect(rt, "windows"))
+    match Windowed::new(limit, 1, 1, 1, 0) {
+        Ok(windowed) => AnyLimit::Windowed(windowed),
+        Err(_) => panic!(rt; "no windows"),
+    }
 }
 
 #[test]
 fn each_kind_passes_its_calls_on_from_windows(rt: HostRuntime) {
     for row in rows(&rt) {
         let mut limit = over(&rt, row.limit);
-        follows(&rt, &mut limit, &row);
+        assert!(rt; follows(&mut limit, &row));
     }
 }
 
 #[test]
 fn a_limit_is_called_by_its_kind_with_and_without_windows(rt: HostRuntime) {
     assert!(rt; fixed(&rt).limit.kind() == "fixed");
-    assert!(rt; AnyLimit::Plain(settable(&rt).limit).kind() == "settable");
-    assert!(rt; AnyLimit::Plain(vegas(&rt).limit).kind() == "vegas");
-    assert!(rt; over(&rt, aimd(&rt).limit).kind() == "aimd");
+    assert!(rt; is_called(AnyLimit::Plain(settable(&rt).limit), "settable"));
+    assert!(rt; is_called(AnyLimit::Plain(vegas(&rt).limit), "vegas"));
+    assert!(rt; is_called(over(&rt, aimd(&rt).limit), "aimd"));
+}
+
+fn is_called(limit: AnyLimit, kind: &str) -> bool {
+    limit.kind() == kind
 }

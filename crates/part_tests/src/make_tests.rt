@@ -2,6 +2,7 @@
 use limit_kinds::*;
 use limit_laws::{Limit, MakeFault, Sample};
 use std::process::Abort;
+use windowed::WindowSettings;
 
 /// 2^32: no number of a limit is as great, and its lower 32 bits are 0.
 const WIDE: u64 = 1 << 32;
@@ -16,26 +17,26 @@ fn limits(made: Result<BaseLimit, MakeFault>) -> Result<(u32, u32, u32), MakeFau
 }
 
 /// The limit is made, has this kind, and shows these numbers.
-fn check_made(
-    rt: &impl Abort,
-    made: Result<BaseLimit, MakeFault>,
-    kind: &str,
-    ends: (u32, u32, u32),
-) {
-    let limit = made.expect(rt, "a limit");
-    assert!(rt; limit.kind() == kind && limits(made) == Ok(ends));
+fn is_made(made: Result<BaseLimit, MakeFault>, kind: &str, ends: (u32, u32, u32)) -> bool {
+    let (lo, now, hi) = ends;
+    match made {
+        Ok(limit) => {
+            limit.kind() == kind && limit.lo() == lo && limit.limit() == now && limit.hi() == hi
+        }
+        Err(_) => false,
+    }
 }
 
 #[test]
 fn numbers_in_their_ranges_make_each_kind(rt: HostRuntime) {
     let widest = (10_000, 10_000, 10_000);
-    check_made(&rt, BaseLimit::fixed(10_000), "fixed", widest);
+    assert!(rt; is_made(BaseLimit::fixed(10_000), "fixed", widest));
     let settable = BaseLimit::settable(1, 5, 10_000);
-    check_made(&rt, settable, "settable", (1, 5, 10_000));
+    assert!(rt; is_made(settable, "settable", (1, 5, 10_000)));
     let aimd = BaseLimit::aimd(1, 20, 100, 999, HOUR);
-    check_made(&rt, aimd, "aimd", (1, 20, 100));
+    assert!(rt; is_made(aimd, "aimd", (1, 20, 100)));
     let vegas = BaseLimit::vegas(1, 20, 100, 3, 100, 1_000_000);
-    check_made(&rt, vegas, "vegas", (1, 20, 100));
+    assert!(rt; is_made(vegas, "vegas", (1, 20, 100)));
 }
 
 #[test]
@@ -59,6 +60,12 @@ fn the_first_number_out_of_its_range_is_answered(rt: HostRuntime) {
     }
 }
 
+/// AIMD 1 to 100 from 20 over these windows, where there are any.
+fn aimd_over(rt: &impl Abort, settings: Option<WindowSettings>) -> AnyLimit {
+    let aimd = BaseLimit::aimd(1, 20, 100, 900, 1_000).expect(rt, "a limit");
+    AnyLimit::new(aimd, settings)
+}
+
 /// The limit after one drop.
 fn after_a_drop(mut limit: AnyLimit) -> u32 {
     limit.on_sample(&Sample::of(0, 5, 1, true));
@@ -67,17 +74,9 @@ fn after_a_drop(mut limit: AnyLimit) -> u32 {
 
 #[test]
 fn settings_put_windows_over_a_limit(rt: HostRuntime) {
-    let plain = AnyLimit::new(
-        BaseLimit::aimd(1, 20, 100, 900, 1_000).expect(&rt, "a limit"),
-        None,
-    );
-    assert!(rt; after_a_drop(plain) == 18);
+    assert!(rt; after_a_drop(aimd_over(&rt, None)) == 18);
     let settings = window_settings(1_000_000, 1, 1, 0).expect(&rt, "windows");
     assert!(rt; settings.size() == 1_000_000);
-    let windowed = AnyLimit::new(
-        BaseLimit::aimd(1, 20, 100, 900, 1_000).expect(&rt, "a limit"),
-        Some(settings),
-    );
-    assert!(rt; windowed.kind() == "aimd");
-    assert!(rt; after_a_drop(windowed) == 20);
+    assert!(rt; aimd_over(&rt, Some(settings)).kind() == "aimd");
+    assert!(rt; after_a_drop(aimd_over(&rt, Some(settings))) == 20);
 }

@@ -31,18 +31,25 @@ const AT_FAULT: [(&[(&[u8], u32)], TableFault); 9] = [
 
 #[test]
 fn rows_at_fault_are_refused_with_their_first_fault(rt: HostRuntime) {
-    for (rows, wanted) in AT_FAULT {
-        assert!(rt; fault(rt.alloc(), rows) == Some(wanted), "{wanted}");
+    for (at, (rows, wanted)) in AT_FAULT.iter().enumerate() {
+        assert!(rt; fault(rt.alloc(), rows) == Some(*wanted), "row {at}");
     }
+}
+
+const LONGEST: [u8; 32] = [b'a'; 32];
+
+const FOUR: [(&[u8], u32); 4] = [(&LONGEST, 97), (b"0", 1), (b"-", 1), (b"_", 1)];
+
+/// There are four rows, the longest name is that of the first, and the last has its place.
+fn has_four(table: &PartitionTable) -> bool {
+    table.len() == 4
+        && table.find(&LONGEST) == Some(Part::Known(0))
+        && table.place(Part::Known(3)) == 3
 }
 
 #[test]
 fn rows_at_the_ends_of_their_ranges_make_a_table(rt: HostRuntime) {
-    let longest = [b'a'; 32];
-    let four: [(&[u8], u32); 4] = [(&longest, 97), (b"0", 1), (b"-", 1), (b"_", 1)];
-    let table = table_of(&rt, rt.alloc(), &four);
-    assert!(rt; table.len() == 4 && table.find(&longest) == Some(Part::Known(0)));
-    assert!(rt; table.place(Part::Known(3)) == 3);
+    assert!(rt; has_four(&table_of(&rt, rt.alloc(), &FOUR)));
     let whole = table_of(&rt, rt.alloc(), &[(b"z", 100)]);
     assert!(rt; whole.share(Part::Known(0), 7) == 7);
 }
@@ -76,43 +83,56 @@ fn a_name_is_one_to_32_bytes_of_its_own(rt: HostRuntime) {
 #[test]
 fn names_lead_to_parts_and_back(rt: HostRuntime) {
     let table = table_of(&rt, rt.alloc(), &[(LIVE, 60), (BATCH, 40)]);
-    assert!(rt; table.len() == 2);
-    for (name, part) in [
-        (BATCH, Some(Part::Known(1))),
-        (b"batches", None),
-        (b"unknown", None),
-    ] {
-        assert!(rt; table.find(name) == part);
-    }
-    for (row, name, place) in [(1, "batch", 1), (2, "unknown", 4)] {
-        let part = Part::Known(row);
-        assert!(rt; table.name(part) == name && table.place(part) == place);
-    }
+    assert!(rt; names_lead_to_parts(&table));
+    assert!(rt; leads_back(&table, 1, "batch", 1));
+    assert!(rt; leads_back(&table, 2, "unknown", 4));
+}
+
+/// Of two rows the second is found by its name, and others by none.
+fn names_lead_to_parts(table: &PartitionTable) -> bool {
+    table.len() == 2
+        && table.find(BATCH) == Some(Part::Known(1))
+        && table.find(b"batches") == None
+        && table.find(b"unknown") == None
+}
+
+/// A row has this name and this place.
+fn leads_back(table: &PartitionTable, row: u8, name: &str, place: usize) -> bool {
+    let part = Part::Known(row);
+    table.name(part) == name && table.place(part) == place
 }
 
 #[test]
 fn a_copy_gives_the_same_shares(rt: HostRuntime) {
     let table = table_of(&rt, rt.alloc(), &[(LIVE, 30)]);
     let copy = table.copy().expect(&rt, "memory");
-    check_shares(&rt, &table);
-    check_shares(&rt, &copy);
-    assert!(rt; copy.name(Part::Known(0)) == "live" && copy.most(10_000) == 13_000);
+    assert!(rt; has_shares(&table) && has_shares(&copy) && is_live(&copy));
+}
+
+/// The class is named, and at most 3,000 permits more than a limit of 10,000 are handed out.
+fn is_live(table: &PartitionTable) -> bool {
+    table.name(Part::Known(0)) == "live" && table.most(10_000) == 13_000
 }
 
 /// A class of 30 percent is promised these shares.
-fn check_shares(rt: &impl Abort, table: &PartitionTable) {
-    for (limit, share) in [(1, 1), (3, 1), (4, 2), (10_000, 3_000)] {
-        assert!(rt;
-            table.share(Part::Known(0), limit) == share,
-            "limit {limit}"
-        );
-    }
+fn has_shares(table: &PartitionTable) -> bool {
+    table.share(Part::Known(0), 1) == 1
+        && table.share(Part::Known(0), 3) == 1
+        && table.share(Part::Known(0), 4) == 2
+        && table.share(Part::Known(0), 10_000) == 3_000
 }
 
 #[test]
 fn a_table_without_partitions_promises_nothing(rt: HostRuntime) {
     let table = PartitionTable::unknown_only().copy().expect(&rt, "memory");
-    assert!(rt; table.is_empty() && table.find(LIVE).is_none());
-    assert!(rt; table.name(Part::Unknown) == "unknown");
-    assert!(rt; (table.share(Part::Unknown, 100), table.most(100)) == (0, 100));
+    assert!(rt; promises_nothing(&table));
+}
+
+/// There is no class, and all is of the unknown part.
+fn promises_nothing(table: &PartitionTable) -> bool {
+    table.is_empty()
+        && table.find(LIVE).is_none()
+        && table.name(Part::Unknown) == "unknown"
+        && table.share(Part::Unknown, 100) == 0
+        && table.most(100) == 100
 }

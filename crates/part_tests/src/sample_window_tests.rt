@@ -5,23 +5,27 @@ use sample_window::Window;
 #[test]
 fn an_empty_window_has_no_totals(rt: HostRuntime) {
     let window = Window::empty();
-    assert!(rt; (window.count(), window.sum(), window.least()) == (0, 0, 0));
-    assert!(rt; window.greatest_inflight() == 0);
-    assert!(rt; !window.dropped());
+    assert!(rt; totals(&window) == (0, 0, 0, 0) && !window.dropped());
+}
+
+/// How many samples there are, their sum, the least, and the greatest number in flight.
+fn totals(window: &Window) -> (u32, u64, u64, u32) {
+    (
+        window.count(),
+        window.sum(),
+        window.least(),
+        window.greatest_inflight(),
+    )
 }
 
 #[test]
 fn a_window_shows_the_totals_of_its_samples(rt: HostRuntime) {
     let mut window = Window::empty();
-    for (rtt, inflight, dropped) in [(7u64, 3u32, false), (5, 9, true), (9, 4, false)] {
-        assert!(rt; window.count() < 3);
-        window.add(&Sample::of(100, 100 + rtt, inflight, dropped));
-    }
-    assert!(rt; (window.count(), window.sum(), window.least()) == (3, 21, 5));
-    assert!(rt; window.greatest_inflight() == 9);
-    assert!(rt; window.dropped());
-    assert!(rt; window.count() > 0);
-    assert!(rt; window.mean() == 7);
+    window.add(&Sample::of(100, 107, 3, false));
+    window.add(&Sample::of(100, 105, 9, true));
+    window.add(&Sample::of(100, 109, 4, false));
+    assert!(rt; totals(&window) == (3, 21, 5, 9) && window.dropped());
+    assert!(rt; window.count() > 0 && window.mean() == 7);
 }
 
 #[test]
@@ -41,8 +45,6 @@ fn a_window_holds_a_million_samples_of_an_hour(rt: HostRuntime) {
         assert!(rt; window.count() < 1_000_000);
         window.add(&sample);
     }
-    assert!(rt; window.count() == 1_000_000);
-    assert!(rt; window.sum() == 1_000_000 * hour);
-    assert!(rt; window.count() > 0);
-    assert!(rt; window.mean() == hour);
+    assert!(rt; window.count() == 1_000_000 && window.sum() == 1_000_000 * hour);
+    assert!(rt; window.count() > 0 && window.mean() == hour);
 }

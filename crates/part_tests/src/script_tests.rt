@@ -106,10 +106,20 @@ fn looked_at(line: &[u8]) -> Option<&[u8]> {
 
 #[test]
 fn the_other_requests_have_a_number_or_a_name(rt: HostRuntime) {
-    for (line, wanted) in OF_NUMBERS {
-        assert!(rt; numbers(line) == Some(wanted));
+    for (line, wanted) in &OF_NUMBERS {
+        assert!(rt; asks(line, wanted));
     }
     assert!(rt; looked_at(b"look batch") == Some(b"batch".as_slice()));
+}
+
+/// A line asks this with these numbers.
+fn asks(line: &[u8], wanted: &(&str, u64, u64)) -> bool {
+    match numbers(line) {
+        Some((word, first, second)) => {
+            word == wanted.0 && first == wanted.1 && second == wanted.2
+        }
+        None => false,
+    }
 }
 
 /// The word of a line that sets a fixed or settable limit, windows or the backlog, and its numbers,
@@ -148,6 +158,16 @@ const SETTINGS: [(&[u8], (&str, [u64; 4])); 6] = [
     (b"keep 1 rolling", ("rolling", [1, 0, 0, 0])),
 ];
 
+/// A line sets these numbers.
+fn sets(line: &[u8], wanted: (&str, [u64; 4])) -> bool {
+    set_numbers(line) == Some(wanted)
+}
+
+/// A line sets the percent of a class.
+fn is_class(line: &[u8], name: &[u8], percent: u64) -> bool {
+    class_of(line) == Some((name, percent))
+}
+
 /// The name of a class and its percent.
 fn class_of(line: &[u8]) -> Option<(&[u8], u64)> {
     match setting_of(line)? {
@@ -159,9 +179,9 @@ fn class_of(line: &[u8]) -> Option<(&[u8], u64)> {
 #[test]
 fn a_setting_keeps_its_numbers_whichever_they_are(rt: HostRuntime) {
     for (line, wanted) in SETTINGS {
-        assert!(rt; set_numbers(line) == Some(wanted));
+        assert!(rt; sets(line, wanted));
     }
-    assert!(rt; class_of(b"class live 101") == Some((b"live".as_slice(), 101)));
+    assert!(rt; is_class(b"class live 101", b"live", 101));
 }
 
 const ASKS_NOTHING: &str = "
@@ -219,17 +239,27 @@ set 4294967296 1
 set 18446744073709551615 1
 ";
 
+/// Why a line is refused.
+fn refused(line: &str) -> Option<Why> {
+    read_line(line.as_bytes()).err()
+}
+
 /// The words or the value of each line are at fault.
 fn check_faults(rt: &impl Abort, lines: &str, wanted: Why) {
     for line in lines.lines() {
-        assert!(rt; read_line(line.as_bytes()).err() == Some(wanted), "{line}");
+        assert!(rt; refused(line) == Some(wanted), "{line}");
     }
+}
+
+/// A line is well formed, and says nothing.
+fn says_nothing(line: &str) -> bool {
+    matches!(read_line(line.as_bytes()), Ok(None))
 }
 
 #[test]
 fn a_line_says_nothing_or_is_told_by_its_words_or_its_value(rt: HostRuntime) {
     for line in ASKS_NOTHING.lines() {
-        assert!(rt; matches!(read_line(line.as_bytes()), Ok(None)), "{line}");
+        assert!(rt; says_nothing(line), "{line}");
     }
     check_faults(&rt, NO_FORMAT, Why::Words);
     check_faults(&rt, PAST_32_BITS, Why::Value);

@@ -131,11 +131,15 @@ keep 1000001 rolling
 keep 18446744073709551615
 ";
 
+/// What new settings answer to a line, where it is one of theirs.
+fn answer_to(rt: &impl Abort, alloc: Global, line: &str) -> Option<Result<(), Why>> {
+    take(rt, &mut Settings::new(alloc), line)
+}
+
 /// New settings answer each line so.
 fn check_lines(rt: &impl Abort, alloc: Global, lines: &str, answer: Option<Result<(), Why>>) {
     for line in lines.lines() {
-        let mut settings = Settings::new(alloc);
-        assert!(rt; take(rt, &mut settings, line) == answer, "{line}");
+        assert!(rt; answer_to(rt, alloc, line) == answer, "{line}");
     }
 }
 
@@ -160,12 +164,15 @@ fn take_all<'a>(
     last
 }
 
+/// What new settings answer to the last line of a script.
+fn last_answer(rt: &impl Abort, alloc: Global, script: &str) -> Option<Result<(), Why>> {
+    take_all(rt, &mut Settings::new(alloc), script)
+}
+
 /// New settings answer the last line of each script so.
 fn check_last(rt: &impl Abort, alloc: Global, scripts: &[&str], answer: Result<(), Why>) {
     for script in scripts {
-        let mut settings = Settings::new(alloc);
-        let last = take_all(rt, &mut settings, script);
-        assert!(rt; last == Some(answer), "{script}");
+        assert!(rt; last_answer(rt, alloc, script) == Some(answer), "{script}");
     }
 }
 
@@ -209,25 +216,24 @@ const A_AND_B: &str =
     "limit settable 2 5 9\nclass a 60\nclass b 41\nlimit fixed 7\nclass b 40\nclass c 1";
 
 /// The limit is the settable one, from 2 over 5 to 9.
-fn check_limit(rt: &impl Abort, settings: &Settings) {
-    let limit = settings.limit(20);
-    assert!(rt; (limit.lo(), limit.limit(), limit.hi()) == (2, 5, 9));
+fn is_from_2_over_5_to_9<L: Limit>(limit: &L) -> bool {
+    limit.lo() == 2 && limit.limit() == 5 && limit.hi() == 9
 }
 
 /// The table has the classes `a` and `b` alone, and of `b` 40 percent.
-fn check_table(rt: &impl Abort, table: &PartitionTable) {
-    assert!(rt; table.len() == 2);
-    assert!(rt; table.find(b"a") == Some(Part::Known(0)));
-    assert!(rt; table.find(b"b") == Some(Part::Known(1)));
-    assert!(rt; table.share(Part::Known(1), 100) == 40);
+fn has_a_and_b(table: &PartitionTable) -> bool {
+    table.len() == 2
+        && table.find(b"a") == Some(Part::Known(0))
+        && table.find(b"b") == Some(Part::Known(1))
+        && table.share(Part::Known(1), 100) == 40
 }
 
 #[test]
 fn a_line_at_fault_changes_nothing(rt: HostRuntime) {
     let mut settings = Settings::new(rt.alloc());
     assert!(rt; take_all(&rt, &mut settings, A_AND_B) == Some(Err(Why::Value)));
-    check_limit(&rt, &settings);
-    check_table(&rt, &settings.into_table());
+    assert!(rt; is_from_2_over_5_to_9(&settings.limit(20)));
+    assert!(rt; has_a_and_b(&settings.into_table()));
 }
 
 /// The limits after a drop, after a setting, and after a reset.
@@ -240,6 +246,13 @@ fn walk<L: Limit>(limit: &mut L) -> (u32, Result<(), SetFault>, u32, u32) {
     (sampled, answer, set, limit.limit())
 }
 
+/// How the limit of a script, or else 20, walks.
+fn walked(rt: &impl Abort, alloc: Global, script: &str) -> (u32, Result<(), SetFault>, u32, u32) {
+    let mut settings = Settings::new(alloc);
+    let _last = take_all(rt, &mut settings, script);
+    walk(&mut settings.limit(20))
+}
+
 /// The limit of each script, or else 20, walks so.
 fn check_walks(
     rt: &impl Abort,
@@ -248,9 +261,7 @@ fn check_walks(
     wanted: (u32, Result<(), SetFault>, u32, u32),
 ) {
     for script in scripts {
-        let mut settings = Settings::new(alloc);
-        let _last = take_all(rt, &mut settings, script);
-        assert!(rt; walk(&mut settings.limit(20)) == wanted, "{script}");
+        assert!(rt; walked(rt, alloc, script) == wanted, "{script}");
     }
 }
 

@@ -6,8 +6,10 @@ use windowed::Windowed;
 
 /// Windows of at least so many samples and this length, and of round trips of so long at least.
 fn over<L: Limit>(rt: &impl Abort, inner: L, size: u32, length: u64, min_rtt: u64) -> Windowed<L> {
-    let made = Windowed::new(inner, size, length, length, min_rtt);
-    made.ok().expect(rt, "windows")
+    match Windowed::new(inner, size, length, length, min_rtt) {
+        Ok(windowed) => windowed,
+        Err(_) => panic!(rt; "no windows"),
+    }
 }
 
 /// AIMD 1 to 100 from 20 that takes a round trip of more than this for a drop.

@@ -3,7 +3,7 @@ use lifo_backlog::{Full, Waiter};
 use std::alloc::{AllocError, Global};
 
 /// Those who wait, the newest last, and how many may.
-#[derive(Debug, Drop)]
+#[derive(Drop)]
 pub struct PlainBacklog {
     waiters: Vec<Waiter>,
     room: usize,
@@ -20,7 +20,10 @@ impl PlainBacklog {
         if self.len() >= self.room {
             return Err(Full);
         }
-        self.waiters.push(waiter).map_err(|_| Full)
+        match self.waiters.push(waiter) {
+            Ok(()) => Ok(()),
+            Err(_) => Err(Full),
+        }
     }
 
     pub fn newest(&self) -> Option<Waiter> {
@@ -28,20 +31,25 @@ impl PlainBacklog {
     }
 
     pub fn take(&mut self, number: u64) -> Option<Waiter> {
-        let taken = self.find(number);
-        self.waiters.retain(|waiter| waiter.number != number);
-        taken
+        let at = self.place_of(number)?;
+        if at >= self.waiters.len() {
+            return None;
+        }
+        Some(self.waiters.remove(at))
     }
 
-    fn find(&self, number: u64) -> Option<Waiter> {
-        self.waiters
-            .iter()
-            .find(|waiter| waiter.number == number)
-            .copied()
+    /// Where the waiter of a number stands.
+    fn place_of(&self, number: u64) -> Option<usize> {
+        for (at, waiter) in self.waiters.iter().enumerate() {
+            if waiter.number == number {
+                return Some(at);
+            }
+        }
+        None
     }
 
     pub fn waits(&self, number: u64) -> bool {
-        self.waiters.iter().any(|waiter| waiter.number == number)
+        self.place_of(number).is_some()
     }
 
     pub fn len(&self) -> usize {

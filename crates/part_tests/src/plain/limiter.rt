@@ -77,7 +77,13 @@ impl PlainLimiter {
     /// How many permits there are of a part.
     pub fn inflight(&self, part: Part) -> u32 {
         let place = self.table.place(part);
-        count_of(self.places.iter().filter(|q| **q == place).count())
+        let mut count: u32 = 0;
+        for one in &self.places {
+            if *one == place {
+                count = count.saturating_add(1);
+            }
+        }
+        count
     }
 
     /// The limit now.
@@ -87,10 +93,17 @@ impl PlainLimiter {
 
     /// The permit of a number that lies granted.
     pub fn granted_permit(&self, number: u64) -> Option<PermitFacts> {
-        self.granted
-            .iter()
-            .find(|permit| permit.number == number)
-            .copied()
+        self.granted.get(self.granted_place(number)?).copied()
+    }
+
+    /// Where the permit of a number lies granted.
+    fn granted_place(&self, number: u64) -> Option<usize> {
+        for (at, permit) in self.granted.iter().enumerate() {
+            if permit.number == number {
+                return Some(at);
+            }
+        }
+        None
     }
 
     fn has_room(&self, part: Part) -> bool {
@@ -120,11 +133,27 @@ impl PlainLimiter {
         }
     }
 
-    fn end(&mut self, permit: PermitFacts, outcome: Outcome, now: u64) -> Reply {
-        let place = self.table.place(permit.part);
-        if let Some(at) = self.places.iter().position(|q| *q == place) {
-            self.places.remove(at);
+    /// Where the first permit of a place stands.
+    fn standing(&self, place: usize) -> Option<usize> {
+        for (at, one) in self.places.iter().enumerate() {
+            if *one == place {
+                return Some(at);
+            }
         }
+        None
+    }
+
+    /// Takes one permit of a part away.
+    fn leave(&mut self, part: Part) {
+        if let Some(at) = self.standing(self.table.place(part)) {
+            if at < self.places.len() {
+                self.places.remove(at);
+            }
+        }
+    }
+
+    fn end(&mut self, permit: PermitFacts, outcome: Outcome, now: u64) -> Reply {
+        self.leave(permit.part);
         let dropped = outcome == Outcome::Dropped;
         if outcome != Outcome::Ignored {
             let sample = Sample::of(permit.start, now, permit.inflight, dropped);
@@ -135,8 +164,11 @@ impl PlainLimiter {
 
     /// Hands the granted permit of a number out.
     fn hand_out(&mut self, number: u64) -> Option<Reply> {
-        let permit = self.granted_permit(number)?;
-        self.granted.retain(|one| one.number != number);
+        let at = self.granted_place(number)?;
+        if at >= self.granted.len() {
+            return None;
+        }
+        let permit = self.granted.remove(at);
         Some(Reply::Granted {
             part: permit.part,
             start: permit.start,
@@ -207,13 +239,19 @@ impl PlainLimiter {
         })
     }
 
+    /// Where the first granted permit of a greater number lies, or else the end.
+    fn end_below(&self, number: u64) -> usize {
+        for (at, one) in self.granted.iter().enumerate() {
+            if number < one.number {
+                return at;
+            }
+        }
+        self.granted.len()
+    }
+
     /// Puts a permit before those of greater numbers.
     fn grant(&mut self, permit: PermitFacts) {
-        let later = self
-            .granted
-            .iter()
-            .position(|one| permit.number < one.number);
-        let at = later.unwrap_or(self.granted.len());
+        let at = self.end_below(permit.number);
         if at <= self.granted.len() {
             let _kept = self.granted.insert(at, permit);
         }
