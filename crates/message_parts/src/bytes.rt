@@ -53,12 +53,4 @@ impl Bytes {
     {
         self.items.is_empty()
     }
-
-    /// Gives the bytes back. Takes no memory.
-    pub fn into_vec(self) -> Vec<u8>
-        ensures { result.items ≡ self }
-    {
-        let Bytes { items } = self;
-        items
-    }
 }

@@ -54,12 +54,4 @@ impl Headers {
     {
         self.lines.is_empty()
     }
-
-    /// Gives the lines back. Takes no memory.
-    pub fn into_vec(self) -> Vec<Header>
-        ensures { result.items ≡ self }
-    {
-        let Headers { lines } = self;
-        lines
-    }
 }

@@ -39,12 +39,4 @@ impl Text {
     {
         self.string.as_str()
     }
-
-    /// Gives the text back. Takes no memory.
-    pub fn into_string(self) -> String
-        ensures { string_bytes result ≡ self }
-    {
-        let Text { string } = self;
-        string
-    }
 }

@@ -39,6 +39,7 @@ fn has_host(lines: &Headers) -> bool {
 fn keeps_its_parts(request: &Request) -> bool {
     request.method.as_str() == "GET"
         && request.target.as_str() == "/a?b"
+        && request.path.as_str() == "/a"
         && request.version == Version::Http11
         && has_host(&request.headers)
 }
@@ -46,16 +47,6 @@ fn keeps_its_parts(request: &Request) -> bool {
 #[test]
 fn a_request_keeps_its_parts(rt: HostRuntime) {
     assert!(rt; keeps_its_parts(&request_of(&rt, rt.alloc())));
-}
-
-fn gives_up_its_parts(request: Request) -> bool {
-    let Request { path, headers, .. } = request;
-    path.into_string().as_str() == "/a" && headers.into_vec().len() == 1
-}
-
-#[test]
-fn a_request_gives_up_its_parts(rt: HostRuntime) {
-    assert!(rt; gives_up_its_parts(request_of(&rt, rt.alloc())));
 }
 
 #[test]
@@ -69,10 +60,4 @@ fn a_response_keeps_its_parts(rt: HostRuntime) {
 /// The status is 503, and there is a body without header lines.
 fn is_busy(response: &Response) -> bool {
     response.status() == 503 && response.headers().is_empty() && response.body().is_some()
-}
-
-#[test]
-fn bytes_give_up_their_row(rt: HostRuntime) {
-    let bytes = Bytes::from_slice(rt.alloc(), b"no").expect(&rt, "memory");
-    assert!(rt; bytes.into_vec().as_slice() == b"no".as_slice());
 }

@@ -22,7 +22,8 @@ returns-in-None-clause-said c = search rules
 pub returns-in_err-window-clause-within : goal.returns-in_err-window-clause-within
 returns-in_err-window-clause-within c = search rules
 
-pub returns-in_err-read_window-in-Some-clause-within : goal.returns-in_err-read_window-in-Some-clause-within
+pub returns-in_err-read_window-in-Some-clause-within :
+    goal.returns-in_err-read_window-in-Some-clause-within
 returns-in_err-read_window-in-Some-clause-within c = search rules
 
 pub returns-in-None-clause-within : goal.returns-in-None-clause-within

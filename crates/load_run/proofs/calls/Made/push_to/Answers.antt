@@ -5,7 +5,8 @@ use Rattle.load_run.proofs.calls.Made.push_to.Goals as goal
 pub returns-in_ok-push-in-Exhausted-clause-made : goal.returns-in_ok-push-in-Exhausted-clause-made
 returns-in_ok-push-in-Exhausted-clause-made g c = search rules
 
-pub returns-in_ok-push-in-Exhausted-clause-refused : goal.returns-in_ok-push-in-Exhausted-clause-refused
+pub returns-in_ok-push-in-Exhausted-clause-refused :
+    goal.returns-in_ok-push-in-Exhausted-clause-refused
 returns-in_ok-push-in-Exhausted-clause-refused g c = search rules
 
 pub returns-in_ok-push-in-One-clause-made : goal.returns-in_ok-push-in-One-clause-made
