@@ -1,0 +1,37 @@
+"""What was wanted of the built program, compared with what was found, and its line of counters."""
+import re
+import sys
+
+COUNTERS = ("admitted", "bypassed", "full", "backlog", "waiting", "promoted", "timed-out", "success", "ignored", "dropped")
+
+
+def counters_line(**counts):
+    """The line of these counters, `timed_out` for `timed-out`; those that aren't named are 0."""
+    named = {name.replace("_", "-"): count for name, count in counts.items()}
+    assert named.keys() <= {*COUNTERS}
+    return " ".join(f"{name} {named.get(name, 0)}" for name in COUNTERS) + "\n"
+
+
+def counts_of(line):
+    """The counters of a line that aren't 0, by name, or nothing where it is no such line."""
+    found = re.fullmatch(" ".join(rf"{it} (\d+)" for it in COUNTERS) + "\n", line)
+    return found and {name: int(count) for name, count in zip(COUNTERS, found.groups()) if count != "0"}
+
+
+class Judge:
+    """A count of what went well and what didn't, which is told."""
+
+    def __init__(self):
+        self.passed, self.failed = 0, 0
+
+    def judge(self, what, wanted, found):
+        if wanted == found:
+            self.passed += 1
+            return
+        self.failed += 1
+        print(f"{what}\n  wanted {wanted!r:.400}\n  got    {found!r:.400}")
+
+    def end(self, name):
+        """Tells the count, and ends with status 1 where a case failed."""
+        print(f"{name}: {self.passed} passed, {self.failed} failed")
+        sys.exit(1 if self.failed else 0)

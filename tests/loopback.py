@@ -1,0 +1,171 @@
+"""A backend, gateways and their clients on loopback, for the tests of the built program."""
+import contextlib
+import pathlib
+import queue
+import re
+import socket
+import struct
+import subprocess
+import threading
+import time
+
+from judging import counts_of
+
+PATIENCE = 20
+BODY = b"hello, world\n"
+LARGE = 8_000_000
+# The same body by a length, and in chunks.
+WHOLE = {
+    "length": b"HTTP/1.1 200 OK\r\nContent-Length: 13\r\n\r\nhello, world\n",
+    "chunks": b"HTTP/1.1 200 OK\r\nTransfer-Encoding: chunked\r\n\r\n6\r\nhello,\r\n7\r\n world\n\r\n0\r\n\r\n",
+}
+
+
+def free_port():
+    """A port that was free a moment ago."""
+    with socket.socket() as found:
+        found.bind(("127.0.0.1", 0))
+        return found.getsockname()[1]
+
+
+def read_all(client):
+    found = b""
+    with contextlib.suppress(ConnectionResetError):
+        while piece := client.recv(65536):
+            found += piece
+    return found
+
+
+class Backend:
+    """A backend on threads, which answers by the path, and keeps what it was given."""
+
+    def __init__(self):
+        self.given, self.release, self.held = [], threading.Event(), threading.Semaphore(0)
+        self.both, self.stayed = threading.Barrier(2), queue.SimpleQueue()
+        self.socket = socket.create_server(("127.0.0.1", 0), backlog=128)
+        self.port = self.socket.getsockname()[1]
+        threading.Thread(target=self.accept, daemon=True).start()
+
+    def accept(self):
+        with contextlib.suppress(OSError):
+            while True:
+                client, _ = self.socket.accept()
+                threading.Thread(target=self.serve, args=(client,), daemon=True).start()
+
+    def request(self, client):
+        text = b""
+        while b"\r\n\r\n" not in text:
+            piece = client.recv(65536)
+            if not piece:
+                return text
+            text += piece
+        length = re.search(rb"\r\nContent-Length: (\d+)\r\n", text)
+        whole = text.index(b"\r\n\r\n") + 4 + (int(length[1]) if length else 0)
+        while len(text) < whole and (piece := client.recv(65536)):
+            text += piece
+        return text
+
+    def serve(self, client):
+        with client, contextlib.suppress(OSError, threading.BrokenBarrierError):
+            text = self.request(client)
+            self.given.append(text)
+            path = text.split(b" ")[1] if b" " in text else b""
+            if path == b"/held":
+                self.held.release()
+                self.release.wait(PATIENCE)
+            elif path == b"/both":
+                self.both.wait(PATIENCE)
+            if path == b"/closes":
+                return
+            if cut := re.fullmatch(rb"/(closes|resets)/(\w+)/(\d+)", path):
+                client.sendall(WHOLE[cut[2].decode()][:int(cut[3])])
+                if cut[1] == b"resets":
+                    client.setsockopt(socket.SOL_SOCKET, socket.SO_LINGER, struct.pack("ii", 1, 0))
+                return
+            if path == b"/busy":
+                client.sendall(b"HTTP/1.1 503 Busy\r\nContent-Length: 2\r\n\r\nno")
+            elif path == b"/garbage":
+                client.sendall(b"no answer at all\r\n\r\n")
+            else:
+                body = b"x" * LARGE if path == b"/large" else BODY
+                client.sendall(b"HTTP/1.1 200 OK\r\nContent-Length: %d\r\n\r\n%s" % (len(body), body))
+                if path == b"/stays":
+                    self.stayed.put(self.release.wait(PATIENCE))
+
+    def close(self):
+        self.release.set()
+        self.socket.close()
+
+
+class Gateway:
+    """One run of the program, whose log is read as it comes."""
+
+    running = []
+
+    def __init__(self, *given, **how):
+        # Another program may take a port between its choice and its binding.
+        for _ in range(3):
+            self.start(*given, **how)
+            if "admission: listen" not in self.log:
+                return
+
+    def start(self, program, room, backend, settings="", workers=1, each=1, words=()):
+        self.port, self.log, self.is_listening = free_port(), [], threading.Event()
+        path = pathlib.Path(room) / f"{self.port}.toml"
+        top, _, tables = settings.partition("\n\n")
+        path.write_text(f'version = 1\nlisten = "127.0.0.1:{self.port}"\nbackend = "127.0.0.1:{backend}"\n'
+                        f"{top}\n{tables or '[limit]' + chr(10) + 'kind = ' + chr(34) + 'fixed' + chr(34)}\n")
+        given = ["serve", str(path), "--workers", str(workers), "--per-worker", str(each), *words]
+        self.process = subprocess.Popen([program, *given], stdout=subprocess.PIPE, stderr=subprocess.PIPE, text=True)
+        Gateway.running.append(self.process)
+        self.reader = threading.Thread(target=self.read_log, daemon=True)
+        self.reader.start()
+        self.is_listening.wait(PATIENCE)
+
+    def read_log(self):
+        for line in self.process.stderr:
+            self.log.append(line.rstrip("\n"))
+            if "listening" in line:
+                self.is_listening.set()
+        self.is_listening.set()
+
+    def connect(self):
+        return socket.create_connection(("127.0.0.1", self.port), timeout=PATIENCE)
+
+    def ask(self, *pieces, pause=0.0):
+        """All that comes back for a request, which is sent in these pieces."""
+        with self.connect() as client:
+            for piece in pieces:
+                client.sendall(piece)
+                time.sleep(pause)
+            return read_all(client)
+
+    def ending(self):
+        """The counters that it printed, by name, once it has ended with status 0."""
+        try:
+            self.process.wait(timeout=PATIENCE)
+        except subprocess.TimeoutExpired:
+            self.process.kill()
+            return "didn't end"
+        self.reader.join(PATIENCE)
+        out = self.process.stdout.read()
+        counts = counts_of(out)
+        if counts is None or self.process.returncode:
+            return out, self.process.returncode, self.log
+        return counts
+
+
+class Later:
+    """A call on a thread of its own, whose result is asked for later."""
+
+    def __init__(self, call, *given):
+        self.found = None
+        self.thread = threading.Thread(target=self.run, args=(call, given), daemon=True)
+        self.thread.start()
+
+    def run(self, call, given):
+        self.found = call(*given)
+
+    def result(self):
+        self.thread.join(PATIENCE)
+        return self.found
