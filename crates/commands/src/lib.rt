@@ -9,7 +9,3 @@ mod help;
 mod interface;
 
 pub use command_line::{Run, TextTask, words};
-pub use help::{
-    EXAMPLE_ANSWERS, EXAMPLE_COURSE, EXAMPLE_LOAD, EXAMPLE_SCRIPT, EXAMPLE_SUMMARY, EXAMPLE_TRACE,
-    FULLEST_CONFIG, SERVED_CONFIG, SMALLEST_CONFIG,
-};

@@ -1,47 +1,5 @@
 // The help of `check`.
 
-/// The configuration with the required keys alone that the help of `check` shows, as it stands
-/// there.
-pub const SMALLEST_CONFIG: &str = "  version = 1
-  listen = \"127.0.0.1:8080\"    # where requests come in
-  backend = \"127.0.0.1:9000\"   # where they go to
-
-  [limit]
-  kind = \"fixed\"               # or settable, aimd, vegas
-  initial = 40                 # requests at the backend at once
-";
-
-/// The one with a table of each kind.
-pub const FULLEST_CONFIG: &str = "  version = 1
-  listen = \"127.0.0.1:8080\"
-  backend = \"127.0.0.1:9000\"
-  backlog = 40
-  timeout_ms = 500
-
-  [limit]
-  kind = \"aimd\"
-  min = 5
-  max = 200
-  initial = 40
-  ratio = 900
-  timeout_us = 2_000_000
-
-  [window]
-  size = 10
-
-  [[class]]
-  name = \"live\"
-  percent = 60
-
-  [[resolver]]
-  kind = \"route\"
-  routes = { \"/live/{*rest}\" = \"live\" }
-
-  [[bypass]]
-  kind = \"prefix\"
-  prefix = \"/health\"
-";
-
 pub(crate) const CHECK_ABOUT: &str =
     "Says whether a configuration is right, before anything is served";
 

@@ -1,20 +1,5 @@
 // The help of `load`.
 
-/// The trace that the help of `load` shows, as it stands there.
-pub const EXAMPLE_LOAD: &str = "  limit fixed 10
-  arrive unknown 0 10 success
-  arrive unknown 0 10 success
-  arrive unknown 0 10 success
-  arrive unknown 0 10 success
-";
-
-/// The two lines that it ends with, as they stand there: the second is cut, and goes on behind more
-/// spaces.
-pub const EXAMPLE_SUMMARY: &str = "  audit ok calls 8
-  admitted 4 bypassed 0 full 0 backlog 0 waiting 0 promoted 0 timed-out 0
-      success 4 ignored 0 dropped 0
-";
-
 pub(crate) const LOAD_ABOUT: &str =
     "Makes the calls of a trace by threads at one gate, and audits what they were told";
 

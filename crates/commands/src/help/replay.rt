@@ -1,22 +1,5 @@
 // The help of `replay`.
 
-/// The script that the help of `replay` shows, as it stands there.
-pub const EXAMPLE_SCRIPT: &str = "  limit fixed 1
-  class a 100
-  acquire a 0
-  acquire a 1 wait
-  end 0 success 5
-  claim 1
-";
-
-/// The lines that answer it, as they stand there.
-pub const EXAMPLE_ANSWERS: &str = "  0 admitted a inflight 1
-  1 waiting
-  2 ended promoted 1
-  3 promoted 1 inflight 1
-  4 granted inflight 1
-";
-
 pub(crate) const REPLAY_ABOUT: &str = "Answers a script of acquires and endings, line by line";
 
 pub(crate) const REPLAY_HELP: &str = "\

@@ -1,17 +1,5 @@
 // The help of `serve`.
 
-/// The configuration that the help of `serve` shows, as it stands there.
-pub const SERVED_CONFIG: &str = "  version = 1
-  listen = \"127.0.0.1:8080\"
-  backend = \"127.0.0.1:9000\"
-  backlog = 20
-  timeout_ms = 500
-
-  [limit]
-  kind = \"fixed\"
-  initial = 40
-";
-
 pub(crate) const SERVE_ABOUT: &str = "Stands before a backend, and forwards what the limit admits";
 
 pub(crate) const SERVE_HELP: &str = "\
@@ -66,10 +54,11 @@ client gets, and the limit learns:
   no answer that can be read        502            dropped
   memory is wanting for it          500            ignored
 
-Standard error gets two kinds of lines of the log: once the address is bound, `listening` with the
+Standard error gets three kinds of lines of the log: once the address is bound, `listening` with the
 address, the number of workers and the kind of limit; and before that a warning where the limit, or
 its max, and the backlog are together more than the workers. Then callers past the workers wait
-unseen in the system's queue and are never refused: raise the workers, or lower the two.
+unseen in the system's queue and are never refused: raise the workers, or lower the two. Another
+warns where the backend is this gateway itself, so that each request would come back to it.
 
 At its end it writes on standard output what was decided:
 `admitted A bypassed B full F backlog G waiting W promoted P timed-out T success S ignored I

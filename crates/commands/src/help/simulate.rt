@@ -1,25 +1,5 @@
 // The help of `simulate`.
 
-/// The trace that the help of `simulate` shows, as it stands there.
-pub const EXAMPLE_TRACE: &str = "  limit fixed 1
-  class a 100
-  timeout 50
-  arrive a 0 100 success wait
-  arrive a 10 100 success wait
-  arrive a 60 5 success wait
-";
-
-/// What becomes of it, as it stands there.
-pub const EXAMPLE_COURSE: &str = "  0 admitted a inflight 1
-  1 waiting
-  2 timed out
-  3 waiting
-  4 ended promoted 1
-  5 promoted 3 inflight 1
-  6 granted inflight 1
-  7 ended promoted 0
-";
-
 pub(crate) const SIMULATE_ABOUT: &str =
     "Carries a trace of arrivals out in virtual time, to try settings before they are used";
 
