@@ -1,9 +1,8 @@
-//! Tests of the class of a request and of the configuration, by their public calls.
+//! Tests of the class of a request and of a configuration's settings, by public calls. What `check`
+//! tells of a configuration, `tests/keys` tries by the program.
 #![tactic(auto)]
 
 #[cfg(test)]
 mod classifier_tests;
 #[cfg(test)]
-mod gate_config_tests;
-#[cfg(test)]
-mod key_edge_tests;
+mod settings_tests;

@@ -1,5 +1,5 @@
-//! Tests of the parts of a limiter, of the limiter, of its journal and of the lines of scripts, by
-//! their public calls.
+//! Tests of the parts of a limiter, of the limiter and of its journal, by public calls. How lines
+//! of scripts are read, `tests/lines` tries by the program.
 #![tactic(auto)]
 
 #[cfg(test)]
@@ -17,8 +17,6 @@ mod limit_laws_tests;
 #[cfg(test)]
 mod limiter_core_tests;
 #[cfg(test)]
-mod lines_tests;
-#[cfg(test)]
 mod make_tests;
 #[cfg(test)]
 mod partitions_tests;
@@ -26,10 +24,6 @@ mod partitions_tests;
 mod plain;
 #[cfg(test)]
 mod sample_window_tests;
-#[cfg(test)]
-mod script_tests;
-#[cfg(test)]
-mod settings_tests;
 #[cfg(test)]
 mod vegas_tests;
 #[cfg(test)]
