@@ -3,17 +3,14 @@
 //! fault, or with 2 and the text of a fault of the words.
 #![tactic(auto)]
 
-ghost use Rattle.commands.specs.CommandLine.{KeepsRanges};
-
 use commands::{Run, words};
 use config_check::check_file;
 use counted_io::Counted;
 use fault_lines::tell_unread_words;
 use load_command::run_load;
 use serve_command::{Service, serve_file};
-use std::alloc::Global;
 use std::env;
-use std::io::{Error, Write};
+use std::io::Error;
 use std::process::ExitCode;
 use text_commands::run_text;
 
@@ -24,30 +21,32 @@ fn main(rt: HostRuntime) -> ExitCode {
         Ok(list) => list,
         Err(error) => return ExitCode::from(tell_unread_words(error.kind(), &mut errors)),
     };
-    match words(alloc, list.as_slice()) {
-        Ok(run) => ExitCode::from(carry_out(&rt, alloc, run, &mut errors)),
+    let run = match words(alloc, list.as_slice()) {
+        Ok(run) => run,
         Err(error) => {
             let _ = error.print(&rt);
-            ExitCode::from(error.exit_code() as u8)
+            return ExitCode::from(error.exit_code() as u8);
         }
-    }
-}
-
-// Carries a run out over the standard streams, and answers the exit status.
-fn carry_out<E: Write>(rt: &HostRuntime, alloc: Global, run: Run, errors: &mut Counted<E>) -> u8
-    requires { KeepsRanges run }
-{
+    };
     let mut writer = Counted::new(rt.stdout());
-    match run {
+    ExitCode::from(match run {
         Run::Text(task) => {
             let mut reader = Counted::new(rt.stdin());
-            run_text(alloc, task, &mut reader, &mut writer, errors)
+            run_text(alloc, task, &mut reader, &mut writer, &mut errors)
         }
-        Run::Check { path } => check_file(rt, alloc, path, &mut writer, errors),
+        Run::Check { path } => check_file(&rt, alloc, path, &mut writer, &mut errors),
         Run::Load { limit, workers } => {
             let mut reader = Counted::new(rt.stdin());
             let workers = workers as usize;
-            run_load(rt, alloc, limit, workers, &mut reader, &mut writer, errors)
+            run_load(
+                &rt,
+                alloc,
+                limit,
+                workers,
+                &mut reader,
+                &mut writer,
+                &mut errors,
+            )
         }
         Run::Serve {
             path,
@@ -61,7 +60,7 @@ fn carry_out<E: Write>(rt: &HostRuntime, alloc: Global, run: Run, errors: &mut C
                 per_worker,
                 client_timeout_ms,
             };
-            serve_file(rt, alloc, &service, &mut writer, errors)
+            serve_file(&rt, alloc, &service, &mut writer, &mut errors)
         }
-    }
+    })
 }
