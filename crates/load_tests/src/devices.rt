@@ -1,4 +1,4 @@
-// A reader and a writer that fail from one of their calls on, and a reader of one long comment.
+// A reader and a writer that fail from one of their calls on.
 use std::io::{Error, ErrorKind, Read, Result, Write};
 
 /// Gives its bytes, at most five in a read, and fails from the call `failing` on.
@@ -56,20 +56,5 @@ impl Write for Sink {
 
     fn flush(&mut self) -> Result<()> {
         self.next_call()
-    }
-}
-
-/// Gives `left` number signs, which are one comment line.
-#[derive(Drop)]
-pub(crate) struct Comment {
-    pub(crate) left: usize,
-}
-
-impl Read for Comment {
-    fn read(&mut self, buf: &mut [u8]) -> Result<usize> {
-        let count = buf.len().min(self.left);
-        self.left -= count;
-        buf[..count].fill(b'#');
-        Ok(count)
     }
 }

@@ -1,13 +1,10 @@
-//! Tests of traces that threads carry out through one gate, by public calls.
+//! Tests of a load over readers and writers that fail, and by a clock of their own, by public
+//! calls. Whole traces and their faults, `tests/load` tries by the program.
 #![tactic(auto)]
 
-#[cfg(test)]
-mod command_tests;
 #[cfg(test)]
 mod devices;
 #[cfg(test)]
 mod fault_tests;
 #[cfg(test)]
 mod overlap_tests;
-#[cfg(test)]
-mod run_tests;
