@@ -1,6 +1,6 @@
 // The commands, and the words that each takes.
 ghost use Rattle.std.specs.Prelude.{◌≡◌, false, IfOk};
-ghost use Rattle.clap.specs.Words.{app_of, new_app, rule_of};
+ghost use Rattle.clap.specs.Words.{App, app_of, new_app, rule_of, with_subcommand};
 ghost use Rattle.commands.specs.CommandLine.{IsLeaf, IsWithoutGlobals, admission_app, check_app, client_timeout_rule, config_rule, limit_rule, load_app, offline_app, option_rule, per_worker_rule, replay_app, serve_app, serving_app, simulate_app, text_app, workers_rule};
 
 use super::help::{
@@ -137,30 +137,40 @@ fn serve_command<'a>(alloc: Global) -> Result<Command<'a>, AllocError>
         .arg(client_timeout_option(alloc))
 }
 
+/// The command, with a subcommand where that one was made.
+fn with_leaf<'a>(
+    whole: Command<'a>,
+    leaf: Result<Command<'a>, AllocError>,
+) -> Result<Command<'a>, AllocError>
+    ensures { IfOk result (λ larger. (app : App) → IfOk leaf.entry (IsLeaf app)
+        → app_of larger ≡ with_subcommand (app_of whole.entry) app.top) }
+{
+    whole.subcommand(leaf?)
+}
+
 /// The command, with its subcommands over texts.
 fn text_command<'a>(alloc: Global) -> Result<Command<'a>, AllocError>
     ensures { IfOk result (λ whole. app_of whole ≡ text_app) }
 {
-    Command::new(alloc, "admission")
+    let whole = Command::new(alloc, "admission")
         .about(ABOUT)
         .version("0.1.0")
-        .subcommand_required(true)
-        .subcommand(replay_command(alloc)?)?
-        .subcommand(simulate_command(alloc)?)
+        .subcommand_required(true);
+    let whole = with_leaf(whole, replay_command(alloc))?;
+    with_leaf(whole, simulate_command(alloc))
 }
 
 /// The command, with the subcommands that serve nobody.
 fn offline_command<'a>(alloc: Global) -> Result<Command<'a>, AllocError>
     ensures { IfOk result (λ whole. app_of whole ≡ offline_app) }
 {
-    text_command(alloc)?
-        .subcommand(load_command(alloc)?)?
-        .subcommand(check_command(alloc)?)
+    let whole = with_leaf(text_command(alloc)?, load_command(alloc))?;
+    with_leaf(whole, check_command(alloc))
 }
 
 /// The whole command.
 pub(crate) fn command<'a>(alloc: Global) -> Result<Command<'a>, AllocError>
     ensures { IfOk result (λ whole. app_of whole ≡ admission_app) }
 {
-    offline_command(alloc)?.subcommand(serve_command(alloc)?)
+    with_leaf(offline_command(alloc)?, serve_command(alloc))
 }
