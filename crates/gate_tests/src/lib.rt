@@ -1,8 +1,15 @@
-//! Tests of calls through a shared gate, by worked rows.
+//! Tests of a gate by its public calls: its book and the audit of its history, calls through the
+//! lock by worked rows, and how it is closed.
 #![tactic(auto)]
 
 #[cfg(test)]
-mod one_permit;
+mod audit_tests;
+#[cfg(test)]
+mod book_tests;
+#[cfg(test)]
+mod books;
+#[cfg(test)]
+mod closing;
 #[cfg(test)]
 mod rolling_tests;
 #[cfg(test)]

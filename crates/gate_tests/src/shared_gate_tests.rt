@@ -2,7 +2,7 @@
 ghost use Rattle.std.specs.Prelude.{◌≡◌, []};
 ghost use Rattle.gate_ledgers.specs.Names.{AreNamed, AreWhole};
 
-use crate::one_permit::single;
+use crate::books::book_over;
 use gate_history::{Blanks, Book, Naming, Permit, Ticket};
 use limit_laws::Fixed;
 use limiter_core::{Outcome, Reply};
@@ -65,7 +65,7 @@ pub(crate) fn by_one_pass<M: Naming, R: Wait + Abort>(
     requires rows { M.rows ≡ [] }
     requires room { M.room ≡ 100 }
 {
-    let book = single::<M, R>(rt, alloc, kept, is_rolling, blanks);
+    let book = book_over::<M, R>(rt, alloc, 1, kept, is_rolling, blanks);
     promotes_the_newest(rt, book);
 }
 
@@ -158,7 +158,7 @@ fn by_two_threads<M: Naming + Send + Sync, R: Threads + Wait + SystemClock + Abo
     requires rows { M.rows ≡ [] }
     requires room { M.room ≡ 100 }
 {
-    let mut book = single::<M, R>(rt, alloc, 1_000_000, false, blanks);
+    let mut book = book_over::<M, R>(rt, alloc, 1, 1_000_000, false, blanks);
     let one = Pass::of(book.pass().expect(rt, "a pass"));
     let two = Pass::of(book.pass().expect(rt, "a pass"));
     book.seal();

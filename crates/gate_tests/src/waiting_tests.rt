@@ -2,7 +2,7 @@
 ghost use Rattle.std.specs.Prelude.{◌≡◌, []};
 ghost use Rattle.gate_ledgers.specs.Names.{AreNamed, AreWhole};
 
-use crate::one_permit::single;
+use crate::books::book_over;
 use crate::shared_gate_tests::{Still, admitted, queued, times_out};
 use gate_history::{Blanks, Book, Naming, Receipt, Spent, Ticket};
 use limit_laws::Fixed;
@@ -108,7 +108,7 @@ fn in_vain<M: Naming, R: Wait + SystemClock + Abort, C: Clock>(
     requires rows { M.rows ≡ [] }
     requires room { M.room ≡ 100 }
 {
-    let book = single::<M, R>(rt, alloc, 1_000, false, blanks);
+    let book = book_over::<M, R>(rt, alloc, 1, 1_000, false, blanks);
     waits_in_vain(rt, book, now, clock, deadline);
 }
 
@@ -156,7 +156,7 @@ fn exhausted<M: Naming, R: Wait + SystemClock + Abort>(rt: &R, alloc: Global, bl
     requires rows { M.rows ≡ [] }
     requires room { M.room ≡ 100 }
 {
-    let book = single::<M, R>(rt, alloc, 2, false, blanks);
+    let book = book_over::<M, R>(rt, alloc, 1, 2, false, blanks);
     answers_what_is_owed(rt, book);
 }
 

@@ -1,4 +1,4 @@
-// AIMD over windows, and over windows of windows, by worked numbers.
+// AIMD over windows of windows, and over a window of a million samples, by worked numbers.
 use aimd::Aimd;
 use limit_laws::{Limit, Sample};
 use std::process::Abort;
@@ -15,53 +15,6 @@ fn over<L: Limit>(rt: &impl Abort, inner: L, size: u32, length: u64, min_rtt: u6
 /// AIMD 1 to 100 from 20 that takes a round trip of more than this for a drop.
 fn aimd(rt: &impl Abort, timeout: u64) -> Aimd {
     Aimd::new(1, 20, 100, 900, timeout).expect(rt, "a limit")
-}
-
-/// The limit of AIMD 1 to 100 from 20 over windows of a second, where a first window of one sample
-/// is followed by so many samples inside the second one and by one that ends it.
-fn limit_after(rt: &impl Abort, inside: u32) -> u32 {
-    let second = 1_000_000_000;
-    let mut windowed = over(rt, aimd(rt, second), 10, second, 100_000);
-    for _ in 0..=inside {
-        windowed.on_sample(&Sample::of_rtt(0, 200_000, 10, false));
-    }
-    windowed.on_sample(&Sample::of_rtt(1_000_000_001, 200_000, 10, false));
-    windowed.limit()
-}
-
-#[test]
-fn a_window_of_ten_is_handed_on_and_one_of_nine_is_not(rt: HostRuntime) {
-    assert!(rt; limit_after(&rt, 9) == 21);
-    assert!(rt; limit_after(&rt, 8) == 20);
-}
-
-/// The limit of AIMD 1 to 10 from 2 after one sample, over windows of this size.
-fn limit_of_size(rt: &impl Abort, size: u32) -> u32 {
-    let aimd = Aimd::new(1, 2, 10, 900, 1).expect(rt, "a limit");
-    let mut windowed = over(rt, aimd, size, 1, 0);
-    windowed.on_sample(&Sample::of(100, 50, 1, false));
-    windowed.limit()
-}
-
-#[test]
-fn one_sample_moves_the_limit_only_as_a_window_of_one(rt: HostRuntime) {
-    assert!(rt; limit_of_size(&rt, 2) == 2);
-    assert!(rt; limit_of_size(&rt, 1) == 3);
-}
-
-/// The limit of AIMD with this timeout after a window of one sample and one of a mean of 200 ns.
-fn limit_with_timeout(rt: &impl Abort, timeout: u64) -> u32 {
-    let mut windowed = over(rt, aimd(rt, timeout), 2, 1000, 0);
-    for (start, rtt) in [(0u64, 100u64), (10, 100), (2000, 300)] {
-        windowed.on_sample(&Sample::of_rtt(start, rtt, 10, false));
-    }
-    windowed.limit()
-}
-
-#[test]
-fn the_mean_of_a_window_is_what_counts_as_slow(rt: HostRuntime) {
-    assert!(rt; limit_with_timeout(&rt, 199) == 18);
-    assert!(rt; limit_with_timeout(&rt, 200) == 21);
 }
 
 /// A sample that began at this moment, in nanoseconds, with 10 permits in flight.

@@ -1,24 +1,15 @@
-//! Tests of exchanges, over a port that shows its entries and a backend that keeps what it got; and
-//! of a port over a gate that threads share.
+//! Tests of the moments of an exchange and of ends that fail once, over a gate that keeps what it
+//! is asked; and of a port over a gate that threads share. What clients and backends see of
+//! exchanges, `tests/messages` and `tests/exchanges` try by the program.
 #![tactic(auto)]
 
 #[cfg(test)]
-mod course;
-#[cfg(test)]
-mod cut_tests;
-#[cfg(test)]
 mod devices;
 #[cfg(test)]
-mod failing_tests;
-#[cfg(test)]
-mod fault_tests;
-#[cfg(test)]
-mod gateway;
+mod exchanged;
 #[cfg(test)]
 mod moment_tests;
 #[cfg(test)]
-mod order_tests;
-#[cfg(test)]
-mod row_tests;
+mod once_tests;
 #[cfg(test)]
 mod shared_tests;

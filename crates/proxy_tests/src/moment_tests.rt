@@ -1,59 +1,88 @@
 // When the gate is asked, until when a request may wait, and when its permit is ended, by a clock
 // that goes on by a second at each look.
-use crate::devices::{SECOND, Says, bytes_of};
-use crate::gateway::{Came, Case, exchanged};
+use crate::devices::{Moments, SECOND};
+use crate::exchanged::{Case, SETTINGS, exchanged};
 use std::alloc::Global;
 use std::process::Abort;
 
-const GET: &str = "GET /a HTTP/1.1|Host: h||";
+const GET: &[u8] = b"GET /a HTTP/1.1\r\nHost: h\r\n\r\n";
 
-/// Whether a request waits, for how many milliseconds at most, and until when where the gate is
-/// asked at 7 seconds.
-const DEADLINES: [(bool, u32, Option<u64>); 4] = [
-    (false, 50, None),
-    (true, 1, Some(7_001_000_000)),
-    (true, 50, Some(7_050_000_000)),
-    (true, 3_600_000, Some(3_607_000_000_000)),
+const HEALTH: &[u8] = b"GET /health HTTP/1.1\r\nHost: h\r\n\r\n";
+
+/// Settings by which nobody waits, whatever the timeout.
+const AT_ONCE: &str = "version = 1
+listen = \"127.0.0.1:8080\"
+backend = \"127.0.0.1:9000\"
+wait = false
+timeout_ms = 50
+[limit]
+kind = \"fixed\"
+[[bypass]]
+kind = \"prefix\"
+prefix = \"/health\"
+";
+
+/// Settings with the least timeout.
+const SHORT: &str = "version = 1
+listen = \"127.0.0.1:8080\"
+backend = \"127.0.0.1:9000\"
+timeout_ms = 1
+[limit]
+kind = \"fixed\"
+[[bypass]]
+kind = \"prefix\"
+prefix = \"/health\"
+";
+
+/// Settings with the greatest timeout.
+const LONG: &str = "version = 1
+listen = \"127.0.0.1:8080\"
+backend = \"127.0.0.1:9000\"
+wait = true
+timeout_ms = 3600000
+[limit]
+kind = \"fixed\"
+[[bypass]]
+kind = \"prefix\"
+prefix = \"/health\"
+";
+
+/// Settings, and until when a request may wait by them where the gate is asked at 7 seconds.
+const DEADLINES: [(&str, Option<u64>); 4] = [
+    (AT_ONCE, None),
+    (SHORT, Some(7_001_000_000)),
+    (SETTINGS, Some(8_000_000_000)),
+    (LONG, Some(3_607_000_000_000)),
 ];
 
-/// What comes of a request to a gate with this limit.
-fn came_of(
+/// The moments of a request by these settings, at a gate that is full or has room.
+fn moments_of(
     rt: &impl Abort,
     alloc: Global,
-    request: &str,
-    limit: u32,
-    waits: bool,
-    timeout_ms: u32,
-) -> Came {
-    let sent = bytes_of(rt, alloc, request);
-    let mut case = Case::new(sent.as_slice(), Says::Absent);
-    case.limit = limit;
-    case.waits = waits;
-    case.timeout_ms = timeout_ms;
-    exchanged(rt, alloc, case)
+    sent: &[u8],
+    settings: &str,
+    is_full: bool,
+) -> Moments {
+    let mut case = Case::new(sent, settings);
+    case.is_full = is_full;
+    exchanged(rt, alloc, case).moments
 }
 
-/// The gate is asked at 7 seconds, and told an ending then, both as its port hears it and as its
-/// entries show it.
-fn check_moments(rt: &impl Abort, alloc: Global, request: &str, limit: u32, ended: Option<u64>) {
-    let asked = Some(7 * SECOND);
-    for (waits, timeout_ms, deadline) in DEADLINES {
-        let came = came_of(rt, alloc, request, limit, waits, timeout_ms);
-        assert!(rt;
-            came.moments == (asked, deadline, ended),
-            "{request} {timeout_ms}"
-        );
-        assert!(rt; came.shown == (asked, ended), "{request} {timeout_ms}");
+/// The gate is asked at 7 seconds, and told an ending then, whatever the deadline.
+fn check_moments(rt: &impl Abort, alloc: Global, sent: &[u8], is_full: bool, ended: Option<u64>) {
+    for (settings, deadline) in DEADLINES {
+        let moments = moments_of(rt, alloc, sent, settings, is_full);
+        assert!(rt; moments == (Some(7 * SECOND), deadline, ended));
     }
 }
 
 #[test]
 fn a_permit_is_asked_for_at_one_look_and_ended_at_the_next(rt: HostRuntime) {
-    check_moments(&rt, rt.alloc(), GET, 10, Some(8 * SECOND));
+    check_moments(&rt, rt.alloc(), GET, false, Some(8 * SECOND));
 }
 
 #[test]
 fn who_gets_no_permit_asks_at_the_one_look(rt: HostRuntime) {
-    check_moments(&rt, rt.alloc(), GET, 1, None);
-    check_moments(&rt, rt.alloc(), "GET /health HTTP/1.1|Host: h||", 10, None);
+    check_moments(&rt, rt.alloc(), GET, true, None);
+    check_moments(&rt, rt.alloc(), HEALTH, false, None);
 }

@@ -3,9 +3,9 @@ ghost use Rattle.std.specs.Prelude.{◌≡◌, []};
 ghost use Rattle.gate_ledgers.specs.Names.{AreNamed, AreWhole};
 
 use crate::devices::{SECOND, Ticking};
-use crate::gateway::{give_back, hold, open_book};
-use gate_history::{Blanks, Book, Naming};
+use gate_history::{Blanks, Book, Journal, Naming};
 use limit_laws::Fixed;
+use limiter_core::{Core, Outcome};
 use partitions::{Part, PartitionTable};
 use ports::{Admission, GatePort, Port, Why};
 use shared_gate::{Pass, SharedGate};
@@ -20,14 +20,28 @@ fn a_full_gate_refuses_at_once_or_at_the_deadline(rt: HostRuntime) {
     over_one_permit::<Brand, _>(&rt, rt.alloc(), Blanks::new());
 }
 
-fn over_one_permit<N: Naming, R: Wait + SystemClock + Abort>(rt: &R, alloc: Global, blanks: Blanks)
+/// A book with room for one permit.
+fn open_book<N: Naming, R: Abort>(rt: &R, alloc: Global, blanks: Blanks) -> Book<Fixed, N>
     requires names { AreNamed N.calls N.place blanks }
     requires parts { AreWhole blanks }
     requires rows { N.rows ≡ [] }
     requires room { N.room ≡ 100 }
 {
     let table = PartitionTable::unknown_only();
-    let (mut book, pass) = open_book::<N, R>(rt, alloc, 1, table, blanks);
+    let limit = Fixed::new(1).expect(rt, "a limit");
+    let core = Core::new(alloc, limit, table, 100).expect(rt, "a limiter");
+    let journal = Journal::new(alloc, core, 100, false).expect(rt, "a journal");
+    Book::new(journal, blanks)
+}
+
+fn over_one_permit<N: Naming, R: Wait + SystemClock + Abort>(rt: &R, alloc: Global, blanks: Blanks)
+    requires names { AreNamed N.calls N.place blanks }
+    requires parts { AreWhole blanks }
+    requires rows { N.rows ≡ [] }
+    requires room { N.room ≡ 100 }
+{
+    let mut book = open_book::<N, R>(rt, alloc, blanks);
+    let pass = book.pass().expect(rt, "a pass");
     book.seal();
     refuses(rt, &SharedGate::new(book), Pass::of(pass));
 }
@@ -40,10 +54,15 @@ fn refuses<N: Naming, R: Wait + SystemClock + Abort>(
 ) {
     let clock = Ticking::new();
     let mut port = Port::new(rt, gate, pass, &clock);
-    let held = hold(&mut port, 1);
-    check_refused(rt, &mut port, None, Why::Full);
-    check_refused(rt, &mut port, Some(9 * SECOND), Why::TimedOut);
-    give_back(&mut port, held);
+    match port.admit(Part::Unknown, false, None, 0) {
+        Admission::Admitted(permit) => {
+            check_refused(rt, &mut port, None, Why::Full);
+            check_refused(rt, &mut port, Some(9 * SECOND), Why::TimedOut);
+            port.end(permit, Outcome::Ignored, 9);
+        }
+        Admission::Bypassed => rt.abort(),
+        Admission::Refused(_) => rt.abort(),
+    }
     let counters = gate.counters(rt);
     assert!(rt; (counters.full, counters.timed_out, counters.ignored) == (1, 1, 1));
 }

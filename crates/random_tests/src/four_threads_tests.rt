@@ -8,7 +8,7 @@ use crate::random_calls::{Caller, Told, call_at_random};
 use aimd::Aimd;
 use gate_history::{Blanks, Book, Journal, Naming};
 use limit_laws::Limit;
-use limiter_core::{Core, Counters, Event, Outcome, Reply};
+use limiter_core::{Core, Counters, Event, Reply};
 use partitions::PartitionTable;
 use shared_gate::{Pass, SharedGate};
 use std::alloc::Global;
@@ -21,13 +21,13 @@ use std::thread::{Threads, join};
 const ROOM: u32 = 2;
 
 /// Three classes.
-pub(crate) fn classes<R: Abort>(rt: &R, alloc: Global) -> PartitionTable {
+fn classes<R: Abort>(rt: &R, alloc: Global) -> PartitionTable {
     let rows = [(b"live".as_slice(), 50), (b"batch", 30), (b"scan", 10)];
     PartitionTable::new(alloc, &rows).expect(rt, "a table")
 }
 
 /// A limiter of 1 to 5.
-pub(crate) fn limiter<R: Abort>(rt: &R, alloc: Global, table: PartitionTable) -> Core<Aimd>
+fn limiter<R: Abort>(rt: &R, alloc: Global, table: PartitionTable) -> Core<Aimd>
     ensures rows { result.rows ≡ table }
     ensures room { result.room ≡ 2 }
     ensures idle { result.counts ≡ 0 ∷ 0 ∷ 0 ∷ 0 ∷ 0 ∷ [] }
@@ -181,7 +181,7 @@ fn all_told<M: Naming, R: Abort>(rt: &R, alloc: Global, callers: &Four<M>) -> Ve
         &callers.third,
         &callers.fourth,
     ] {
-        told.extend_from_slice(caller.told())
+        told.extend_from_slice(&caller.told)
             .expect(rt, "memory for what is told");
     }
     told.sort_unstable_by_key(|told| told.number);
@@ -191,7 +191,6 @@ fn all_told<M: Naming, R: Abort>(rt: &R, alloc: Global, callers: &Four<M>) -> Ve
 /// One limiter, which is asked the same in order of number, answers the same and counts the same.
 fn is_told_to_one<R: Abort>(rt: &R, alloc: Global, told: &[Told], counters: Counters) {
     assert!(rt; told.len() >= 40_000);
-    assert!(rt; summed(told) == counters);
     let mut core = limiter(rt, alloc, classes(rt, alloc));
     replay_all(rt, &mut core, told);
     has_ended(rt, &core, counters);
@@ -238,42 +237,4 @@ fn lying_at<L: Limit>(core: &Core<L>, place: usize) -> usize
         }
     }
     found
-}
-
-/// How often receipts tell of each thing.
-fn summed(told: &[Told]) -> Counters {
-    let mut sums = Counters::default();
-    for told in told {
-        sums = with_reply(sums, told.reply);
-        sums = with_outcome(sums, told.event);
-    }
-    sums
-}
-
-fn with_reply(mut sums: Counters, reply: Reply) -> Counters {
-    match reply {
-        Reply::Admitted { .. } => sums.admitted = sums.admitted.saturating_add(1),
-        Reply::Bypassed => sums.bypassed = sums.bypassed.saturating_add(1),
-        Reply::Full => sums.full = sums.full.saturating_add(1),
-        Reply::BacklogFull => sums.backlog_full = sums.backlog_full.saturating_add(1),
-        Reply::Waiting => sums.waiting = sums.waiting.saturating_add(1),
-        Reply::TimedOut => sums.timed_out = sums.timed_out.saturating_add(1),
-        Reply::Ended { promoted } => {
-            sums.promoted = sums.promoted.saturating_add(u64::from(promoted))
-        }
-        _ => {}
-    }
-    sums
-}
-
-fn with_outcome(mut sums: Counters, event: Event) -> Counters {
-    let Event::End { outcome, .. } = event else {
-        return sums;
-    };
-    match outcome {
-        Outcome::Success => sums.success = sums.success.saturating_add(1),
-        Outcome::Ignored => sums.ignored = sums.ignored.saturating_add(1),
-        Outcome::Dropped => sums.dropped = sums.dropped.saturating_add(1),
-    }
-    sums
 }

@@ -25,7 +25,8 @@ pub(crate) struct Told {
 pub(crate) struct Caller<M: Naming> {
     pass: Pass<M>,
     dice: Dice,
-    told: Vec<Told>,
+    /// What it was told, in the order of its calls.
+    pub(crate) told: Vec<Told>,
 }
 
 impl<M: Naming> Caller<M> {
@@ -38,24 +39,9 @@ impl<M: Naming> Caller<M> {
         }
     }
 
-    /// What it was told, in the order of its calls.
-    pub(crate) fn told(&self) -> &[Told] {
-        &self.told
-    }
-
-    /// How many calls its pass counts.
-    pub(crate) fn count(&self) -> u64 {
-        self.pass.count()
-    }
-
     /// Keeps what a receipt tells.
     fn keep<R: Abort>(&mut self, rt: &R, receipt: Receipt<M>) {
-        let told = Told {
-            number: receipt.number(),
-            event: receipt.event(),
-            reply: receipt.reply(),
-        };
-        self.told.push(told).expect(rt, "memory for what is told");
+        add(rt, &mut self.told, told_by(&receipt));
     }
 
     /// Keeps what a call tells that hands nothing out.
@@ -65,6 +51,18 @@ impl<M: Naming> Caller<M> {
             Err(_spent) => rt.abort(),
         }
     }
+}
+
+fn told_by<M: Naming>(receipt: &Receipt<M>) -> Told {
+    Told {
+        number: receipt.number(),
+        event: receipt.event(),
+        reply: receipt.reply(),
+    }
+}
+
+fn add<R: Abort>(rt: &R, list: &mut Vec<Told>, told: Told) {
+    list.push(told).expect(rt, "memory for what is told");
 }
 
 /// What a caller holds.

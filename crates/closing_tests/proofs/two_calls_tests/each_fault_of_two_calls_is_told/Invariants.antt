@@ -1,8 +1,0 @@
-use Rattle.std.specs.Prelude.{[]}
-use Rattle.gate_ledgers.specs.Names.{places_of}
-use Rattle.closing_tests.proofs.two_calls_tests.each_fault_of_two_calls_is_told.Given as goal
-
--- the ledgers that were just made, over a table without classes
-abbrev pub ghosts-closes_two_calls : goal.ghosts-closes_two_calls
-ghosts-closes_two_calls g a =
-    record { calls = a.blanks.calls.name; place = places_of a.blanks; rows = []; room = 100 }

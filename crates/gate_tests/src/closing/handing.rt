@@ -1,0 +1,94 @@
+// What is handed in of one caller as a gate is closed, and what is told of it.
+use super::callers::Caller;
+use gate_history::{History, Naming, Receipt};
+use limit_laws::Fixed;
+use shared_gate::{AuditFault, Cause, Pass, SharedGate};
+use std::alloc::Global;
+use std::process::Abort;
+
+/// What is handed in of a caller with two receipts, and the cause that is told.
+#[derive(Clone, Copy)]
+pub(crate) struct Handing {
+    has_pass: bool,
+    is_turned: bool,
+    /// How many receipts, from the first on.
+    receipts: usize,
+    pub(crate) cause: Option<Cause>,
+}
+
+impl Handing {
+    pub(crate) fn new(
+        has_pass: bool,
+        is_turned: bool,
+        receipts: usize,
+        cause: Option<Cause>,
+    ) -> Handing {
+        Handing {
+            has_pass,
+            is_turned,
+            receipts,
+            cause,
+        }
+    }
+}
+
+/// What the closing of a gate answers that is handed this of a caller, in the second of two lists.
+pub(crate) fn closed<M: Naming, R: Abort>(
+    rt: &R,
+    alloc: Global,
+    gate: SharedGate<Fixed, M>,
+    caller: Caller<M>,
+    handing: Handing,
+) -> Result<History<Fixed>, AuditFault<Fixed, M>> {
+    let Caller { pass, receipts } = caller;
+    let passes = passes_of(rt, alloc, pass, handing);
+    let kept = lists_of(rt, alloc, receipts, handing);
+    gate.close(alloc, passes, kept)
+}
+
+/// The pass, or none.
+fn passes_of<M: Naming, R: Abort>(
+    rt: &R,
+    alloc: Global,
+    pass: Pass<M>,
+    handing: Handing,
+) -> Vec<Pass<M>> {
+    let mut passes = Vec::new(alloc);
+    if handing.has_pass {
+        passes.push(pass).expect(rt, "memory for a pass");
+    }
+    passes
+}
+
+/// An empty list, and that of these receipts.
+fn lists_of<M: Naming, R: Abort>(
+    rt: &R,
+    alloc: Global,
+    mut receipts: Vec<Receipt<M>>,
+    handing: Handing,
+) -> Vec<Vec<Receipt<M>>> {
+    if handing.is_turned {
+        receipts.reverse();
+    }
+    receipts.truncate(handing.receipts);
+    let mut kept = Vec::new(alloc);
+    kept.push(Vec::new(alloc)).expect(rt, "memory for a list");
+    kept.push(receipts).expect(rt, "memory for a list");
+    kept
+}
+
+/// The lists have what was handed in: where one is turned, it begins with the later number.
+pub(crate) fn are_handed_back<M: Naming, R: Abort>(
+    rt: &R,
+    kept: &[Vec<Receipt<M>>],
+    handing: Handing,
+    numbers: [u64; 2],
+) {
+    assert!(rt; kept.len() == 2);
+    assert!(rt; kept[0].is_empty() && kept[1].len() == handing.receipts);
+    let [first, second] = numbers;
+    let begins = if handing.is_turned { second } else { first };
+    for receipt in kept[1].iter().take(1) {
+        assert!(rt; receipt.number() == begins);
+    }
+}

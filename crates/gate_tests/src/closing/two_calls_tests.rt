@@ -1,0 +1,124 @@
+// A gate of an acquire and its ending: each fault of what is handed in is told, and history and
+// lists come back.
+ghost use Rattle.std.specs.Prelude.{◌≡◌, []};
+ghost use Rattle.gate_ledgers.specs.Names.{AreNamed, AreWhole};
+
+use super::callers::{Caller, acquire_and_end};
+use super::handing::{Handing, are_handed_back, closed};
+use crate::books::book_over;
+use gate_history::{Blanks, Book, Entry, History, Naming};
+use limit_laws::Fixed;
+use limiter_core::{Event, Outcome, PermitFacts, Reply};
+use partitions::Part;
+use shared_gate::{AuditFault, Cause, SharedGate};
+use std::alloc::Global;
+use std::marker::Brand;
+use std::process::Abort;
+use std::sync::Wait;
+
+/// Missing passes come before the order.
+fn handings() -> [Handing; 7] {
+    let turned = Cause::Order { list: 1, place: 1 };
+    let first = Cause::Uncovered { number: 0 };
+    let second = Cause::Uncovered { number: 1 };
+    let missing = Cause::PassesMissing { book: 2, sum: 0 };
+    [
+        Handing::new(true, false, 2, None),
+        Handing::new(true, true, 2, Some(turned)),
+        Handing::new(true, false, 1, Some(second)),
+        Handing::new(true, true, 1, Some(first)),
+        Handing::new(true, false, 0, Some(first)),
+        Handing::new(false, false, 2, Some(missing)),
+        Handing::new(false, true, 2, Some(missing)),
+    ]
+}
+
+#[test]
+fn each_fault_of_two_calls_is_told(rt: HostRuntime) {
+    for handing in &handings() {
+        closes_two_calls::<Brand, _>(&rt, rt.alloc(), Blanks::new(), *handing);
+    }
+}
+
+fn closes_two_calls<M: Naming, R: Wait + Abort>(
+    rt: &R,
+    alloc: Global,
+    blanks: Blanks,
+    handing: Handing,
+)
+    requires names { AreNamed M.calls M.place blanks }
+    requires parts { AreWhole blanks }
+    requires rows { M.rows ≡ [] }
+    requires room { M.room ≡ 100 }
+{
+    let book = book_over::<M, R>(rt, alloc, 10, 1_000, false, blanks);
+    closes_book(rt, alloc, book, handing);
+}
+
+fn closes_book<M: Naming, R: Wait + Abort>(
+    rt: &R,
+    alloc: Global,
+    mut book: Book<Fixed, M>,
+    handing: Handing,
+) {
+    let mut caller = Caller::of(rt, alloc, &mut book, 2);
+    book.seal();
+    let gate = SharedGate::new(book);
+    acquire_and_end(rt, &gate, &mut caller, 0, 5);
+    is_told(rt, closed(rt, alloc, gate, caller, handing), handing);
+}
+
+/// The cause is as wanted; history and lists come back.
+fn is_told<M: Naming, R: Abort>(
+    rt: &R,
+    closed: Result<History<Fixed>, AuditFault<Fixed, M>>,
+    handing: Handing,
+) {
+    match closed {
+        Ok(history) => {
+            assert!(rt; handing.cause.is_none());
+            has_two_calls(rt, &history);
+        }
+        Err(fault) => {
+            assert!(rt; handing.cause == Some(fault.cause));
+            has_two_calls(rt, &fault.history);
+            are_handed_back(rt, &fault.kept, handing, [0, 1]);
+        }
+    }
+}
+
+/// The history is that of an acquire and of its ending, and of nothing else.
+fn has_two_calls<R: Abort>(rt: &R, history: &History<Fixed>) {
+    assert!(rt; history.base == 0 && history.opening.next_number() == 0);
+    assert!(rt; history.entries.as_slice() == [acquired(), ended()].as_slice());
+}
+
+/// An acquire at 0 that was admitted.
+const fn acquired() -> Entry {
+    Entry::Call {
+        event: Event::Acquire {
+            part: Part::Unknown,
+            bypass: false,
+            wait: false,
+            now: 0,
+        },
+        reply: Reply::Admitted { inflight: 1 },
+    }
+}
+
+/// The ending of its permit at 5.
+const fn ended() -> Entry {
+    Entry::Call {
+        event: Event::End {
+            permit: PermitFacts {
+                number: 0,
+                part: Part::Unknown,
+                start: 0,
+                inflight: 1,
+            },
+            outcome: Outcome::Success,
+            now: 5,
+        },
+        reply: Reply::Ended { promoted: 0 },
+    }
+}

@@ -1,0 +1,132 @@
+"""Random scripts and traces without fault, the same from the same seed.
+
+A script is drawn line by line, by what the limiter of tests/reference.py has open, granted and waiting then, so that
+most of its numbers name something.
+"""
+import itertools
+import random
+
+from reference import HOUR, LAST_MOMENT, Limiter
+
+# How often each event is drawn where many come, and where few do; which it is changes after so many lines.
+BUSY = {"acquire": 400, "wait": 500, "bypass": 50, "end": 450, "claim": 300, "giveup": 100, "set": 40, "reset": 1,
+        "look": 100}
+SLACK = BUSY | {"acquire": 250, "wait": 50, "end": 600}
+PHASE = 1_000
+
+OUTCOMES = ["success"] * 15 + ["dropped", "ignored", "ignored"]
+SET_TO = [0, 1, 2, 3, 5, 8, 9, 10, 20, 40, 41, 60, 100, 9_999, 10_000, 10_001, 2 ** 32 - 1]
+NAMES = ["a", "b-2", "c_3", "a-name_of-32-letters-and-figures"]
+LIMITS = [1, 1, 2, 3, 5, 8, 20, 100, 9_999, 10_000]
+TIMES = [1, 2, 50, 100, 1_000, HOUR - 1, HOUR]
+MOMENTS = [0, 1, 2, 100, HOUR, HOUR + 1, HOUR + 2, LAST_MOMENT - HOUR, LAST_MOMENT - 1, LAST_MOMENT, LAST_MOMENT + 1,
+           2 ** 64 - 1]
+
+
+def flowing(step, start=0):
+    """Moments that rise by so much in the mean, with one now and then that lies before."""
+    def moments(draw):
+        now = start
+        while True:
+            now += int(draw.random() * (2 * step + 1))
+            yield now if draw.random() < 0.98 else max(0, now - draw.randrange(100 * step + 1))
+    return moments
+
+
+def random_moments(seed):
+    """Moments that flow fast or slowly, up to the last one too, or that leap."""
+    draw = random.Random(f"moments of {seed}")
+    step = draw.choice([0, 1, 10, 1_000, HOUR // 10])
+    if draw.random() < 0.2:
+        return lambda draw: (draw.choice(MOMENTS) for _ in itertools.count())
+    return flowing(step, draw.choice([0, 0, 0, LAST_MOMENT - 150 * step]))
+
+
+class Draw:
+    """Lines of a script, drawn by what the reference has."""
+
+    def __init__(self, seed, settings, moments):
+        self.random = random.Random(seed)
+        self.limiter = Limiter(settings)
+        self.parts = [*self.limiter.percents, "unknown"]
+        self.moments = moments(self.random)
+
+    def script(self, count):
+        """So many lines, and what each is answered."""
+        lines, answers = [], []
+        for event in self.events(count):
+            lines.append(self.line(event))
+            answers.append(self.limiter.answer(lines[-1]))
+        return lines, answers
+
+    def events(self, count):
+        """What is drawn, one after the other: in two of three phases many come."""
+        for start in range(0, count, PHASE):
+            weights = SLACK if start // PHASE % 3 == 2 else BUSY
+            yield from self.random.choices([*weights], [*weights.values()], k=min(PHASE, count - start))
+
+    def line(self, event):
+        limiter, draw, now = self.limiter, self.random, next(self.moments)
+        match event:
+            case "acquire":
+                return f"acquire {draw.choice(self.parts)} {now}"
+            case "wait":
+                return f"acquire {draw.choice(self.parts)} {now} wait"
+            case "end":
+                return f"end {self.number(limiter.open)} {draw.choice(OUTCOMES)} {now}"
+            case "claim":
+                return f"claim {self.number(limiter.granted, limiter.waiting)}"
+            case "giveup":
+                return f"giveup {self.number(limiter.waiting, limiter.granted)}"
+            case "set":
+                return f"set {draw.choice(SET_TO)} {now}"
+            case "look":
+                return f"look {draw.choice(self.parts)}"
+        return f"{event} {now}"
+
+    def number(self, *preferred):
+        """A number of the first of these that has any, most often, or any that was given out or soon will be."""
+        for numbers in preferred:
+            if numbers and self.random.random() < 0.8:
+                return self.random.choice([*numbers])
+        return self.random.randrange(self.limiter.entries + 3)
+
+
+def random_settings(seed):
+    """Setting lines with numbers at the ends of their ranges, in any order; any of them may be left out."""
+    draw = random.Random(f"settings of {seed}")
+    low, first, high = sorted(draw.choices(LIMITS, k=3))
+    shortest, longest = sorted(draw.choices(TIMES, k=2))
+    alpha, beta = sorted(draw.choices([1, 2, 3, 6, 99, 100], k=2))
+    limit = draw.choice([
+        f"fixed {first}", f"settable {low} {first} {high}",
+        f"aimd {low} {first} {high} {draw.choice([500, 501, 900, 999])} {draw.choice(TIMES)}",
+        f"vegas {low} {first} {high} {alpha} {beta} {draw.choice([0, 0, 1, 2, 10, 1_000_000])}"])
+    size, threshold = draw.choice([1, 1, 2, 3, 10, 1_000_000]), draw.choice([0, 0, 0, *TIMES])
+    window = f"window {size} {shortest} {longest} {threshold}"
+    keep = f"keep {draw.choice([1, 2, 3, 7, 50, 1_000_000])}" + draw.choice(["", " rolling"])
+    lines = [f"limit {limit}", f"backlog {draw.choice([0, 1, 2, 3, 100, 10_000])}", keep, window,
+             f"timeout {draw.choice(TIMES)}"]
+    lines = [it for it in lines if draw.random() < 0.8 and (it != window or draw.random() < 0.5)]
+    left = 100
+    for name in draw.sample(NAMES, draw.randrange(5)):
+        percent = min(draw.choice([1, 2, 20, 33, 50, 97, 100]), left)
+        left -= percent
+        lines += [f"class {name} {percent}"] if percent else []
+    draw.shuffle(lines)
+    return lines
+
+
+def random_trace(seed, most):
+    """Setting lines, and up to so many calls of a trace."""
+    draw = random.Random(seed)
+    settings, calls = random_settings(seed), []
+    parts = [it.split()[1] for it in settings if it.startswith("class")] + ["unknown"]
+    span, hold = draw.choice([1, 100, 1_000, 10_000]), draw.choice([1, 10, 100, HOUR])
+    start = draw.choice([0, 0, 0, LAST_MOMENT - span // 2])
+    for _ in range(draw.randrange(most + 1)):
+        at, held = start + draw.randrange(span), draw.randrange(hold + 1)
+        wait = draw.choice(["", " wait", " wait"])
+        calls.append(f"bypass {at}" if draw.random() < 0.05 else
+                     f"arrive {draw.choice(parts)} {at} {held} {draw.choice(OUTCOMES)}{wait}")
+    return settings, calls

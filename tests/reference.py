@@ -1,0 +1,317 @@
+"""A limiter over plain lists, by the words of docs/DEFINITIONS.md and docs/FORMATS.md: what `replay` and `simulate`
+should answer to lines without fault.
+
+It is written for reading: each quantity is counted where it is needed, and nothing is shared with the program. Permits
+and waiters stand by number in the order in which they came, the newest last.
+"""
+import collections
+import math
+
+LAST_MOMENT = 2 ** 62
+HOUR = 3_600_000_000_000
+MOST_SAMPLES = 1_000_000
+SETTINGS = ("limit", "window", "backlog", "keep", "timeout", "class")
+
+Permit = collections.namedtuple("Permit", "part start inflight")
+Sample = collections.namedtuple("Sample", "start rtt inflight dropped")
+
+
+def moment(number):
+    return min(number, LAST_MOMENT)
+
+
+def within(least, number, most):
+    """The number, brought between two others."""
+    return min(max(number, least), most)
+
+
+def sample_of(permit, now, dropped):
+    """What the ending of a permit teaches."""
+    return Sample(permit.start, within(1, moment(now) - permit.start, HOUR), permit.inflight, dropped)
+
+
+class Fixed:
+    """A limit that neither learns nor is set."""
+
+    def __init__(self, first):
+        self.limit = self.first = first
+
+    def learn(self, sample):
+        pass
+
+    def put(self, number):
+        return "refused not settable"
+
+    def reset(self):
+        self.limit = self.first
+
+
+class Settable(Fixed):
+    def __init__(self, least, first, most):
+        super().__init__(first)
+        self.least, self.most = least, most
+
+    def put(self, number):
+        if not self.least <= number <= self.most:
+            return "refused out of range"
+        self.limit = number
+        return "limit set"
+
+
+class Aimd(Fixed):
+    def __init__(self, least, first, most, ratio, timeout):
+        super().__init__(first)
+        self.least, self.most, self.ratio, self.timeout = least, most, ratio, timeout
+
+    def learn(self, sample):
+        wanted = self.limit
+        if sample.dropped or sample.rtt > self.timeout:
+            wanted = self.limit * self.ratio // 1000
+        elif 2 * sample.inflight >= self.limit:
+            wanted = self.limit + 1
+        self.limit = within(self.least, wanted, self.most)
+
+
+class Vegas(Fixed):
+    def __init__(self, least, first, most, alpha, beta, probe):
+        super().__init__(first)
+        self.least, self.most, self.alpha, self.beta, self.probe = least, most, alpha, beta, probe
+        self.base, self.samples = None, 0
+
+    def learn(self, sample):
+        self.samples += 1
+        is_probe = self.probe > 0 and self.samples % self.probe == 0
+        if is_probe or self.base is None or sample.rtt < self.base:
+            self.base = sample.rtt
+        else:
+            self.limit = within(self.least, self.limit + self.change(sample), self.most)
+
+    def change(self, sample):
+        """One more, one less or none, of a sample that is measured against the base."""
+        if sample.dropped:
+            return -1
+        if 2 * sample.inflight < self.limit:
+            return 0
+        # The least whole number that is no less than this fraction.
+        queue = -(-self.limit * (sample.rtt - self.base) // sample.rtt)
+        return 1 if queue < self.alpha else -1 if queue > self.beta else 0
+
+    def reset(self):
+        super().reset()
+        self.base, self.samples = None, 0
+
+
+class Windows:
+    """A limit that learns the means of windows."""
+
+    def __init__(self, inner, size, shortest, longest, threshold):
+        self.inner, self.size, self.threshold = inner, size, threshold
+        self.shortest, self.longest = shortest, longest
+        self.window, self.due = [], 0
+
+    @property
+    def limit(self):
+        return self.inner.limit
+
+    def learn(self, sample):
+        if sample.rtt < self.threshold:
+            return
+        self.window.append(sample)
+        end = sample.start + sample.rtt
+        if end > self.due or len(self.window) == MOST_SAMPLES:
+            window, self.window = self.window, []
+            rtts = [it.rtt for it in window]
+            self.due = end + within(self.shortest, 2 * min(rtts), self.longest)
+            if len(window) >= self.size:
+                self.inner.learn(Sample(sample.start, sum(rtts) // len(window), max(it.inflight for it in window),
+                                        any(it.dropped for it in window)))
+
+    def put(self, number):
+        return self.inner.put(number)
+
+    def reset(self):
+        self.inner.reset()
+        self.window, self.due = [], 0
+
+
+KINDS = {"fixed": Fixed, "settable": Settable, "aimd": Aimd, "vegas": Vegas}
+
+
+def limit_of(limit, window):
+    """The limit of the words behind `limit` and `window`."""
+    kind, *numbers = limit
+    made = KINDS[kind](*map(int, numbers))
+    return Windows(made, *map(int, window)) if window else made
+
+
+class Limiter:
+    """What is answered to a script, line by line, behind its settings."""
+
+    def __init__(self, settings):
+        rows = [line.split() for line in settings]
+        words = {kind: rest for kind, *rest in rows}
+        self.percents = {rest[0]: int(rest[1]) for kind, *rest in rows if kind == "class"}
+        self.limit = limit_of(words.get("limit", ["fixed", 20]), words.get("window"))
+        self.room = int(words.get("backlog", [100])[0])
+        self.timeout = int(words.get("timeout", [1_000_000_000])[0])
+        kept, *rolling = words.get("keep", [100_000])
+        self.kept = math.inf if rolling else int(kept)
+        self.entries = 0
+        self.open, self.granted, self.waiting = {}, {}, {}
+
+    def total(self):
+        return len(self.open) + len(self.granted)
+
+    def inflight(self, part):
+        return sum(it.part == part for held in (self.open, self.granted) for it in held.values())
+
+    def share(self, part):
+        if part not in self.percents:
+            return 0
+        return max(1, -(-self.limit.limit * self.percents[part] // 100))
+
+    def has_room(self, part):
+        return self.total() < self.limit.limit or self.inflight(part) < self.share(part)
+
+    def answer(self, line):
+        """The text of a line: nothing, `- not open`, `- exhausted`, or its entries."""
+        word, *rest = line.split() or ["#"]
+        if word.startswith("#"):
+            return ""
+        if word == "end" and int(rest[0]) not in self.open:
+            return "- not open\n"
+        if self.entries >= self.kept and not self.is_owed(word, rest):
+            return "- exhausted\n"
+        return "".join(map(self.entry, ANSWERS[word](self, *rest)))
+
+    def is_owed(self, word, rest):
+        """Whether this is an ending, or a giving up of what waits or lies granted."""
+        return word == "end" or word == "giveup" and (int(rest[0]) in self.waiting or int(rest[0]) in self.granted)
+
+    def entry(self, text):
+        number, self.entries = self.entries, self.entries + 1
+        return f"{number} {text}\n"
+
+    def acquire(self, part, now, wait=None):
+        if self.has_room(part):
+            permit = self.open[self.entries] = Permit(part, moment(int(now)), self.total() + 1)
+            return [f"admitted {part} inflight {permit.inflight}"]
+        if wait is None:
+            return ["refused full"]
+        if len(self.waiting) >= self.room:
+            return ["refused backlog"]
+        self.waiting[self.entries] = part
+        return ["waiting"]
+
+    def bypass(self, now):
+        return ["bypassed"]
+
+    def end(self, number, outcome, now):
+        """The sample is learnt before the newest waiter is looked at, and nobody else is."""
+        permit = self.open.pop(int(number))
+        if outcome != "ignored":
+            self.limit.learn(sample_of(permit, int(now), outcome == "dropped"))
+        newest = next(reversed(self.waiting), None)
+        if newest is None or not self.has_room(self.waiting[newest]):
+            return ["ended promoted 0"]
+        got = self.granted[newest] = Permit(self.waiting.pop(newest), moment(int(now)), self.total() + 1)
+        return ["ended promoted 1", f"promoted {newest} inflight {got.inflight}"]
+
+    def claim(self, number):
+        return self.handed_out(int(number)) or ["still waiting" if int(number) in self.waiting else "lost"]
+
+    def giveup(self, number):
+        return self.handed_out(int(number)) or ["timed out" if self.waiting.pop(int(number), None) else "lost"]
+
+    def handed_out(self, number):
+        """Hands a permit out that lies granted, and tells of it."""
+        if number not in self.granted:
+            return []
+        permit = self.open[number] = self.granted.pop(number)
+        return [f"granted inflight {permit.inflight}"]
+
+    def set(self, number, now):
+        return [self.limit.put(int(number))]
+
+    def reset(self, now):
+        self.limit.reset()
+        return ["reset"]
+
+    def look(self, part):
+        return [f"seen limit {self.limit.limit} total {self.total()} waiting {len(self.waiting)} "
+                f"granted {len(self.granted)} inflight {self.inflight(part)} share {self.share(part)}"]
+
+
+ANSWERS = {word: getattr(Limiter, word)
+           for word in ("acquire", "bypass", "end", "claim", "giveup", "set", "reset", "look")}
+
+
+def parted(lines):
+    """The settings of a script or a trace, and the lines behind them, with those that say nothing."""
+    said = [line for line in lines if line.split() and not line.split()[0].startswith("#")]
+    settings = [line for line in said if line.split()[0] in SETTINGS]
+    return settings, said[len(settings):]
+
+
+def replayed(lines):
+    """What `replay` answers to the lines of a script."""
+    settings, events = parted(lines)
+    limiter = Limiter(settings)
+    return "".join(map(limiter.answer, events))
+
+
+# What comes first of one moment.
+ENDING, GIVING_UP, ARRIVING = range(3)
+
+
+class Course:
+    """The calls of a trace in virtual time. Of each call, by its place, at most one deed is pending: its moment, its
+    kind, its place, and the line of a script that does it."""
+
+    def __init__(self, lines):
+        settings, calls = parted(lines)
+        self.limiter = Limiter(settings)
+        self.calls = [call.split() for call in calls]
+        self.places, self.out = {}, []
+        self.pending = {}
+        for place, (kind, *words) in enumerate(self.calls):
+            at = moment(int(words[0 if kind == "bypass" else 1]))
+            wait = "wait" if len(words) == 5 else ""
+            line = f"bypass {at}" if kind == "bypass" else f"acquire {words[0]} {at} {wait}"
+            self.pending[place] = (at, ARRIVING, place, line)
+
+    def run(self):
+        """All that is written, once nothing is pending."""
+        while self.pending:
+            at, _, place, line = min(self.pending.values())
+            self.do(at, place, line)
+        return "".join(self.out)
+
+    def do(self, at, place, line):
+        del self.pending[place]
+        answer = self.limiter.answer(line)
+        self.out.append(answer)
+        number, told, *_ = answer.split()
+        if told == "admitted":
+            self.holds(at, place, int(number))
+        elif told == "waiting":
+            self.places[int(number)] = place
+            late = moment(at + self.limiter.timeout)
+            self.pending[place] = (late, GIVING_UP, place, f"giveup {number}")
+        elif told == "granted":
+            self.holds(at, place, int(line.split()[1]))
+        elif " promoted 1\n" in answer:
+            # The waiter gives up at once, and so is granted its permit.
+            waiter = int(answer.split("\n")[1].split()[2])
+            self.do(at, self.places[waiter], f"giveup {waiter}")
+
+    def holds(self, at, place, number):
+        """The call at this place got the permit of this number."""
+        duration, outcome = self.calls[place][3:5]
+        end = moment(at + int(duration))
+        self.pending[place] = (end, ENDING, place, f"end {number} {outcome} {end}")
+
+
+def simulated(lines):
+    """What `simulate` answers to the lines of a trace."""
+    return Course(lines).run()
