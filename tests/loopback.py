@@ -21,11 +21,19 @@ WHOLE = {
 }
 
 
+chosen, choosing = set(), threading.Lock()
+
+
 def free_port():
-    """A port that was free a moment ago."""
-    with socket.socket() as found:
-        found.bind(("127.0.0.1", 0))
-        return found.getsockname()[1]
+    """A port that was free a moment ago, another one at each call: gateways that start side by side share none."""
+    with choosing:
+        while True:
+            with socket.socket() as found:
+                found.bind(("127.0.0.1", 0))
+                port = found.getsockname()[1]
+            if port not in chosen:
+                chosen.add(port)
+                return port
 
 
 def read_all(client):
