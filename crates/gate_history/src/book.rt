@@ -1,9 +1,12 @@
 // A journal with the ledgers of who holds what.
 ghost use Rattle.std.specs.Prelude.{◌≡◌, ◌+◌, ◌<◌, ◌≤◌, ◌⊎◌, [], ◌∷◌, true, false};
-ghost use Rattle.std.specs.Prelude.{IfSome, IfNone};
+ghost use Rattle.std.specs.Prelude.{IfOk, IfSome, IfNone};
+ghost use Rattle.lifo_backlog.specs.Waiters.{most_waiters};
 ghost use Rattle.limiter_core.specs.Legal.{IsLegal};
 ghost use Rattle.limiter_core.specs.Bound.{IsSound};
-ghost use Rattle.gate_journal.specs.Journal.{gate, opening, next_number};
+ghost use Rattle.limiter_core.specs.Limiter.{unasked};
+ghost use Rattle.gate_journal.specs.Journal.{gate, opening, next_number, opened};
+ghost use Rattle.gate_journal.specs.Journal.{most_kept};
 ghost use Rattle.gate_ledgers.specs.Names.{AreNamed, AreWhole};
 ghost use Rattle.gate_ledgers.specs.Places.{no_places};
 ghost use Rattle.gate_history.specs.Book.{Agrees, book_in, granted_now, inflight_now};
@@ -18,7 +21,8 @@ use gate_journal::Journal;
 use gate_ledgers::{Blanks, Naming, Pass, Places, Returned, Tally, open_ledgers};
 use limit_laws::{LAST_MOMENT, Limit};
 use limiter_core::{Event, Outcome, PermitFacts, answers_by_image};
-use partitions::Part;
+use partitions::{Part, PartitionTable};
+use std::alloc::{AllocError, Global};
 use std::marker::Model;
 
 /// A journal with the ledgers of who holds what: of the calls by passes, and of what is in flight
@@ -64,6 +68,32 @@ impl<L: Limit, N: Naming> Book<L, N> {
             places,
             is_sealed: false,
         }
+    }
+
+    /// The book of a new limiter: of this limit over these partitions, in which nothing is in
+    /// flight and up to `room` may wait, 0 to 10,000. It keeps so many entries, 1 to 1,000,000.
+    pub fn begin(
+        alloc: Global,
+        limit: L,
+        table: PartitionTable,
+        room: u32,
+        kept: usize,
+        is_rolling: bool,
+        blanks: Blanks,
+    ) -> Result<Book<L, N>, AllocError>
+        requires few_wait { room ≤ most_waiters }
+        requires some_kept { 1 ≤ kept }
+        requires few_kept { kept ≤ most_kept }
+        requires rows { table ≡ N.rows }
+        requires room { room ≡ N.room }
+        requires names { AreNamed N.calls N.place blanks }
+        requires parts { AreWhole blanks }
+        ensures { IfOk result (λ book.
+            book ≡ book_in (opened (unasked table room limit) kept is_rolling)
+            (record { calls = 0; passes = 0 }) no_places false) }
+    {
+        let journal = Journal::begin(alloc, limit, table, room, kept, is_rolling)?;
+        Ok(Book::new(journal, blanks))
     }
 
     /// A pass of no calls; `None` where 1,000,000 were made, or where the book is sealed.

@@ -2,13 +2,14 @@
 ghost use Rattle.std.specs.Prelude.{◌≡◌, ◌≤◌, ◌<◌, ◌⊎◌, ◌+◌, ◌↔◌, ◌++◌, ◌∷◌};
 ghost use Rattle.std.specs.Prelude.{map, length, vec_capacity, slice_get, is_none, nat_le};
 ghost use Rattle.std.specs.Prelude.{IfOk, IfSome, OnSome, IfNone, IsErrOf, Some, false};
+ghost use Rattle.lifo_backlog.specs.Waiters.{most_waiters};
 ghost use Rattle.limiter_core.specs.declared.event.Event.{Event};
 ghost use Rattle.limiter_core.specs.declared.event.Entry.TheVariants.{Call};
 ghost use Rattle.limiter_core.specs.History.{total};
 ghost use Rattle.limiter_core.specs.Legal.{IsLegal, MayCome};
 ghost use Rattle.limiter_core.specs.Bound.{IsSound, is_always_served, is_exhausted};
 ghost use Rattle.limiter_core.specs.Counting.{counters_after};
-ghost use Rattle.limiter_core.specs.Limiter.{stands, entry_of};
+ghost use Rattle.limiter_core.specs.Limiter.{stands, entry_of, unasked};
 ghost use Rattle.gate_journal.specs.Journal.{gate, opening, image, next_number, is_over};
 ghost use Rattle.gate_journal.specs.Journal.{answered, with_answer, opened, most_kept};
 ghost use Rattle.gate_journal.specs.Rolling.{rolls, rolled, ready, continued};
@@ -18,10 +19,11 @@ use crate::history::History;
 use crate::image::Image;
 use limit_laws::Limit;
 use limiter_core::{
-    Core, Entry, Event, Promotion, Reply, answers_by_image, counters_add_up, greatest_limit_stays,
-    reserved_room_suffices, soundness_is_kept,
+    Core, CoreFault, Entry, Event, Promotion, Reply, answers_by_image, counters_add_up,
+    greatest_limit_stays, reserved_room_suffices, soundness_is_kept,
 };
-use std::alloc::Global;
+use partitions::PartitionTable;
+use std::alloc::{AllocError, Global};
 use std::marker::Model;
 
 /// The most entries that a journal may be asked to keep.
@@ -96,6 +98,34 @@ impl<L: Limit> Journal<L> {
         })
     }
 
+    /// A journal of a new limiter: of this limit over these partitions, in which nothing is in
+    /// flight and up to `room` may wait, 0 to 10,000. It keeps so many entries, 1 to 1,000,000.
+    pub fn begin(
+        alloc: Global,
+        limit: L,
+        table: PartitionTable,
+        room: u32,
+        kept: usize,
+        is_rolling: bool,
+    ) -> Result<Journal<L>, AllocError>
+        requires room { room ≤ most_waiters }
+        requires some_kept { 1 ≤ kept }
+        requires few_kept { kept ≤ most_kept }
+        ensures { IfOk result (λ journal.
+            journal ≡ opened (unasked table room limit) kept is_rolling) }
+    {
+        let core = match Core::new(alloc, limit, table, room) {
+            Ok(core) => core,
+            Err(CoreFault::Memory) => return Err(AllocError),
+            Err(CoreFault::Room) => unreachable!(),
+        };
+        match Journal::new(alloc, core, kept, is_rolling) {
+            Ok(journal) => Ok(journal),
+            Err(JournalFault::Memory) => Err(AllocError),
+            Err(JournalFault::Places) => unreachable!(),
+        }
+    }
+
     /// All that was asked and answered since the opening, in order.
     pub fn entries(&self) -> &[Entry]
         ensures entries { result.now ≡ self.now.entries }
@@ -149,16 +179,6 @@ impl<L: Limit> Journal<L> {
             ≡ counters_after self.now.opening.counters self.now.entries }
     {
         &self.core
-    }
-
-    /// The limiter alone, from which another journal may open.
-    pub fn into_core(self) -> Core<L>
-        ensures rows { result.rows ≡ self.rows }
-        ensures room { result.room ≡ self.room }
-        ensures stands { stands result ≡ image L.rules self }
-        ensures counters { result.counters ≡ counters_after self.opening.counters self.entries }
-    {
-        self.core
     }
 
     /// The history alone, which is legal from its sound opening as [`Journal::entries`] has it.

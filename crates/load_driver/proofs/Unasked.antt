@@ -30,20 +30,18 @@ zeros (suc (suc (suc (suc zero)))) = refl
 zeros (suc (suc (suc (suc (suc p))))) = refl
 
 -- a journal that opens with a limiter that was asked nothing
-pub opens_unasked : {S : Type 0} (rows : List Row) (room : ℕ) (limit : S) (core : Limiter S)
-    (kept : ℕ) (is_rolling : Bool) (j : Journal S) → core ≡ unasked rows room limit
-    → j ≡ opened core kept is_rolling → IsUnasked j
-opens_unasked {S} rows room limit core kept is_rolling j fresh made =
-    let begun : Journal S = opened (unasked rows room limit) kept is_rolling in
-    let there : IsUnasked begun = record {
+pub opens_unasked : {S : Type 0} (rows : List Row) (room : ℕ) (limit : S) (kept : ℕ)
+    (is_rolling : Bool) (j : Journal S) → j ≡ opened (unasked rows room limit) kept is_rolling
+    → IsUnasked j
+opens_unasked {S} rows room limit kept is_rolling j begun =
+    let there : IsUnasked (opened (unasked rows room limit) kept is_rolling) = record {
       empty = refl;
       base = refl;
       idle = refl;
       nobody_waits = refl;
       none_granted = refl;
     } in
-    subst (λ (w : Journal S). IsUnasked w)
-    (sym (made ∙ ap (λ (c : Limiter S). opened c kept is_rolling) fresh)) there
+    subst (λ (w : Journal S). IsUnasked w) (sym begun) there
 
 module _ {S : Type 0} (rules : Algorithm S) (j : Journal S) (fresh : IsUnasked j)
     (sound : IsSound (gate rules j) (opening j)) (hands : (g : Gate S) → BeginsHanded g) where

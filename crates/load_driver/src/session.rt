@@ -13,11 +13,10 @@ ghost use Rattle.gate_journal.specs.Rolling.{after};
 ghost use Rattle.load_driver.specs.Session.{open_in};
 ghost use Rattle.load_driver.specs.Stretches.{IsOpen, StandsFor, told_at, open_then};
 
-use gate_journal::{Journal, JournalFault, rolling_runs_are_legal};
+use gate_journal::{Journal, rolling_runs_are_legal};
 use limit_laws::{LAST_MOMENT, Limit};
 use limiter_core::{
-    Core, CoreFault, Entry, Event, PermitFacts, Reply, open_permits_are_in_flight,
-    open_permits_may_end,
+    Entry, Event, PermitFacts, Reply, open_permits_are_in_flight, open_permits_may_end,
 };
 use partitions::PartitionTable;
 use std::alloc::{AllocError, Global};
@@ -74,16 +73,7 @@ impl<L: Limit> Session<L> {
             StandsFor L.rules (opened (unasked table room limit) kept is_rolling) session) }
     {
         open_permits_are_in_flight::<L>();
-        let core = match Core::new(alloc, limit, table, room) {
-            Ok(core) => core,
-            Err(CoreFault::Memory) => return Err(AllocError),
-            Err(CoreFault::Room) => unreachable!(),
-        };
-        let journal = match Journal::new(alloc, core, kept, is_rolling) {
-            Ok(journal) => journal,
-            Err(JournalFault::Memory) => return Err(AllocError),
-            Err(JournalFault::Places) => unreachable!(),
-        };
+        let journal = Journal::begin(alloc, limit, table, room, kept, is_rolling)?;
         let _entries = journal.entries();
         Ok(Session {
             journal,

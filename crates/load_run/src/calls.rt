@@ -32,21 +32,23 @@ impl<M: Naming> Made<M> {
         ensures refused { OnOk result (refusals.new.items
             ≡ refusals.old.items ++ refused_of self) }
     {
+        receipts.reserve(3)?;
+        refusals.reserve(1)?;
         match self {
-            Made::Exhausted(spent) => refusals.push(spent)?,
-            Made::One(first) => receipts.push(first)?,
+            Made::Exhausted(spent) => refusals.push_reserved(spent),
+            Made::One(first) => receipts.push_reserved(first),
             Made::Stuck(first, spent) => {
-                receipts.push(first)?;
-                refusals.push(spent)?;
+                receipts.push_reserved(first);
+                refusals.push_reserved(spent);
             }
             Made::Two(first, second) => {
-                receipts.push(first)?;
-                receipts.push(second)?;
+                receipts.push_reserved(first);
+                receipts.push_reserved(second);
             }
             Made::Three(first, second, third) => {
-                receipts.push(first)?;
-                receipts.push(second)?;
-                receipts.push(third)?;
+                receipts.push_reserved(first);
+                receipts.push_reserved(second);
+                receipts.push_reserved(third);
             }
         }
         Ok(())

@@ -13,7 +13,7 @@ mod calls;
 mod counting;
 mod driver;
 mod fault;
-mod opening;
+mod hiring;
 mod run;
 mod summary;
 mod worker;

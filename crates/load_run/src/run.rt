@@ -8,11 +8,11 @@ ghost use Rattle.load_run.specs.Load.{IsAccepted, IsRejected, IsRun};
 
 use crate::counting::count_entries;
 use crate::fault::LoadFault;
-use crate::opening::{Making, hire, open_book};
+use crate::hiring::hire;
 use crate::summary::Summary;
 use crate::worker::{Shop, Worker};
 use crate::workers::{Worked, run_all};
-use gate_history::{Blanks, Naming};
+use gate_history::{Blanks, Book, Naming};
 use limit_kinds::AnyLimit;
 use load_driver::KEPT;
 use script::Settings;
@@ -86,13 +86,12 @@ fn open_gate<M: Naming>(
     requires parts { AreWhole blanks }
     ensures { IfOk result (λ opened. vec_len opened.1 ≡ crew.workers) }
 {
-    let making = Making {
-        limit: settings.limit(crew.limit),
-        room: settings.room(),
-        kept: settings.kept(KEPT),
-        is_rolling: settings.is_rolling(),
-    };
-    let mut book = open_book::<M>(alloc, making, settings.into_table(), blanks)?;
+    let limit = settings.limit(crew.limit);
+    let room = settings.room();
+    let kept = settings.kept(KEPT);
+    let is_rolling = settings.is_rolling();
+    let table = settings.into_table();
+    let mut book = Book::begin(alloc, limit, table, room, kept, is_rolling, blanks)?;
     let hired = hire(alloc, &mut book, crew.workers, turns)?;
     book.seal();
     Ok((SharedGate::new(book), hired))

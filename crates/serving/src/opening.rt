@@ -1,13 +1,16 @@
 // The gate that stands between clients and the backend.
-ghost use Rattle.std.specs.Prelude.{◌≡◌, true, false, [], IfOk};
+ghost use Rattle.std.specs.Prelude.{◌≡◌, true, false, IfOk};
+ghost use Rattle.limiter_core.specs.Limiter.{unasked};
+ghost use Rattle.gate_journal.specs.Journal.{opened};
 ghost use Rattle.gate_ledgers.specs.Names.{AreNamed, AreWhole};
+ghost use Rattle.gate_ledgers.specs.Places.{no_places};
+ghost use Rattle.gate_history.specs.Book.{book_in};
 ghost use Rattle.gate_config.specs.Settings.{AreSound};
 
 use crate::fault::ServeFault;
 use gate_config::{AnyLimit, Settings};
-use gate_history::{Blanks, Book, Journal, JournalFault, Naming};
+use gate_history::{Blanks, Book, Naming};
 use limit_laws::Limit;
-use limiter_core::{Core, CoreFault};
 use shared_gate::Pass;
 use std::alloc::Global;
 
@@ -23,26 +26,18 @@ pub(crate) fn open_book<M: Naming>(
     requires rows { M.rows ≡ settings.now.table }
     requires room { M.room ≡ settings.now.backlog }
     requires sound { AreSound settings.now }
-    ensures rolls { IfOk result (λ book. book.journal.is_rolling ≡ true) }
-    ensures kept { IfOk result (λ book. book.journal.kept ≡ settings.now.keep) }
-    ensures empty { IfOk result (λ book. book.journal.entries ≡ []) }
-    ensures limit { IfOk result (λ book. book.journal.opening.state ≡ settings.now.limit) }
-    ensures unsealed { IfOk result (λ book. book.is_sealed ≡ false) }
+    ensures { IfOk result (λ book. book ≡ book_in
+        (opened (unasked settings.now.table settings.now.backlog settings.now.limit)
+        settings.now.keep true)
+        (record { calls = 0; passes = 0 }) no_places false) }
 {
     let Ok(table) = settings.table.copy() else {
         return Err(ServeFault::Memory);
     };
     let limit = settings.limit.copy();
-    let core = match Core::new(alloc, limit, table, settings.backlog) {
-        Ok(core) => core,
-        Err(CoreFault::Memory) => return Err(ServeFault::Memory),
-        Err(CoreFault::Room) => unreachable!(),
-    };
-    match Journal::new(alloc, core, settings.keep as usize, true) {
-        Ok(journal) => Ok(Book::new(journal, blanks)),
-        Err(JournalFault::Memory) => Err(ServeFault::Memory),
-        Err(JournalFault::Places) => unreachable!(),
-    }
+    let keep = settings.keep as usize;
+    let book = Book::begin(alloc, limit, table, settings.backlog, keep, true, blanks)?;
+    Ok(book)
 }
 
 /// So many passes of a book.

@@ -10,7 +10,7 @@ use Rattle.load_driver.proofs.opening.answer_script.Goals as goal
 
 pub answer_all-requires-clause-unasked : goal.answer_all-requires-clause-unasked
 answer_all-requires-clause-unasked c =
-    opens_unasked _ _ _ _ _ _ c.in_ok-session.session.journal refl
+    opens_unasked _ _ _ _ _ c.in_ok-session.session.journal
     (ap (λ (s : Session AnyLimit). s.journal) c.in_ok-session.ensures.begun)
 
 pub answer_all-requires-clause-none_open : goal.answer_all-requires-clause-none_open
