@@ -1,10 +1,11 @@
 // A book over a few permits, and what is asked of it.
-ghost use Rattle.std.specs.Prelude.{◌≡◌, []};
+ghost use Rattle.std.specs.Prelude.{◌≡◌, ◌≤◌, []};
+ghost use Rattle.gate_journal.specs.Journal.{most_kept};
 ghost use Rattle.gate_ledgers.specs.Names.{AreNamed, AreWhole};
 
-use gate_history::{Blanks, Book, Call, Journal, Naming, Permit};
+use gate_history::{Blanks, Book, Call, Naming, Permit};
 use limit_laws::Fixed;
-use limiter_core::{Core, Outcome};
+use limiter_core::Outcome;
 use partitions::{Part, PartitionTable};
 use std::alloc::Global;
 use std::process::Abort;
@@ -23,12 +24,12 @@ pub(crate) fn book_over<N: Naming, R: Abort>(
     requires parts { AreWhole blanks }
     requires rows { N.rows ≡ [] }
     requires room { N.room ≡ 100 }
+    requires some_kept { 1 ≤ kept }
+    requires few_kept { kept ≤ most_kept }
 {
     let limit = Fixed::new(permits).expect(rt, "a limit");
     let table = PartitionTable::unknown_only();
-    let core = Core::new(alloc, limit, table, 100).expect(rt, "a limiter");
-    let journal = Journal::new(alloc, core, kept, is_rolling).expect(rt, "a journal");
-    Book::new(journal, blanks)
+    Book::begin(alloc, limit, table, 100, kept, is_rolling, blanks).expect(rt, "memory")
 }
 
 pub(crate) fn acquire<N: Naming>(wait: bool, now: u64) -> Call<N> {

@@ -1,17 +1,15 @@
-//! Tests of a gate by its public calls: its book and the audit of its history, calls through the
-//! lock by worked rows, and how it is closed.
+//! Tests of a gate by its public calls: the audit of its history, calls through the lock by worked
+//! rows and by four threads at random, and how it is closed.
 #![tactic(auto)]
 
 #[cfg(test)]
 mod audit_tests;
 #[cfg(test)]
-mod book_tests;
-#[cfg(test)]
 mod books;
 #[cfg(test)]
 mod closing;
 #[cfg(test)]
-mod rolling_tests;
+mod random;
 #[cfg(test)]
 mod shared_gate_tests;
 #[cfg(test)]

@@ -1,5 +1,6 @@
 // A shared gate by worked rows, and by two threads of which one waits for the other.
-ghost use Rattle.std.specs.Prelude.{◌≡◌, []};
+ghost use Rattle.std.specs.Prelude.{◌≡◌, ◌≤◌, []};
+ghost use Rattle.gate_journal.specs.Journal.{most_kept};
 ghost use Rattle.gate_ledgers.specs.Names.{AreNamed, AreWhole};
 
 use crate::books::book_over;
@@ -53,7 +54,12 @@ fn one_waits_and_one_is_promoted(rt: HostRuntime) {
     by_one_pass::<Brand, _>(&rt, rt.alloc(), Blanks::new(), 1_000_000, false);
 }
 
-pub(crate) fn by_one_pass<M: Naming, R: Wait + Abort>(
+#[test]
+fn a_roll_keeps_who_waits_and_what_lies_granted(rt: HostRuntime) {
+    by_one_pass::<Brand, _>(&rt, rt.alloc(), Blanks::new(), 1, true);
+}
+
+fn by_one_pass<M: Naming, R: Wait + Abort>(
     rt: &R,
     alloc: Global,
     blanks: Blanks,
@@ -64,6 +70,8 @@ pub(crate) fn by_one_pass<M: Naming, R: Wait + Abort>(
     requires parts { AreWhole blanks }
     requires rows { M.rows ≡ [] }
     requires room { M.room ≡ 100 }
+    requires some_kept { 1 ≤ kept }
+    requires few_kept { kept ≤ most_kept }
 {
     let book = book_over::<M, R>(rt, alloc, 1, kept, is_rolling, blanks);
     promotes_the_newest(rt, book);

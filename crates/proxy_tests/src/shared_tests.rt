@@ -3,9 +3,9 @@ ghost use Rattle.std.specs.Prelude.{◌≡◌, []};
 ghost use Rattle.gate_ledgers.specs.Names.{AreNamed, AreWhole};
 
 use crate::devices::{SECOND, Ticking};
-use gate_history::{Blanks, Book, Journal, Naming};
+use gate_history::{Blanks, Book, Naming};
 use limit_laws::Fixed;
-use limiter_core::{Core, Outcome};
+use limiter_core::Outcome;
 use partitions::{Part, PartitionTable};
 use ports::{Admission, GatePort, Port, Why};
 use shared_gate::{Pass, SharedGate};
@@ -29,9 +29,7 @@ fn open_book<N: Naming, R: Abort>(rt: &R, alloc: Global, blanks: Blanks) -> Book
 {
     let table = PartitionTable::unknown_only();
     let limit = Fixed::new(1).expect(rt, "a limit");
-    let core = Core::new(alloc, limit, table, 100).expect(rt, "a limiter");
-    let journal = Journal::new(alloc, core, 100, false).expect(rt, "a journal");
-    Book::new(journal, blanks)
+    Book::begin(alloc, limit, table, 100, 100, false, blanks).expect(rt, "memory")
 }
 
 fn over_one_permit<N: Naming, R: Wait + SystemClock + Abort>(rt: &R, alloc: Global, blanks: Blanks)

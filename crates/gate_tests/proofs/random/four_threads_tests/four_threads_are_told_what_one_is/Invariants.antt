@@ -1,5 +1,5 @@
 use Rattle.gate_ledgers.specs.Names.{places_of}
-use Rattle.random_tests.proofs.four_threads_tests.four_threads_over_a_rolling_gate_are_told_what_one_is.Given as goal
+use Rattle.gate_tests.proofs.random.four_threads_tests.four_threads_are_told_what_one_is.Given as goal
 
 -- the ledgers that were just made, over the table of the gate
 abbrev pub ghosts-told_by_four : goal.ghosts-told_by_four

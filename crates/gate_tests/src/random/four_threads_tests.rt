@@ -1,12 +1,13 @@
 // Four threads make random calls of one gate: what they are told is what one thread is told.
-ghost use Rattle.std.specs.Prelude.{◌≡◌, [], ◌∷◌};
+ghost use Rattle.std.specs.Prelude.{◌≡◌, ◌≤◌};
 ghost use Rattle.limiter_core.specs.Answer.{granted_at};
 ghost use Rattle.limiter_core.specs.Limiter.{gate_of, stands};
+ghost use Rattle.gate_journal.specs.Journal.{most_kept};
 ghost use Rattle.gate_ledgers.specs.Names.{AreNamed, AreWhole};
 
-use crate::random_calls::{Caller, Told, call_at_random};
+use super::random_calls::{Caller, Told, call_at_random};
 use aimd::Aimd;
-use gate_history::{Blanks, Book, Journal, Naming};
+use gate_history::{Blanks, Book, Naming};
 use limit_laws::Limit;
 use limiter_core::{Core, Counters, Event, Reply};
 use partitions::PartitionTable;
@@ -26,16 +27,14 @@ fn classes<R: Abort>(rt: &R, alloc: Global) -> PartitionTable {
     PartitionTable::new(alloc, &rows).expect(rt, "a table")
 }
 
-/// A limiter of 1 to 5.
-fn limiter<R: Abort>(rt: &R, alloc: Global, table: PartitionTable) -> Core<Aimd>
-    ensures rows { result.rows ≡ table }
-    ensures room { result.room ≡ 2 }
-    ensures idle { result.counts ≡ 0 ∷ 0 ∷ 0 ∷ 0 ∷ 0 ∷ [] }
-    ensures nobody { result.granted ≡ [] }
-    ensures base { result.next ≡ 0 }
-{
-    let limit = Aimd::new(1, 3, 5, 900, 1_000_000).expect(rt, "a limit");
-    Core::new(alloc, limit, table, ROOM).expect(rt, "a limiter")
+/// A limit of 1 to 5.
+fn limit<R: Abort>(rt: &R) -> Aimd {
+    Aimd::new(1, 3, 5, 900, 1_000_000).expect(rt, "a limit")
+}
+
+/// A limiter that is asked by one thread.
+fn limiter<R: Abort>(rt: &R, alloc: Global) -> Core<Aimd> {
+    Core::new(alloc, limit(rt), classes(rt, alloc), ROOM).expect(rt, "a limiter")
 }
 
 #[test]
@@ -62,6 +61,8 @@ fn told_by_four<M: Naming + Send + Sync, R: Threads + Wait + Abort + Sync>(
     requires parts { AreWhole blanks }
     requires rows { M.rows ≡ table }
     requires room { M.room ≡ 2 }
+    requires some_kept { 1 ≤ kept }
+    requires few_kept { kept ≤ most_kept }
 {
     let book = a_book::<M, R>(rt, alloc, table, blanks, kept, is_rolling);
     told_of_book(rt, alloc, book);
@@ -79,10 +80,11 @@ fn a_book<M: Naming, R: Abort>(
     requires parts { AreWhole blanks }
     requires rows { M.rows ≡ table }
     requires room { M.room ≡ 2 }
+    requires some_kept { 1 ≤ kept }
+    requires few_kept { kept ≤ most_kept }
 {
-    let core = limiter(rt, alloc, table);
-    let journal = Journal::new(alloc, core, kept, is_rolling).expect(rt, "a journal");
-    Book::new(journal, blanks)
+    let limit = limit(rt);
+    Book::begin(alloc, limit, table, ROOM, kept, is_rolling, blanks).expect(rt, "memory")
 }
 
 fn told_of_book<M: Naming + Send + Sync, R: Threads + Wait + Abort + Sync>(
@@ -191,7 +193,7 @@ fn all_told<M: Naming, R: Abort>(rt: &R, alloc: Global, callers: &Four<M>) -> Ve
 /// One limiter, which is asked the same in order of number, answers the same and counts the same.
 fn is_told_to_one<R: Abort>(rt: &R, alloc: Global, told: &[Told], counters: Counters) {
     assert!(rt; told.len() >= 40_000);
-    let mut core = limiter(rt, alloc, classes(rt, alloc));
+    let mut core = limiter(rt, alloc);
     replay_all(rt, &mut core, told);
     has_ended(rt, &core, counters);
 }

@@ -1,5 +1,5 @@
 // A caller that makes random calls of a shared gate, and keeps what it is told.
-use crate::dice::Dice;
+use super::dice::Dice;
 use aimd::Aimd;
 use gate_history::{Naming, Permit, Receipt, Spent, Ticket};
 use limiter_core::{Event, Reply};

@@ -1,8 +1,8 @@
 use Rattle.std.specs.Prelude.{[]}
 use Rattle.gate_ledgers.specs.Names.{places_of}
-use Rattle.gate_tests.proofs.book_tests.a_promoted_waiter_keeps_its_permit.Given as goal
+use Rattle.gate_tests.proofs.shared_gate_tests.a_roll_keeps_who_waits_and_what_lies_granted.Given as goal
 
 -- the ledgers that were just made, over a table without classes
-abbrev pub ghosts-one_waits_and_one_is_promoted : goal.ghosts-one_waits_and_one_is_promoted
-ghosts-one_waits_and_one_is_promoted g a =
+abbrev pub ghosts-by_one_pass : goal.ghosts-by_one_pass
+ghosts-by_one_pass g a =
     record { calls = a.blanks.calls.name; place = places_of a.blanks; rows = []; room = 100 }
