@@ -1,7 +1,7 @@
 -- The command line, and the run that its words name.
 use Rattle.std.specs.Prelude.{◌≡◌, ◌≤◌, ℕ, List, [], ◌∷◌, Option, Some, None, true, false, codes, pos}
 use Rattle.std.specs.Str.Parse.{IsNumeral, digits_value, without_leading_plus}
-use Rattle.clap.specs.Words.{App, Row, Rule, Text, app_of, first_of, new_app, new_rule, one_of, shape_of, with_rule, with_subcommand}
+use Rattle.clap.specs.Words.{App, Row, Rule, Text, app_of, first_of, new_app, new_rule, one_of, with_rule, with_subcommand}
 use Rattle.limit_laws.specs.Algorithm.{greatest_limit}
 use Rattle.clap.specs.declared.builder.command.Command.{Command}
 use Rattle.clap.specs.declared.builder.command.Command.TheViews.{out-Command}
@@ -58,12 +58,10 @@ load_app = with_rule (with_rule (new_app (codes "load")) limit_rule) workers_rul
 abbrev pub check_app : App
 check_app = with_rule (new_app (codes "check")) config_rule
 
--- `serve` before its numbers
-abbrev pub serving_app : App
-serving_app = with_rule (with_rule (new_app (codes "serve")) config_rule) workers_rule
-
 abbrev pub serve_app : App
-serve_app = with_rule (with_rule serving_app per_worker_rule) client_timeout_rule
+serve_app =
+    with_rule (with_rule (with_rule (with_rule (new_app (codes "serve")) config_rule) workers_rule)
+    per_worker_rule) client_timeout_rule
 
 -- a command that has a version, and subcommands of which one is required
 abbrev pub asking : Text → App
@@ -83,10 +81,6 @@ offline_app = with_subcommand (with_subcommand text_app load_app.top) check_app.
 -- the whole command line
 abbrev pub admission_app : App
 admission_app = with_subcommand offline_app serve_app.top
-
--- the command, as a subcommand, is the one of this definition
-abbrev pub IsLeaf : App → Command → Type 0
-IsLeaf app command = (shape_of command ≡ app.top) × ((out-Command command).has_globals ≡ false)
 
 -- the command is the one of this definition, and has no global argument
 abbrev pub IsWithoutGlobals : App → Command → Type 0

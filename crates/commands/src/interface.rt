@@ -1,7 +1,11 @@
 // The commands, and the words that each takes.
 ghost use Rattle.std.specs.Prelude.{◌≡◌, false, IfOk};
-ghost use Rattle.clap.specs.Words.{App, app_of, new_app, rule_of, with_subcommand};
-ghost use Rattle.commands.specs.CommandLine.{IsLeaf, IsWithoutGlobals, admission_app, check_app, client_timeout_rule, config_rule, limit_rule, load_app, offline_app, option_rule, per_worker_rule, replay_app, serve_app, serving_app, simulate_app, text_app, workers_rule};
+ghost use Rattle.clap.specs.Words.{App, Rule, app_of, new_app, rule_of, with_rule, with_subcommand};
+ghost use Rattle.commands.specs.CommandLine.{IsWithoutGlobals, admission_app, check_app};
+ghost use Rattle.commands.specs.CommandLine.{client_timeout_rule, config_rule, limit_rule};
+ghost use Rattle.commands.specs.CommandLine.{load_app, offline_app, option_rule, per_worker_rule};
+ghost use Rattle.commands.specs.CommandLine.{replay_app, serve_app, simulate_app, text_app};
+ghost use Rattle.commands.specs.CommandLine.{workers_rule};
 
 use super::help::{
     ABOUT, CHECK_ABOUT, CHECK_HELP, LOAD_ABOUT, LOAD_HELP, REPLAY_ABOUT, REPLAY_HELP, SERVE_ABOUT,
@@ -89,52 +93,79 @@ fn described<'a>(alloc: Global, name: &'a str, about: &'a str, help: &'a str) ->
     Command::new(alloc, name).about(about).after_help(help)
 }
 
+/// A command of this name that takes `--limit N`.
+fn limited<'a>(
+    alloc: Global,
+    name: &'a str,
+    about: &'a str,
+    help: &'a str,
+) -> Result<Command<'a>, AllocError>
+    ensures { IfOk result (IsWithoutGlobals (with_rule (new_app name.now) limit_rule)) }
+{
+    described(alloc, name, about, help).arg(limit_option(alloc))
+}
+
+/// A command of this name that takes `CONFIG`.
+fn configured<'a>(
+    alloc: Global,
+    name: &'a str,
+    about: &'a str,
+    help: &'a str,
+) -> Result<Command<'a>, AllocError>
+    ensures { IfOk result (IsWithoutGlobals (with_rule (new_app name.now) config_rule)) }
+{
+    described(alloc, name, about, help).arg(config_argument(alloc))
+}
+
+/// The command, where it was made, with one more argument.
+fn with_argument<'a>(
+    command: Result<Command<'a>, AllocError>,
+    argument: Arg<'a>,
+) -> Result<Command<'a>, AllocError>
+    ensures { (app : App) (rule : Rule) → IfOk command.entry (IsWithoutGlobals app)
+        → rule_of argument.entry ≡ rule → argument.entry.global ≡ false
+        → IfOk result (IsWithoutGlobals (with_rule app rule)) }
+{
+    command?.arg(argument)
+}
+
 /// `replay [--limit N]`.
 fn replay_command<'a>(alloc: Global) -> Result<Command<'a>, AllocError>
-    ensures { IfOk result (IsLeaf replay_app) }
+    ensures { IfOk result (IsWithoutGlobals replay_app) }
 {
-    described(alloc, "replay", REPLAY_ABOUT, REPLAY_HELP).arg(limit_option(alloc))
+    limited(alloc, "replay", REPLAY_ABOUT, REPLAY_HELP)
 }
 
 /// `simulate [--limit N]`.
 fn simulate_command<'a>(alloc: Global) -> Result<Command<'a>, AllocError>
-    ensures { IfOk result (IsLeaf simulate_app) }
+    ensures { IfOk result (IsWithoutGlobals simulate_app) }
 {
-    described(alloc, "simulate", SIMULATE_ABOUT, SIMULATE_HELP).arg(limit_option(alloc))
+    limited(alloc, "simulate", SIMULATE_ABOUT, SIMULATE_HELP)
 }
 
 /// `load [--limit N] [--workers W]`.
 fn load_command<'a>(alloc: Global) -> Result<Command<'a>, AllocError>
-    ensures { IfOk result (IsLeaf load_app) }
+    ensures { IfOk result (IsWithoutGlobals load_app) }
 {
-    described(alloc, "load", LOAD_ABOUT, LOAD_HELP)
-        .arg(limit_option(alloc))?
-        .arg(workers_option(alloc))
+    let load = limited(alloc, "load", LOAD_ABOUT, LOAD_HELP);
+    with_argument(load, workers_option(alloc))
 }
 
 /// `check CONFIG`.
 fn check_command<'a>(alloc: Global) -> Result<Command<'a>, AllocError>
-    ensures { IfOk result (IsLeaf check_app) }
+    ensures { IfOk result (IsWithoutGlobals check_app) }
 {
-    described(alloc, "check", CHECK_ABOUT, CHECK_HELP).arg(config_argument(alloc))
-}
-
-/// `serve CONFIG [--workers W]`.
-fn serving_command<'a>(alloc: Global) -> Result<Command<'a>, AllocError>
-    ensures { IfOk result (IsWithoutGlobals serving_app) }
-{
-    described(alloc, "serve", SERVE_ABOUT, SERVE_HELP)
-        .arg(config_argument(alloc))?
-        .arg(workers_option(alloc))
+    configured(alloc, "check", CHECK_ABOUT, CHECK_HELP)
 }
 
 /// `serve CONFIG [--workers W] [--per-worker M] [--client-timeout-ms T]`.
 fn serve_command<'a>(alloc: Global) -> Result<Command<'a>, AllocError>
-    ensures { IfOk result (IsLeaf serve_app) }
+    ensures { IfOk result (IsWithoutGlobals serve_app) }
 {
-    serving_command(alloc)?
-        .arg(per_worker_option(alloc))?
-        .arg(client_timeout_option(alloc))
+    let serve = configured(alloc, "serve", SERVE_ABOUT, SERVE_HELP);
+    let serve = with_argument(serve, workers_option(alloc));
+    let serve = with_argument(serve, per_worker_option(alloc));
+    with_argument(serve, client_timeout_option(alloc))
 }
 
 /// The command, with a subcommand where that one was made.
@@ -142,7 +173,7 @@ fn with_leaf<'a>(
     whole: Command<'a>,
     leaf: Result<Command<'a>, AllocError>,
 ) -> Result<Command<'a>, AllocError>
-    ensures { IfOk result (λ larger. (app : App) → IfOk leaf.entry (IsLeaf app)
+    ensures { IfOk result (λ larger. (app : App) → IfOk leaf.entry (IsWithoutGlobals app)
         → app_of larger ≡ with_subcommand (app_of whole.entry) app.top) }
 {
     whole.subcommand(leaf?)
