@@ -1,8 +1,0 @@
-use Rattle.std.specs.Prelude.{[]}
-use Rattle.gate_ledgers.specs.Names.{places_of}
-use Rattle.gate_tests.proofs.rolling_tests.a_roll_keeps_who_waits_and_what_lies_granted.Given as goal
-
--- the ledgers that were just made, over a table without classes
-abbrev pub ghosts-by_one_pass : goal.ghosts-by_one_pass
-ghosts-by_one_pass g a =
-    record { calls = a.blanks.calls.name; place = places_of a.blanks; rows = []; room = 100 }
