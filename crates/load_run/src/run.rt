@@ -1,5 +1,5 @@
 // A run of the calls of a trace, and its audit.
-ghost use Rattle.std.specs.Prelude.{◌≡◌, ◌≤◌, IfErr, IfOk, vec_len};
+ghost use Rattle.std.specs.Prelude.{◌≡◌, ◌≤◌, Ok, IfErr, IfOk, false, vec_len};
 ghost use Rattle.limit_laws.specs.Algorithm.{greatest_limit};
 ghost use Rattle.gate_ledgers.specs.Names.{AreNamed, AreWhole};
 ghost use Rattle.script.specs.Settings.{room_of};
@@ -69,6 +69,30 @@ where
     Ok(close(alloc, gate, worked)?)
 }
 
+/// The book of a run, in which nothing was asked.
+fn begin_book<M: Naming>(
+    alloc: Global,
+    blanks: Blanks,
+    settings: Settings,
+    limit: u32,
+) -> Result<Book<AnyLimit, M>, AllocError>
+    requires least { 1 ≤ limit }
+    requires most { limit ≤ greatest_limit }
+    requires rows { M.rows ≡ settings.rows }
+    requires room { M.room ≡ room_of settings }
+    requires names { AreNamed M.calls M.place blanks }
+    requires parts { AreWhole blanks }
+    ensures passes { IfOk result (λ book. book.tally.passes ≡ 0) }
+    ensures unsealed { IfOk result (λ book. book.is_sealed ≡ false) }
+{
+    let limit = settings.limit(limit);
+    let room = settings.room();
+    let kept = settings.kept(KEPT);
+    let is_rolling = settings.is_rolling();
+    let table = settings.into_table();
+    Book::begin(alloc, limit, table, room, kept, is_rolling, blanks)
+}
+
 /// The gate of a run, and its workers, each with room for so many turns.
 fn open_gate<M: Naming>(
     alloc: Global,
@@ -86,15 +110,17 @@ fn open_gate<M: Naming>(
     requires parts { AreWhole blanks }
     ensures { IfOk result (λ opened. vec_len opened.1 ≡ crew.workers) }
 {
-    let limit = settings.limit(crew.limit);
-    let room = settings.room();
-    let kept = settings.kept(KEPT);
-    let is_rolling = settings.is_rolling();
-    let table = settings.into_table();
-    let mut book = Book::begin(alloc, limit, table, room, kept, is_rolling, blanks)?;
-    let hired = hire(alloc, &mut book, crew.workers, turns)?;
+    let mut book = begin_book::<M>(alloc, blanks, settings, crew.limit)?;
+    let hired = hire(alloc, &mut book, crew.workers, turns);
     book.seal();
-    Ok((SharedGate::new(book), hired))
+    beside(SharedGate::new(book), hired)
+}
+
+/// One value beside another, where that was made: what they are made of isn't told apart here.
+fn beside<A: Drop, B: Drop>(one: A, other: Result<B, AllocError>) -> Result<(A, B), AllocError>
+    ensures { IfOk result (λ both. other ≡ Ok both.1) }
+{
+    Ok((one, other?))
 }
 
 /// What is counted of the history of a gate that is closed, where its audit accepts it.

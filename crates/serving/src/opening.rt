@@ -11,12 +11,12 @@ use crate::fault::ServeFault;
 use gate_config::{AnyLimit, Settings};
 use gate_history::{Blanks, Book, Naming};
 use limit_laws::Limit;
-use shared_gate::Pass;
+use shared_gate::{Pass, SharedGate};
 use std::alloc::Global;
 
 /// The book of a gate with these settings, of which nothing was asked yet. It rolls whenever it
 /// holds as many entries as are kept.
-pub(crate) fn open_book<M: Naming>(
+fn open_book<M: Naming>(
     alloc: Global,
     settings: &Settings,
     blanks: Blanks,
@@ -40,8 +40,32 @@ pub(crate) fn open_book<M: Naming>(
     Ok(book)
 }
 
+/// The gate of these settings, with so many passes.
+pub(crate) fn open_gate<M: Naming>(
+    alloc: Global,
+    settings: &Settings,
+    blanks: Blanks,
+    count: usize,
+) -> Result<(SharedGate<AnyLimit, M>, Vec<Pass<M>>), ServeFault>
+    requires names { AreNamed M.calls M.place blanks }
+    requires parts { AreWhole blanks }
+    requires rows { M.rows ≡ settings.now.table }
+    requires room { M.room ≡ settings.now.backlog }
+    requires sound { AreSound settings.now }
+{
+    let mut book = open_book::<M>(alloc, settings, blanks)?;
+    let passes = make_passes(alloc, &mut book, count);
+    book.seal();
+    beside(SharedGate::new(book), passes)
+}
+
+/// One value beside another, where that was made. What they are made of isn't told apart here.
+fn beside<A: Drop, B: Drop>(one: A, other: Result<B, ServeFault>) -> Result<(A, B), ServeFault> {
+    Ok((one, other?))
+}
+
 /// So many passes of a book.
-pub(crate) fn make_passes<M: Naming>(
+fn make_passes<M: Naming>(
     alloc: Global,
     book: &mut Book<AnyLimit, M>,
     count: usize,

@@ -4,7 +4,7 @@ ghost use Rattle.gate_ledgers.specs.Names.{AreNamed, AreWhole};
 ghost use Rattle.gate_config.specs.Settings.{AreSound};
 
 use crate::fault::ServeFault;
-use crate::opening::{make_passes, open_book};
+use crate::opening::open_gate;
 use crate::working::{Buffers, Shift, Source, work};
 use backend::Backend;
 use gate_config::{AnyLimit, Settings};
@@ -97,18 +97,30 @@ where
     requires room { M.room ≡ settings.now.backlog }
     requires sound { AreSound settings.now }
 {
-    let alloc = shift.alloc;
-    let mut book = open_book::<M>(alloc, settings, blanks)?;
-    let passes = make_passes(alloc, &mut book, backends.len())?;
-    book.seal();
-    let gate = SharedGate::new(book);
-    let post = Post {
-        rt,
-        shift,
-        gate: &gate,
-    };
+    let (gate, passes) = open_gate::<M>(shift.alloc, settings, blanks, backends.len())?;
+    serve_through(rt, shift, &gate, passes, backends)
+}
+
+/// Serves clients through a gate, by one worker for each pass and backend.
+fn serve_through<M, R, L, B, C, S>(
+    rt: &R,
+    shift: &Shift<'_, L, C, S>,
+    gate: &SharedGate<AnyLimit, M>,
+    passes: Vec<Pass<M>>,
+    backends: Vec<B>,
+) -> Result<Counters, ServeFault>
+where
+    M: Naming + Send + Sync,
+    R: Threads + Wait + SystemClock + Sync,
+    L: Listener + Sync,
+    B: Backend + Send + Drop,
+    C: Clock + Sync,
+    S: Source + Sync,
+    L::Stream: Send + Sync,
+{
+    let post = Post { rt, shift, gate };
     let workers = hire(&post, passes, backends)?;
-    run_all(rt, alloc, workers)?;
+    run_all(rt, shift.alloc, workers)?;
     Ok(gate.counters(rt))
 }
 
