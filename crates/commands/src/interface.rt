@@ -168,15 +168,16 @@ fn serve_command<'a>(alloc: Global) -> Result<Command<'a>, AllocError>
     with_argument(serve, client_timeout_option(alloc))
 }
 
-/// The command, with a subcommand where that one was made.
+/// The command, with a subcommand, where both were made.
 fn with_leaf<'a>(
-    whole: Command<'a>,
+    whole: Result<Command<'a>, AllocError>,
     leaf: Result<Command<'a>, AllocError>,
 ) -> Result<Command<'a>, AllocError>
-    ensures { IfOk result (λ larger. (app : App) → IfOk leaf.entry (IsWithoutGlobals app)
-        → app_of larger ≡ with_subcommand (app_of whole.entry) app.top) }
+    ensures { (outer : App) (inner : App) → IfOk whole.entry (λ command. app_of command ≡ outer)
+        → IfOk leaf.entry (IsWithoutGlobals inner)
+        → IfOk result (λ larger. app_of larger ≡ with_subcommand outer inner.top) }
 {
-    whole.subcommand(leaf?)
+    whole?.subcommand(leaf?)
 }
 
 /// The command, with its subcommands over texts.
@@ -187,7 +188,7 @@ fn text_command<'a>(alloc: Global) -> Result<Command<'a>, AllocError>
         .about(ABOUT)
         .version("0.1.0")
         .subcommand_required(true);
-    let whole = with_leaf(whole, replay_command(alloc))?;
+    let whole = with_leaf(Ok(whole), replay_command(alloc));
     with_leaf(whole, simulate_command(alloc))
 }
 
@@ -195,7 +196,7 @@ fn text_command<'a>(alloc: Global) -> Result<Command<'a>, AllocError>
 fn offline_command<'a>(alloc: Global) -> Result<Command<'a>, AllocError>
     ensures { IfOk result (λ whole. app_of whole ≡ offline_app) }
 {
-    let whole = with_leaf(text_command(alloc)?, load_command(alloc))?;
+    let whole = with_leaf(text_command(alloc), load_command(alloc));
     with_leaf(whole, check_command(alloc))
 }
 
@@ -203,5 +204,5 @@ fn offline_command<'a>(alloc: Global) -> Result<Command<'a>, AllocError>
 pub(crate) fn command<'a>(alloc: Global) -> Result<Command<'a>, AllocError>
     ensures { IfOk result (λ whole. app_of whole ≡ admission_app) }
 {
-    with_leaf(offline_command(alloc)?, serve_command(alloc))
+    with_leaf(offline_command(alloc), serve_command(alloc))
 }
