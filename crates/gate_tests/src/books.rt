@@ -1,12 +1,11 @@
-// A book over a few permits, and what is asked of it.
+// A book over a few permits.
 ghost use Rattle.std.specs.Prelude.{◌≡◌, ◌≤◌, []};
 ghost use Rattle.gate_journal.specs.Journal.{most_kept};
 ghost use Rattle.gate_ledgers.specs.Names.{AreNamed, AreWhole};
 
-use gate_history::{Blanks, Book, Call, Naming, Permit};
+use gate_history::{Blanks, Book, Naming};
 use limit_laws::Fixed;
-use limiter_core::Outcome;
-use partitions::{Part, PartitionTable};
+use partitions::PartitionTable;
 use std::alloc::Global;
 use std::process::Abort;
 
@@ -30,21 +29,4 @@ pub(crate) fn book_over<N: Naming, R: Abort>(
     let limit = Fixed::new(permits).expect(rt, "a limit");
     let table = PartitionTable::unknown_only();
     Book::begin(alloc, limit, table, 100, kept, is_rolling, blanks).expect(rt, "memory")
-}
-
-pub(crate) fn acquire<N: Naming>(wait: bool, now: u64) -> Call<N> {
-    Call::Acquire {
-        part: Part::Unknown,
-        bypass: false,
-        wait,
-        now,
-    }
-}
-
-pub(crate) fn end<N: Naming>(permit: Permit<N>, now: u64) -> Call<N> {
-    Call::End {
-        permit,
-        outcome: Outcome::Success,
-        now,
-    }
 }

@@ -1,9 +1,7 @@
-//! Tests of a gate by its public calls: the audit of its history, calls through the lock by worked
-//! rows and by four threads at random, and how it is closed.
+//! Tests of a gate by its public calls: through the lock by worked rows and by four threads at
+//! random, and how it is closed.
 #![tactic(auto)]
 
-#[cfg(test)]
-mod audit_tests;
 #[cfg(test)]
 mod books;
 #[cfg(test)]
