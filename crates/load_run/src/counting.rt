@@ -7,7 +7,7 @@ use crate::summary::Summary;
 use limiter_core::{Counters, Entry, Event, Outcome, Reply};
 
 /// The kinds of entries that are counted: calls, replies, promotions, and outcomes of endings.
-#[derive(Clone, Copy, Debug, PartialEq, Eq)]
+#[derive(Clone, Copy, PartialEq, Eq)]
 pub(crate) enum Kind {
     Called,
     Admitted,

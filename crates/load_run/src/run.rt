@@ -24,7 +24,7 @@ use std::time::Clock as SystemClock;
 use trace::Arrival;
 
 /// How the run is made: the limit where no line gives one, and how many workers there are.
-#[derive(Clone, Copy, Debug)]
+#[derive(Clone, Copy)]
 pub(crate) struct Crew {
     pub(crate) limit: u32,
     pub(crate) workers: usize,

@@ -12,7 +12,7 @@ pub struct Summary {
 }
 
 /// The line of the counters.
-#[derive(Clone, Copy, Debug)]
+#[derive(Clone, Copy)]
 struct CountersLine(Counters);
 
 impl fmt::Display for CountersLine {

@@ -16,7 +16,7 @@ use std::time::Clock as SystemClock;
 use trace::Arrival;
 
 /// Why not all workers made their calls.
-#[derive(Clone, Copy, Debug, Drop, PartialEq, Eq)]
+#[derive(Clone, Copy, Drop)]
 pub(crate) enum WorkFault {
     /// Memory is wanting.
     Memory = 1,
