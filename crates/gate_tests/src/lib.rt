@@ -1,13 +1,17 @@
-//! Tests of a gate by its public calls: through the lock by worked rows and by four threads at
-//! random, and how it is closed.
+//! Tests of a gate by its public calls: its book, calls through the lock by worked rows and by four
+//! threads at random, and how it is closed.
 #![tactic(auto)]
 
+#[cfg(test)]
+mod book_tests;
 #[cfg(test)]
 mod books;
 #[cfg(test)]
 mod closing;
 #[cfg(test)]
 mod random;
+#[cfg(test)]
+mod rolling_tests;
 #[cfg(test)]
 mod shared_gate_tests;
 #[cfg(test)]

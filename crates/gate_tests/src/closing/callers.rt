@@ -1,5 +1,5 @@
 // Callers of a gate who keep their receipts.
-use gate_history::{Book, Naming, Permit, Receipt};
+use gate_history::{Book, Naming, Permit, Receipt, Spent};
 use limit_laws::Fixed;
 use limiter_core::Outcome;
 use partitions::Part;
@@ -59,5 +59,23 @@ fn admitted<M: Naming, R: Abort>(rt: &R, got: Got<M>) -> (Receipt<M>, Permit<M>)
         Got::BacklogFull(_receipt) => rt.abort(),
         Got::Waiting(_receipt, _ticket) => rt.abort(),
         Got::Exhausted(_spent) => rt.abort(),
+    }
+}
+
+/// A look at what stands.
+pub(crate) fn look<M: Naming, R: Wait + Abort>(
+    rt: &R,
+    gate: &SharedGate<Fixed, M>,
+    caller: &mut Caller<M>,
+) {
+    let receipt = seen(rt, gate.look(rt, &mut caller.pass, Part::Unknown));
+    caller.keep(rt, receipt);
+}
+
+/// The receipt of a look.
+fn seen<M: Naming, R: Abort>(rt: &R, looked: Result<Receipt<M>, Spent<M>>) -> Receipt<M> {
+    match looked {
+        Ok(receipt) => receipt,
+        Err(_spent) => rt.abort(),
     }
 }

@@ -1,4 +1,6 @@
 // How a gate is closed.
 mod callers;
 mod handing;
+mod rolled_tests;
+mod threads_tests;
 mod two_calls_tests;

@@ -1,0 +1,8 @@
+use Rattle.std.specs.Prelude.{[]}
+use Rattle.gate_ledgers.specs.Names.{places_of}
+use Rattle.gate_tests.proofs.book_tests.a_sealed_book_gives_no_pass.Given as goal
+
+-- the ledgers that were just made, over a table without classes
+abbrev pub ghosts-sealed : goal.ghosts-sealed
+ghosts-sealed g a =
+    record { calls = a.blanks.calls.name; place = places_of a.blanks; rows = []; room = 100 }

@@ -1,0 +1,8 @@
+use Rattle.std.specs.Prelude.{[]}
+use Rattle.gate_ledgers.specs.Names.{places_of}
+use Rattle.gate_tests.proofs.closing.threads_tests.four_hundred_calls_of_two_threads_are_accepted.Given as goal
+
+-- the ledgers that were just made, over a table without classes
+abbrev pub ghosts-closes_two_threads : goal.ghosts-closes_two_threads
+ghosts-closes_two_threads g a =
+    record { calls = a.blanks.calls.name; place = places_of a.blanks; rows = []; room = 100 }

@@ -1,0 +1,8 @@
+use Rattle.std.specs.Prelude.{[]}
+use Rattle.gate_ledgers.specs.Names.{places_of}
+use Rattle.gate_tests.proofs.rolling_tests.a_roll_keeps_the_algorithms_state.Given as goal
+
+-- the ledgers that were just made, over a table without classes
+abbrev pub ghosts-set_and_seen : goal.ghosts-set_and_seen
+ghosts-set_and_seen g a =
+    record { calls = a.blanks.calls.name; place = places_of a.blanks; rows = []; room = 100 }

@@ -1,0 +1,62 @@
+// How many passes a book gives, and how many entries a journal may be asked to keep.
+ghost use Rattle.std.specs.Prelude.{◌≡◌, []};
+ghost use Rattle.gate_ledgers.specs.Names.{AreNamed, AreWhole};
+
+use crate::books::book_over;
+use gate_history::{Blanks, Journal, JournalFault, Naming};
+use limit_laws::Fixed;
+use limiter_core::Core;
+use partitions::PartitionTable;
+use std::alloc::Global;
+use std::marker::Brand;
+use std::process::Abort;
+
+#[test]
+fn a_book_gives_a_million_passes(rt: HostRuntime) {
+    a_million_passes::<Brand, _>(&rt, rt.alloc(), Blanks::new());
+}
+
+fn a_million_passes<N: Naming, R: Abort>(rt: &R, alloc: Global, blanks: Blanks)
+    requires names { AreNamed N.calls N.place blanks }
+    requires parts { AreWhole blanks }
+    requires rows { N.rows ≡ [] }
+    requires room { N.room ≡ 100 }
+{
+    let mut book = book_over::<N, R>(rt, alloc, 1, 1, false, blanks);
+    for _ in 0..1_000_000 {
+        assert!(rt; book.pass().is_some());
+    }
+    assert!(rt; book.pass().is_none());
+}
+
+#[test]
+fn a_sealed_book_gives_no_pass(rt: HostRuntime) {
+    sealed::<Brand, _>(&rt, rt.alloc(), Blanks::new());
+}
+
+fn sealed<N: Naming, R: Abort>(rt: &R, alloc: Global, blanks: Blanks)
+    requires names { AreNamed N.calls N.place blanks }
+    requires parts { AreWhole blanks }
+    requires rows { N.rows ≡ [] }
+    requires room { N.room ≡ 100 }
+{
+    let mut book = book_over::<N, R>(rt, alloc, 1, 1, false, blanks);
+    book.seal();
+    assert!(rt; book.pass().is_none());
+}
+
+/// Why no journal keeps so many entries.
+fn fault<R: Abort>(rt: &R, alloc: Global, kept: usize) -> Option<JournalFault> {
+    let limit = Fixed::new(1).expect(rt, "a limit");
+    let table = PartitionTable::unknown_only();
+    let core = Core::new(alloc, limit, table, 100).expect(rt, "a limiter");
+    Journal::new(alloc, core, kept, false).err()
+}
+
+#[test]
+fn from_one_to_a_million_entries_are_kept(rt: HostRuntime) {
+    assert!(rt; fault(&rt, rt.alloc(), 0) == Some(JournalFault::Places));
+    assert!(rt; fault(&rt, rt.alloc(), 1) == None);
+    assert!(rt; fault(&rt, rt.alloc(), 1_000_000) == None);
+    assert!(rt; fault(&rt, rt.alloc(), 1_000_001) == Some(JournalFault::Places));
+}

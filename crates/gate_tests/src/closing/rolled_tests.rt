@@ -1,0 +1,77 @@
+// A gate that rolled isn't accepted: two looks, of which one entry is kept.
+ghost use Rattle.std.specs.Prelude.{◌≡◌, []};
+ghost use Rattle.gate_ledgers.specs.Names.{AreNamed, AreWhole};
+
+use super::callers::{Caller, look};
+use super::handing::{Handing, are_handed_back, closed};
+use crate::books::book_over;
+use gate_history::{Blanks, Book, History, Naming};
+use limit_laws::Fixed;
+use shared_gate::{AuditFault, Cause, SharedGate};
+use std::alloc::Global;
+use std::marker::Brand;
+use std::process::Abort;
+use std::sync::Wait;
+
+/// Missing passes come before the base, and that before the order.
+fn handings() -> [Handing; 3] {
+    let rolled = Cause::Rolled { base: 1 };
+    let missing = Cause::PassesMissing { book: 2, sum: 0 };
+    [
+        Handing::new(true, false, 2, Some(rolled)),
+        Handing::new(true, true, 2, Some(rolled)),
+        Handing::new(false, false, 2, Some(missing)),
+    ]
+}
+
+#[test]
+fn a_gate_that_rolled_is_not_accepted(rt: HostRuntime) {
+    for handing in &handings() {
+        closes_rolled::<Brand, _>(&rt, rt.alloc(), Blanks::new(), *handing);
+    }
+}
+
+fn closes_rolled<M: Naming, R: Wait + Abort>(
+    rt: &R,
+    alloc: Global,
+    blanks: Blanks,
+    handing: Handing,
+)
+    requires names { AreNamed M.calls M.place blanks }
+    requires parts { AreWhole blanks }
+    requires rows { M.rows ≡ [] }
+    requires room { M.room ≡ 100 }
+{
+    let book = book_over::<M, R>(rt, alloc, 10, 1, true, blanks);
+    closes_book(rt, alloc, book, handing);
+}
+
+fn closes_book<M: Naming, R: Wait + Abort>(
+    rt: &R,
+    alloc: Global,
+    mut book: Book<Fixed, M>,
+    handing: Handing,
+) {
+    let mut caller = Caller::of(rt, alloc, &mut book, 2);
+    book.seal();
+    let gate = SharedGate::new(book);
+    look(rt, &gate, &mut caller);
+    look(rt, &gate, &mut caller);
+    has_rolled(rt, closed(rt, alloc, gate, caller, handing), handing);
+}
+
+/// The history begins with the second look, and the cause is as wanted.
+fn has_rolled<M: Naming, R: Abort>(
+    rt: &R,
+    closed: Result<History<Fixed>, AuditFault<Fixed, M>>,
+    handing: Handing,
+) {
+    match closed {
+        Ok(_history) => rt.abort(),
+        Err(fault) => {
+            assert!(rt; handing.cause == Some(fault.cause));
+            assert!(rt; (fault.history.base, fault.history.entries.len()) == (1, 1));
+            are_handed_back(rt, &fault.kept, handing, [0, 1]);
+        }
+    }
+}
