@@ -9,7 +9,7 @@ use std::marker::Model;
 
 /// Rises by one permit after a sample that found at least half of the limit in use, and falls to
 /// its ratio after a drop or a round trip above the timeout.
-#[derive(Clone, Copy, Debug, PartialEq, Eq)]
+#[derive(Clone, Copy)]
 pub struct Aimd {
     lo: u32,
     limit: u32,

@@ -15,7 +15,7 @@ use limiter_core::Entry;
 use std::alloc::{AllocError, Global};
 
 /// How many calls were made by passes.
-#[derive(Clone, Copy, Debug)]
+#[derive(Clone, Copy)]
 pub struct Calls {
     /// By all passes of the gate, as its book has it.
     pub book: u64,

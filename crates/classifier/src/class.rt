@@ -8,7 +8,7 @@ use partitions::{Part, PartitionTable};
 use wire::Request;
 
 /// What the limiter is told of a request.
-#[derive(Clone, Copy, Debug, PartialEq, Eq)]
+#[derive(Clone, Copy)]
 pub struct Class {
     /// Whether the request bypasses the limit.
     pub bypass: bool,

@@ -11,7 +11,7 @@ use clap::{ArgMatches, Error};
 use std::alloc::{AllocError, Global};
 
 /// What the words ask for: a command, with its path and its numbers.
-#[derive(Clone, Copy, Debug, PartialEq, Eq)]
+#[derive(Clone, Copy)]
 pub enum Run<'a> {
     /// A text on standard input is answered on standard output.
     Text(TextTask),
@@ -38,7 +38,7 @@ pub enum Run<'a> {
 }
 
 /// A command over a text.
-#[derive(Clone, Copy, Debug, PartialEq, Eq)]
+#[derive(Clone, Copy)]
 pub enum TextTask {
     /// A script is answered. `limit` is the fixed limit where it has no `limit` line: 1 to 10,000
     /// permits.

@@ -8,7 +8,7 @@ use gate_config::ConfigFault;
 use std::io::Write;
 
 /// Why a configuration isn't accepted.
-#[derive(Debug, Drop)]
+#[derive(Drop)]
 pub enum CheckFault {
     /// The file can't be opened or read, isn't at its end after 2^25 reads, or has more than 1 MiB.
     Read,

@@ -15,7 +15,7 @@ use std::alloc::{AllocError, Global};
 use toml::{Table, Value};
 
 /// What a bypass rule looks at.
-#[derive(Clone, Copy, Debug)]
+#[derive(Clone, Copy)]
 pub enum BypassKind {
     Method,
     Prefix,

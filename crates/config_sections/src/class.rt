@@ -22,7 +22,7 @@ use toml::{Table, Value};
 pub const CLASS_KEYS: [Key; 2] = [Key::ClassName, Key::ClassPercent];
 
 /// What the keys of a class hold, as they stand in the text.
-#[derive(Clone, Copy, Debug, Default)]
+#[derive(Clone, Copy, Default)]
 pub struct ClassKeys<'a> {
     pub name: &'a str,
     pub percent: u32,

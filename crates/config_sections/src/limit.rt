@@ -17,7 +17,7 @@ use toml::Table;
 const MOST: u32 = 10_000;
 
 /// How the limit is found.
-#[derive(Clone, Copy, Debug)]
+#[derive(Clone, Copy)]
 pub enum LimitKind {
     Fixed,
     Settable,
@@ -42,7 +42,7 @@ impl LimitKind {
 }
 
 /// The keys of a limit that changes: the ends of its range and its first limit, in permits.
-#[derive(Clone, Copy, Debug)]
+#[derive(Clone, Copy)]
 pub struct Moving {
     pub min: u32,
     pub max: u32,
@@ -50,7 +50,7 @@ pub struct Moving {
 }
 
 /// The keys of a limit, by its kind.
-#[derive(Clone, Copy, Debug)]
+#[derive(Clone, Copy)]
 pub enum LimitKeys {
     Fixed {
         initial: u32,

@@ -23,7 +23,7 @@ use toml::{Table, Value};
 const MOST_ROUTES: usize = 256;
 
 /// What a resolver reads.
-#[derive(Clone, Copy, Debug)]
+#[derive(Clone, Copy)]
 pub enum ResolverKind {
     Header,
     Method,

@@ -19,7 +19,7 @@ pub const WINDOW_KEYS: [Key; 4] = [
 ];
 
 /// What the keys of a window hold: the samples that it needs, and times in microseconds.
-#[derive(Clone, Copy, Debug)]
+#[derive(Clone, Copy)]
 pub struct WindowKeys {
     pub size: u32,
     pub min_us: u32,

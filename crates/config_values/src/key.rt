@@ -5,7 +5,7 @@ ghost use Rattle.config_values.specs.Key.{name_of, path_of, prefix_of, section_o
 use std::fmt;
 
 /// A part of the configuration: its top, or one of its tables.
-#[derive(Clone, Copy, Debug, PartialEq, Eq)]
+#[derive(Clone, Copy)]
 pub enum Section {
     Top,
     Limit,
@@ -32,7 +32,7 @@ impl Section {
 }
 
 /// A key of the configuration, printed as its dotted path without places in arrays.
-#[derive(Clone, Copy, Debug, PartialEq, Eq)]
+#[derive(Clone, Copy, Debug)]
 pub enum Key {
     Version,
     Listen,

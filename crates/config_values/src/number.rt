@@ -12,7 +12,7 @@ use toml::Table;
 
 /// The numbers that a key may hold, and the one that stands for it where it is absent: its default,
 /// or none where the key is required.
-#[derive(Clone, Copy, Debug)]
+#[derive(Clone, Copy)]
 pub struct Range {
     pub low: u32,
     pub high: u32,

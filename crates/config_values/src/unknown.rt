@@ -15,7 +15,7 @@ use std::alloc::{AllocError, Global};
 use toml::Table;
 
 /// A key that isn't allowed where it stands.
-#[derive(Clone, Copy, Debug)]
+#[derive(Clone, Copy)]
 pub struct Stranger<'a> {
     pub section: Section,
     pub name: &'a str,

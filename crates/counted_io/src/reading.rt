@@ -12,7 +12,7 @@ use std::io::Read;
 const PIECE: usize = 16_384;
 
 /// Why the bytes of a reader were not had.
-#[derive(Clone, Copy, Debug, PartialEq, Eq)]
+#[derive(Clone, Copy, PartialEq, Eq)]
 pub enum ReadFault {
     /// A growth of the list of bytes was refused.
     Memory,

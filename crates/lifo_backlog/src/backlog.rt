@@ -18,7 +18,7 @@ use std::marker::Model;
 const MOST_ROOM: u32 = 10_000;
 
 /// Those who wait, the newest last, and how many may.
-#[derive(Debug, Drop)]
+#[derive(Drop)]
 pub struct Backlog {
     places: Vec<Place>,
     count: usize,

@@ -8,7 +8,7 @@ use vegas::Vegas;
 use windowed::Windowed;
 
 /// A limit of one of the kinds.
-#[derive(Clone, Copy, Debug, PartialEq, Eq)]
+#[derive(Clone, Copy)]
 pub enum BaseLimit {
     Fixed(Fixed),
     Settable(Settable),

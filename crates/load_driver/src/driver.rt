@@ -24,7 +24,7 @@ pub const MOST_READS: u64 = 33_554_432;
 pub const KEPT: usize = 100_000;
 
 /// Why a driver stops.
-#[derive(Clone, Copy, Debug, PartialEq, Eq)]
+#[derive(Clone, Copy)]
 pub enum DriverFault {
     /// Memory is wanting.
     Memory,

@@ -9,7 +9,7 @@ use std::alloc::AllocError;
 use std::fmt;
 
 /// A reply, and the name of the class that its event is about.
-#[derive(Clone, Copy, Debug)]
+#[derive(Clone, Copy)]
 struct ReplyText<'a> {
     class: &'a str,
     reply: Reply,

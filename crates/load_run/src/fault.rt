@@ -8,7 +8,7 @@ use shared_gate::Cause;
 use std::alloc::AllocError;
 
 /// Why a load stops.
-#[derive(Clone, Copy, Debug, PartialEq, Eq)]
+#[derive(Clone, Copy, PartialEq, Eq)]
 pub enum LoadFault {
     /// Memory is wanting.
     Memory,

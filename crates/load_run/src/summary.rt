@@ -3,7 +3,7 @@ use limiter_core::Counters;
 use std::fmt;
 
 /// How many calls a history has, and how many replies, promotions and outcomes of each kind.
-#[derive(Clone, Copy, Debug, PartialEq, Eq)]
+#[derive(Clone, Copy)]
 pub struct Summary {
     /// The calls.
     pub calls: u64,

@@ -2,7 +2,7 @@
 use std::alloc::AllocError;
 
 /// Why bytes are no message.
-#[derive(Clone, Copy, Debug, Drop, PartialEq, Eq)]
+#[derive(Clone, Copy, Drop, PartialEq, Eq)]
 pub enum Fault {
     /// The bytes end inside the message.
     Early,
@@ -21,7 +21,7 @@ pub enum Fault {
 }
 
 /// Why a message was not read: the bytes are none, or something stood in the way.
-#[derive(Clone, Copy, Debug, Drop, PartialEq, Eq)]
+#[derive(Clone, Copy, Drop, PartialEq, Eq)]
 pub enum ReadFault {
     /// A growth was refused.
     Memory,

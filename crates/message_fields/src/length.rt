@@ -15,7 +15,7 @@ use message_parts::Header;
 const MOST_BODY: u64 = 8_388_608;
 
 /// Why the lines of Content-Length give no length.
-#[derive(Clone, Copy, Debug, PartialEq, Eq)]
+#[derive(Clone, Copy)]
 pub enum LengthFault {
     /// Their parts are not all the same string of digits, or there is no line.
     Malformed,

@@ -5,7 +5,7 @@ use std::alloc::{AllocError, Global};
 use std::marker::Model;
 
 /// Bytes of a message, such as a header's value or a body. A contract sees their list.
-#[derive(Debug, Drop)]
+#[derive(Drop)]
 pub struct Bytes {
     items: Vec<u8>,
 }

@@ -5,14 +5,14 @@ use crate::bytes::Bytes;
 use std::marker::Model;
 
 /// A header line: its name as it was written, and its value without the blanks around it.
-#[derive(Debug, Drop)]
+#[derive(Drop)]
 pub struct Header {
     pub name: Bytes,
     pub value: Bytes,
 }
 
 /// The header lines of a message, in their order. A contract sees their list.
-#[derive(Debug, Drop)]
+#[derive(Drop)]
 pub struct Headers {
     lines: Vec<Header>,
 }

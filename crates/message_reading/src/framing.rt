@@ -9,7 +9,7 @@ use message_heads::{RequestHead, ResponseHead};
 use message_parts::Header;
 
 /// How the body of a message is delimited.
-#[derive(Clone, Copy, Debug, Drop, PartialEq, Eq)]
+#[derive(Clone, Copy, Drop)]
 pub enum Framing {
     /// There is no body.
     Bodiless,

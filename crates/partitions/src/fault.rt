@@ -5,7 +5,7 @@ use std::fmt;
 
 /// Why rows make no table. Of several faults the answer is `Empty`, then `TooMany`, then for the
 /// first row at fault `Name`, `Twice`, `Percent` or `Over100`, in this order.
-#[derive(Clone, Copy, Debug, PartialEq, Eq)]
+#[derive(Clone, Copy, Debug)]
 pub enum TableFault {
     /// No memory was left. It comes after every other test.
     Memory,

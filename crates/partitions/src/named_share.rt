@@ -8,7 +8,7 @@ use std::alloc::{AllocError, Global};
 use std::str;
 
 /// A known partition's name and percentage.
-#[derive(Debug, Drop)]
+#[derive(Drop)]
 pub(crate) struct NamedShare {
     pub(crate) name: String,
     pub(crate) percent: u32,

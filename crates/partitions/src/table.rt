@@ -18,7 +18,7 @@ pub(crate) const MOST_KNOWN: usize = 4;
 const UNKNOWN_PLACE: usize = MOST_KNOWN;
 
 /// The known partitions, at most four of them, with the shares that they are promised.
-#[derive(Debug, Drop)]
+#[derive(Drop)]
 pub struct PartitionTable {
     rows: Option<Vec<NamedShare>>,
 }

@@ -6,7 +6,7 @@ use limiter_core::Outcome;
 use partitions::Part;
 
 /// Why nobody was let through.
-#[derive(Clone, Copy, Debug, PartialEq, Eq)]
+#[derive(Clone, Copy, PartialEq, Eq)]
 pub enum Why {
     /// There was no room, and it didn't wait.
     Full,

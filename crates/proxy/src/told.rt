@@ -5,7 +5,7 @@ use ports::Why;
 use wire::WireFault;
 
 /// What the gate said of a request.
-#[derive(Clone, Copy, Debug, PartialEq, Eq)]
+#[derive(Clone, Copy)]
 pub enum Verdict {
     /// No request was read, so the gate wasn't asked.
     NotAsked,
@@ -18,7 +18,7 @@ pub enum Verdict {
 }
 
 /// What became of a connection.
-#[derive(Clone, Copy, Debug, PartialEq, Eq)]
+#[derive(Clone, Copy)]
 pub struct Exchange {
     /// The request's class, where one was read.
     pub class: Option<Class>,

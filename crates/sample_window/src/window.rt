@@ -7,7 +7,7 @@ use limit_laws::Sample;
 use std::marker::Model;
 
 /// The totals of the samples added, 1,000,000 of them at most.
-#[derive(Clone, Copy, Debug, PartialEq, Eq)]
+#[derive(Clone, Copy)]
 pub struct Window {
     count: u32,
     sum: u64,

@@ -3,7 +3,7 @@ use super::why::Why;
 use std::fmt;
 
 /// A line at fault.
-#[derive(Clone, Copy, Debug, PartialEq, Eq)]
+#[derive(Clone, Copy, PartialEq, Eq)]
 pub struct LineFault {
     /// The number of the line in its text, from 1.
     pub line: u64,

@@ -5,7 +5,7 @@ ghost use Rattle.script.specs.Faults.{why_text};
 use std::fmt;
 
 /// Why a line is at fault. Where several apply, the first in this order is answered.
-#[derive(Clone, Copy, Debug, PartialEq, Eq)]
+#[derive(Clone, Copy, PartialEq, Eq)]
 pub enum Why {
     /// No line has this format.
     Words,

@@ -30,7 +30,7 @@ use std::time::Clock as SystemClock;
 const MILLI: u64 = 1_000_000;
 
 /// What a gateway is asked to do.
-#[derive(Clone, Copy, Debug, PartialEq, Eq)]
+#[derive(Clone, Copy)]
 pub struct Service<'a> {
     /// The path of its configuration.
     pub path: &'a str,

@@ -9,7 +9,7 @@ use serving::ServeFault;
 use std::io::Write;
 
 /// Why a gateway ended with a fault.
-#[derive(Debug, Drop)]
+#[derive(Drop)]
 pub enum ServiceFault {
     /// The configuration can't be read, or isn't one.
     Config(CheckFault),

@@ -5,7 +5,7 @@ use tasks::TasksFault;
 use tcp_backend::BackendFault;
 
 /// Why a gateway stopped, or didn't begin.
-#[derive(Clone, Copy, Debug, Drop, PartialEq, Eq)]
+#[derive(Clone, Copy, Drop)]
 pub enum ServeFault {
     /// A growth was refused: before any worker was started, or to one that was, for its settings.
     /// The workers that were started have ended.

@@ -14,7 +14,7 @@ pub trait Task {
 }
 
 /// Why not all tasks were done.
-#[derive(Clone, Copy, Debug, Drop, PartialEq, Eq)]
+#[derive(Clone, Copy, Drop)]
 pub enum TasksFault {
     /// A growth was refused, and no task was begun.
     Memory = 1,

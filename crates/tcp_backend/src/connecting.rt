@@ -16,7 +16,7 @@ use wire::Request;
 const PIECE: usize = 16_384;
 
 /// Why a backend was not made.
-#[derive(Clone, Copy, Debug, Drop, PartialEq, Eq)]
+#[derive(Clone, Copy, Drop)]
 pub enum BackendFault {
     /// A growth was refused.
     Memory = 1,

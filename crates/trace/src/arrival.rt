@@ -10,7 +10,7 @@ use partitions::{Part, PartitionTable};
 use script::{ArrivalLine, TraceLine, Why, read_part, read_trace_line};
 
 /// A call that comes at a moment, and holds its permit for so long, if it gets one.
-#[derive(Clone, Copy, Debug, PartialEq, Eq)]
+#[derive(Clone, Copy)]
 pub struct Arrival {
     /// The part of its class.
     pub part: Part,

@@ -16,7 +16,7 @@ const MOST_PROBE: u32 = 1_000_000;
 ///
 /// The base round trip is the least one seen; every `probe_every` samples it is measured anew, so
 /// that a backend which became slower is not taken for a queue for good.
-#[derive(Clone, Copy, Debug, PartialEq, Eq)]
+#[derive(Clone, Copy)]
 pub struct Vegas {
     lo: u32,
     limit: u32,

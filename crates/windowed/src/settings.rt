@@ -11,7 +11,7 @@ pub(crate) const MOST_SAMPLES: u32 = 1_000_000;
 
 /// How samples are gathered into windows: numbers that are in their ranges. A contract sees the
 /// four of them.
-#[derive(Clone, Copy, Debug, PartialEq, Eq)]
+#[derive(Clone, Copy)]
 pub struct WindowSettings {
     size: u32,
     min_window: u64,

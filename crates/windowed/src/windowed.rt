@@ -12,7 +12,7 @@ use std::marker::Model;
 ///
 /// A window lasts for twice its least round trip, within bounds, or for 1,000,000 samples. It
 /// takes no memory for them: five totals are kept.
-#[derive(Debug, Drop)]
+#[derive(Drop)]
 pub struct Windowed<L: Limit> {
     inner: L,
     window: Window,

@@ -4,7 +4,7 @@ use message_bytes::{Fault, ReadFault};
 use std::alloc::AllocError;
 
 /// Why a message was not read or written.
-#[derive(Clone, Copy, Debug, Drop, PartialEq, Eq)]
+#[derive(Clone, Copy, Drop, PartialEq, Eq)]
 pub enum WireFault {
     /// A growth was refused.
     Memory = 1,

@@ -3,7 +3,7 @@ use http::Method;
 use message_parts::{Bytes, Headers, Text};
 
 /// The version of HTTP that a request is in.
-#[derive(Clone, Copy, Debug, PartialEq, Eq)]
+#[derive(Clone, Copy)]
 pub enum Version {
     Http10,
     Http11,

@@ -6,7 +6,7 @@ use message_parts::{Bytes, Headers};
 use std::marker::Model;
 
 /// A final response that was read whole. A contract sees its status, its header lines and its body.
-#[derive(Debug, Drop)]
+#[derive(Drop)]
 pub struct Response {
     status: u16,
     headers: Headers,
