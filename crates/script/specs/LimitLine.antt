@@ -1,5 +1,5 @@
 -- What follows `limit`, and the limit that it gives.
-use Rattle.std.specs.Prelude.{ℕ, Bool, nat_le, ◌&&◌, List, Option, None, Some, bytes_eq, codes, if◌then◌else◌}
+use Rattle.std.specs.Prelude.{ℕ, Bool, nat_le, ◌&&◌, List, Option, None, Some, option_map, option_and_then, bytes_eq, codes, if◌then◌else◌}
 use Rattle.limit_laws.specs.Facts.{hour}
 use Rattle.limit_laws.specs.Algorithm.{greatest_limit}
 use Rattle.limit_laws.specs.SettableRules.{settable_from}
@@ -9,27 +9,34 @@ use Rattle.limit_kinds.specs.declared.kinds.BaseLimit.{BaseLimit}
 use Rattle.limit_kinds.specs.declared.kinds.BaseLimit.TheVariants as base
 use Rattle.script.specs.declared.limit_line.LimitLine.{LimitLine}
 use Rattle.script.specs.declared.limit_line.LimitLine.TheVariants.{Fixed, Settable, Aimd, Vegas}
-use Rattle.script.specs.Words.{with_number, with_word, alone}
+use Rattle.script.specs.Words.{with_number, with_word, alone, lone_number, number_pair}
+
+-- the three limits in front, the least, the first and the greatest one, and the words behind them
+abbrev pub first_limits : List (List ℕ) → Option ((ℕ × ℕ × ℕ) × List (List ℕ))
+first_limits ws =
+    with_number (λ lo. with_number (λ n. with_number (λ hi rest. Some ((lo, n, hi), rest)))) ws
+
+-- what is made of these and the words behind them
+abbrev pub with_limits : (ℕ → ℕ → ℕ → List (List ℕ) → Option LimitLine) → List (List ℕ)
+    → Option LimitLine
+with_limits f ws = option_and_then (λ cut. f cut.0.0 cut.0.1 cut.0.2 cut.1) (first_limits ws)
 
 -- the numbers of each kind of limit
 abbrev pub fixed_line : List (List ℕ) → Option LimitLine
-fixed_line ws = with_number (λ n. alone (Fixed n)) ws
+fixed_line ws = option_map Fixed (lone_number ws)
 
 abbrev pub settable_line : List (List ℕ) → Option LimitLine
-settable_line ws =
-    with_number (λ lo. with_number (λ n. with_number (λ hi. alone (Settable lo n hi)))) ws
+settable_line ws = with_limits (λ lo n hi. alone (Settable lo n hi)) ws
 
 abbrev pub aimd_line : List (List ℕ) → Option LimitLine
 aimd_line ws =
-    with_number (λ lo. with_number (λ n. with_number (λ hi.
-    with_number (λ ratio. with_number (λ timeout.
-    alone (Aimd lo n hi ratio timeout)))))) ws
+    with_limits (λ lo n hi rest. option_map (λ pair.
+    Aimd lo n hi pair.0 pair.1) (number_pair rest)) ws
 
 abbrev pub vegas_line : List (List ℕ) → Option LimitLine
 vegas_line ws =
-    with_number (λ lo. with_number (λ n. with_number (λ hi.
-    with_number (λ alpha. with_number (λ beta. with_number (λ probe.
-    alone (Vegas lo n hi alpha beta probe))))))) ws
+    with_limits (λ lo n hi. with_number (λ alpha rest. option_map (λ pair.
+    Vegas lo n hi alpha pair.0 pair.1) (number_pair rest))) ws
 
 -- the numbers of the kind of this name
 abbrev pub line_of_kind : List ℕ → List (List ℕ) → Option LimitLine

@@ -7,7 +7,7 @@ use Rattle.script.specs.declared.why.Why.{Why}
 use Rattle.script.specs.declared.why.Why.TheVariants.{Words, Value}
 use Rattle.script.specs.declared.request.Request.{Request}
 use Rattle.script.specs.declared.request.Request.TheVariants.{Acquire, Bypass, End, Claim, GiveUp, SetLimit, Reset, Look}
-use Rattle.script.specs.Words.{with_number, with_word, alone, lone_number}
+use Rattle.script.specs.Words.{with_number, with_word, alone, lone_number, number_pair}
 
 -- what a line asks, of a class by its name
 abbrev pub Asks : Type 0
@@ -37,16 +37,12 @@ acquire_of ws =
 abbrev pub end_of : List (List ℕ) → Option Asks
 end_of ws =
     with_number (λ number. with_word (λ word rest.
-    option_and_then (λ outcome. with_number (λ now. alone (End number outcome now)) rest)
+    option_and_then (λ outcome. option_map (End number outcome) (lone_number rest))
     (outcome_of word))) ws
 
 -- `look CLASS`
 abbrev pub look_of : List (List ℕ) → Option Asks
 look_of ws = with_word (λ class. alone (Look class)) ws
-
--- two numbers
-abbrev pub number_pair : List (List ℕ) → Option (ℕ × ℕ)
-number_pair ws = with_number (λ n. with_number (λ m. alone (n, m))) ws
 
 -- a limit by hand, which is 32 bits long
 abbrev pub set_to : Option (ℕ × ℕ) → Result Asks Why

@@ -3,14 +3,13 @@ use Rattle.std.specs.Prelude.{ℕ, Bool, true, false, List, [], ◌∷◌, Optio
 use Rattle.std.specs.Borrow.{Bor}
 use Rattle.script.specs.declared.setting.Setting.{Setting}
 use Rattle.script.specs.declared.setting.Setting.TheVariants.{Limit, Window, Class, Backlog, Keep, Timeout}
-use Rattle.script.specs.Words.{with_number, with_word, alone, lone_number}
+use Rattle.script.specs.Words.{with_number, with_word, lone_number}
 use Rattle.script.specs.LimitLine.{limit_line}
 use Rattle.script.specs.WindowLine.{window_line}
 
 -- what follows `class`: a name, and a number
 abbrev pub class_line : List (List ℕ) → Option (Setting (List ℕ))
-class_line ws =
-    with_word (λ name. with_number (λ percent. alone (Class name percent))) ws
+class_line ws = with_word (λ name rest. option_map (Class name) (lone_number rest)) ws
 
 -- whether the rest of a line says `rolling`, where it says nothing else
 abbrev pub rolling_of : List (List ℕ) → Option Bool

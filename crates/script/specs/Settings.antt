@@ -86,6 +86,10 @@ with_timeout s nanos =
     then Ok (record s { timeout = Some nanos })
     else Err Value)
 
+-- the table of the partitions that make one
+abbrev pub table_of : List Row → Option (List Row)
+table_of rows = if is_none (fault_of rows) then Some rows else None
+
 -- one more partition: its percentage fits 32 bits, and the partitions with it make a table
 abbrev pub with_row : SettingFacts → Row → Set
 with_row s row =

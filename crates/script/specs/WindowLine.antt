@@ -1,16 +1,17 @@
 -- What follows `window`, and the windows that it gives.
-use Rattle.std.specs.Prelude.{ℕ, nat_le, ◌&&◌, List, Option, None, Some, if◌then◌else◌}
+use Rattle.std.specs.Prelude.{ℕ, nat_le, ◌&&◌, List, Option, None, Some, option_map, if◌then◌else◌}
 use Rattle.limit_laws.specs.Facts.{hour}
 use Rattle.sample_window.specs.Totals.{most_samples}
 use Rattle.windowed.specs.WindowedRules.{WindowNumbers, numbers_from}
 use Rattle.script.specs.declared.window_line.WindowLine.{WindowLine}
-use Rattle.script.specs.Words.{with_number, alone}
+use Rattle.script.specs.Words.{with_number, number_pair}
 
 -- what follows `window`: four numbers
 abbrev pub window_line : List (List ℕ) → Option WindowLine
 window_line ws =
-    with_number (λ size. with_number (λ least. with_number (λ most. with_number (λ min_rtt.
-    alone (record { size = size; least = least; most = most; min_rtt = min_rtt }))))) ws
+    with_number (λ size. with_number (λ least rest. option_map (λ pair.
+    record { size = size; least = least; most = pair.0; min_rtt = pair.1 })
+    (number_pair rest))) ws
 
 -- the windows of a line, where each number of it is in its range
 abbrev pub windows_of : WindowLine → Option WindowNumbers

@@ -42,6 +42,10 @@ alone a _ = None
 abbrev pub lone_number : List (List ℕ) → Option ℕ
 lone_number ws = with_number alone ws
 
+-- the two numbers of a line that has no other word
+abbrev pub number_pair : List (List ℕ) → Option (ℕ × ℕ)
+number_pair ws = with_number (λ n rest. option_map (λ m. (n, m)) (lone_number rest)) ws
+
 -- what is made of an answer, where it is no fault
 abbrev pub result_map : {A B E : Type 0} → (A → B) → Result A E → Result B E
 result_map f (Ok a) = Ok (f a)

@@ -1,10 +1,10 @@
 // The lines that give a limit.
-ghost use Rattle.std.specs.Prelude.{◌≡◌};
+ghost use Rattle.std.specs.Prelude.{◌≡◌, IfNone, IfSome, None, Some};
 ghost use Rattle.script.specs.Words.{words};
 ghost use Rattle.script.specs.LimitLine.{fixed_line, settable_line, aimd_line, vegas_line};
-ghost use Rattle.script.specs.LimitLine.{limit_line, base_of};
+ghost use Rattle.script.specs.LimitLine.{first_limits, limit_line, base_of};
 
-use super::numbers::next_number;
+use super::numbers::{next_number, read_lone_number, read_number_pair};
 use super::words::next_word;
 use limit_kinds::BaseLimit;
 
@@ -45,20 +45,27 @@ pub enum LimitLine {
 fn read_fixed(line: &[u8]) -> Option<LimitLine>
     ensures { result ≡ fixed_line (words line.now) }
 {
-    let (n, line) = next_number(line)?;
-    if next_word(line).is_some() {
-        return None;
-    }
+    let n = read_lone_number(line)?;
     Some(LimitLine::Fixed { n })
+}
+
+/// The least limit, the first and the greatest one, which stand in front, and what follows them.
+fn next_limits(line: &[u8]) -> Option<((u64, u64, u64), &[u8])>
+    ensures none { IfNone result (first_limits (words line.now) ≡ None) }
+    ensures first { IfSome result
+        (λ cut. first_limits (words line.now) ≡ Some (cut.0, words cut.1.now)) }
+{
+    let (lo, line) = next_number(line)?;
+    let (n, line) = next_number(line)?;
+    let (hi, line) = next_number(line)?;
+    Some(((lo, n, hi), line))
 }
 
 /// What follows `settable`.
 fn read_settable(line: &[u8]) -> Option<LimitLine>
     ensures { result ≡ settable_line (words line.now) }
 {
-    let (lo, line) = next_number(line)?;
-    let (n, line) = next_number(line)?;
-    let (hi, line) = next_number(line)?;
+    let ((lo, n, hi), line) = next_limits(line)?;
     if next_word(line).is_some() {
         return None;
     }
@@ -69,14 +76,8 @@ fn read_settable(line: &[u8]) -> Option<LimitLine>
 fn read_aimd(line: &[u8]) -> Option<LimitLine>
     ensures { result ≡ aimd_line (words line.now) }
 {
-    let (lo, line) = next_number(line)?;
-    let (n, line) = next_number(line)?;
-    let (hi, line) = next_number(line)?;
-    let (ratio, line) = next_number(line)?;
-    let (timeout, line) = next_number(line)?;
-    if next_word(line).is_some() {
-        return None;
-    }
+    let ((lo, n, hi), line) = next_limits(line)?;
+    let (ratio, timeout) = read_number_pair(line)?;
     Some(LimitLine::Aimd {
         lo,
         n,
@@ -90,15 +91,9 @@ fn read_aimd(line: &[u8]) -> Option<LimitLine>
 fn read_vegas(line: &[u8]) -> Option<LimitLine>
     ensures { result ≡ vegas_line (words line.now) }
 {
-    let (lo, line) = next_number(line)?;
-    let (n, line) = next_number(line)?;
-    let (hi, line) = next_number(line)?;
+    let ((lo, n, hi), line) = next_limits(line)?;
     let (alpha, line) = next_number(line)?;
-    let (beta, line) = next_number(line)?;
-    let (probe, line) = next_number(line)?;
-    if next_word(line).is_some() {
-        return None;
-    }
+    let (beta, probe) = read_number_pair(line)?;
     Some(LimitLine::Vegas {
         lo,
         n,

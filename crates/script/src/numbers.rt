@@ -4,7 +4,7 @@ ghost use Rattle.std.specs.Prelude.{IfNone};
 ghost use Rattle.std.specs.Char.{is_ascii_digit};
 ghost use Rattle.std.specs.List.{list_all};
 ghost use Rattle.std.specs.Str.Parse.{digits_value};
-ghost use Rattle.script.specs.Words.{words, number_of, first_number, lone_number};
+ghost use Rattle.script.specs.Words.{words, number_of, first_number, lone_number, number_pair};
 
 use super::words::next_word;
 
@@ -59,4 +59,12 @@ pub fn read_lone_number(line: &[u8]) -> Option<u64>
         return None;
     }
     Some(number)
+}
+
+/// The two numbers of a line that has no other word.
+pub(crate) fn read_number_pair(line: &[u8]) -> Option<(u64, u64)>
+    ensures { result ≡ number_pair (words line.now) }
+{
+    let (first, line) = next_number(line)?;
+    Some((first, read_lone_number(line)?))
 }

@@ -2,9 +2,9 @@
 ghost use Rattle.std.specs.Prelude.{◌≡◌, option_map};
 ghost use Rattle.script.specs.Words.{words, result_map};
 ghost use Rattle.script.specs.Request.{outcome_of, wait_of, acquire_of, end_of, look_of};
-ghost use Rattle.script.specs.Request.{number_pair, set_of, short_of, request_of, request_bytes};
+ghost use Rattle.script.specs.Request.{set_of, short_of, request_of, request_bytes};
 
-use super::numbers::{next_number, read_lone_number};
+use super::numbers::{next_number, read_lone_number, read_number_pair};
 use super::why::Why;
 use super::words::next_word;
 use limiter_core::Outcome;
@@ -97,10 +97,7 @@ fn read_end(line: &[u8]) -> Option<Request<&[u8]>>
     let (number, line) = next_number(line)?;
     let (outcome, line) = next_word(line)?;
     let outcome = read_outcome(outcome)?;
-    let (now, line) = next_number(line)?;
-    if next_word(line).is_some() {
-        return None;
-    }
+    let now = read_lone_number(line)?;
     Some(Request::End {
         number,
         outcome,
@@ -117,18 +114,6 @@ fn read_look(line: &[u8]) -> Option<Request<&[u8]>>
         return None;
     }
     Some(Request::Look { class })
-}
-
-/// The two numbers of a line that has no other word.
-fn read_number_pair(line: &[u8]) -> Option<(u64, u64)>
-    ensures { result ≡ number_pair (words line.now) }
-{
-    let (first, line) = next_number(line)?;
-    let (second, line) = next_number(line)?;
-    if next_word(line).is_some() {
-        return None;
-    }
-    Some((first, second))
 }
 
 /// What follows `set`.

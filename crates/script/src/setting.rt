@@ -32,10 +32,7 @@ fn read_class(line: &[u8]) -> Option<Setting<&[u8]>>
     ensures { option_map setting_bytes result ≡ class_line (words line.now) }
 {
     let (name, line) = next_word(line)?;
-    let (percent, line) = next_number(line)?;
-    if next_word(line).is_some() {
-        return None;
-    }
+    let percent = read_lone_number(line)?;
     Some(Setting::Class { name, percent })
 }
 

@@ -1,8 +1,9 @@
 // The settings of a script.
-ghost use Rattle.std.specs.Prelude.{◌≡◌, ◌≤◌, Some, None, is_none, IfOk, IfErr, OnOk, OnErr};
-ghost use Rattle.std.specs.Prelude.{if◌then◌else◌};
+ghost use Rattle.std.specs.Prelude.{◌≡◌, ◌≤◌, ◌∷◌, ◌++◌, [], IfOk, IfErr, IfSome, IfNone};
+ghost use Rattle.std.specs.Prelude.{OnOk, OnErr};
 ghost use Rattle.limit_laws.specs.Algorithm.{greatest_limit};
-ghost use Rattle.partitions.specs.Faults.{given, fault_of};
+ghost use Rattle.partitions.specs.Faults.{given};
+ghost use Rattle.script.specs.Settings.{table_of};
 
 use super::limit_line::{LimitLine, make_limit};
 use super::setting::Setting;
@@ -195,21 +196,12 @@ impl<'a> Settings<'a> {
         let Ok(percent) = u32::try_from(percent) else {
             return Ok(Err(Why::Value));
         };
-        let count = self.rows.len();
-        self.rows.push((name, percent))?;
-        match make_table(*self.rows.allocator(), &self.rows) {
-            Ok(Some(table)) => {
+        match push_row(&mut self.rows, (name, percent))? {
+            Some(table) => {
                 self.table = table;
                 Ok(Ok(()))
             }
-            Ok(None) => {
-                self.rows.truncate(count);
-                Ok(Err(Why::Value))
-            }
-            Err(error) => {
-                self.rows.truncate(count);
-                Err(error)
-            }
+            None => Ok(Err(Why::Value)),
         }
     }
 
@@ -274,10 +266,29 @@ impl<'a> Settings<'a> {
     }
 }
 
+/// Adds a row where it makes a table with those so far, and gives that table; else the rows stay.
+fn push_row<'a>(
+    rows: &mut Vec<(&'a [u8], u32)>,
+    row: (&'a [u8], u32),
+) -> Result<Option<PartitionTable>, AllocError>
+    ensures table { IfOk result (λ made. made
+        ≡ table_of (given rows.old.items ++ given (row.entry ∷ []))) }
+    ensures taken { IfOk result (λ made. IfSome made (λ table. table ≡ given rows.new.items)) }
+    ensures left { IfOk result (λ made. IfNone made (rows.new.items ≡ rows.old.items)) }
+    ensures memory { OnErr result (rows.new.items ≡ rows.old.items) }
+{
+    let count = rows.len();
+    rows.push(row)?;
+    let made = make_table(*rows.allocator(), rows);
+    if !matches!(made, Ok(Some(_))) {
+        rows.truncate(count);
+    }
+    made
+}
+
 /// The table of rows that make one.
 fn make_table(alloc: Global, rows: &[(&[u8], u32)]) -> Result<Option<PartitionTable>, AllocError>
-    ensures { IfOk result (λ table. table
-        ≡ (if is_none (fault_of (given rows.now)) then Some (given rows.now) else None)) }
+    ensures { IfOk result (λ table. table ≡ table_of (given rows.now)) }
 {
     match PartitionTable::new(alloc, rows) {
         Ok(table) => Ok(Some(table)),

@@ -3,8 +3,7 @@ ghost use Rattle.std.specs.Prelude.{◌≡◌};
 ghost use Rattle.script.specs.Words.{words};
 ghost use Rattle.script.specs.WindowLine.{window_line, windows_of};
 
-use super::numbers::next_number;
-use super::words::next_word;
+use super::numbers::{next_number, read_number_pair};
 use limit_kinds::window_settings;
 use windowed::WindowSettings;
 
@@ -27,11 +26,7 @@ pub(crate) fn read_window(line: &[u8]) -> Option<WindowLine>
 {
     let (size, line) = next_number(line)?;
     let (least, line) = next_number(line)?;
-    let (most, line) = next_number(line)?;
-    let (min_rtt, line) = next_number(line)?;
-    if next_word(line).is_some() {
-        return None;
-    }
+    let (most, min_rtt) = read_number_pair(line)?;
     Some(WindowLine {
         size,
         least,

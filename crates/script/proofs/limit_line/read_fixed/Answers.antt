@@ -4,8 +4,5 @@ use Rattle.script.proofs.limit_line.read_fixed.Goals as goal
 pub returns-in_err-n : goal.returns-in_err-n
 returns-in_err-n c = search rules
 
-pub returns-then-is_some : goal.returns-then-is_some
-returns-then-is_some c = search rules
-
 pub returns : goal.returns
 returns c = search rules

@@ -4,23 +4,11 @@ use Rattle.script.proofs.limit_line.read_vegas.Goals as goal
 pub returns-in_err-lo : goal.returns-in_err-lo
 returns-in_err-lo c = search rules
 
-pub returns-in_err-n : goal.returns-in_err-n
-returns-in_err-n c = search rules
-
-pub returns-in_err-hi : goal.returns-in_err-hi
-returns-in_err-hi c = search rules
-
 pub returns-in_err-alpha : goal.returns-in_err-alpha
 returns-in_err-alpha c = search rules
 
 pub returns-in_err-beta : goal.returns-in_err-beta
 returns-in_err-beta c = search rules
-
-pub returns-in_err-probe : goal.returns-in_err-probe
-returns-in_err-probe c = search rules
-
-pub returns-then-is_some : goal.returns-then-is_some
-returns-then-is_some c = search rules
 
 pub returns : goal.returns
 returns c = search rules

@@ -13,8 +13,5 @@ returns-in_err-outcome-2 c = search rules
 pub returns-in_err-now : goal.returns-in_err-now
 returns-in_err-now c = search rules
 
-pub returns-then-is_some : goal.returns-then-is_some
-returns-then-is_some c = search rules
-
 pub returns : goal.returns
 returns c = search rules

@@ -10,11 +10,5 @@ returns-in_err-least c = search rules
 pub returns-in_err-most : goal.returns-in_err-most
 returns-in_err-most c = search rules
 
-pub returns-in_err-min_rtt : goal.returns-in_err-min_rtt
-returns-in_err-min_rtt c = search rules
-
-pub returns-then-is_some : goal.returns-then-is_some
-returns-then-is_some c = search rules
-
 pub returns : goal.returns
 returns c = search rules
