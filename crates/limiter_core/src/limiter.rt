@@ -71,12 +71,10 @@ impl<L: Limit> Core<L> {
         ensures made { IfOk result (λ core. core ≡ unasked table room limit) }
         ensures room { IsErrOf result CoreFault.Room ↔ (most_waiters < room) }
     {
-        let backlog = Backlog::new(alloc, room)?;
         prove!(table.len() <= 4);
         let most = table.most(limit.hi()) as u32;
+        let (backlog, granted, promoted) = take_rooms(alloc, room, most)?;
         let permits = Permits::new(most);
-        let granted = GrantedPermits::new(alloc, most)?;
-        let promoted = Vec::with_capacity(alloc, 1)?;
         Ok(Core {
             state: State {
                 limit,
@@ -260,6 +258,24 @@ impl<L: Limit> Core<L> {
     {
         self.state.backlog.room()
     }
+}
+
+/// The lists of a core of so many permits at the most, each with all the room that it ever needs.
+fn take_rooms(
+    alloc: Global,
+    room: u32,
+    most: u32,
+) -> Result<(Backlog, GrantedPermits, Vec<Promotion>), CoreFault>
+    ensures backlog { IfOk result (λ lists. lists.0 ≡ record { waiting = []; room = room }) }
+    ensures granted { IfOk result (λ lists. lists.1 ≡ record { permits = []; room = most }) }
+    ensures promoted { IfOk result (λ lists. lists.2.items ≡ []) }
+    ensures one { IfOk result (λ lists. 1 ≤ vec_capacity lists.2) }
+    ensures room { IsErrOf result CoreFault.Room ↔ (most_waiters < room) }
+{
+    let backlog = Backlog::new(alloc, room)?;
+    let granted = GrantedPermits::new(alloc, most)?;
+    let promoted = Vec::with_capacity(alloc, 1)?;
+    Ok((backlog, granted, promoted))
 }
 
 /// Keeps one promotion, or none.
