@@ -1,5 +1,5 @@
 //! Tests of a gate by its public calls: its book, calls through the lock by worked rows and by four
-//! threads at random, and how it is closed.
+//! threads at random, how it is closed, and loads of it over devices that fail.
 #![tactic(auto)]
 
 #[cfg(test)]
@@ -8,6 +8,8 @@ mod book_tests;
 mod books;
 #[cfg(test)]
 mod closing;
+#[cfg(test)]
+mod load;
 #[cfg(test)]
 mod random;
 #[cfg(test)]

@@ -1,5 +1,5 @@
 // Readers and writers that fail at any of their calls.
-use crate::devices::{Sink, Source};
+use super::devices::{Sink, Source};
 use counted_io::Counted;
 use load_run::{LoadFault, load};
 use std::test::Fail;
