@@ -1,5 +1,5 @@
 // The commands, and the words that each takes.
-ghost use Rattle.std.specs.Prelude.{◌≡◌, false, IfOk};
+ghost use Rattle.std.specs.Prelude.{◌≡◌, false, Ok, IfOk};
 ghost use Rattle.clap.specs.Words.{App, Rule, app_of, new_app, rule_of, with_rule, with_subcommand};
 ghost use Rattle.commands.specs.CommandLine.{IsWithoutGlobals, admission_app, check_app};
 ghost use Rattle.commands.specs.CommandLine.{client_timeout_rule, config_rule, limit_rule};
@@ -117,6 +117,17 @@ fn configured<'a>(
     described(alloc, name, about, help).arg(config_argument(alloc))
 }
 
+/// Two values, where both were made: what they are made of isn't told apart here.
+fn both<A: Drop, B: Drop>(
+    one: Result<A, AllocError>,
+    other: Result<B, AllocError>,
+) -> Result<(A, B), AllocError>
+    ensures one { IfOk result (λ made. one ≡ Ok made.0) }
+    ensures other { IfOk result (λ made. other ≡ Ok made.1) }
+{
+    Ok((one?, other?))
+}
+
 /// The command, where it was made, with one more argument.
 fn with_argument<'a>(
     command: Result<Command<'a>, AllocError>,
@@ -126,7 +137,8 @@ fn with_argument<'a>(
         → rule_of argument.entry ≡ rule → argument.entry.global ≡ false
         → IfOk result (IsWithoutGlobals (with_rule app rule)) }
 {
-    command?.arg(argument)
+    let (command, argument) = both(command, Ok(argument))?;
+    command.arg(argument)
 }
 
 /// `replay [--limit N]`.
@@ -177,7 +189,8 @@ fn with_leaf<'a>(
         → IfOk leaf.entry (IsWithoutGlobals inner)
         → IfOk result (λ larger. app_of larger ≡ with_subcommand outer inner.top) }
 {
-    whole?.subcommand(leaf?)
+    let (whole, leaf) = both(whole, leaf)?;
+    whole.subcommand(leaf)
 }
 
 /// The command, with its subcommands over texts.
