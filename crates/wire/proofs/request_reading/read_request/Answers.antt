@@ -3,7 +3,7 @@ use Rattle.counted_io.specs.Counted.{inner_of}
 use Rattle.wire.specs.declared.request.Request.{Request}
 use Rattle.wire.specs.Fault.{of_read}
 use Rattle.wire.proofs.Told.{request_body_cut, request_cut, request_whole}
-use Rattle.wire.proofs.SaidTexts.{silent_head}
+use Rattle.wire.proofs.SaidTexts.{request_told, silent_head}
 use Rattle.wire.proofs.request_reading.read_request.Goals as goal
 
 pub returns-in_err-head-clause-request : goal.returns-in_err-head-clause-request
@@ -76,3 +76,45 @@ returns-clause-read g c = search rules
 
 pub returns-clause-turns : goal.returns-clause-turns
 returns-clause-turns g c = search rules
+
+pub returns-in_err-head-clause-unfailing : goal.returns-in_err-head-clause-unfailing
+returns-in_err-head-clause-unfailing g c = search rules
+
+pub returns-in_err-head-clause-write : goal.returns-in_err-head-clause-write
+returns-in_err-head-clause-write g c = search rules
+
+pub returns-in_err-path-clause-said : goal.returns-in_err-path-clause-said
+returns-in_err-path-clause-said g c = search (rules, request_told)
+
+pub returns-in_err-path-clause-unfailing : goal.returns-in_err-path-clause-unfailing
+returns-in_err-path-clause-unfailing g c = search rules
+
+pub returns-in_err-path-clause-write : goal.returns-in_err-path-clause-write
+returns-in_err-path-clause-write g c = search rules
+
+pub returns-in_err-say_continue-clause-said : goal.returns-in_err-say_continue-clause-said
+returns-in_err-say_continue-clause-said g c = search (rules, request_told)
+
+pub returns-in_err-say_continue-clause-unfailing : goal.returns-in_err-say_continue-clause-unfailing
+returns-in_err-say_continue-clause-unfailing g c = search rules
+
+pub returns-in_err-say_continue-clause-write : goal.returns-in_err-say_continue-clause-write
+returns-in_err-say_continue-clause-write g c = search rules
+
+pub returns-in_err-body-clause-said : goal.returns-in_err-body-clause-said
+returns-in_err-body-clause-said g c = search (rules, request_told)
+
+pub returns-in_err-body-clause-unfailing : goal.returns-in_err-body-clause-unfailing
+returns-in_err-body-clause-unfailing g c = search rules
+
+pub returns-in_err-body-clause-write : goal.returns-in_err-body-clause-write
+returns-in_err-body-clause-write g c = search rules
+
+pub returns-clause-said : goal.returns-clause-said
+returns-clause-said g c = search (rules, request_told)
+
+pub returns-clause-unfailing : goal.returns-clause-unfailing
+returns-clause-unfailing g c = search rules
+
+pub returns-clause-write : goal.returns-clause-write
+returns-clause-write g c = search rules
