@@ -3,14 +3,20 @@ use Rattle.std.proofs.Common.{◌≡◌, ℕ, ◌≤◌, List, length, sym, ap, 
 use Rattle.std.specs.Prelude.{Vec}
 use Rattle.std.specs.declared.alloc.Global.{Global}
 use Rattle.limit_laws.specs.Algorithm.{Algorithm}
+use Rattle.partitions.specs.Table.{Row}
 use Rattle.limiter_core.specs.declared.event.Entry.{Entry}
-use Rattle.gate_journal.specs.Journal.{Journal}
+use Rattle.limiter_core.specs.History.{Gate}
+use Rattle.limiter_core.specs.Legal.{IsLegal}
+use Rattle.limiter_core.specs.Bound.{IsSound}
+use Rattle.gate_journal.specs.Image.{Standing, image_of}
+use Rattle.gate_journal.specs.Journal.{Journal, gate, opening}
 use Rattle.gate_history.specs.Book.{Agrees, Book, calls_of}
 use Rattle.gate_history.specs.Told.{Told}
 use Rattle.audit.specs.declared.cause.Cause.{Cause}
 use Rattle.audit.specs.declared.judge.Calls.{Calls}
+use Rattle.audit.specs.Accepted.{IsHistoryOf}
 use Rattle.audit.specs.Verdict.{audited, IsFirstCause}
-use Rattle.shared_gate.specs.Closing.{FailsBy}
+use Rattle.shared_gate.specs.Closing.{FailsBy, IsKept, made_with}
 
 -- the book's journal as a value of its own
 pub record IsHistoryIn {S : Type 0} (b : Book S) (base : ℕ) (entries : List Entry) : Type 0 where
@@ -44,4 +50,49 @@ fails_by rules b calls base entries shown kept lists cause agrees is counted eno
           subst (λ (h : List Entry). IsFirstCause (audited calls base h kept) cause) same
           (subst (λ (ls : List (Vec Told Global)). IsFirstCause (audited calls base shown ls) cause)
           lent first);
+    }
+
+-- an accepted history has the calls of the passes
+pub has_the_calls : {S : Type 0} (rules : Algorithm S) (b : Book S) (calls : Calls) (base : ℕ)
+    (entries : List Entry) → Agrees rules b → IsHistoryIn b base entries
+    → calls.book ≡ b.tally.calls → calls.book ≡ calls.sum → base ≡ 0
+    → calls.sum ≡ calls_of entries
+has_the_calls rules b calls base entries agrees is counted all zero_base =
+    sym all ∙ counted ∙ agrees.calls (sym is.first ∙ zero_base)
+    ∙ ap (λ (h : List Entry). calls_of h) (sym is.all)
+
+-- it is accepted as it was shown
+pub is_accepted : (entries shown : List Entry) (kept lists : List (Vec Told Global))
+    → shown ≡ entries → lists ≡ kept → IsHistoryOf shown lists → IsHistoryOf entries kept
+is_accepted entries shown kept lists same lent is =
+    subst (λ (h : List Entry). IsHistoryOf h kept) same
+    (subst (λ (ls : List (Vec Told Global)). IsHistoryOf shown ls) lent is)
+
+-- and the gate kept it
+pub is_kept : {S : Type 0} (rules : Algorithm S) (rows : List Row) (room : ℕ) (b : Book S)
+    (j : Journal S) (o : Standing S) (base : ℕ) (entries : List Entry)
+    → IsLegal (gate rules b.journal) (opening b.journal) b.journal.entries
+    → IsSound (gate rules b.journal) (opening b.journal)
+    → b.journal.rows ≡ rows → b.journal.room ≡ room
+    → j ≡ b.journal → o ≡ j.opening → base ≡ j.opening.next → entries ≡ j.entries
+    → IsKept (made_with rules rows room) o base entries
+is_kept {S} rules rows room b j o base entries legal sound of_rows of_room same opens first all =
+    let g : Gate S = made_with rules rows room in
+    let same_gate : gate rules b.journal ≡ g =
+    ap (λ (rs : List Row). made_with rules rs b.journal.room) of_rows
+    ∙ ap (λ (n : ℕ). made_with rules rows n) of_room in
+    let same_opening : b.journal.opening ≡ o =
+    sym (opens ∙ ap (λ (k : Journal S). k.opening) same) in
+    let same_entries : b.journal.entries ≡ entries =
+    sym (all ∙ ap (λ (k : Journal S). k.entries) same) in
+    record {
+      first = first ∙ ap (λ (s : Standing S). s.next) (sym opens);
+      sound =
+          subst (λ (s : Standing S). IsSound g (image_of s)) same_opening
+          (subst (λ (h : Gate S). IsSound h (opening b.journal)) same_gate sound);
+      legal =
+          subst (λ (xs : List Entry). IsLegal g (image_of o) xs) same_entries
+          (subst (λ (s : Standing S). IsLegal g (image_of s) b.journal.entries) same_opening
+          (subst (λ (h : Gate S). IsLegal h (opening b.journal) b.journal.entries) same_gate
+          legal));
     }
