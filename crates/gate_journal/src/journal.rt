@@ -84,18 +84,7 @@ impl<L: Limit> Journal<L> {
         if kept < 1 || MOST_KEPT < kept {
             return Err(JournalFault::Places);
         }
-        core.check();
-        answers_by_image::<L>();
-        let opening = Image::of(alloc, &core)?;
-        let owed = 2 * core.bound() as usize + 3 * core.room() as usize;
-        let entries = Vec::with_capacity(alloc, kept + owed)?;
-        Ok(Journal {
-            opening,
-            core,
-            entries,
-            kept,
-            is_rolling,
-        })
+        Ok(Journal::over(alloc, core, kept, is_rolling)?)
     }
 
     /// A journal of a new limiter: of this limit over these partitions, in which nothing is in
@@ -119,11 +108,32 @@ impl<L: Limit> Journal<L> {
             Err(CoreFault::Memory) => return Err(AllocError),
             Err(CoreFault::Room) => unreachable!(),
         };
-        match Journal::new(alloc, core, kept, is_rolling) {
-            Ok(journal) => Ok(journal),
-            Err(JournalFault::Memory) => Err(AllocError),
-            Err(JournalFault::Places) => unreachable!(),
-        }
+        Journal::over(alloc, core, kept, is_rolling)
+    }
+
+    /// A journal that opens with what stands in the limiter now: all that it ever needs is taken.
+    fn over(
+        alloc: Global,
+        core: Core<L>,
+        kept: usize,
+        is_rolling: bool,
+    ) -> Result<Journal<L>, AllocError>
+        requires some_kept { 1 ≤ kept }
+        requires few_kept { kept ≤ most_kept }
+        ensures { IfOk result (λ journal. journal ≡ opened core kept is_rolling) }
+    {
+        core.check();
+        answers_by_image::<L>();
+        let opening = Image::of(alloc, &core)?;
+        let owed = 2 * core.bound() as usize + 3 * core.room() as usize;
+        let entries = Vec::with_capacity(alloc, kept + owed)?;
+        Ok(Journal {
+            opening,
+            core,
+            entries,
+            kept,
+            is_rolling,
+        })
     }
 
     /// All that was asked and answered since the opening, in order.
