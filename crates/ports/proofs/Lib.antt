@@ -1,4 +1,5 @@
 pub mod Asked
+pub mod Ended
 pub mod Grown
 pub mod LastWaiter
 pub mod Made
