@@ -7,7 +7,7 @@ use crate::summary::Summary;
 use limiter_core::{Counters, Entry, Event, Outcome, Reply};
 
 /// The kinds of entries that are counted: calls, replies, promotions, and outcomes of endings.
-#[derive(Clone, Copy, PartialEq, Eq)]
+#[derive(Clone, Copy)]
 pub(crate) enum Kind {
     Called,
     Admitted,
@@ -27,7 +27,7 @@ fn is_of(kind: Kind, entry: &Entry) -> bool
     ensures { result ≡ is_of kind entry.now }
 {
     let Entry::Call { event, reply } = entry else {
-        return kind == Kind::Promoted;
+        return matches!(kind, Kind::Promoted);
     };
     match kind {
         Kind::Called => true,

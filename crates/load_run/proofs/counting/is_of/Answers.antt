@@ -1,9 +1,6 @@
 use Rattle.std.proofs.Common.{rules}
 use Rattle.load_run.proofs.counting.is_of.Goals as goal
 
-pub returns-in_default : goal.returns-in_default
-returns-in_default c = search rules
-
 pub returns-in-Called : goal.returns-in-Called
 returns-in-Called c = search rules
 
