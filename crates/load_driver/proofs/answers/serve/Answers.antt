@@ -118,3 +118,6 @@ returns-in_ok-push_str-in-None-clause-journal g c = search rules
 
 pub returns-in_ok-push_str-in-None-clause-opens : goal.returns-in_ok-push_str-in-None-clause-opens
 returns-in_ok-push_str-in-None-clause-opens g c = search rules
+
+pub push_entries-requires : goal.push_entries-requires
+push_entries-requires g c = grind (arith, common_steps)

@@ -1,4 +1,5 @@
-use Rattle.std.proofs.Common.{rules}
+use Rattle.std.proofs.Common.{arith, rules}
+use Rattle.std.proofs.lemmas.Grind.{common_steps}
 use Rattle.load_driver.proofs.Unasked.{opens_unasked, begins}
 use Rattle.load_driver.proofs.session.Session.new.Goals as goal
 
@@ -13,3 +14,6 @@ invariant_of-result g c =
 
 pub returns-clause-begun : goal.returns-clause-begun
 returns-clause-begun g c = search rules
+
+pub returns-clause-stands : goal.returns-clause-stands
+returns-clause-stands g c = grind (arith, common_steps)
