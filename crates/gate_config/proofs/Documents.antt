@@ -1,27 +1,70 @@
--- Where a document's members are at fault.
-use Rattle.std.proofs.Common.{◌≡◌, [], List, Option, Result, Ok, Err, IsOk}
+-- A document of its sections and its rules.
+use Rattle.std.proofs.Common.{◌≡◌, refl, [], List, Option, Result, Ok, Err, IsOk}
 use Rattle.toml.specs.Data.{Members}
 use Rattle.partitions.specs.Table.{Row}
 use Rattle.config_values.specs.declared.fault.ConfigFault.{ConfigFault}
 use Rattle.config_values.specs.Outcomes.{◌>>=◌}
 use Rattle.config_sections.specs.Rows.{top_rows}
 use Rattle.config_sections.specs.Section.{Values, section_values}
-use Rattle.gate_config.specs.Document.{bypasses_of, classes_in, document_of, limit_of, resolvers_of, window_of}
+use Rattle.gate_config.specs.Document.{DocumentValues, RuleValues, bypasses_of, classes_in, document_of, limit_of, resolvers_of, rules_of, window_of}
 
--- what stands before the resolvers was read
-pub record IsRead (t : Members) (classes : List Members × List Row) : Type 0 where
+-- what stands before the rules was read
+pub record IsRead (t : Members) : Type 0 where
   pub top : Values
   pub limit : Members × Values
   pub window : Option (Members × Values)
   pub is_top : section_values [] top_rows t ≡ Ok top
   pub is_limit : limit_of t ≡ Ok limit
   pub is_window : window_of t ≡ Ok window
-  pub is_classes : classes_in t ≡ Ok classes
+
+-- what was read, and the rules
+abbrev pub with_rules : {t : Members} → IsRead t → RuleValues → DocumentValues
+with_rules read rules = record {
+  top = read.top;
+  limit = read.limit;
+  window = read.window;
+  classes = rules.classes;
+  resolvers = rules.resolvers;
+  bypasses = rules.bypasses;
+}
+
+of_one : {A B C : Type 0} (a : Result A ConfigFault) (all : A → B) (make : B → C) →
+    (a >>= λ x. Ok (make (all x))) ≡ ((a >>= λ x. Ok (all x)) >>= λ b. Ok (make b))
+of_one (Err e) all make = refl
+of_one (Ok x) all make = refl
+
+of_two : {A B C D : Type 0} (a : Result A ConfigFault) (b : Result B ConfigFault)
+    (all : A → B → C) (make : C → D) →
+    (a >>= λ x. b >>= λ y. Ok (make (all x y)))
+    ≡ ((a >>= λ x. b >>= λ y. Ok (all x y)) >>= λ c. Ok (make c))
+of_two (Err e) b all make = refl
+of_two (Ok x) b all make = of_one b (all x) make
+
+of_three : {A B C D E : Type 0} (a : Result A ConfigFault) (b : A → Result B ConfigFault)
+    (c : Result C ConfigFault) (all : A → B → C → D) (make : D → E) →
+    (a >>= λ x. b x >>= λ y. c >>= λ z. Ok (make (all x y z)))
+    ≡ ((a >>= λ x. b x >>= λ y. c >>= λ z. Ok (all x y z)) >>= λ d. Ok (make d))
+of_three (Err e) b c all make = refl
+of_three (Ok x) b c all make = of_two (b x) c (all x) make
+
+-- the document is at fault where the rules are
+pub document_read : (t : Members) (read : IsRead t) →
+    document_of t ≡ (rules_of t >>= λ rules. Ok (with_rules read rules))
+document_read t read =
+    rw (read.is_top, read.is_limit, read.is_window)
+    (of_three (classes_in t) (λ classes. resolvers_of classes.1 t) (bypasses_of t)
+    (λ classes resolvers bypasses.
+    record { classes = classes; resolvers = resolvers; bypasses = bypasses }) (with_rules read))
+
+-- what only makes a value has no fault of its own
+pub same_fault : {A B : Type 0} (a : Result A ConfigFault) (make : A → B) (fault : ConfigFault) →
+    (a >>= λ x. Ok (make x)) ≡ Err fault → a ≡ Err fault
+same_fault (Err e) make fault said = cc
+same_fault (Ok x) make fault said = cc
 
 pub no_resolvers : (t : Members) (classes : List Members × List Row) (e : ConfigFault)
-    → IsRead t classes →
-    resolvers_of classes.1 t ≡ Err e → document_of t ≡ Err e
-no_resolvers t classes e r fault = rw (r.is_top, r.is_limit, r.is_window, r.is_classes, fault)
+    → classes_in t ≡ Ok classes → resolvers_of classes.1 t ≡ Err e → rules_of t ≡ Err e
+no_resolvers t classes e is_read fault = rw (is_read, fault)
 
 after_resolvers : {A B : Type 0} (r : Result A ConfigFault) (next : A → Result B ConfigFault)
     (e : ConfigFault) →
@@ -30,11 +73,10 @@ after_resolvers (Ok a) next e fine fault = fault a
 after_resolvers (Err f) next e fine fault = cc
 
 pub no_bypasses : (t : Members) (classes : List Members × List Row) (e : ConfigFault)
-    → IsRead t classes →
-    IsOk (resolvers_of classes.1 t) → bypasses_of t ≡ Err e → document_of t ≡ Err e
-no_bypasses t classes e r fine fault =
-    rw (r.is_top, r.is_limit, r.is_window, r.is_classes)
-    (after_resolvers (resolvers_of classes.1 t) _ e fine λ resolvers. rw fault)
+    → classes_in t ≡ Ok classes → IsOk (resolvers_of classes.1 t) → bypasses_of t ≡ Err e →
+    rules_of t ≡ Err e
+no_bypasses t classes e is_read fine fault =
+    rw is_read (after_resolvers (resolvers_of classes.1 t) _ e fine λ resolvers. rw fault)
 
 -- an answer has one fault
 pub one_fault : {A B : Type 0} (said : Result A ConfigFault) (r : Result B ConfigFault)

@@ -25,6 +25,7 @@ use Rattle.config_sections.specs.Section.{Values, read_each, section_values}
 use Rattle.config_sections.specs.Top.{top_values}
 use Rattle.config_sections.specs.Window.{window_values}
 use Rattle.gate_config.specs.declared.document.Document.{Document}
+use Rattle.gate_config.specs.declared.document.RuleKeys.{RuleKeys}
 
 -- what a configuration holds
 pub record DocumentValues : Type 0 where
@@ -48,14 +49,27 @@ window_member member = (table_view member.0.now, window_values member.1)
 abbrev pub tables_and_rows : Bor (List Value) × ArrayVec ClassKeys → List Members × List Row
 tables_and_rows classes = (tables_among classes.0.now, map class_row classes.1.items)
 
+-- the classes, the resolvers and the bypass rules
+pub record RuleValues : Type 0 where
+  pub classes : List Members × List Row
+  pub resolvers : List (Members × Values)
+  pub bypasses : List (Members × Values)
+
+abbrev pub rule_values : RuleKeys → RuleValues
+rule_values r = record {
+  classes = tables_and_rows r.classes;
+  resolvers = map resolver_member r.resolvers.items;
+  bypasses = map bypass_member r.bypasses.items;
+}
+
 abbrev pub document_values : Document → DocumentValues
 document_values d = record {
   top = top_values d.top;
   limit = limit_member d.limit;
   window = option_map window_member d.window;
-  classes = tables_and_rows d.classes;
-  resolvers = map resolver_member d.resolvers.items;
-  bypasses = map bypass_member d.bypasses.items;
+  classes = tables_and_rows d.rules.classes;
+  resolvers = map resolver_member d.rules.resolvers.items;
+  bypasses = map bypass_member d.rules.bypasses.items;
 }
 
 -- the table `limit` and its keys
@@ -87,6 +101,14 @@ resolvers_of classes t =
 abbrev pub bypasses_of : Members → Result (List (Members × Values)) ConfigFault
 bypasses_of t =
     tables_from Key.Bypass 32 (get_member (codes "bypass") t) >>= read_each bypass_after []
+
+-- the keys of the three arrays, in the order of the rows
+abbrev pub rules_of : Members → Result RuleValues ConfigFault
+rules_of t =
+    classes_in t >>= λ classes.
+    resolvers_of classes.1 t >>= λ resolvers.
+    bypasses_of t >>= λ bypasses.
+    Ok (record { classes = classes; resolvers = resolvers; bypasses = bypasses })
 
 -- every key, in the order of the rows
 abbrev pub document_of : Members → Result DocumentValues ConfigFault

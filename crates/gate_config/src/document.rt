@@ -12,7 +12,7 @@ ghost use Rattle.config_sections.specs.Resolver.{resolver_after};
 ghost use Rattle.config_sections.specs.Section.{read_each};
 ghost use Rattle.config_sections.specs.Top.{IsTop};
 ghost use Rattle.config_sections.specs.Window.{IsWindow};
-ghost use Rattle.gate_config.specs.Document.{bypasses_of, classes_in, document_of, document_values, limit_member, limit_of, resolvers_of, tables_and_rows, window_member, window_of};
+ghost use Rattle.gate_config.specs.Document.{bypasses_of, classes_in, document_of, document_values, limit_member, limit_of, resolvers_of, rule_values, rules_of, tables_and_rows, window_member, window_of};
 
 use arrayvec::ArrayVec;
 use config_sections::{
@@ -33,6 +33,12 @@ pub struct Document<'a> {
     pub top: TopKeys,
     pub limit: (&'a Table, LimitKeys),
     pub window: Option<(&'a Table, WindowKeys)>,
+    pub rules: RuleKeys<'a>,
+}
+
+/// The keys by which requests are told apart, with the tables that hold them.
+#[derive(Drop)]
+pub struct RuleKeys<'a> {
     pub classes: (&'a [Value], ArrayVec<ClassKeys<'a>, 4>),
     pub resolvers: Vec<(&'a Table, ResolverKeys<'a>)>,
     pub bypasses: Vec<(&'a Table, BypassKeys<'a>)>,
@@ -51,19 +57,12 @@ pub fn read_document<'a>(alloc: Global, table: &'a Table) -> Result<Document<'a>
     let top = read_top(table)?;
     let limit = limit_in(table)?;
     let window = window_in(table)?;
-    let classes = classes_in(table)?;
-    let resolvers = resolvers_in(&classes.1, table)?;
-    let bypasses = bypasses_in(table)?;
-    // No key is at fault: from here on only memory can be wanting.
-    let resolvers = read_resolvers(alloc, &classes.1, resolvers)?;
-    let bypasses = read_bypasses(alloc, bypasses)?;
+    let rules = rules_in(alloc, table)?;
     Ok(Document {
         top,
         limit,
         window,
-        classes,
-        resolvers,
-        bypasses,
+        rules,
     })
 }
 
@@ -85,6 +84,25 @@ fn window_in<'a>(table: &'a Table) -> Result<Option<(&'a Table, WindowKeys)>, Co
         Some(window) => Ok(Some((window, read_window(window)?))),
         None => Ok(None),
     }
+}
+
+/// The tables of the arrays `class`, `resolver` and `bypass`, and their keys.
+fn rules_in<'a>(alloc: Global, table: &'a Table) -> Result<RuleKeys<'a>, ConfigFault>
+    ensures said { Answers rule_values (rules_of (table_view table.now)) result }
+    ensures fault { (fault : FaultValue) →
+        rules_of (table_view table.now) ≡ Err fault → IsErrOf result fault }
+{
+    let classes = classes_in(table)?;
+    let resolvers = resolvers_in(&classes.1, table)?;
+    let bypasses = bypasses_in(table)?;
+    // No key is at fault: from here on only memory can be wanting.
+    let resolvers = read_resolvers(alloc, &classes.1, resolvers)?;
+    let bypasses = read_bypasses(alloc, bypasses)?;
+    Ok(RuleKeys {
+        classes,
+        resolvers,
+        bypasses,
+    })
 }
 
 /// The tables of the array `class`, and their keys.

@@ -11,13 +11,13 @@ ghost use Rattle.config_sections.specs.Limit.{AreInRange};
 ghost use Rattle.config_sections.specs.Resolver.{resolver_member};
 ghost use Rattle.config_sections.specs.Top.{IsTop};
 ghost use Rattle.config_sections.specs.Window.{IsWindow};
-ghost use Rattle.gate_config.specs.Document.{document_values};
+ghost use Rattle.gate_config.specs.Document.{document_values, rule_values};
 ghost use Rattle.gate_config.specs.Rules.{Makes, bypass_from, resolvers_after};
 ghost use Rattle.gate_config.specs.Settings.{AreSound, IsOfKey, Reads, is_version_one, made_of, settings_of};
 
 use crate::build::limit::any_limit;
 use crate::build::rules::{make_bypass, make_resolver, partitions_of};
-use crate::document::{Document, read_document};
+use crate::document::{Document, RuleKeys, read_document};
 use crate::settings::Settings;
 use crate::strangers::least_stranger;
 use classifier::{Bypass, Resolver, Rules};
@@ -108,17 +108,12 @@ fn made_of(alloc: Global, document: Document) -> Result<Settings, ConfigFault>
     ensures sound { IfOk result AreSound }
     ensures said { Makes (λ settings. settings) (made_of (document_values document.entry)) result }
 {
-    let table = partitions_of(alloc, &document.classes.1)?;
-    let resolvers = resolvers_made(alloc, &table, &document.resolvers)?;
-    let bypass = bypasses_made(alloc, &document.bypasses)?;
-    let rules = Rules::new(resolvers, bypass);
+    let (table, rules) = rules_made(alloc, &document.rules)?;
     let Document {
         top,
         limit,
         window,
-        classes: _,
-        resolvers: _,
-        bypasses: _,
+        rules: _,
     } = document;
     let limit = any_limit(limit.1, window.map(|window| window.1));
     Ok(Settings {
@@ -132,6 +127,21 @@ fn made_of(alloc: Global, document: Document) -> Result<Settings, ConfigFault>
         table,
         rules,
     })
+}
+
+/// The classes, and the rules among them.
+fn rules_made(alloc: Global, keys: &RuleKeys) -> Result<(PartitionTable, Rules), ConfigFault>
+    ensures table { IfOk result (λ made. made.0 ≡ (rule_values keys.now).classes.1) }
+    ensures resolvers { Makes (λ made. made.1.resolvers)
+        (resolvers_after (rule_values keys.now).classes.1 [] (rule_values keys.now).resolvers)
+        result }
+    ensures bypass { IfOk result (λ made.
+        made.1.bypass ≡ map (λ rule. bypass_from rule.1) (rule_values keys.now).bypasses) }
+{
+    let table = partitions_of(alloc, &keys.classes.1)?;
+    let resolvers = resolvers_made(alloc, &table, &keys.resolvers)?;
+    let bypass = bypasses_made(alloc, &keys.bypasses)?;
+    Ok((table, Rules::new(resolvers, bypass)))
 }
 
 /// The resolvers of all their keys.

@@ -24,9 +24,9 @@ pub fn least_stranger<'a>(table: &'a Table, document: &Document<'a>) -> Option<S
     if let Some((window, _)) = &document.window {
         least = least_unknown(least, Section::Window, &WINDOW_KEYS, window);
     }
-    least = least_of_classes(least, document.classes.0);
-    least = least_of_resolvers(least, &document.resolvers);
-    least_of_bypasses(least, &document.bypasses)
+    least = least_of_classes(least, document.rules.classes.0);
+    least = least_of_resolvers(least, &document.rules.resolvers);
+    least_of_bypasses(least, &document.rules.bypasses)
 }
 
 /// The least of these classes' and one more.

@@ -1,26 +1,14 @@
 use Rattle.std.proofs.Common.{rules}
 use Rattle.gate_config.proofs.reading.made_of.Goals as goal
 
+pub returns-in_err-table-clause-sound : goal.returns-in_err-table-clause-sound
+returns-in_err-table-clause-sound c = search rules
+
+pub returns-in_err-table-clause-said : goal.returns-in_err-table-clause-said
+returns-in_err-table-clause-said c = search rules
+
 pub returns-clause-sound : goal.returns-clause-sound
 returns-clause-sound c = search rules
 
 pub returns-clause-said : goal.returns-clause-said
 returns-clause-said c = search rules
-
-pub returns-in_err-table-clause-said : goal.returns-in_err-table-clause-said
-returns-in_err-table-clause-said c = search rules
-
-pub returns-in_err-resolvers-clause-said : goal.returns-in_err-resolvers-clause-said
-returns-in_err-resolvers-clause-said c = search rules
-
-pub returns-in_err-bypass-clause-said : goal.returns-in_err-bypass-clause-said
-returns-in_err-bypass-clause-said c = search rules
-
-pub returns-in_err-table-clause-sound : goal.returns-in_err-table-clause-sound
-returns-in_err-table-clause-sound c = search rules
-
-pub returns-in_err-resolvers-clause-sound : goal.returns-in_err-resolvers-clause-sound
-returns-in_err-resolvers-clause-sound c = search rules
-
-pub returns-in_err-bypass-clause-sound : goal.returns-in_err-bypass-clause-sound
-returns-in_err-bypass-clause-sound c = search rules
