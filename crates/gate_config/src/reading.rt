@@ -16,7 +16,7 @@ ghost use Rattle.gate_config.specs.Rules.{Makes, bypass_from, resolvers_after};
 ghost use Rattle.gate_config.specs.Settings.{AreSound, IsOfKey, Reads, is_version_one, made_of, settings_of};
 
 use crate::build::limit::any_limit;
-use crate::build::rules::{make_bypass, make_resolver, partitions_of};
+use crate::build::rules::{add, make_bypass, make_resolver, partitions_of};
 use crate::document::{Document, RuleKeys, read_document};
 use crate::settings::Settings;
 use crate::strangers::least_stranger;
@@ -155,8 +155,7 @@ fn resolvers_made(
 {
     let mut resolvers = Vec::new(alloc);
     for (_, keys) in members {
-        let resolver = make_resolver(alloc, table, keys)?;
-        resolvers.push(resolver).map_err(AllocError::from)?;
+        add(&mut resolvers, make_resolver(alloc, table, keys)?)?;
     }
     Ok(resolvers)
 }
@@ -168,7 +167,7 @@ fn bypasses_made(alloc: Global, members: &[(&Table, BypassKeys)]) -> Result<Vec<
 {
     let mut rules = Vec::new(alloc);
     for (_, keys) in members {
-        rules.push(make_bypass(alloc, keys)?)?;
+        add(&mut rules, make_bypass(alloc, keys)?)?;
     }
     Ok(rules)
 }

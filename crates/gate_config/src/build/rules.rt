@@ -1,5 +1,5 @@
 // From keys to partitions, resolvers and bypass rules.
-ghost use Rattle.std.specs.Prelude.{◌≡◌, ◌≢◌, ◌≤◌, length, map, Some, None, IfOk, IsOk, OnOk, IfErr};
+ghost use Rattle.std.specs.Prelude.{◌≡◌, ◌≢◌, ◌≤◌, ◌++◌, [], ◌∷◌, length, map, Some, None, IfOk, IsOk, OnOk, IfErr};
 ghost use Rattle.http_header.specs.Token.{IsToken};
 ghost use Rattle.toml.specs.View.{table_view};
 ghost use Rattle.partitions.specs.Faults.{given};
@@ -42,9 +42,16 @@ fn class_pairs<'a>(
 {
     let mut pairs = Vec::new(alloc);
     for class in classes {
-        pairs.push((class.name.as_bytes(), class.percent))?;
+        add(&mut pairs, (class.name.as_bytes(), class.percent))?;
     }
     Ok(pairs)
+}
+
+/// Adds an item to a list. What the item is made of isn't told apart here.
+pub fn add<T: Drop>(list: &mut Vec<T>, item: T) -> Result<(), AllocError>
+    ensures { OnOk result (list.new.items ≡ list.old.items ++ item ∷ []) }
+{
+    Ok(list.push(item)?)
 }
 
 /// The resolver of these keys.

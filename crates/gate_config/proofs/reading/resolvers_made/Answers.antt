@@ -8,8 +8,8 @@ loop-keys-init c = search rules
 pub returns : goal.returns
 returns c = grind (arith, common_steps)
 
-pub returns-in_err-resolver : goal.returns-in_err-resolver
-returns-in_err-resolver c = grind (arith, common_steps)
+pub returns-in_err-make_resolver : goal.returns-in_err-make_resolver
+returns-in_err-make_resolver c = grind (arith, common_steps)
 
-pub returns-in_err-map_err : goal.returns-in_err-map_err
-returns-in_err-map_err c = search rules
+pub returns-in_err-add : goal.returns-in_err-add
+returns-in_err-add c = search rules
