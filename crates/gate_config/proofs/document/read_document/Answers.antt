@@ -1,5 +1,6 @@
-use Rattle.std.proofs.Common.{rules, ◌≡◌, option_map, Err, IsErrOf}
+use Rattle.std.proofs.Common.{rules, ◌≡◌, sym, ap, ◌∙◌, option_map, Err, IsErrOf}
 use Rattle.toml.specs.View.{table_view}
+use Rattle.config_values.specs.Outcomes.{result_map}
 use Rattle.config_sections.specs.Top.{top_values}
 use Rattle.gate_config.specs.Document.{limit_member, rules_of, window_member}
 use Rattle.gate_config.proofs.Documents.{IsRead, document_read, same_fault, with_rules}
@@ -11,9 +12,10 @@ returns-in_err-rules-clause-fault c = λ fault said.
       top = top_values c.in_ok-top.top;
       limit = limit_member c.in_ok-limit.limit;
       window = option_map window_member c.in_ok-window.window;
-      is_top = search rules;
-      is_limit = search rules;
-      is_window = search rules;
+      is_top = sym c.read_top.ensures.value ∙ ap (result_map top_values) c.in_ok-top.was;
+      is_limit = sym c.limit_in.ensures.said ∙ ap (result_map limit_member) c.in_ok-limit.was;
+      is_window = sym c.window_in.ensures.said
+      ∙ ap (result_map (option_map window_member)) c.in_ok-window.was;
     } in
     let whole = document_read (table_view c.args.table.now) read in
     let key : rules_of (table_view c.args.table.now) ≡ Err fault =
@@ -27,9 +29,10 @@ returns-in_err-rules-clause-said c =
       top = top_values c.in_ok-top.top;
       limit = limit_member c.in_ok-limit.limit;
       window = option_map window_member c.in_ok-window.window;
-      is_top = search rules;
-      is_limit = search rules;
-      is_window = search rules;
+      is_top = sym c.read_top.ensures.value ∙ ap (result_map top_values) c.in_ok-top.was;
+      is_limit = sym c.limit_in.ensures.said ∙ ap (result_map limit_member) c.in_ok-limit.was;
+      is_window = sym c.window_in.ensures.said
+      ∙ ap (result_map (option_map window_member)) c.in_ok-window.was;
     } in
     let whole = document_read (table_view c.args.table.now) read in
     search rules
@@ -40,9 +43,10 @@ returns-clause-said c =
       top = top_values c.in_ok-top.top;
       limit = limit_member c.in_ok-limit.limit;
       window = option_map window_member c.in_ok-window.window;
-      is_top = search rules;
-      is_limit = search rules;
-      is_window = search rules;
+      is_top = sym c.read_top.ensures.value ∙ ap (result_map top_values) c.in_ok-top.was;
+      is_limit = sym c.limit_in.ensures.said ∙ ap (result_map limit_member) c.in_ok-limit.was;
+      is_window = sym c.window_in.ensures.said
+      ∙ ap (result_map (option_map window_member)) c.in_ok-window.was;
     } in
     let whole = document_read (table_view c.args.table.now) read in
     search rules
@@ -53,9 +57,10 @@ returns-clause-fault c =
       top = top_values c.in_ok-top.top;
       limit = limit_member c.in_ok-limit.limit;
       window = option_map window_member c.in_ok-window.window;
-      is_top = search rules;
-      is_limit = search rules;
-      is_window = search rules;
+      is_top = sym c.read_top.ensures.value ∙ ap (result_map top_values) c.in_ok-top.was;
+      is_limit = sym c.limit_in.ensures.said ∙ ap (result_map limit_member) c.in_ok-limit.was;
+      is_window = sym c.window_in.ensures.said
+      ∙ ap (result_map (option_map window_member)) c.in_ok-window.was;
     } in
     let whole = document_read (table_view c.args.table.now) read in
     search rules

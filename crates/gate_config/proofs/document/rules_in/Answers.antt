@@ -1,6 +1,7 @@
-use Rattle.std.proofs.Common.{rules, ◌≡◌, Err, IsOk}
+use Rattle.std.proofs.Common.{rules, ◌≡◌, sym, ap, ◌∙◌, Ok, Err, IsOk}
 use Rattle.toml.specs.View.{table_view}
-use Rattle.gate_config.specs.Document.{resolvers_of, rules_of, tables_and_rows}
+use Rattle.config_values.specs.Outcomes.{result_map}
+use Rattle.gate_config.specs.Document.{classes_in, resolvers_of, rules_of, tables_and_rows}
 use Rattle.gate_config.proofs.Documents.{no_bypasses, no_resolvers, one_fault}
 use Rattle.gate_config.proofs.document.rules_in.Goals as goal
 
@@ -15,11 +16,14 @@ returns-in_err-resolvers-clause-said c = search rules
 
 pub returns-in_err-resolvers-clause-fault : goal.returns-in_err-resolvers-clause-fault
 returns-in_err-resolvers-clause-fault c = λ fault said.
+    let classes : classes_in (table_view c.args.table.now)
+    ≡ Ok (tables_and_rows c.in_ok-classes.classes) =
+    sym c.classes_in.ensures ∙ ap (result_map tables_and_rows) c.in_ok-classes.was in
     let resolvers : resolvers_of (tables_and_rows c.in_ok-classes.classes).1
     (table_view c.args.table.now)
     ≡ Err c.in_err-resolvers.field-0.0 = rw c.deref.ensures.0 at c.in_err-resolvers.ensures.fault in
     let told = no_resolvers (table_view c.args.table.now) (tables_and_rows c.in_ok-classes.classes)
-    c.in_err-resolvers.field-0.0 (search rules) resolvers in
+    c.in_err-resolvers.field-0.0 classes resolvers in
     one_fault (rules_of (table_view c.args.table.now)) c.from_residual-in_err-resolvers.result
     c.in_err-resolvers.field-0.0 fault (search rules) told said
 
@@ -28,11 +32,14 @@ returns-in_err-bypasses-clause-said c = search rules
 
 pub returns-in_err-bypasses-clause-fault : goal.returns-in_err-bypasses-clause-fault
 returns-in_err-bypasses-clause-fault c = λ fault said.
+    let classes : classes_in (table_view c.args.table.now)
+    ≡ Ok (tables_and_rows c.in_ok-classes.classes) =
+    sym c.classes_in.ensures ∙ ap (result_map tables_and_rows) c.in_ok-classes.was in
     let fine : IsOk
     (resolvers_of (tables_and_rows c.in_ok-classes.classes).1 (table_view c.args.table.now))
     = search rules in
     let told = no_bypasses (table_view c.args.table.now) (tables_and_rows c.in_ok-classes.classes)
-    c.in_err-bypasses.field-0.0 (search rules) fine (search rules) in
+    c.in_err-bypasses.field-0.0 classes fine c.in_err-bypasses.ensures.fault in
     one_fault (rules_of (table_view c.args.table.now)) c.from_residual-in_err-bypasses.result
     c.in_err-bypasses.field-0.0 fault (search rules) told said
 

@@ -23,3 +23,39 @@ returns-then-not-is_version_one-clause-fault c = search rules
 
 pub returns-in_ok-path-in-Some-clause-said : goal.returns-in_ok-path-in-Some-clause-said
 returns-in_ok-path-in-Some-clause-said c = search rules
+
+pub returns-in_err-document-clause-sound : goal.returns-in_err-document-clause-sound
+returns-in_err-document-clause-sound c = search rules
+
+pub returns-in_err-document-clause-said : goal.returns-in_err-document-clause-said
+returns-in_err-document-clause-said c = search rules
+
+pub returns-then-not-is_version_one-clause-sound : goal.returns-then-not-is_version_one-clause-sound
+returns-then-not-is_version_one-clause-sound c = search rules
+
+pub returns-then-not-is_version_one-clause-said : goal.returns-then-not-is_version_one-clause-said
+returns-then-not-is_version_one-clause-said c = search rules
+
+pub returns-in_err-path-in-Some-clause-sound : goal.returns-in_err-path-in-Some-clause-sound
+returns-in_err-path-in-Some-clause-sound c = search rules
+
+pub returns-in_err-path-in-Some-clause-said : goal.returns-in_err-path-in-Some-clause-said
+returns-in_err-path-in-Some-clause-said c = search rules
+
+pub returns-in_err-path-in-Some-clause-fault : goal.returns-in_err-path-in-Some-clause-fault
+returns-in_err-path-in-Some-clause-fault c = search rules
+
+pub returns-in_ok-path-in-Some-clause-sound : goal.returns-in_ok-path-in-Some-clause-sound
+returns-in_ok-path-in-Some-clause-sound c = search rules
+
+pub returns-in_ok-path-in-Some-clause-fault : goal.returns-in_ok-path-in-Some-clause-fault
+returns-in_ok-path-in-Some-clause-fault c = search rules
+
+pub returns-in-None-clause-sound : goal.returns-in-None-clause-sound
+returns-in-None-clause-sound c = search rules
+
+pub returns-in-None-clause-said : goal.returns-in-None-clause-said
+returns-in-None-clause-said c = search rules
+
+pub returns-in-None-clause-fault : goal.returns-in-None-clause-fault
+returns-in-None-clause-fault c = search rules
