@@ -14,7 +14,7 @@ use std::fmt;
 /// byte order.
 ///
 /// Its text is one line of the fault's word and the key's dotted path.
-#[derive(Debug, Drop)]
+#[derive(Drop)]
 pub enum ConfigFault {
     /// Memory was wanting.
     Memory,
@@ -86,6 +86,13 @@ impl fmt::Display for ConfigFault {
     fn fmt<W: fmt::Write>(&self, f: &mut fmt::Formatter<W>) -> fmt::Result {
         let (word, prefix, name) = self.pieces();
         write!(f, "{word}{prefix}{name}")
+    }
+}
+
+// The same text: what a derive would write out, of each key too, is long to prove.
+impl fmt::Debug for ConfigFault {
+    fn fmt<W: fmt::Write>(&self, f: &mut fmt::Formatter<W>) -> fmt::Result {
+        fmt::Display::fmt(self, f)
     }
 }
 

@@ -32,7 +32,7 @@ impl Section {
 }
 
 /// A key of the configuration, printed as its dotted path without places in arrays.
-#[derive(Clone, Copy, Debug)]
+#[derive(Clone, Copy)]
 pub enum Key {
     Version,
     Listen,
