@@ -15,7 +15,7 @@ returns-in_err-rules-clause-fault c = λ fault said.
       is_top = sym c.read_top.ensures.value ∙ ap (result_map top_values) c.in_ok-top.was;
       is_limit = sym c.limit_in.ensures.said ∙ ap (result_map limit_member) c.in_ok-limit.was;
       is_window = sym c.window_in.ensures.said
-      ∙ ap (result_map (option_map window_member)) c.in_ok-window.was;
+          ∙ ap (result_map (option_map window_member)) c.in_ok-window.was;
     } in
     let whole = document_read (table_view c.args.table.now) read in
     let key : rules_of (table_view c.args.table.now) ≡ Err fault =
@@ -32,7 +32,7 @@ returns-in_err-rules-clause-said c =
       is_top = sym c.read_top.ensures.value ∙ ap (result_map top_values) c.in_ok-top.was;
       is_limit = sym c.limit_in.ensures.said ∙ ap (result_map limit_member) c.in_ok-limit.was;
       is_window = sym c.window_in.ensures.said
-      ∙ ap (result_map (option_map window_member)) c.in_ok-window.was;
+          ∙ ap (result_map (option_map window_member)) c.in_ok-window.was;
     } in
     let whole = document_read (table_view c.args.table.now) read in
     search rules
@@ -46,7 +46,7 @@ returns-clause-said c =
       is_top = sym c.read_top.ensures.value ∙ ap (result_map top_values) c.in_ok-top.was;
       is_limit = sym c.limit_in.ensures.said ∙ ap (result_map limit_member) c.in_ok-limit.was;
       is_window = sym c.window_in.ensures.said
-      ∙ ap (result_map (option_map window_member)) c.in_ok-window.was;
+          ∙ ap (result_map (option_map window_member)) c.in_ok-window.was;
     } in
     let whole = document_read (table_view c.args.table.now) read in
     search rules
@@ -60,7 +60,7 @@ returns-clause-fault c =
       is_top = sym c.read_top.ensures.value ∙ ap (result_map top_values) c.in_ok-top.was;
       is_limit = sym c.limit_in.ensures.said ∙ ap (result_map limit_member) c.in_ok-limit.was;
       is_window = sym c.window_in.ensures.said
-      ∙ ap (result_map (option_map window_member)) c.in_ok-window.was;
+          ∙ ap (result_map (option_map window_member)) c.in_ok-window.was;
     } in
     let whole = document_read (table_view c.args.table.now) read in
     search rules
