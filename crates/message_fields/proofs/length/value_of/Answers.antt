@@ -8,3 +8,6 @@ pub returns-in_default : goal.returns-in_default
 returns-in_default c =
     let digits : list_all is_ascii_digit c.args.digits.now ≡ true = search rules in
     absurd (c.in_default.ensures.cases.0 (digits_are_text c.args.digits.now digits))
+
+pub returns-in-Some : goal.returns-in-Some
+returns-in-Some c = search rules
