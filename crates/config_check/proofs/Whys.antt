@@ -1,11 +1,31 @@
 -- Settings that were had, and why they weren't.
-use Rattle.std.proofs.Common.{◌≡◌, ◌⊎◌, inr, ℕ, List, Option, Result, Ok, Err, IfOk, IfErr, OnOk}
+use Rattle.std.proofs.Common.{◌≡◌, ◌⊎◌, inl, inr, ℕ, List, Option, Result, Ok, Err, IfOk, IfErr, OnOk, IsErrAnd, refl, sym, subst}
 use Rattle.counted_io.specs.declared.counted.Counted.{Counted}
 use Rattle.counted_io.specs.Counted.{failures_of}
 use Rattle.gate_config.specs.declared.settings.Settings.{Settings}
 use Rattle.config_check.specs.declared.check_fault.CheckFault.{CheckFault}
 use Rattle.config_check.specs.declared.check_fault.CheckFault.TheVariants as Check
-use Rattle.config_check.specs.Check.{Held, IsFaultOf, IsUnread, IsUnset}
+use Rattle.config_check.specs.Check.{Held, IsFaultOf, IsUnread, IsUnset, IsWhy, IsWhyOfReader}
+
+-- `?` hands a fault on
+pub handed_on : {T E : Type 0} (r : Result T E) (e : E) (P : E → Type 0)
+    → IsErrAnd r (λ y. y ≡ e) → P e → IfErr r P
+handed_on (Ok x) e P is p = tt
+handed_on (Err y) e P is p = subst P (sym is) p
+
+-- nothing is written where there are no settings
+pub why_of_fault : {W : Type 0} (w : Counted W) (bytes : List ℕ) (fault : CheckFault)
+    → IsFaultOf bytes fault → IsWhy w w bytes fault
+why_of_fault w bytes Check.Read is = elim is [ ]
+why_of_fault w bytes (Check.Config fault) is = (refl, is)
+why_of_fault w bytes Check.Write is = elim is [ ]
+
+pub why_of_unset : {R W : Type 0} (remaining : R → Option (List ℕ)) (before after : Counted R)
+    (w : Counted W) (fault : CheckFault) → IsUnset remaining before after fault
+    → IsWhyOfReader remaining before after w w fault
+why_of_unset remaining before after w fault (inl unread) = inl (unread, refl)
+why_of_unset remaining before after w fault (inr (same, (bytes, held, is))) =
+    inr (same, (bytes, held, why_of_fault w bytes fault is))
 
 -- the fault of the bytes that a reader had is why its settings weren't had
 pub unset_by_bytes : {R : Type 0} (remaining : R → Option (List ℕ)) (before after : Counted R)

@@ -8,10 +8,9 @@ ghost use Rattle.fault_lines.specs.FaultLine.{IsTold, fault_line};
 
 use super::accepted::write_accepted;
 use super::check_fault::{CheckFault, tell_check_fault};
-use super::reading::read_settings;
+use super::reading::{read_bytes, read_settings};
 use counted_io::Counted;
 use fault_lines::{DONE, FAULT};
-use gate_config::read;
 use std::alloc::Global;
 use std::fs::{File, Files};
 use std::io::{Read, Write};
@@ -126,7 +125,7 @@ fn check<W: Write>(alloc: Global, bytes: &[u8], writer: &mut Counted<W>) -> Resu
     ensures accepted { OnOk result (IsAccepted W.contents writer.old writer.new bytes.now) }
     ensures refused { IfErr result (IsWhy writer.old writer.new bytes.now) }
 {
-    let settings = read(alloc, bytes)?;
+    let settings = read_bytes(alloc, bytes)?;
     write_accepted(writer, &settings)?;
     Ok(())
 }
