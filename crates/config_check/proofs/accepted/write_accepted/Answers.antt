@@ -5,10 +5,10 @@ pub returns-clause-all : goal.returns-clause-all
 returns-clause-all c = search rules
 
 pub returns-clause-unfailing : goal.returns-clause-unfailing
-returns-clause-unfailing c = search rules
+returns-clause-unfailing g c = c.write_line.ensures.unfailing
 
 pub returns-clause-flushed : goal.returns-clause-flushed
-returns-clause-flushed c = search rules
+returns-clause-flushed g c = c.write_line.ensures.flushed
 
 pub returns-clause-failed : goal.returns-clause-failed
-returns-clause-failed c = search rules
+returns-clause-failed g c = c.write_line.ensures.failed
