@@ -17,4 +17,6 @@ mod rolling_tests;
 #[cfg(test)]
 mod shared_gate_tests;
 #[cfg(test)]
+mod threads;
+#[cfg(test)]
 mod waiting_tests;

@@ -97,10 +97,8 @@ fn tells<M: Naming, R: Abort>(
     number: u64,
     reply: Reply,
 ) {
-    match told {
-        Ok(receipt) => assert!(rt; (receipt.number(), receipt.reply()) == (number, reply)),
-        Err(_spent) => rt.abort(),
-    }
+    let receipt = told.ok().expect(rt, "an answer");
+    assert!(rt; receipt.number() == number && receipt.reply() == reply);
 }
 
 /// What a look shows at this limit, with so many in flight.

@@ -4,7 +4,7 @@ ghost use Rattle.gate_journal.specs.Journal.{most_kept};
 ghost use Rattle.gate_ledgers.specs.Names.{AreNamed, AreWhole};
 
 use crate::books::book_over;
-use gate_history::{Blanks, Book, Naming, Permit, Ticket};
+use gate_history::{Blanks, Book, Naming, Permit, Receipt, Spent, Ticket};
 use limit_laws::Fixed;
 use limiter_core::{Outcome, Reply};
 use partitions::Part;
@@ -186,15 +186,20 @@ fn holds<M: Naming, R: Wait + Abort>(
         gate.acquire(rt, &mut pass, Part::Unknown, false, false, 0),
     );
     for _ in 0..900_000 {
-        let seen = gate
-            .look(rt, &mut pass, Part::Unknown)
-            .map(|receipt| receipt.reply());
-        if let Ok(Reply::Seen { waiting: 1, .. }) = seen {
+        if shows_waiter(gate.look(rt, &mut pass, Part::Unknown)) {
             break;
         }
     }
     let _receipt = gate.end(rt, &mut pass, permit, Outcome::Success, 1);
     pass
+}
+
+/// A look was answered, and shows that one waits.
+fn shows_waiter<M: Naming>(looked: Result<Receipt<M>, Spent<M>>) -> bool {
+    match looked {
+        Ok(receipt) => matches!(receipt.reply(), Reply::Seen { waiting: 1, .. }),
+        Err(_spent) => false,
+    }
 }
 
 /// Waits for the permit, once it is held, by a clock that stands still.

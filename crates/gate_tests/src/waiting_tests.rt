@@ -198,7 +198,7 @@ fn refuses_acquires<M: Naming, R: Wait + SystemClock + Abort>(
     pass: &mut Pass<M>,
 ) {
     match gate.acquire(rt, pass, UNKNOWN, true, false, 2) {
-        Got::Exhausted(spent) => is_spent(rt, spent, acquire(true, false, 2)),
+        Got::Exhausted(spent) => assert!(rt; is_spent(&spent, acquire(true, false, 2))),
         Got::Admitted(_receipt, _permit) => rt.abort(),
         Got::Bypassed(_receipt) => rt.abort(),
         Got::Full(_receipt) => rt.abort(),
@@ -206,7 +206,7 @@ fn refuses_acquires<M: Naming, R: Wait + SystemClock + Abort>(
         Got::Waiting(_receipt, _ticket) => rt.abort(),
     }
     match gate.acquire_wait(rt, pass, UNKNOWN, 3, &Late {}, 0) {
-        Waited::Exhausted(spent) => is_spent(rt, spent, acquire(false, true, 3)),
+        Waited::Exhausted(spent) => assert!(rt; is_spent(&spent, acquire(false, true, 3))),
         Waited::Admitted(_receipt, _permit) => rt.abort(),
         Waited::Promoted(_first, _second, _permit) => rt.abort(),
         Waited::TimedOut(_first, _second) => rt.abort(),
@@ -247,7 +247,7 @@ fn handed_back<M: Naming, R: Wait + Abort>(
 ) -> Ticket<M> {
     match gate.claim(rt, pass, ticket) {
         Claimed::Exhausted(spent, ticket) => {
-            is_spent(rt, spent, Event::Claim { number: 1 });
+            assert!(rt; is_spent(&spent, Event::Claim { number: 1 }));
             ticket
         }
         Claimed::Granted(_receipt, _permit) => rt.abort(),
@@ -258,18 +258,18 @@ fn handed_back<M: Naming, R: Wait + Abort>(
 
 /// The call of this event isn't answered.
 fn is_refused<M: Naming, R: Abort>(rt: &R, told: Result<Receipt<M>, Spent<M>>, event: Event) {
-    match told {
-        Err(spent) => is_spent(rt, spent, event),
-        Ok(_receipt) => rt.abort(),
-    }
+    let spent = told.err().expect(rt, "no answer");
+    assert!(rt; is_spent(&spent, event));
 }
 
 /// It tells this event, that two entries are held of two that are kept, and that the next number
 /// is 2.
-fn is_spent<M: Naming, R: Abort>(rt: &R, spent: Spent<M>, event: Event) {
-    assert!(rt; spent.event() == event);
-    assert!(rt; (spent.held(), spent.kept(), spent.next()) == (2, 2, 2));
-    assert!(rt; !spent.is_rolling());
+fn is_spent<M: Naming>(spent: &Spent<M>, event: Event) -> bool {
+    spent.event() == event
+        && spent.held() == 2
+        && spent.kept() == 2
+        && spent.next() == 2
+        && !spent.is_rolling()
 }
 
 /// One was admitted and one waits, and the pass counts these two calls.

@@ -1,5 +1,5 @@
 // Callers of a gate who keep their receipts.
-use gate_history::{Book, Naming, Permit, Receipt, Spent};
+use gate_history::{Book, Naming, Permit, Receipt};
 use limit_laws::Fixed;
 use limiter_core::Outcome;
 use partitions::Part;
@@ -68,14 +68,6 @@ pub(crate) fn look<M: Naming, R: Wait + Abort>(
     gate: &SharedGate<Fixed, M>,
     caller: &mut Caller<M>,
 ) {
-    let receipt = seen(rt, gate.look(rt, &mut caller.pass, Part::Unknown));
-    caller.keep(rt, receipt);
-}
-
-/// The receipt of a look.
-fn seen<M: Naming, R: Abort>(rt: &R, looked: Result<Receipt<M>, Spent<M>>) -> Receipt<M> {
-    match looked {
-        Ok(receipt) => receipt,
-        Err(_spent) => rt.abort(),
-    }
+    let looked = gate.look(rt, &mut caller.pass, Part::Unknown);
+    caller.keep(rt, looked.ok().expect(rt, "an answer"));
 }

@@ -5,7 +5,7 @@ ghost use Rattle.gate_ledgers.specs.Names.{AreNamed, AreWhole};
 use super::callers::{Caller, look};
 use super::handing::{Handing, are_handed_back, closed};
 use crate::books::book_over;
-use gate_history::{Blanks, Book, History, Naming};
+use gate_history::{Blanks, Book, Naming};
 use limit_laws::Fixed;
 use shared_gate::{AuditFault, Cause, SharedGate};
 use std::alloc::Global;
@@ -57,21 +57,14 @@ fn closes_book<M: Naming, R: Wait + Abort>(
     let gate = SharedGate::new(book);
     look(rt, &gate, &mut caller);
     look(rt, &gate, &mut caller);
-    has_rolled(rt, closed(rt, alloc, gate, caller, handing), handing);
+    let fault = closed(rt, alloc, gate, caller, handing).err();
+    assert!(rt; has_rolled(&fault.expect(rt, "a fault"), handing));
 }
 
 /// The history begins with the second look, and the cause is as wanted.
-fn has_rolled<M: Naming, R: Abort>(
-    rt: &R,
-    closed: Result<History<Fixed>, AuditFault<Fixed, M>>,
-    handing: Handing,
-) {
-    match closed {
-        Ok(_history) => rt.abort(),
-        Err(fault) => {
-            assert!(rt; handing.cause == Some(fault.cause));
-            assert!(rt; (fault.history.base, fault.history.entries.len()) == (1, 1));
-            are_handed_back(rt, &fault.kept, handing, [0, 1]);
-        }
-    }
+fn has_rolled<M: Naming>(fault: &AuditFault<Fixed, M>, handing: Handing) -> bool {
+    handing.cause == Some(fault.cause)
+        && fault.history.base == 1
+        && fault.history.entries.len() == 1
+        && are_handed_back(&fault.kept, handing)
 }

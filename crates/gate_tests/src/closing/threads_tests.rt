@@ -4,6 +4,7 @@ ghost use Rattle.gate_ledgers.specs.Names.{AreNamed, AreWhole};
 
 use super::callers::{Caller, acquire_and_end};
 use crate::books::book_over;
+use crate::threads::{Work, both_done};
 use gate_history::{Blanks, Book, Entry, History, Naming};
 use limit_laws::Fixed;
 use shared_gate::{AuditFault, SharedGate};
@@ -11,7 +12,7 @@ use std::alloc::Global;
 use std::marker::Brand;
 use std::process::Abort;
 use std::sync::Wait;
-use std::thread::{Threads, join};
+use std::thread::Threads;
 
 #[test]
 fn four_hundred_calls_of_two_threads_are_accepted(rt: HostRuntime) {
@@ -51,23 +52,26 @@ fn by_two_threads<M: Naming + Send + Sync, R: Threads + Wait + Abort + Sync>(
     one: Caller<M>,
     two: Caller<M>,
 ) -> (Caller<M>, Caller<M>) {
-    join(
-        rt,
-        || a_hundred_pairs(rt, gate, one),
-        || a_hundred_pairs(rt, gate, two),
-    )
+    let one = Pairs { gate, caller: one };
+    let two = Pairs { gate, caller: two };
+    let (one, two) = both_done(rt, one, two);
+    (one.caller, two.caller)
 }
 
 /// 100 acquires with an ending each.
-fn a_hundred_pairs<M: Naming, R: Wait + Abort>(
-    rt: &R,
-    gate: &SharedGate<Fixed, M>,
-    mut caller: Caller<M>,
-) -> Caller<M> {
-    for now in 0..100 {
-        acquire_and_end(rt, gate, &mut caller, now, now);
+#[derive(Drop)]
+struct Pairs<'a, M: Naming> {
+    gate: &'a SharedGate<Fixed, M>,
+    caller: Caller<M>,
+}
+
+impl<'a, M: Naming, R: Wait + Abort> Work<R> for Pairs<'a, M> {
+    fn done(mut self, rt: &R) -> Pairs<'a, M> {
+        for now in 0..100 {
+            acquire_and_end(rt, self.gate, &mut self.caller, now, now);
+        }
+        self
     }
-    caller
 }
 
 /// What the closing answers that is handed all of both callers.

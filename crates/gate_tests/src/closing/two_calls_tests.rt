@@ -76,21 +76,20 @@ fn is_told<M: Naming, R: Abort>(
 ) {
     match closed {
         Ok(history) => {
-            assert!(rt; handing.cause.is_none());
-            has_two_calls(rt, &history);
+            assert!(rt; handing.cause.is_none() && has_two_calls(&history));
         }
         Err(fault) => {
-            assert!(rt; handing.cause == Some(fault.cause));
-            has_two_calls(rt, &fault.history);
-            are_handed_back(rt, &fault.kept, handing, [0, 1]);
+            assert!(rt; handing.cause == Some(fault.cause) && has_two_calls(&fault.history));
+            assert!(rt; are_handed_back(&fault.kept, handing));
         }
     }
 }
 
 /// The history is that of an acquire and of its ending, and of nothing else.
-fn has_two_calls<R: Abort>(rt: &R, history: &History<Fixed>) {
-    assert!(rt; history.base == 0 && history.opening.next_number() == 0);
-    assert!(rt; history.entries.as_slice() == [acquired(), ended()].as_slice());
+fn has_two_calls(history: &History<Fixed>) -> bool {
+    history.base == 0
+        && history.opening.next_number() == 0
+        && history.entries.as_slice() == [acquired(), ended()].as_slice()
 }
 
 /// An acquire at 0 that was admitted.

@@ -2,7 +2,11 @@
 use super::devices::{Sink, Source};
 use counted_io::Counted;
 use load_run::{LoadFault, load};
-use std::test::Fail;
+use std::alloc::Global;
+use std::io::{Read, Write};
+use std::sync::Wait;
+use std::thread::Threads;
+use std::time::Clock as SystemClock;
 
 const BYPASSED: &str = "bypass 0\nbypass 1\nbypass 2\n";
 
@@ -12,51 +16,79 @@ admitted 0 bypassed 3 full 0 backlog 0 waiting 0 \
 promoted 0 timed-out 0 success 0 ignored 0 dropped 0
 ";
 
-#[test]
-fn a_reader_that_fails_at_any_call_is_told(rt: HostRuntime) -> Result<(), Fail> {
-    // Six reads give the bytes, and the seventh none: the trace is at its end.
-    for failing in 0..=7u64 {
-        let mut written = Vec::new(rt.alloc());
-        let mut reader = Counted::new(Source {
-            left: BYPASSED.as_bytes(),
-            calls: 0,
-            failing,
-        });
-        let mut writer = Counted::new(&mut written);
-        let answer = load(&rt, rt.alloc(), &mut reader, &mut writer, 20, 2);
-        if failing < 7 {
-            assert!(rt; answer == Err(LoadFault::Read), "{failing}");
-            assert!(rt; written.is_empty(), "{failing}");
-        } else {
-            assert!(rt; answer == Ok(()));
-            assert!(rt; written.as_slice() == BYPASSED_TEXT.as_bytes());
-        }
-    }
-    Ok(())
+/// A load from a reader to a writer.
+fn loaded<T: Threads + Wait + SystemClock + Sync, R: Read, W: Write>(
+    rt: &T,
+    alloc: Global,
+    reader: &mut R,
+    writer: &mut W,
+) -> Result<(), LoadFault> {
+    load(
+        rt,
+        alloc,
+        &mut Counted::new(reader),
+        &mut Counted::new(writer),
+        20,
+        2,
+    )
+}
+
+/// Where the reader fails from a call on, this is answered, and just this text written.
+fn is_read<T: Threads + Wait + SystemClock + Sync>(
+    rt: &T,
+    alloc: Global,
+    failing: u64,
+    answer: Result<(), LoadFault>,
+    text: &str,
+) -> bool {
+    let mut written = Vec::new(alloc);
+    let mut source = Source {
+        left: BYPASSED.as_bytes(),
+        calls: 0,
+        failing,
+    };
+    loaded(rt, alloc, &mut source, &mut written) == answer && written.as_slice() == text.as_bytes()
 }
 
 #[test]
-fn a_writer_that_fails_at_any_call_is_told(rt: HostRuntime) -> Result<(), Fail> {
-    let text = BYPASSED_TEXT.as_bytes();
-    // So many writes of nine bytes at most, and the flush.
-    let calls = text.len().div_ceil(9) as u64 + 1;
-    for failing in 0..=calls {
-        let mut sink = Sink {
-            taken: Vec::new(rt.alloc()),
-            calls: 0,
-            failing,
-        };
-        let mut reader = Counted::new(BYPASSED.as_bytes());
-        let mut writer = Counted::new(&mut sink);
-        let answer = load(&rt, rt.alloc(), &mut reader, &mut writer, 20, 2);
-        let wanted = if failing < calls {
-            Err(LoadFault::Write)
-        } else {
-            Ok(())
-        };
-        assert!(rt; answer == wanted, "{failing}");
-        let taken = text.len().min(failing as usize * 9);
-        assert!(rt; sink.taken.as_slice() == &text[..taken], "{failing}");
+fn a_reader_that_fails_at_any_call_is_told(rt: HostRuntime) {
+    // Six reads give the bytes, and the seventh none: the trace is at its end.
+    for failing in 0..7u64 {
+        assert!(rt;
+            is_read(&rt, rt.alloc(), failing, Err(LoadFault::Read), ""),
+            "{failing}"
+        );
     }
-    Ok(())
+    assert!(rt; is_read(&rt, rt.alloc(), 7, Ok(()), BYPASSED_TEXT));
+}
+
+/// Where the writer fails from a call on, this is answered, and the text's bytes before written.
+fn is_written<T: Threads + Wait + SystemClock + Sync>(
+    rt: &T,
+    alloc: Global,
+    failing: u64,
+    answer: Result<(), LoadFault>,
+) -> bool {
+    let mut sink = Sink {
+        taken: Vec::new(alloc),
+        calls: 0,
+        failing,
+    };
+    let mut reader = BYPASSED.as_bytes();
+    let text = BYPASSED_TEXT.as_bytes();
+    let taken = text.len().min((failing as usize).saturating_mul(9));
+    loaded(rt, alloc, &mut reader, &mut sink) == answer && sink.taken.as_slice() == &text[..taken]
+}
+
+#[test]
+fn a_writer_that_fails_at_any_call_is_told(rt: HostRuntime) {
+    // So many writes of nine bytes at most, and the flush.
+    let calls = BYPASSED_TEXT.len().div_ceil(9) as u64 + 1;
+    for failing in 0..calls {
+        assert!(rt;
+            is_written(&rt, rt.alloc(), failing, Err(LoadFault::Write)),
+            "{failing}"
+        );
+    }
+    assert!(rt; is_written(&rt, rt.alloc(), calls, Ok(())));
 }

@@ -6,6 +6,7 @@ ghost use Rattle.gate_journal.specs.Journal.{most_kept};
 ghost use Rattle.gate_ledgers.specs.Names.{AreNamed, AreWhole};
 
 use super::random_calls::{Caller, Told, call_at_random};
+use crate::threads::{Work, four_done};
 use aimd::Aimd;
 use gate_history::{Blanks, Book, Naming};
 use limit_laws::Limit;
@@ -16,7 +17,7 @@ use std::alloc::Global;
 use std::marker::Brand;
 use std::process::Abort;
 use std::sync::Wait;
-use std::thread::{Threads, join};
+use std::thread::Threads;
 
 /// How many may wait.
 const ROOM: u32 = 2;
@@ -148,30 +149,39 @@ fn by_four_threads<M: Naming + Send + Sync, R: Threads + Wait + Abort + Sync>(
         third,
         fourth,
     } = callers;
-    let (one, two) = join(
-        rt,
-        || by_two_threads(rt, gate, first, second),
-        || by_two_threads(rt, gate, third, fourth),
-    );
+    let left = two_calls(gate, first, second);
+    let right = two_calls(gate, third, fourth);
+    let (left, right) = four_done(rt, left, right);
     Four {
-        first: one.0,
-        second: one.1,
-        third: two.0,
-        fourth: two.1,
+        first: left.0.caller,
+        second: left.1.caller,
+        third: right.0.caller,
+        fourth: right.1.caller,
     }
 }
 
-fn by_two_threads<M: Naming + Send + Sync, R: Threads + Wait + Abort + Sync>(
-    rt: &R,
-    gate: &SharedGate<Aimd, M>,
+/// A caller's random calls.
+#[derive(Drop)]
+struct Calls<'a, M: Naming> {
+    gate: &'a SharedGate<Aimd, M>,
+    caller: Caller<M>,
+}
+
+impl<'a, M: Naming, R: Wait + Abort> Work<R> for Calls<'a, M> {
+    fn done(self, rt: &R) -> Calls<'a, M> {
+        let Calls { gate, caller } = self;
+        let caller = call_at_random(rt, gate, caller);
+        Calls { gate, caller }
+    }
+}
+
+/// The calls of two callers.
+fn two_calls<'a, M: Naming>(
+    gate: &'a SharedGate<Aimd, M>,
     one: Caller<M>,
     two: Caller<M>,
-) -> (Caller<M>, Caller<M>) {
-    join(
-        rt,
-        || call_at_random(rt, gate, one),
-        || call_at_random(rt, gate, two),
-    )
+) -> (Calls<'a, M>, Calls<'a, M>) {
+    (Calls { gate, caller: one }, Calls { gate, caller: two })
 }
 
 /// What all four were told, in order of number.

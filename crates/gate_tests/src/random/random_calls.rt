@@ -46,10 +46,7 @@ impl<M: Naming> Caller<M> {
 
     /// Keeps what a call tells that hands nothing out.
     fn keep_of<R: Abort>(&mut self, rt: &R, told: Result<Receipt<M>, Spent<M>>) {
-        match told {
-            Ok(receipt) => self.keep(rt, receipt),
-            Err(_spent) => rt.abort(),
-        }
+        self.keep(rt, told.ok().expect(rt, "an answer"));
     }
 }
 
