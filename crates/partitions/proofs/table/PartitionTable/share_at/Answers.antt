@@ -1,4 +1,4 @@
-use Rattle.std.proofs.Common.{Option, IfSome, subst}
+use Rattle.std.proofs.Common.{rules, Option, IfSome, subst}
 use Rattle.partitions.specs.Table.{Row, IsShare}
 use Rattle.partitions.proofs.table.PartitionTable.share_at.Goals as goal
 
@@ -8,3 +8,6 @@ returns-in-Some-clause-least c =
     (λ (held : Option Row).
     IfSome held (λ row. IsShare row.percent c.args.limit c.share.result))
     c.in-Some.ensures.row c.share.ensures.least
+
+pub returns-in-None-clause-share : goal.returns-in-None-clause-share
+returns-in-None-clause-share c = search rules
