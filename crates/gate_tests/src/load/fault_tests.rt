@@ -34,7 +34,7 @@ fn loaded<T: Threads + Wait + SystemClock + Sync, R: Read, W: Write>(
 }
 
 /// Where the reader fails from a call on, this is answered, and just this text written.
-fn is_read<T: Threads + Wait + SystemClock + Sync>(
+fn reading_is_told<T: Threads + Wait + SystemClock + Sync>(
     rt: &T,
     alloc: Global,
     failing: u64,
@@ -55,15 +55,15 @@ fn a_reader_that_fails_at_any_call_is_told(rt: HostRuntime) {
     // Six reads give the bytes, and the seventh none: the trace is at its end.
     for failing in 0..7u64 {
         assert!(rt;
-            is_read(&rt, rt.alloc(), failing, Err(LoadFault::Read), ""),
+            reading_is_told(&rt, rt.alloc(), failing, Err(LoadFault::Read), ""),
             "{failing}"
         );
     }
-    assert!(rt; is_read(&rt, rt.alloc(), 7, Ok(()), BYPASSED_TEXT));
+    assert!(rt; reading_is_told(&rt, rt.alloc(), 7, Ok(()), BYPASSED_TEXT));
 }
 
 /// Where the writer fails from a call on, this is answered, and the text's bytes before written.
-fn is_written<T: Threads + Wait + SystemClock + Sync>(
+fn writing_is_told<T: Threads + Wait + SystemClock + Sync>(
     rt: &T,
     alloc: Global,
     failing: u64,
@@ -86,9 +86,9 @@ fn a_writer_that_fails_at_any_call_is_told(rt: HostRuntime) {
     let calls = BYPASSED_TEXT.len().div_ceil(9) as u64 + 1;
     for failing in 0..calls {
         assert!(rt;
-            is_written(&rt, rt.alloc(), failing, Err(LoadFault::Write)),
+            writing_is_told(&rt, rt.alloc(), failing, Err(LoadFault::Write)),
             "{failing}"
         );
     }
-    assert!(rt; is_written(&rt, rt.alloc(), calls, Ok(())));
+    assert!(rt; writing_is_told(&rt, rt.alloc(), calls, Ok(())));
 }
