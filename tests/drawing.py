@@ -48,7 +48,7 @@ class Draw:
     def __init__(self, seed, settings, moments):
         self.random = random.Random(seed)
         self.limiter = Limiter(settings)
-        self.parts = [*self.limiter.percents, "unknown"]
+        self.parts = [*self.limiter.thousandths, "unknown"]
         self.moments = moments(self.random)
 
     def script(self, count):

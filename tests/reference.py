@@ -6,11 +6,14 @@ and waiters stand by number in the order in which they came, the newest last.
 """
 import collections
 import math
+import re
 
 LAST_MOMENT = 2 ** 62
 HOUR = 3_600_000_000_000
 MOST_SAMPLES = 1_000_000
-SETTINGS = ("limit", "window", "backlog", "keep", "timeout", "class")
+SETTINGS = ("limit", "window", "backlog", "keep", "timeout", "promote", "class", "share")
+# How many thousandths of the limit are one in the number of such a line.
+SHARES = {"class": 10, "share": 1}
 
 Permit = collections.namedtuple("Permit", "part start inflight")
 Sample = collections.namedtuple("Sample", "start rtt inflight dropped")
@@ -150,12 +153,13 @@ class Limiter:
     def __init__(self, settings):
         rows = [line.split() for line in settings]
         words = {kind: rest for kind, *rest in rows}
-        self.percents = {rest[0]: int(rest[1]) for kind, *rest in rows if kind == "class"}
+        self.thousandths = {rest[0]: SHARES[kind] * int(rest[1]) for kind, *rest in rows if kind in SHARES}
         self.limit = limit_of(words.get("limit", ["fixed", 20]), words.get("window"))
         self.room = int(words.get("backlog", [100])[0])
         self.timeout = int(words.get("timeout", [1_000_000_000])[0])
         kept, *rolling = words.get("keep", [100_000])
         self.kept = math.inf if rolling else int(kept)
+        self.promotes_all = words.get("promote") == ["all"]
         self.entries = 0
         self.open, self.granted, self.waiting = {}, {}, {}
 
@@ -166,9 +170,9 @@ class Limiter:
         return sum(it.part == part for held in (self.open, self.granted) for it in held.values())
 
     def share(self, part):
-        if part not in self.percents:
+        if part not in self.thousandths:
             return 0
-        return max(1, -(-self.limit.limit * self.percents[part] // 100))
+        return max(1, -(-self.limit.limit * self.thousandths[part] // 1000))
 
     def has_room(self, part):
         return self.total() < self.limit.limit or self.inflight(part) < self.share(part)
@@ -207,15 +211,35 @@ class Limiter:
         return ["bypassed"]
 
     def end(self, number, outcome, now):
-        """The sample is learnt before the newest waiter is looked at, and nobody else is."""
+        """The sample is learnt before any waiter is looked at."""
         permit = self.open.pop(int(number))
         if outcome != "ignored":
             self.limit.learn(sample_of(permit, int(now), outcome == "dropped"))
+        told = self.promote_all(now) if self.promotes_all else self.promote_newest(now)
+        return [f"ended promoted {len(told)}", *told]
+
+    def promote_newest(self, now):
+        """The newest waiter is promoted where it has room, and nobody else is looked at."""
         newest = next(reversed(self.waiting), None)
-        if newest is None or not self.has_room(self.waiting[newest]):
-            return ["ended promoted 0"]
-        got = self.granted[newest] = Permit(self.waiting.pop(newest), moment(int(now)), self.total() + 1)
-        return ["ended promoted 1", f"promoted {newest} inflight {got.inflight}"]
+        has_room = newest is not None and self.has_room(self.waiting[newest])
+        return [self.promote(newest, now)] if has_room else []
+
+    def promote_all(self, now):
+        """The newest of the waiters that have room is promoted, again and again until none has room; under `newest`
+        none is."""
+        told = []
+        while self.promotes_all and (waiter := self.newest_with_room()) is not None:
+            told.append(self.promote(waiter, now))
+        return told
+
+    def newest_with_room(self):
+        parts = {part for part in {*self.waiting.values()} if self.has_room(part)}
+        return next((waiter for waiter, part in reversed(self.waiting.items()) if part in parts), None)
+
+    def promote(self, waiter, now):
+        """Has a waiter's permit lie granted, and tells of it."""
+        got = self.granted[waiter] = Permit(self.waiting.pop(waiter), moment(int(now)), self.total() + 1)
+        return f"promoted {waiter} inflight {got.inflight}"
 
     def claim(self, number):
         return self.handed_out(int(number)) or ["still waiting" if int(number) in self.waiting else "lost"]
@@ -231,11 +255,12 @@ class Limiter:
         return [f"granted inflight {permit.inflight}"]
 
     def set(self, number, now):
-        return [self.limit.put(int(number))]
+        told = self.limit.put(int(number))
+        return [told, *(self.promote_all(now) if told == "limit set" else [])]
 
     def reset(self, now):
         self.limit.reset()
-        return ["reset"]
+        return ["reset", *self.promote_all(now)]
 
     def look(self, part):
         return [f"seen limit {self.limit.limit} total {self.total()} waiting {len(self.waiting)} "
@@ -300,10 +325,9 @@ class Course:
             self.pending[place] = (late, GIVING_UP, place, f"giveup {number}")
         elif told == "granted":
             self.holds(at, place, int(line.split()[1]))
-        elif " promoted 1\n" in answer:
-            # The waiter gives up at once, and so is granted its permit.
-            waiter = int(answer.split("\n")[1].split()[2])
-            self.do(at, self.places[waiter], f"giveup {waiter}")
+        # Each promoted waiter gives up at once, and so is granted its permit.
+        for waiter in re.findall(r"^\d+ promoted (\d+) ", answer, re.MULTILINE):
+            self.do(at, self.places[int(waiter)], f"giveup {waiter}")
 
     def holds(self, at, place, number):
         """The call at this place got the permit of this number."""
