@@ -34,25 +34,25 @@ For example, with this file as gate.toml
 for half a second each; `python3 -m http.server 9000` is a backend to try it with, and
 `curl http://127.0.0.1:8080/` a client.
 
-Before a request is forwarded the client may get
+A request that is let through is forwarded once and never tried again. What the client gets, and
+what the limit learns from it:
 
-  400    it can't be read: not HTTP, cut off, two lengths that disagree, no Host or two
-  413    its body has more than 8 MiB
-  429    the limit has no room: the caller wasn't to wait, waited too long, or too many waited
-  431    its head has more than 64 KiB or 100 lines
-  500    memory is wanting for it
-  501    its method is CONNECT or TRACE, or its body has another coding than chunked
-and nothing where it went away, or was too slow.
+  what happened                                                 the client gets   the limit learns
+  no permit: refused, backlog full, or waited too long          429               nothing
+  the backend answered 200 to 499, but not 429                  that answer       success
+  the backend answered 429, 503 or 504                          that answer       dropped
+  the backend answered another status from 500 to 999           that answer       ignored
+  the backend's answer is unreadable, cut off or above 8 MiB    502               dropped
+  the backend can't be reached                                  502               ignored
+  out of memory                                                 500               ignored
+  the request is malformed, cut off, or has two lengths         400               nothing
+  the request's body is above 8 MiB                             413               nothing
+  the request's head is above 64 KiB or 100 lines               431               nothing
+  the method is CONNECT or TRACE, or the coding isn't chunked   501               nothing
+  the client left or was too slow with its request              no answer         nothing
 
-A request that is let through is forwarded once and never tried again. Of the backend's answer the
-client gets, and the limit learns:
-
-  status 200 to 499 but 429         that answer    success
-  status 429, 503, 504              that answer    dropped: the backend had too much to do
-  another status from 500 on        that answer    ignored: it says nothing of load
-  no connection                     502            ignored
-  no answer that can be read        502            dropped
-  memory is wanting for it          500            ignored
+An ignored ending gives the permit back and changes no limit. The backend has no timeout: one that
+never answers holds its permit and its worker until it closes the connection.
 
 Standard error gets three kinds of lines of the log: once the address is bound, `listening` with the
 address, the number of workers and the kind of limit; and before that a warning where the limit, or
