@@ -9,6 +9,7 @@ import statistics
 import sys
 
 from sides import TURNS, Bench, run
+from words import reader_of
 
 RECEIPTS = (10_000, 100_000, 1_000_000)
 
@@ -21,8 +22,7 @@ def closing(program, receipts):
 
 
 def main():
-    if len(sys.argv) > 1:
-        sys.exit(__doc__)
+    reader_of(__doc__).parse_args()
     bench = Bench("close", "shared_gate")
     with open(bench.tree / "build.log", "w") as log:
         print(f"building, some minutes at most; {log.name} tells how far it is", file=sys.stderr)

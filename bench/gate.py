@@ -14,6 +14,7 @@ product's gate rolls and the peer begins its history anew at 4,096 entries. Need
 import sys
 
 from sides import Bench, row
+from words import reader_of
 
 THREADS = (1, 2, 4)
 HELD = (10, 1_000, 10_000)
@@ -40,10 +41,11 @@ def rows(is_still, is_rolling, has_history):
 
 
 def main():
-    flags = set(sys.argv[1:])
-    if not flags <= {"--still", "--rolling", "--history"}:
-        sys.exit(__doc__)
-    is_rolling, has_history = "--rolling" in flags, "--history" in flags
+    reader = reader_of(__doc__)
+    for flag in ("--still", "--rolling", "--history"):
+        reader.add_argument(flag, action="store_true")
+    given = reader.parse_args()
+    is_rolling, has_history = given.rolling, given.history
     bench = Bench("gate", "shared_gate", ["aimd"])
     with open(bench.tree / "build.log", "w") as log:
         print(f"building, some minutes at most; {log.name} tells how far it is", file=sys.stderr)
@@ -57,7 +59,7 @@ def main():
     other, name = peers[is_rolling, has_history]
     print(f"| calls | admission | {name} | ratio | of processor time |")
     print("|---|---|---|---|---|")
-    for calls, ours, theirs in rows("--still" in flags, is_rolling, has_history):
+    for calls, ours, theirs in rows(given.still, is_rolling, has_history):
         took, least, ratio, used = row((program, ours), (other, theirs))
         print(f"| {calls} | {took / TIMES:.0f} ns | {least / TIMES:.0f} ns | {ratio:.2f} | {used:.2f} |",
               flush=True)

@@ -5,14 +5,13 @@ Usage: bench/load.py PROGRAM. Each trace goes through by each number of workers 
 calls a second, by the calls that the history has and the median time of the whole run: reading the trace, the
 calls, the audit and the two lines.
 """
-import pathlib
 import re
 import statistics
 import subprocess
-import sys
 import time
 
 from traces import CALLS, calls, text_of
+from words import program_of
 
 TURNS = 9
 WORKERS = (1, 2, 4)
@@ -31,9 +30,7 @@ def rate(program, workers, text):
 
 
 def main():
-    if len(sys.argv) != 2:
-        sys.exit(__doc__)
-    program = str(pathlib.Path(sys.argv[1]).resolve())
+    program = program_of(__doc__)
     print(f"| Trace of {CALLS:,} calls | {' | '.join(f'workers {workers}' for workers in WORKERS)} |")
     print("|---" * (1 + len(WORKERS)) + "|")
     for name, text in TRACES:

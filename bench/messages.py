@@ -7,11 +7,13 @@ plain_messages.rs over the crate `httparse`, whose sources are in FOLDER, or whe
 bodies of the same length. Printed are the median time of a reading on either side, the median ratio of
 the turns, and that of the processor time that the programs took. Needs rt and rustc.
 """
+import argparse
 import pathlib
 import subprocess
 import sys
 
 from sides import Bench, row
+from words import reader_of
 
 HEADS = (5, 40)
 KIB, MIB = 1_024, 1_048_576
@@ -37,22 +39,32 @@ def chunks(body):
     return b"".join(b"%x\r\n%s\r\n" % (size, b"x" * size) for size in sizes) + b"0\r\n\r\n"
 
 
-def httparse(folder, log):
+def sources(word):
+    """A folder with the sources of httparse."""
+    if not (pathlib.Path(word) / "src/lib.rs").is_file():
+        raise argparse.ArgumentTypeError(f"{word} has no src/lib.rs")
+    return pathlib.Path(word)
+
+
+def httparse(given, folder, log):
     """The peer's library, built from its sources."""
     words = ["rustc", "-O", "--edition", "2018", "--crate-type", "rlib", "--crate-name", "httparse",
              "--cap-lints", "allow", "-o", folder / "libhttparse.rlib"]
-    found = sys.argv[1:] or sorted(pathlib.Path("/usr/share/cargo/registry").glob("httparse-*"))
+    found = given or sorted(pathlib.Path("/usr/share/cargo/registry").glob("httparse-*"))
     if not found:
         sys.exit("no sources of httparse: install Debian's librust-httparse-dev, or name their folder")
-    subprocess.run([*words, pathlib.Path(found[0]) / "src/lib.rs"], stdout=log, stderr=log, check=True)
+    subprocess.run([*words, found[0] / "src/lib.rs"], stdout=log, stderr=log, check=True)
     return f"httparse={folder / 'libhttparse.rlib'}"
 
 
 def main():
+    reader = reader_of(__doc__)
+    reader.add_argument("folder", type=sources, nargs="?", metavar="FOLDER")
+    folder = reader.parse_args().folder
     bench = Bench("messages", "wire", ["counted_io"])
     with open(bench.tree / "build.log", "w") as log:
         print(f"building, some minutes at most; {log.name} tells how far it is", file=sys.stderr)
-        library = httparse(bench.tree, log)
+        library = httparse([folder] if folder else [], bench.tree, log)
         plain = bench.peer(log, "--extern", library)
         program = bench.product((10,), request(5, 0, False), log)
     print("| request | bytes | admission | plain | ratio | of processor time |")

@@ -7,10 +7,9 @@ callers wait for up to 50 ms. Printed are the share of calls answered 200, the t
 of a refusal.
 """
 import asyncio
-import os
-import sys
 
 from traffic import Gateway, Origin, allow_many_sockets, offer, percentile
+from words import above_zero, built, reader_of
 
 SLOTS, PAUSE = 4, 0.020
 TIMES = 4
@@ -29,16 +28,18 @@ def row(name, calls):
 
 
 def main():
-    if len(sys.argv) not in (2, 3) or not os.access(sys.argv[1], os.X_OK):
-        sys.exit(__doc__)
-    seconds = float(sys.argv[2]) if len(sys.argv) == 3 else 10
+    reader = reader_of(__doc__)
+    reader.add_argument("program", type=built, metavar="PROGRAM")
+    reader.add_argument("seconds", type=above_zero(float), nargs="?", default=10.0, metavar="SECONDS")
+    given = reader.parse_args()
+    seconds = given.seconds
     allow_many_sockets()
     rate = TIMES * SLOTS / PAUSE
     print("| | calls | answered 200 | within 100 ms | time of a 200, p50 / p99 | time of a 429, p50 / p99 | unanswered |")
     print("|---|---|---|---|---|---|---|")
     with Origin(SLOTS, PAUSE) as origin:
         row("without", asyncio.run(offer(origin.port, rate, seconds)))
-    with Origin(SLOTS, PAUSE) as origin, Gateway(sys.argv[1], origin, TABLES) as gateway:
+    with Origin(SLOTS, PAUSE) as origin, Gateway(given.program, origin, TABLES) as gateway:
         row("with the gateway", asyncio.run(offer(gateway.port, rate, seconds)))
 
 

@@ -8,9 +8,10 @@ import itertools
 import pathlib
 import random
 import subprocess
-import sys
 import tempfile
 import time
+
+from words import program_of
 
 HERE = pathlib.Path(__file__).resolve().parent
 TURNS = 5
@@ -95,9 +96,7 @@ SCRIPTS = [
 
 
 def main():
-    if len(sys.argv) != 2:
-        sys.exit(__doc__)
-    program = str(pathlib.Path(sys.argv[1]).resolve())
+    program = program_of(__doc__)
     with tempfile.TemporaryDirectory() as folder:
         plain = f"{folder}/plain"
         subprocess.run(["rustc", "-O", "--edition", "2021", "-o", plain, HERE / "plain.rs"], check=True)

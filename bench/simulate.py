@@ -8,11 +8,11 @@ ratios. Needs rustc for the plain program, `plain_simulate.rs`.
 import pathlib
 import statistics
 import subprocess
-import sys
 import tempfile
 import time
 
 from traces import CALLS, TRACES
+from words import program_of
 
 HERE = pathlib.Path(__file__).resolve().parent
 TURNS = 9
@@ -25,9 +25,7 @@ def run(words, text):
 
 
 def main():
-    if len(sys.argv) != 2:
-        sys.exit(__doc__)
-    ours = [str(pathlib.Path(sys.argv[1]).resolve()), "simulate"]
+    ours = [program_of(__doc__), "simulate"]
     with tempfile.TemporaryDirectory() as folder:
         theirs = [f"{folder}/plain"]
         subprocess.run(["rustc", "-O", "--edition", "2021", "-o", *theirs, HERE / "plain_simulate.rs"], check=True)

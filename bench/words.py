@@ -1,0 +1,38 @@
+"""The words of the benchmarks: `--help`, and the built program that they run."""
+import argparse
+import os
+import pathlib
+
+
+def reader_of(text):
+    """A reader of words whose `--help` is this text."""
+    return argparse.ArgumentParser(description=text, formatter_class=argparse.RawDescriptionHelpFormatter)
+
+
+def built(word):
+    """The path of a built program."""
+    path = pathlib.Path(word).resolve()
+    if not path.is_file() or not os.access(path, os.X_OK):
+        raise argparse.ArgumentTypeError(f"{word} isn't a built program: run ./admission --version, "
+                                         "and take crates/admission/out/admission")
+    return str(path)
+
+
+def above_zero(kind):
+    """Numbers of this kind above 0."""
+    def number(word):
+        try:
+            found = kind(word)
+        except ValueError:
+            found = 0
+        if not found > 0:
+            raise argparse.ArgumentTypeError(f"{word} isn't a number above 0")
+        return found
+    return number
+
+
+def program_of(text):
+    """The one word of a benchmark that takes the built program."""
+    reader = reader_of(text)
+    reader.add_argument("program", type=built, metavar="PROGRAM")
+    return reader.parse_args().program
