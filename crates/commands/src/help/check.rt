@@ -16,7 +16,7 @@ standard input. A smallest configuration is
   initial = 40                 # requests at the backend at once
 
 The keys, with unit, range and default. An omitted key takes its default, or the nearer end of its
-range where an earlier key leaves the default outside.
+range if an earlier key leaves the default outside.
 
 Before the tables:
   version       1; required
@@ -88,9 +88,9 @@ With a table of each kind:
   kind = \"prefix\"
   prefix = \"/health\"
 
-Writes `ok KIND INITIAL classes N resolvers R bypass B backlog Q` and ends with status 0; ends with
-2 where a word of the command line is at fault, and else with 1 and one line on standard error,
-which names the first key at fault:
+Writes `ok KIND INITIAL classes N resolvers R bypass B backlog Q` and exits with status 0; exits
+with 2 for a wrong command line, and otherwise with 1 and one line on standard error, which names
+the first key at fault:
 
   admission: config: read         no such file, no permission, a folder, or more than 1 MiB
   admission: config: toml         not TOML in UTF-8: a number with a unit, such as 5s, a text
@@ -103,5 +103,5 @@ which names the first key at fault:
   admission: config: unknown KEY  misspelt, in the wrong table, or of another kind of limit,
                                   resolver or rule
   admission: config: route        a pattern that can't be read, or two that can't stand together
-  admission: config: memory       memory is wanting: lower the memory that other programs take
+  admission: config: memory       out of memory: lower the memory that other programs take
   admission: write                standard output can't be written: a full disk, a closed pipe";

@@ -11,13 +11,13 @@ Arrival number i, from 0 and with the bypass lines counted, is made by worker i 
 worker makes its own in their order. A call asks at its AT; where it gets a permit, it ends it at
 once, with the moment at which it started plus its DURATION. With `wait` it waits where there is no
 permit, for the timeout of the trace by the machine's own clock, until another worker's ending
-promotes it. Which worker comes first is the machine's affair: where calls are refused or wait, two
-runs may end otherwise.
+promotes it. Which worker comes first depends on the machine: where calls are refused or wait, two
+runs may end differently.
 
   --limit N      the fixed limit of a trace without a limit line, permits, 1 to 10000; 20
   --workers W    threads that make the calls, 1 to 64; 4
 
-At the end all that the workers were told is held against the gate's history: each call stands in
+At the end all that the workers were told is compared with the gate's history: each call stands in
 it once, in its worker's order, and each ending ends a permit that was handed out. Then two lines
 are written: how many calls the history holds, and what they were answered.
 
@@ -35,28 +35,28 @@ by two lines, of which the second is cut here:
   admitted 4 bypassed 0 full 0 backlog 0 waiting 0 promoted 0 timed-out 0
       success 4 ignored 0 dropped 0
 
-A call that comes once so many entries are kept is told so and stands in no count, unless the
-history rolls; then it can't be audited.
+Once K entries are kept, further calls are refused and stand in no count, unless the history rolls;
+then it can't be audited.
 
-Ends with status 0 once both lines are written, with 2 where a word of the command line is at fault,
-and else with 1 and one line on standard error. Nothing is written before it but by a disk that
-fills or a pipe that closes:
+Exits with status 0 once both lines are written, with 2 for a wrong command line, and otherwise with
+1 and one line on standard error. Nothing is written before it, unless a disk fills or a pipe
+closes:
 
-  admission: line L: words   no line is written so: a word too many, too few or misspelt, a number
-                             with a sign, a point or a unit, a line of a script
-  admission: line L: late    a setting behind another line
+  admission: line L: words   no such line: a word too many, too few or misspelt, a number with a
+                             sign, a point or a unit, a line of a script
+  admission: line L: late    a setting after another line
   admission: line L: twice   a second limit, window, backlog, keep or timeout
   admission: line L: value   a number out of its range, N outside LO to HI, MIN above MAX, a class
                              given twice, a fifth class, or shares above 100 percent together
   admission: line L: class   no class line has this name
   admission: read            standard input can't be read, such as a folder, or doesn't end
   admission: too large       the trace has more than 16 MiB
-  admission: memory          memory is wanting: lower K, or the memory that other programs take
-  admission: thread          a thread can't be started: take fewer workers, or raise the limit that
-                             the system sets on threads
+  admission: memory          out of memory: lower K, or the memory that other programs take
+  admission: thread          a thread can't be started: take fewer workers, or raise the system's
+                             limit on threads
   admission: audit: rolled   the history forgot entries: leave `rolling` out, or raise K
-  admission: audit: memory   memory is wanting for the audit
+  admission: audit: memory   out of memory during the audit
   admission: audit: passes missing, strange, order, uncovered, unmatched
-                             the gate contradicts what it told: a fault of this program, please
-                             report the trace
+                             the gate contradicts what it told: a bug of this program, please report
+                             the trace
   admission: write           standard output can't be written: a full disk, a closed pipe";

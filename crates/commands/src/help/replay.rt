@@ -4,7 +4,7 @@ pub(crate) const REPLAY_ABOUT: &str = "Answers a script of acquires and endings,
 
 pub(crate) const REPLAY_HELP: &str = "\
 Reads a script from standard input and writes one line for each decision. The script is read whole,
-at most 16 MiB, before the first answer: lines that are typed are answered once the input is ended.
+at most 16 MiB, before the first answer: lines that are typed are answered at the end of the input.
 Numbers are decimal without sign or unit, and times are nanoseconds (one hour: 3600000000000).
 
 Settings, before any other line, with 1 <= LO <= N <= HI <= 10000 permits. Without a limit line the
@@ -29,7 +29,7 @@ limit is fixed at the N of --limit.
   keep K                       how many entries of the history are kept, 1 to 1000000; 100000
                                without this line
   keep K rolling               the same of a history that rolls: it forgets entries to go on
-  timeout T                    read, and of no use here: it is a setting of `simulate`
+  timeout T                    accepted and ignored: it is a setting of `simulate`
 
 Then, with every NOW in nanoseconds:
 
@@ -62,21 +62,21 @@ by the lines
   3 promoted 1 inflight 1
   4 granted inflight 1
 
-An ending of no open permit is answered `- not open`, and each event `- exhausted` once so many
-entries are kept (what waits may still be given up, and what is open ended), unless the history
-rolls.
+An ending of no open permit is answered `- not open`. Once K entries are kept, further events are
+answered `- exhausted`, unless the history rolls; what waits may still be given up, and what is open
+ended.
 
-Ends with status 0 once all is written, with 2 where a word of the command line is at fault, and
-else with 1 and one line on standard error, which comes after the answers to the lines before it:
+Exits with status 0 once all is written, with 2 for a wrong command line, and otherwise with 1 and
+one line on standard error, which comes after the answers to the lines before it:
 
-  admission: line L: words   no line is written so: a word too many, too few or misspelt, a number
-                             with a sign, a point or a unit
-  admission: line L: late    a setting behind another line
+  admission: line L: words   no such line: a word too many, too few or misspelt, a number with a
+                             sign, a point or a unit
+  admission: line L: late    a setting after another line
   admission: line L: twice   a second limit, window, backlog, keep or timeout
   admission: line L: value   a number out of its range, N outside LO to HI, MIN above MAX, a class
                              given twice, a fifth class, or shares above 100 percent together
   admission: line L: class   no class line has this name
   admission: read            standard input can't be read, such as a folder, or doesn't end
   admission: too large       the script has more than 16 MiB
-  admission: memory          memory is wanting: lower the memory that other programs take
+  admission: memory          out of memory: lower the memory that other programs take
   admission: write           standard output can't be written: a full disk, a closed pipe";

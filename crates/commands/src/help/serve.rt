@@ -6,17 +6,16 @@ pub(crate) const SERVE_HELP: &str = "\
 Serves clients at the address `listen` of the file CONFIG, TOML text of at most 1 MiB, and forwards
 to its `backend` what its limit admits. The keys are those of `admission check --help`, which says
 whether a file is right before anything is served. A connection carries one request, HTTP/1.1 or
-1.0, and is closed behind its answer. Bodies are read whole, up to 8 MiB each way.
+1.0, and is closed after its answer. Bodies are read whole, up to 8 MiB each way.
 
-  --workers W            threads that serve, 1 to 64; 4. Each has one connection at a time, from
+  --workers W            threads that serve, 1 to 64; 4. Each serves one connection at a time, from
                          its first byte to the last of its answer, also while it waits for a permit:
-                         so W is the most that is in flight and waits together, and 64 fits all but
-                         small limits
+                         at most W requests are in flight or wait. Use 64 for all but small limits
   --per-worker M         connections that each worker serves before it ends, 1 to 1000000000;
                          1000000000. The program ends once all workers have
-  --client-timeout-ms T  milliseconds that a client may take, 1 to 3600000; 10000: so long for its
-                         whole request, and so long again to take its answer. One that is slower is
-                         cut off, and its permit is ended as ever
+  --client-timeout-ms T  milliseconds that a client may take, 1 to 3600000; 10000: for its whole
+                         request, and again to take its whole answer. A slower client is cut off,
+                         and its permit is ended as always
 
 For example, with this file as gate.toml
 
@@ -54,21 +53,23 @@ what the limit learns from it:
 An ignored ending gives the permit back and changes no limit. The backend has no timeout: one that
 never answers holds its permit and its worker until it closes the connection.
 
-Standard error gets three kinds of lines of the log: once the address is bound, `listening` with the
-address, the number of workers and the kind of limit; and before that a warning where the limit, or
-its max, and the backlog are together more than the workers. Then callers past the workers wait
-unseen in the system's queue and are never refused: raise the workers, or lower the two. Another
-warns where the backend is this gateway itself, so that each request would come back to it.
+The log on standard error has three kinds of lines. `listening`, with the address, the number of
+workers and the kind of limit, comes once the address is bound. Before it comes a warning if the
+limit, or its max, and the backlog together exceed the workers: callers past the workers then wait
+unseen in the system's accept queue and are never refused, so raise the workers or lower the two.
+Another warning comes if the backend is this gateway itself: each request would come back to it.
 
-At its end it writes on standard output what was decided:
+At its end `serve` writes its counters to standard output, in one line:
 `admitted A bypassed B full F backlog G waiting W promoted P timed-out T success S ignored I
-dropped D`, in one line. It ends with status 0 then, with 2 where a word of the command line is at
-fault, and else with 1 and one line on standard error:
+dropped D`. SIGTERM, SIGINT, SIGHUP and SIGUSR1 end it at once, without counters.
 
-  admission: config: ..    the file can't be read or is at fault, as `admission check --help` tells
-  admission: listen        the address can't be bound: another program has it, it is none of this
-                           machine, or its port is below 1024 and asks for more rights
-  admission: memory        memory is wanting: lower the workers, the limit, `backlog` or `keep`
-  admission: thread        a thread can't be started, and those that were have ended: lower the
-                           workers, or raise the limit that the system sets on threads
+Exits with status 0 once all workers have ended, with 2 for a wrong command line, and otherwise with
+1 and one line on standard error:
+
+  admission: config: ..    the file can't be read or isn't right: see `admission check --help`
+  admission: listen        the address can't be bound: another program has it, it isn't one of this
+                           machine's, or its port is below 1024, which needs more rights
+  admission: memory        out of memory: lower the workers, the limit, `backlog` or `keep`
+  admission: thread        a thread can't be started, and those that were have ended: take fewer
+                           workers, or raise the system's limit on threads
   admission: write         standard output can't be written: a full disk, a closed pipe";

@@ -27,7 +27,7 @@ Then the arrivals, in any order of their moments:
 
 What comes first by moment is done first; of one moment, endings come before givings up, these
 before arrivals, and of one kind what stands earlier in the trace. Who was promoted by an ending
-gets its permit right behind it.
+gets its permit right after it.
 
 For example, `admission simulate < trace` answers the trace
 
@@ -49,19 +49,20 @@ by the lines
   6 granted inflight 1
   7 ended promoted 0
 
-An arrival is answered `- exhausted` once so many entries are kept, unless the history rolls.
+Once K entries are kept, further arrivals are answered `- exhausted`, unless the history rolls: put
+`keep 1000 rolling` before a long trace.
 
-Ends with status 0 once all is written, with 2 where a word of the command line is at fault, and
-else with 1 and one line on standard error, which comes after what became of the lines before it:
+Exits with status 0 once all is written, with 2 for a wrong command line, and otherwise with 1 and
+one line on standard error, which comes after what became of the lines before it:
 
-  admission: line L: words   no line is written so: a word too many, too few or misspelt, a number
-                             with a sign, a point or a unit, a line of a script
-  admission: line L: late    a setting behind another line
+  admission: line L: words   no such line: a word too many, too few or misspelt, a number with a
+                             sign, a point or a unit, a line of a script
+  admission: line L: late    a setting after another line
   admission: line L: twice   a second limit, window, backlog, keep or timeout
   admission: line L: value   a number out of its range, N outside LO to HI, MIN above MAX, a class
                              given twice, a fifth class, or shares above 100 percent together
   admission: line L: class   no class line has this name
   admission: read            standard input can't be read, such as a folder, or doesn't end
   admission: too large       the trace has more than 16 MiB
-  admission: memory          memory is wanting: lower the memory that other programs take
+  admission: memory          out of memory: lower the memory that other programs take
   admission: write           standard output can't be written: a full disk, a closed pipe";
