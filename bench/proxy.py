@@ -1,16 +1,25 @@
 #!/usr/bin/env python3
-"""Times `admission serve` beside nginx and HAProxy, in one run: bench/proxy.py PROGRAM [--seconds S] [--rounds N] [--workers W] [CLIENTS ..]
+"""Times `admission serve` beside nginx and HAProxy, in one run:
 
-An origin (nginx, which answers 13 bytes from memory), nginx and HAProxy as proxies, and PROGRAM (built, with 64
-workers unless W is given) stand on loopback ports below the ephemeral range; every request has a connection of
-its own on both sides. Everything runs on one processor, since on a shared machine a program with more threads
-takes more of it. For each number of clients every round visits each of them once, in turns, for some seconds of
-`wrk`; printed are the medians of requests a second, of the ratio to nginx round by round with its spread, of the
-times of an answer, of processor time an exchange, and of overflows of the accept queues. All processes are
-ended. Needs Debian's nginx-light, haproxy and wrk.
+    bench/proxy.py PROGRAM [--seconds S] [--rounds N] [--workers W,..] [--answer BYTES] [--upload BYTES] [--refused] [CLIENTS ..]
+
+An origin (nginx, which answers 13 bytes from memory), nginx and HAProxy as proxies, and PROGRAM (built), once for
+each number of workers W (64 unless some are given), stand on loopback ports below the ephemeral range; every request
+has a connection of its own on both sides. Everything runs on one processor, since on a shared machine a program with
+more threads takes more of it. For each number of clients every round visits each of them once, in turns, for some
+seconds of `wrk`; printed are the medians of requests a second, of the ratio to nginx round by round with its spread,
+of the times of an answer, of the user and the system time of an exchange, of voluntary switches in it, and of
+overflows of the accept queues, and the resident memory after the last round.
+
+With --answer the origin answers so many bytes, with --upload each request is a POST of so many, and a second nginx
+stands beside the first that buffers neither way. With --refused the limit is one, somebody holds it in an exchange
+that isn't answered, and what is timed are the answers 429 of `admission` and those of nginx's `limit_conn`.
+
+All processes are ended. Needs Debian's nginx-light, haproxy and wrk.
 """
 import argparse
 import contextlib
+import itertools
 import os
 import pathlib
 import re
@@ -20,6 +29,7 @@ import statistics
 import subprocess
 import sys
 import tempfile
+import threading
 import time
 
 TICK = os.sysconf("SC_CLK_TCK")
@@ -45,21 +55,26 @@ backend origin
 ADMISSION = """version = 1
 listen = "127.0.0.1:{port}"
 backend = "127.0.0.1:{origin}"
+wait = false
 backlog = 0
 [limit]
 kind = "fixed"
-initial = 64
+initial = {limit}
 """
+# What nginx needs to pass on bodies of any size, and so that it passes them on as they come.
+ANY_SIZE = "client_max_body_size 0;"
+UNBUFFERED = f"{ANY_SIZE} proxy_buffering off; proxy_request_buffering off; proxy_http_version 1.1;"
+ONE_AT_A_TIME = "limit_conn_zone $server_port zone=all:1m; limit_conn_status 429; limit_conn_log_level info;"
 
 
-def first_port():
-    """The first of four free ports in a row, below the ephemeral range as it mostly is."""
-    for first in range(20_000 + os.getpid() * 7 % 10_000, 32_000, 4):
+def first_port(count):
+    """The first of so many free ports in a row, below the ephemeral range as it mostly is."""
+    for first in range(20_000 + os.getpid() * 7 % 10_000, 32_000, count):
         with contextlib.suppress(OSError), contextlib.ExitStack() as held:
-            for port in range(first, first + 4):
+            for port in range(first, first + count):
                 held.enter_context(socket.create_server(("127.0.0.1", port)))
             return first
-    sys.exit("proxy.py: no four ports in a row are free")
+    sys.exit(f"proxy.py: no {count} ports in a row are free")
 
 
 class Servers:
@@ -108,13 +123,30 @@ def family(pid):
     return found
 
 
+def told(pid, *names):
+    """Numbers of a process or a thread, by their names in its status; 0 where it is gone."""
+    try:
+        lines = pathlib.Path(f"/proc/{pid}/status").read_text().splitlines()
+    except OSError:
+        return [0 for _ in names]
+    found = {line.partition(":")[0]: line.split()[1] for line in lines if len(line.split()) > 1}
+    return [int(found.get(name, 0)) for name in names]
+
+
 def spent(pid):
-    """The processor seconds of a process and its children."""
-    ticks = 0
+    """The user and the system seconds of a process and its children, and their voluntary switches."""
+    user, system, switches = 0, 0, 0
     for one in family(pid):
         fields = pathlib.Path(f"/proc/{one}/stat").read_text().rpartition(")")[2].split()
-        ticks += int(fields[11]) + int(fields[12])
-    return ticks / TICK
+        user, system = user + int(fields[11]), system + int(fields[12])
+        threads = os.listdir(f"/proc/{one}/task")
+        switches += sum(told(f"{one}/task/{thread}", "voluntary_ctxt_switches")[0] for thread in threads)
+    return user / TICK, system / TICK, switches
+
+
+def resident(pid):
+    """The megabytes that a process and its children have in memory."""
+    return sum(told(one, "VmRSS")[0] for one in family(pid)) / 1024
 
 
 def overflows():
@@ -127,21 +159,25 @@ def milliseconds(text):
     return float(number) * {"us": 0.001, "ms": 1, "s": 1000, "m": 60_000}[unit]
 
 
-def visit(target, clients, seconds, processor):
+def visit(target, clients, seconds, processor, asking):
     """One visit of wrk to a target: its figures by name."""
     port, process = target
     before, dropped = spent(process.pid), overflows()
     words = ["taskset", "-c", str(processor), "wrk", "-t1", f"-c{clients}", f"-d{seconds}s", "--latency",
-             "-H", "Connection: close", f"http://127.0.0.1:{port}/"]
+             *asking, "-H", "Connection: close", f"http://127.0.0.1:{port}/"]
     said = subprocess.run(words, capture_output=True, text=True, check=True).stdout
     total = max(1, int(re.search(r"(\d+) requests in", said)[1]))
+    user, system, switches = (after - earlier for after, earlier in zip(spent(process.pid), before))
     wrong = re.search(r"Non-2xx or 3xx responses: (\d+)", said)
     faults = re.search(r"Socket errors: (.*)", said)
     return {
         "rate": float(re.search(r"Requests/sec:\s+([\d.]+)", said)[1]),
         "p50": milliseconds(re.search(r"\n\s+50%\s+(\S+)", said)[1]),
         "p99": milliseconds(re.search(r"\n\s+99%\s+(\S+)", said)[1]),
-        "processor": (spent(process.pid) - before) / total * 1e6,
+        "user": user / total * 1e6,
+        "system": system / total * 1e6,
+        "switches": switches / total,
+        "resident": resident(process.pid),
         "wrong": int(wrong[1]) if wrong else 0,
         "overflows": overflows() - dropped,
         "faults": faults[1] if faults else "",
@@ -151,30 +187,94 @@ def visit(target, clients, seconds, processor):
 def tell(clients, found):
     """The table of one number of clients."""
     print(f"\n{clients} clients\n")
-    print("| Proxy | requests/s | of nginx's | spread | p50 | p99 | processor time | not 200 | overflows |")
-    print("|---|---|---|---|---|---|---|---|---|")
+    print("| Proxy | requests/s | of nginx's | spread | p50 | p99 | user time | system time | switches | resident "
+          "| not 200 | overflows |")
+    print("|---|---|---|---|---|---|---|---|---|---|---|---|")
     for name, runs in found.items():
         middle = {key: statistics.median(run[key] for run in runs) for key in runs[0] if key != "faults"}
         ratios = [run["rate"] / peer["rate"] for run, peer in zip(runs, found["nginx"])]
         wrong, dropped = (sum(run[key] for run in runs) for key in ("wrong", "overflows"))
         print(f"| {name} | {middle['rate']:,.0f} | {statistics.median(ratios):.2f} | {min(ratios):.2f} to {max(ratios):.2f} | "
-              f"{middle['p50']:.2f} ms | {middle['p99']:.2f} ms | {middle['processor']:.0f} us | {wrong} | {dropped} |", flush=True)
+              f"{middle['p50']:.2f} ms | {middle['p99']:.2f} ms | {middle['user']:.1f} us | {middle['system']:.1f} us | "
+              f"{middle['switches']:.2f} | {runs[-1]['resident']:.1f} MB | {wrong} | {dropped} |", flush=True)
         for fault in sorted({run["faults"] for run in runs} - {""}):
             print(f"  {name}: {fault}", file=sys.stderr)
 
 
-def targets_of(servers, program, port, workers):
+@contextlib.contextmanager
+def held(target, is_refused):
+    """Somebody's request at a target that isn't answered meanwhile, where the others are to be refused."""
+    if not is_refused:
+        yield
+        return
+    with socket.create_connection(("127.0.0.1", target[0])) as caller:
+        caller.sendall(b"GET / HTTP/1.1\r\nHost: holder\r\n\r\n")
+        time.sleep(0.2)
+        yield
+
+
+def silent_origin(port):
+    """Takes connections and answers none, until it is closed."""
+    listener = socket.create_server(("127.0.0.1", port), backlog=64)
+
+    def accept():
+        kept = []
+        with contextlib.suppress(OSError):
+            while True:
+                kept.append(listener.accept()[0])
+
+    threading.Thread(target=accept, daemon=True).start()
+
+
+def start_origin(servers, port, given):
+    """What stands behind all proxies, and is timed alone as well where it answers."""
+    if given.refused:
+        silent_origin(port)
+        return {}
+    answer = 'return 200 "hello, world\\n";'
+    if given.answer:
+        servers.written("answer", "x" * given.answer)
+        answer = f"root {servers.room}; rewrite ^ /answer break;"
+    servers.nginx("origin", port, f"{ANY_SIZE} location / {{ {answer} }}")
+    return {"origin alone": (port, servers.started[-1])}
+
+
+def targets_of(servers, program, port, given):
     """The proxies by name, each with its port and its process."""
-    origin = port
-    servers.nginx("origin", origin, 'location / { return 200 "hello, world\\n"; }')
-    found = {"origin alone": (origin, servers.started[-1])}
-    pass_on = f"location / {{ proxy_pass http://127.0.0.1:{origin}; proxy_set_header Connection close; }}"
-    found["nginx"] = (port + 1, servers.nginx("proxy", port + 1, pass_on))
-    file = servers.written("haproxy", HAPROXY.format(port=port + 2, origin=origin))
-    found["HAProxy"] = (port + 2, servers.start("haproxy", "-f", file, "-db"))
-    file = servers.written("admission.toml", ADMISSION.format(port=port + 3, origin=origin))
-    found["admission"] = (port + 3, servers.start(program, "serve", file, "--workers", str(workers)))
+    ports = itertools.count(port)
+    origin = next(ports)
+    found = start_origin(servers, origin, given)
+
+    def nginx(name, server, http=""):
+        own = next(ports)
+        pass_on = f"location / {{ proxy_pass http://127.0.0.1:{origin}; proxy_set_header Connection close; }}"
+        found[name] = (own, servers.nginx(f"proxy_{own}", own, f"{server} {pass_on}", http))
+
+    if given.refused:
+        nginx("nginx", "limit_conn all 1;", ONE_AT_A_TIME)
+    else:
+        nginx("nginx", ANY_SIZE)
+        own = next(ports)
+        file = servers.written("haproxy", HAPROXY.format(port=own, origin=origin))
+        found["HAProxy"] = (own, servers.start("haproxy", "-f", file, "-db"))
+    if given.answer or given.upload:
+        nginx("nginx, unbuffered", UNBUFFERED)
+    for count in given.workers:
+        own, limit = next(ports), 1 if given.refused else 64
+        file = servers.written(f"admission_{count}.toml", ADMISSION.format(port=own, origin=origin, limit=limit))
+        found[f"admission, {count} workers"] = (own, servers.start(program, "serve", file, "--workers", str(count)))
     return found
+
+
+def asking_of(servers, upload):
+    """What wrk is told, so that it sends bodies."""
+    script = f'wrk.method = "POST"\nwrk.body = string.rep("x", {upload})\n'
+    return ["-s", servers.written("upload.lua", script)] if upload else []
+
+
+def numbers(text):
+    """Numbers with commas between them."""
+    return [int(word) for word in text.split(",")]
 
 
 def main():
@@ -182,7 +282,10 @@ def main():
     reader.add_argument("program", type=pathlib.Path)
     reader.add_argument("--seconds", type=int, default=3)
     reader.add_argument("--rounds", type=int, default=8)
-    reader.add_argument("--workers", type=int, default=64)
+    reader.add_argument("--workers", type=numbers, default=[64])
+    reader.add_argument("--answer", type=int, default=0)
+    reader.add_argument("--upload", type=int, default=0)
+    reader.add_argument("--refused", action="store_true")
     reader.add_argument("clients", type=int, nargs="*", default=[16, 64, 256])
     given = reader.parse_intermixed_args()
     missing = [package for name, package in PACKAGES.items() if not shutil.which(name)]
@@ -193,8 +296,9 @@ def main():
         os.chmod(folder, 0o755)
         servers = Servers(pathlib.Path(folder), processor)
         try:
-            first = first_port()
-            targets = targets_of(servers, str(given.program.resolve()), first, given.workers)
+            first = first_port(4 + len(given.workers))
+            targets = targets_of(servers, str(given.program.resolve()), first, given)
+            asking = asking_of(servers, given.upload)
             time.sleep(1.5)
             gone = [name for name, (_, process) in targets.items() if process.poll() is not None]
             if gone:
@@ -204,7 +308,8 @@ def main():
                 for turn in range(given.rounds):
                     names = list(targets)
                     for name in names[turn % len(names):] + names[:turn % len(names)]:
-                        found[name].append(visit(targets[name], clients, given.seconds, processor))
+                        with held(targets[name], given.refused):
+                            found[name].append(visit(targets[name], clients, given.seconds, processor, asking))
                 tell(clients, found)
         finally:
             servers.end()
