@@ -28,9 +28,9 @@ def table():
 
 def libraries():
     """The crates, each with those that its row of crates.txt names."""
-    rows = re.findall(r"^(\w+):(.*)$", (TOP / "crates.txt").read_text(encoding="utf-8"), re.M)
+    rows = re.findall(r"^(\w+)[^:#\n]*:?([^#\n]*)", (TOP / "crates.txt").read_text(encoding="utf-8"), re.M)
     names = {name for name, _ in rows}
-    return {name: names.intersection(words.split()) for name, words in rows}
+    return {name: names.intersection(re.findall(r"\w+", words)) for name, words in rows}
 
 
 def number_in(file, pattern):
@@ -109,13 +109,15 @@ def below(name):
     """The crates that a crate stands on, and it itself, lowest first."""
     needs, found = libraries(), []
 
-    def add(it):
-        for library in sorted(needs[it]):
+    def add(it, above):
+        if it in above or it not in needs:
+            raise ValueError(f"crates.txt: {it} depends on itself" if it in above else f"crates.txt has no {it}")
+        for library in sorted(needs[it] - set(found)):
             if library not in found:
-                add(library)
+                add(library, {*above, it})
         found.append(it)
 
-    add(name)
+    add(name, set())
     return found
 
 
