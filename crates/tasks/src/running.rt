@@ -1,4 +1,6 @@
 // Tasks on threads.
+ghost use Rattle.std.specs.Prelude.{◌≡◌, IfOk, vec_len};
+
 use std::alloc::Global;
 use std::sync::Wait;
 use std::thread;
@@ -28,17 +30,23 @@ pub fn run_tasks<R: Threads + Wait + Sync, T: Task + Send + Drop>(
     rt: &R,
     alloc: Global,
     tasks: Vec<T>,
-) -> Result<Vec<T::Done>, TasksFault> {
-    let Ok(mut done) = Vec::with_capacity(alloc, tasks.len()) else {
+) -> Result<Vec<T::Done>, TasksFault>
+    ensures { IfOk result (λ done. vec_len done ≡ vec_len tasks) }
+{
+    let count = tasks.len();
+    let Ok(mut done) = Vec::with_capacity(alloc, count) else {
         return Err(TasksFault::Memory);
     };
-    let Ok(mut threads) = Vec::with_capacity(alloc, tasks.len()) else {
+    let Ok(mut threads) = Vec::with_capacity(alloc, count) else {
         return Err(TasksFault::Memory);
     };
     thread::scope(
         thread::scope_env(),
         rt,
-        move |scope| -> Result<Vec<T::Done>, TasksFault> {
+        move |scope| -> Result<Vec<T::Done>, TasksFault>
+            requires { count ≡ vec_len tasks }
+            ensures { IfOk result (λ made. vec_len made ≡ vec_len tasks) }
+        {
             let mut fault = None;
             for task in tasks {
                 match scope.spawn(move || task.run()) {
@@ -58,10 +66,10 @@ pub fn run_tasks<R: Threads + Wait + Sync, T: Task + Send + Drop>(
                     fault = Some(TasksFault::Memory);
                 }
             }
-            match fault {
-                Some(fault) => Err(fault),
-                None => Ok(done),
+            if done.len() == count {
+                return Ok(done);
             }
+            Err(fault.unwrap_or(TasksFault::Memory))
         },
     )
 }
