@@ -1,13 +1,14 @@
 // A reader or a writer with its two counts.
-ghost use Rattle.std.specs.Prelude.{◌≡◌, ◌<◌, ◌||◌, [], length, take, Ok, is_ok, false, IfOk, OnErr};
+ghost use Rattle.std.specs.Prelude.{◌≡◌, ◌<◌, ◌≤◌, ◌||◌, ◌++◌, ℕ, List, [], length, Ok, is_ok, false, IfOk, IfSome, IsErrOf, OnErr, OnOk};
 ghost use Rattle.std.specs.Io.{ReadsAtMost, StopsAt, WritesAtMost};
 ghost use Rattle.std.specs.Io.KnownBytes.{Keeps, ReadConsumes, WriteAppends};
 ghost use Rattle.counted_io.specs.Count.{raised, raised_by_err};
 ghost use Rattle.counted_io.specs.Counted.{inner_of, calls_of, failures_of, flushes_of, is_flushed};
 ghost use Rattle.counted_io.specs.Effects.{Gave, IfLeft};
 
-use crate::through::move_through;
+use crate::through::{AppendFault, append_through};
 use std::io::{BufRead, Error, ErrorKind, Read, Result, Write};
+use std::result;
 
 /// A reader or a writer, with how many reads or writes, flushes and failures it had.
 ///
@@ -114,29 +115,59 @@ impl<R: Read> Read for Counted<R> {
 }
 
 impl<R: BufRead> Counted<R> {
-    /// Reads some bytes to the front of `buf`, no further than the first `stop` among them.
+    /// Puts some bytes behind those of `into`, at most `most` of them, and no further than the
+    /// first `stop` among them where one is named: how many it was.
     ///
     /// It is one call, like a read. The reader shows what it has read ahead, so a whole line costs
-    /// one call where it lies in the reader's buffer.
-    pub fn read_through(&mut self, stop: u8, buf: &mut [u8]) -> Result<usize>
-        ensures bound { ReadsAtMost result buf.new }
-        ensures length { length buf.new ≡ length buf.old }
-        ensures gave { IfOk result (λ count.
-            Gave R.remaining self.old self.new (take count buf.new)) }
+    /// one call where it lies in the reader's buffer, and is copied once. Where a growth is refused,
+    /// nothing is taken, and that is no failure of the reader.
+    pub fn append(
+        &mut self,
+        stop: Option<u8>,
+        most: usize,
+        into: &mut Vec<u8>,
+    ) -> result::Result<usize, AppendFault>
+        ensures gave { IfOk result (λ count. (part : List ℕ) × (length part ≡ count)
+            × (into.new.items ≡ into.old.items ++ part)
+            × Gave R.remaining self.old self.new part
+            × IfSome stop (λ stop. StopsAt part stop)) }
+        ensures fits { IfOk result (λ count. count ≤ most) }
+        ensures end { IfOk result (λ count. count ≡ 0 → 0 < most
+            → IfLeft R.remaining self.old (λ left. left ≡ [])) }
+        ensures unchanged { OnErr result (into.new.items ≡ into.old.items) }
         ensures kept { OnErr result
             (Keeps (R.remaining (inner_of self.old)) (R.remaining (inner_of self.new))) }
-        ensures end { IfOk result (λ count. count ≡ 0 → 0 < length buf.new
-            → IfLeft R.remaining self.old (λ left. left ≡ [])) }
-        ensures stops { IfOk result (λ count. StopsAt (take count buf.new) stop) }
         ensures calls { calls_of self.new ≡ raised (calls_of self.old) }
         ensures flushes { flushes_of self.new ≡ flushes_of self.old }
-        ensures failures { failures_of self.new ≡ raised_by_err result (failures_of self.old) }
+        ensures unfailing { OnOk result (failures_of self.new ≡ failures_of self.old) }
+        ensures memory { IsErrOf result AppendFault.Memory →
+            failures_of self.new ≡ failures_of self.old }
+        ensures read { IsErrOf result AppendFault.Read →
+            failures_of self.new ≡ raised (failures_of self.old) }
         ensures flushed { is_flushed self.new ≡ is_flushed self.old }
     {
         self.count_call();
-        let outcome = move_through(&mut self.inner, stop, buf);
-        self.count_failure(&outcome);
+        let outcome = append_through(&mut self.inner, stop, most, into);
+        self.count_unread(&outcome);
         outcome
+    }
+
+    // One more failure, where the reader failed.
+    fn count_unread(&mut self, outcome: &result::Result<usize, AppendFault>)
+        ensures inner { inner_of self.new ≡ inner_of self.old }
+        ensures calls { calls_of self.new ≡ calls_of self.old }
+        ensures flushes { flushes_of self.new ≡ flushes_of self.old }
+        ensures unfailing { OnOk outcome.now (failures_of self.new ≡ failures_of self.old) }
+        ensures memory { IsErrOf outcome.now AppendFault.Memory →
+            failures_of self.new ≡ failures_of self.old }
+        ensures read { IsErrOf outcome.now AppendFault.Read →
+            failures_of self.new ≡ raised (failures_of self.old) }
+        ensures flushed { is_flushed self.new ≡ is_flushed self.old }
+    {
+        match outcome {
+            Err(AppendFault::Read) => self.failures = self.failures.saturating_add(1),
+            Ok(_) | Err(AppendFault::Memory) => {}
+        }
     }
 }
 

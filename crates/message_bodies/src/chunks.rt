@@ -8,13 +8,13 @@ use crate::size::read_size;
 use counted_io::Counted;
 use message_bytes::{Fault, ReadFault, fill, read_crlf, read_trailers};
 use std::alloc::Global;
-use std::io::Read;
+use std::io::BufRead;
 
 /// The greatest number of bytes of a body.
 const MOST_BODY: u64 = 8_388_608;
 
 // A chunk's bytes, behind those of the body, and the CR LF behind them.
-fn read_piece<R: Read>(
+fn read_piece<R: BufRead>(
     reader: &mut Counted<R>,
     limit: u64,
     mut body: Vec<u8>,
@@ -40,7 +40,7 @@ fn read_piece<R: Read>(
 /// no CR LF follows; a size with which the sum passes 8,388,608 is `BodyTooLarge`, before the
 /// chunk's bytes are read; more than 65,536 bytes behind the last chunk are `HeadTooLarge`.
 #[tactic(auto, using(crate::proofs::Joined::chunk_steps))]
-pub fn read_chunked<R: Read>(
+pub fn read_chunked<R: BufRead>(
     alloc: Global,
     reader: &mut Counted<R>,
     limit: u64,

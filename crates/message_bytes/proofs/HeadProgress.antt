@@ -25,7 +25,7 @@ unfolding ends_in_empty
 empty_more before last b seen one two =
     ap is_empty_end (three_more (0, 0, 10) b seen) ∙ rw (one, two) refl
 
-blank_more : (three : ℕ × ℕ × ℕ) (b : ℕ) (text : List ℕ)
+pub blank_more : (three : ℕ × ℕ × ℕ) (b : ℕ) (text : List ℕ)
     → is_blank three.2 (text ++ b ∷ [])
     ≡ (is_blank three.2 text && stays_blank (last_three three text).2 b)
 blank_more three b [] = search rules
@@ -60,7 +60,7 @@ few_ends t b =
     elim ((b == 10) && not t) as (λ e. (if e then 1 else 0) ≤ 1)
     [ true ↦ search rules | false ↦ search rules ]
 
-ends_more : (last b : ℕ) (text : List ℕ)
+pub ends_more : (last b : ℕ) (text : List ℕ)
     → ends_of (after_blank last (text ++ b ∷ []))
     ≡ ends_of (after_blank last text) + ended_by (is_blank last (text ++ b ∷ [])) b
 ends_more last b [] =

@@ -3,5 +3,6 @@ mod Phases
 mod Pieces
 mod HeadEnds
 mod HeadProgress
+mod LastBytes
 mod Sized
 mod TrailerLines

@@ -8,19 +8,16 @@ use crate::byte::read_some;
 use crate::fault::{Fault, ReadFault};
 use counted_io::Counted;
 use std::alloc::Global;
-use std::io::Read;
-
-/// How many bytes are asked for at once.
-const PIECE: usize = 16_384;
+use std::io::BufRead;
 
 /// The greatest number of bytes of a body.
 const MOST_BODY: usize = 8_388_608;
 
 /// Puts the next `size` bytes behind `body`.
 ///
-/// They are read in pieces of at most 16,384 bytes. After a fault nothing is said of how many of
+/// They are copied once, out of what the reader shows. After a fault nothing is said of how many of
 /// them were put there.
-pub fn fill<R: Read>(
+pub fn fill<R: BufRead>(
     reader: &mut Counted<R>,
     limit: u64,
     body: &mut Vec<u8>,
@@ -35,16 +32,11 @@ pub fn fill<R: Read>(
     ensures unfailing { OnOk result (failures_of reader.new ≡ failures_of reader.old) }
     ensures turns { IsErrOf result ReadFault.TurnLimit → limit ≤ calls_of reader.new }
 {
-    let mut piece = [0u8; PIECE];
     let mut left = size;
     while left > 0 {
-        let room = left.min(PIECE);
-        let count = read_some(reader, limit, &mut piece[..room])?;
+        let count = read_some(reader, limit, left, body)?;
         if count == 0 {
             return Err(ReadFault::Bytes(Fault::Early));
-        }
-        if body.extend_from_slice(&piece[..count]).is_err() {
-            return Err(ReadFault::Memory);
         }
         left -= count;
     }
@@ -52,7 +44,7 @@ pub fn fill<R: Read>(
 }
 
 /// A body of `size` bytes.
-pub fn read_sized<R: Read>(
+pub fn read_sized<R: BufRead>(
     alloc: Global,
     reader: &mut Counted<R>,
     limit: u64,
@@ -70,7 +62,7 @@ pub fn read_sized<R: Read>(
 }
 
 /// A body that runs to the reader's end, of at most 8,388,608 bytes.
-pub fn read_to_end<R: Read>(
+pub fn read_to_end<R: BufRead>(
     alloc: Global,
     reader: &mut Counted<R>,
     limit: u64,
@@ -82,17 +74,14 @@ pub fn read_to_end<R: Read>(
     ensures turns { IsErrOf result ReadFault.TurnLimit → limit ≤ calls_of reader.new }
 {
     let mut body = Vec::new(alloc);
-    let mut piece = [0u8; PIECE];
     loop {
-        let count = read_some(reader, limit, &mut piece)?;
+        let room = MOST_BODY - body.len();
+        let count = read_some(reader, limit, room + 1, &mut body)?;
         if count == 0 {
             return Ok(body);
         }
-        if count > MOST_BODY - body.len() {
+        if count > room {
             return Err(ReadFault::Bytes(Fault::BodyTooLarge));
-        }
-        if body.extend_from_slice(&piece[..count]).is_err() {
-            return Err(ReadFault::Memory);
         }
     }
 }

@@ -1,14 +1,13 @@
 // One byte of a reader, or some.
-ghost use Rattle.std.specs.Prelude.{◌≡◌, ◌≤◌, ◌<◌, ◌⊎◌, [], length, take, IfOk, IfErr, IsErrOf, OnOk};
+ghost use Rattle.std.specs.Prelude.{◌≡◌, ◌≤◌, ◌<◌, ◌⊎◌, ◌++◌, ℕ, List, [], length, IfOk, IfErr, IfSome, IsErrOf, OnErr, OnOk};
 ghost use Rattle.std.specs.Io.{StopsAt};
-ghost use Rattle.std.specs.Io.KnownBytes.{IsAtEnd};
 ghost use Rattle.counted_io.specs.Counted.{inner_of, calls_of, failures_of};
 ghost use Rattle.counted_io.specs.Effects.{Gave, IfLeft};
 ghost use Rattle.message_bytes.specs.Body.{byte_is, crlf_of};
 ghost use Rattle.message_bytes.specs.Reading.{By, HasFailed, Reads, byte_of};
 
 use crate::fault::{Fault, ReadFault};
-use counted_io::Counted;
+use counted_io::{AppendFault, Counted};
 use std::io::{BufRead, Read};
 
 /// The next byte, unless the reader made `limit` calls already.
@@ -29,21 +28,24 @@ pub fn read_byte<R: Read>(reader: &mut Counted<R>, limit: u64) -> Result<u8, Rea
     }
 }
 
-/// Some of the next bytes, to the front of `buf`: how many, 0 where the reader is at its end.
-///
-/// The faults are `TurnLimit`, where the reader made `limit` calls already, and `Read`.
-pub fn read_some<R: Read>(
+// Puts some of the next bytes behind those of `into`, at most `most` of them, and no further than the
+// first `stop` where one is named.
+fn append<R: BufRead>(
     reader: &mut Counted<R>,
     limit: u64,
-    buf: &mut [u8],
+    stop: Option<u8>,
+    most: usize,
+    into: &mut Vec<u8>,
 ) -> Result<usize, ReadFault>
-    requires { 0 < length buf.old }
-    ensures gave { IfOk result (λ n. Gave R.remaining reader.old reader.new (take n buf.new)) }
-    ensures end { IfOk result (λ n. n ≡ 0 → IsAtEnd (R.remaining (inner_of reader.new))) }
-    ensures fits { IfOk result (λ n. n ≤ length buf.new) }
-    ensures length { length buf.new ≡ length buf.old }
-    ensures faults { IfErr result (λ fault.
-        (fault ≡ ReadFault.TurnLimit) ⊎ (fault ≡ ReadFault.Read)) }
+    ensures gave { IfOk result (λ n. (part : List ℕ) × (length part ≡ n)
+        × (into.new.items ≡ into.old.items ++ part)
+        × Gave R.remaining reader.old reader.new part × IfSome stop (λ stop. StopsAt part stop)) }
+    ensures fits { IfOk result (λ n. n ≤ most) }
+    ensures end { IfOk result (λ n. n ≡ 0 → 0 < most
+        → IfLeft R.remaining reader.old (λ left. left ≡ [])) }
+    ensures unchanged { OnErr result (into.new.items ≡ into.old.items) }
+    ensures faults { IfErr result (λ fault. (fault ≡ ReadFault.TurnLimit)
+        ⊎ (fault ≡ ReadFault.Read) ⊎ (fault ≡ ReadFault.Memory)) }
     ensures read { IsErrOf result ReadFault.Read → HasFailed reader.old reader.new }
     ensures unfailing { OnOk result (failures_of reader.new ≡ failures_of reader.old) }
     ensures turns { IsErrOf result ReadFault.TurnLimit → limit ≤ calls_of reader.new }
@@ -51,39 +53,70 @@ pub fn read_some<R: Read>(
     if reader.calls() >= limit {
         return Err(ReadFault::TurnLimit);
     }
-    reader.read(buf).map_err(|_| ReadFault::Read)
+    match reader.append(stop, most, into) {
+        Ok(count) => Ok(count),
+        Err(AppendFault::Read) => Err(ReadFault::Read),
+        Err(AppendFault::Memory) => Err(ReadFault::Memory),
+    }
 }
 
-/// The next bytes to the front of `buf`, no further than the first LF among them: how many.
+/// Puts some of the next bytes behind those of `into`, at most `most` of them: how many, 0 where the
+/// reader is at its end.
+///
+/// The faults are `TurnLimit`, where the reader made `limit` calls already, `Read`, and `Memory`,
+/// where a growth was refused; after each of them `into` is as it was.
+pub fn read_some<R: BufRead>(
+    reader: &mut Counted<R>,
+    limit: u64,
+    most: usize,
+    into: &mut Vec<u8>,
+) -> Result<usize, ReadFault>
+    requires { 0 < most }
+    ensures gave { IfOk result (λ n. (part : List ℕ) × (length part ≡ n)
+        × (into.new.items ≡ into.old.items ++ part)
+        × Gave R.remaining reader.old reader.new part) }
+    ensures end { IfOk result (λ n. n ≡ 0
+        → IfLeft R.remaining reader.old (λ left. left ≡ [])) }
+    ensures fits { IfOk result (λ n. n ≤ most) }
+    ensures unchanged { OnErr result (into.new.items ≡ into.old.items) }
+    ensures faults { IfErr result (λ fault. (fault ≡ ReadFault.TurnLimit)
+        ⊎ (fault ≡ ReadFault.Read) ⊎ (fault ≡ ReadFault.Memory)) }
+    ensures read { IsErrOf result ReadFault.Read → HasFailed reader.old reader.new }
+    ensures unfailing { OnOk result (failures_of reader.new ≡ failures_of reader.old) }
+    ensures turns { IsErrOf result ReadFault.TurnLimit → limit ≤ calls_of reader.new }
+{
+    append(reader, limit, None, most, into)
+}
+
+/// Puts the next bytes behind those of `into`, at most `most` of them, and no further than the first
+/// LF among them.
 ///
 /// It is one at least, and as many as the reader shows where it has them at hand. The faults are
-/// `TurnLimit`, where the reader made `limit` calls already, `Read`, and `Early` at its end.
+/// `TurnLimit`, where the reader made `limit` calls already, `Read`, `Early` at its end, and
+/// `Memory`, where a growth was refused; after each of them `into` is as it was.
 pub fn read_line_part<R: BufRead>(
     reader: &mut Counted<R>,
     limit: u64,
-    buf: &mut [u8],
-) -> Result<usize, ReadFault>
-    requires { 0 < length buf.old }
-    ensures gave { IfOk result (λ n. Gave R.remaining reader.old reader.new (take n buf.new)) }
-    ensures some { IfOk result (λ n. 0 < n) }
-    ensures fits { IfOk result (λ n. n ≤ length buf.new) }
-    ensures stops { IfOk result (λ n. StopsAt (take n buf.new) 10) }
-    ensures length { length buf.new ≡ length buf.old }
+    most: usize,
+    into: &mut Vec<u8>,
+) -> Result<(), ReadFault>
+    requires { 0 < most }
+    ensures gave { OnOk result ((part : List ℕ) × (0 < length part) × (length part ≤ most)
+        × (into.new.items ≡ into.old.items ++ part)
+        × Gave R.remaining reader.old reader.new part × StopsAt part 10) }
+    ensures unchanged { OnErr result (into.new.items ≡ into.old.items) }
     ensures faults { IfErr result (λ fault. (fault ≡ ReadFault.TurnLimit)
-        ⊎ (fault ≡ ReadFault.Read) ⊎ (fault ≡ ReadFault.Bytes Fault.Early)) }
+        ⊎ (fault ≡ ReadFault.Read) ⊎ (fault ≡ ReadFault.Memory)
+        ⊎ (fault ≡ ReadFault.Bytes Fault.Early)) }
     ensures early { IsErrOf result (ReadFault.Bytes Fault.Early)
         → IfLeft R.remaining reader.old (λ left. left ≡ []) }
     ensures read { IsErrOf result ReadFault.Read → HasFailed reader.old reader.new }
     ensures unfailing { OnOk result (failures_of reader.new ≡ failures_of reader.old) }
     ensures turns { IsErrOf result ReadFault.TurnLimit → limit ≤ calls_of reader.new }
 {
-    if reader.calls() >= limit {
-        return Err(ReadFault::TurnLimit);
-    }
-    match reader.read_through(b'\n', buf) {
-        Err(_) => Err(ReadFault::Read),
-        Ok(0) => Err(ReadFault::from(Fault::Early)),
-        Ok(count) => Ok(count),
+    match append(reader, limit, Some(b'\n'), most, into)? {
+        0 => Err(ReadFault::from(Fault::Early)),
+        _ => Ok(()),
     }
 }
 

@@ -1,6 +1,8 @@
 // The bytes of a head.
-ghost use Rattle.std.specs.Prelude.{◌≡◌, ◌≤◌, ◌<◌, ◌++◌, [], length, IsErrOf, IfErr, IfOk, OnErr, OnOk};
+ghost use Rattle.std.specs.Prelude.{◌≡◌, ◌≤◌, ◌<◌, ◌-◌, ◌⊎◌, ◌++◌, ℕ, List, [], length, IsErrOf, IfErr, IfOk, OnErr, OnOk};
+ghost use Rattle.std.specs.Io.{StopsAt};
 ghost use Rattle.counted_io.specs.Counted.{inner_of, calls_of, failures_of};
+ghost use Rattle.counted_io.specs.Effects.{Gave, IfLeft};
 ghost use Rattle.message_bytes.specs.Reading.{By, HasFailed, Reads};
 ghost use Rattle.message_bytes.specs.Head.{ends_head, head_of, line_ends};
 
@@ -15,8 +17,8 @@ use std::marker::Model;
 /// The greatest number of bytes of a head.
 const MOST_HEAD: usize = 65_536;
 
-/// How many bytes are asked for at once.
-const PIECE: usize = 1_024;
+/// The room for a head at first; it grows where one has more bytes.
+const USUAL_HEAD: usize = 512;
 
 /// The greatest number of lines, the first and the empty one among them.
 const MOST_LINES: usize = 102;
@@ -40,22 +42,38 @@ impl Model for Seen {
 }
 
 impl Seen {
-    fn new(alloc: Global) -> Seen
-        ensures { result ≡ [] }
+    fn new(alloc: Global) -> Result<Seen, AllocError>
+        ensures { IfOk result (λ seen. seen ≡ []) }
     {
-        Seen {
-            bytes: Vec::new(alloc),
+        Ok(Seen {
+            bytes: Vec::with_capacity(alloc, USUAL_HEAD)?,
             progress: Progress::new(),
-        }
+        })
     }
 
-    // Adds some bytes, and tells whether all are a head.
-    fn add(&mut self, piece: &[u8]) -> Result<bool, AllocError>
-        ensures bytes { OnOk result (self.new ≡ self.old ++ piece.now) }
-        ensures ends { IfOk result (λ ends. ends ≡ ends_head (self.old ++ piece.now)) }
+    // Adds the next bytes of the reader, no further than an LF, and tells whether all are a head.
+    fn read_on<R: BufRead>(
+        &mut self,
+        reader: &mut Counted<R>,
+        limit: u64,
+    ) -> Result<bool, ReadFault>
+        requires { length self.old < 65536 }
+        ensures gave { OnOk result ((part : List ℕ) × (0 < length part)
+            × (length part ≤ 65536 - length self.old) × (self.new ≡ self.old ++ part)
+            × Gave R.remaining reader.old reader.new part × StopsAt part 10) }
+        ensures ends { IfOk result (λ ends. ends ≡ ends_head self.new) }
+        ensures faults { IfErr result (λ fault. (fault ≡ ReadFault.TurnLimit)
+            ⊎ (fault ≡ ReadFault.Read) ⊎ (fault ≡ ReadFault.Memory)
+            ⊎ (fault ≡ ReadFault.Bytes Fault.Early)) }
+        ensures early { IsErrOf result (ReadFault.Bytes Fault.Early)
+            → IfLeft R.remaining reader.old (λ left. left ≡ []) }
+        ensures read { IsErrOf result ReadFault.Read → HasFailed reader.old reader.new }
+        ensures unfailing { OnOk result (failures_of reader.new ≡ failures_of reader.old) }
+        ensures turns { IsErrOf result ReadFault.TurnLimit → limit ≤ calls_of reader.new }
     {
-        self.bytes.extend_from_slice(piece)?;
-        self.progress = self.progress.through(piece);
+        let before = self.bytes.len();
+        read_line_part(reader, limit, MOST_HEAD - before, &mut self.bytes)?;
+        self.progress = self.progress.through(&self.bytes[before..]);
         Ok(self.progress.ends())
     }
 
@@ -95,15 +113,10 @@ pub fn read_head<R: BufRead>(
     ensures unfailing { OnOk result (failures_of reader.new ≡ failures_of reader.old) }
     ensures turns { IsErrOf result ReadFault.TurnLimit → limit ≤ calls_of reader.new }
 {
-    let mut seen = Seen::new(alloc);
-    let mut piece = [0u8; PIECE];
+    let mut seen = Seen::new(alloc)?;
     while seen.len() < MOST_HEAD {
-        let room = PIECE.min(MOST_HEAD - seen.len());
-        let count = read_line_part(reader, limit, &mut piece[..room])?;
-        match seen.add(&piece[..count]) {
-            Err(_) => return Err(ReadFault::Memory),
-            Ok(false) => {}
-            Ok(true) => return seen.into_head(),
+        if seen.read_on(reader, limit)? {
+            return seen.into_head();
         }
     }
     Err(ReadFault::Bytes(Fault::HeadTooLarge))

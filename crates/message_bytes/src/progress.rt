@@ -1,5 +1,6 @@
 // What of the bytes of a head decides on the next one.
 ghost use Rattle.std.specs.Prelude.{◌≡◌, ◌<◌, ◌≤◌, ◌+◌, ◌++◌, ◌∷◌, [], ℕ, List, ◌&&◌, length};
+ghost use Rattle.std.specs.Io.{StopsAt};
 ghost use Rattle.message_bytes.specs.Head.{ended_by, ends_head, stays_blank};
 ghost use Rattle.message_bytes.specs.Progress.{IsProgress, lines_of};
 
@@ -50,8 +51,8 @@ impl Progress {
         }
     }
 
-    /// What is kept after these bytes.
-    pub(crate) fn through(self, piece: &[u8]) -> Progress
+    // What is kept after these bytes, one after the other.
+    fn by_bytes(self, piece: &[u8]) -> Progress
         requires { lines_of self + length piece.now ≤ 18446744073709551615 }
         ensures { (text : List ℕ) → IsProgress text self → IsProgress (text ++ piece.now) result }
     {
@@ -60,6 +61,42 @@ impl Progress {
             progress = progress.after(*byte);
         }
         progress
+    }
+
+    // The same of bytes with an LF at their end at most. Behind the empty lines in front the last
+    // three of them decide.
+    fn past(self, piece: &[u8]) -> Progress
+        requires room { lines_of self + length piece.now ≤ 18446744073709551615 }
+        requires stops { StopsAt piece.now 10 }
+        ensures { (text : List ℕ) → IsProgress text self → IsProgress (text ++ piece.now) result }
+    {
+        let len = piece.len();
+        if self.blank || len < 3 {
+            return self.by_bytes(piece);
+        }
+        let last = piece[len - 1];
+        Progress {
+            blank: false,
+            third: piece[len - 3],
+            second: piece[len - 2],
+            last,
+            lines: self.lines + ended(false, last),
+        }
+    }
+
+    /// What is kept after these bytes, which have an LF at their end at most.
+    pub(crate) fn through(self, piece: &[u8]) -> Progress
+        requires room { lines_of self + length piece.now ≤ 18446744073709551615 }
+        requires stops { StopsAt piece.now 10 }
+        ensures { (text : List ℕ) → IsProgress text self → IsProgress (text ++ piece.now) result }
+    {
+        let mut progress = self;
+        let mut at = 0;
+        while at < piece.len() && progress.blank {
+            progress = progress.after(piece[at]);
+            at += 1;
+        }
+        progress.past(&piece[at..])
     }
 
     /// The bytes are a head, or more.

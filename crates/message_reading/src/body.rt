@@ -10,11 +10,11 @@ use message_bodies::read_chunked;
 use message_bytes::{ReadFault, read_sized, read_to_end};
 use message_parts::Bytes;
 use std::alloc::Global;
-use std::io::Read;
+use std::io::BufRead;
 
 /// The body that is delimited so, and nothing behind it.
 #[tactic(auto, using(crate::proofs::Bodies::body_steps))]
-pub fn read_body<R: Read>(
+pub fn read_body<R: BufRead>(
     alloc: Global,
     reader: &mut Counted<R>,
     limit: u64,

@@ -1,6 +1,38 @@
-use Rattle.std.proofs.Common.{arith, rules}
+use Rattle.std.proofs.Common.{arith, rules, ◌<◌, ◌∙◌, length, drop, length-append}
+use Rattle.std.proofs.KnownBytes.{Consumes-trans}
 use Rattle.std.proofs.lemmas.Grind.{common_steps}
+use Rattle.message_bytes.proofs.Sized.{longer, not_filled, stays}
 use Rattle.message_bytes.proofs.body.fill.Goals as goal
+
+pub loop-left-preserved : goal.loop-left-preserved
+loop-left-preserved g c =
+    let left = g.R.Read.remaining in
+    let gave = c.in_ok-count.ensures.gave in
+    let invariant = c.loop-left.invariant in
+    let front = c.args.body.now.items in
+    let more = longer front c.loop-left.body.items c.read_some.new.into.items gave.0 invariant.kept
+    gave.2 in
+    let got = drop (length front) c.loop-left.body.items in
+    let size = length-append got gave.0 in
+    record {
+      consumed = rw more (Consumes-trans _ _ _ got gave.0 invariant.consumed gave.3);
+      kept = stays front c.loop-left.body.items _ gave.0 invariant.kept gave.2;
+      counted = rw more (omega (
+        arith,
+        size,
+        gave.1,
+        invariant.counted,
+        c.in_ok-count.ensures.fits,
+      ));
+      failures = c.in_ok-count.ensures.unfailing ∙ invariant.failures;
+    }
+
+pub returns-then-count-eq0-clause-bytes : goal.returns-then-count-eq0-clause-bytes
+returns-then-count-eq0-clause-bytes g c =
+    let invariant = c.loop-left.invariant in
+    let short : length (drop (length c.args.body.now.items) c.loop-left.body.items) < c.args.size =
+    grind (arith, common_steps, invariant.counted) in
+    not_filled _ c.args.size _ _ _ _ invariant.consumed short (c.in_ok-count.ensures.end (search rules))
 
 pub returns-in_err-count-clause-bytes : goal.returns-in_err-count-clause-bytes
 returns-in_err-count-clause-bytes c = search rules
@@ -20,11 +52,10 @@ returns-in_err-count-clause-unfailing c = search rules
 pub returns-in_err-count-clause-turns : goal.returns-in_err-count-clause-turns
 returns-in_err-count-clause-turns c = search rules
 
-pub returns-then-count-eq0-clause-bytes : goal.returns-then-count-eq0-clause-bytes
-returns-then-count-eq0-clause-bytes c = search rules
-
 pub returns-then-count-eq0-clause-kept : goal.returns-then-count-eq0-clause-kept
-returns-then-count-eq0-clause-kept c = search rules
+returns-then-count-eq0-clause-kept g c =
+    let gave = c.in_ok-count.ensures.gave in
+    stays c.args.body.now.items c.loop-left.body.items _ gave.0 c.loop-left.invariant.kept gave.2
 
 pub returns-then-count-eq0-clause-length : goal.returns-then-count-eq0-clause-length
 returns-then-count-eq0-clause-length c = search rules
@@ -37,24 +68,6 @@ returns-then-count-eq0-clause-unfailing c = search rules
 
 pub returns-then-count-eq0-clause-turns : goal.returns-then-count-eq0-clause-turns
 returns-then-count-eq0-clause-turns c = search rules
-
-pub returns-then-is_err-clause-bytes : goal.returns-then-is_err-clause-bytes
-returns-then-is_err-clause-bytes c = search rules
-
-pub returns-then-is_err-clause-kept : goal.returns-then-is_err-clause-kept
-returns-then-is_err-clause-kept c = search rules
-
-pub returns-then-is_err-clause-length : goal.returns-then-is_err-clause-length
-returns-then-is_err-clause-length c = search rules
-
-pub returns-then-is_err-clause-read : goal.returns-then-is_err-clause-read
-returns-then-is_err-clause-read c = search rules
-
-pub returns-then-is_err-clause-unfailing : goal.returns-then-is_err-clause-unfailing
-returns-then-is_err-clause-unfailing c = search rules
-
-pub returns-then-is_err-clause-turns : goal.returns-then-is_err-clause-turns
-returns-then-is_err-clause-turns c = search rules
 
 pub returns-clause-bytes : goal.returns-clause-bytes
 returns-clause-bytes c = grind (arith, common_steps)

@@ -1,6 +1,34 @@
-use Rattle.std.proofs.Common.{arith, rules}
+use Rattle.std.proofs.Common.{arith, rules, ◌≡◌, ◌∙◌, length-append}
+use Rattle.std.proofs.KnownBytes.{Consumes-trans}
 use Rattle.std.proofs.lemmas.Grind.{common_steps}
+use Rattle.message_bytes.proofs.Sized.{all_read, too_many}
 use Rattle.message_bytes.proofs.body.read_to_end.Goals as goal
+
+pub loop-body-preserved : goal.loop-body-preserved
+loop-body-preserved g c =
+    let gave = c.in_ok-count.ensures.gave in
+    let invariant = c.loop-body.invariant in
+    let size = length-append c.loop-body.body.items gave.0 in
+    record {
+      consumed = rw gave.2 (Consumes-trans _ _ _ _ gave.0 invariant.consumed gave.3);
+      fits = rw gave.2 (grind (arith, common_steps, size, gave.1, invariant.fits));
+      failures = c.in_ok-count.ensures.unfailing ∙ invariant.failures;
+    }
+
+pub returns-then-count-eq0-clause-body : goal.returns-then-count-eq0-clause-body
+returns-then-count-eq0-clause-body g c =
+    let gave = c.in_ok-count.ensures.gave in
+    let invariant = c.loop-body.invariant in
+    let zero : c.in_ok-count.count ≡ 0 = search rules in
+    all_read _ _ _ _ _ _ gave.0 invariant.consumed invariant.fits gave.2 (gave.1 ∙ zero) gave.3
+    (c.in_ok-count.ensures.end zero)
+
+pub returns-then-count-room-clause-body : goal.returns-then-count-room-clause-body
+returns-then-count-room-clause-body g c =
+    let gave = c.in_ok-count.ensures.gave in
+    let invariant = c.loop-body.invariant in
+    too_many _ _ _ _ _ gave.0 invariant.consumed gave.3
+    (grind (arith, common_steps, gave.1, invariant.fits))
 
 pub returns-in_err-count-clause-body : goal.returns-in_err-count-clause-body
 returns-in_err-count-clause-body c = search rules
@@ -14,9 +42,6 @@ returns-in_err-count-clause-unfailing c = search rules
 pub returns-in_err-count-clause-turns : goal.returns-in_err-count-clause-turns
 returns-in_err-count-clause-turns c = search rules
 
-pub returns-then-count-eq0-clause-body : goal.returns-then-count-eq0-clause-body
-returns-then-count-eq0-clause-body c = search rules
-
 pub returns-then-count-eq0-clause-read : goal.returns-then-count-eq0-clause-read
 returns-then-count-eq0-clause-read c = search rules
 
@@ -26,26 +51,11 @@ returns-then-count-eq0-clause-unfailing c = search rules
 pub returns-then-count-eq0-clause-turns : goal.returns-then-count-eq0-clause-turns
 returns-then-count-eq0-clause-turns c = search rules
 
-pub returns-then-count-len-clause-body : goal.returns-then-count-len-clause-body
-returns-then-count-len-clause-body c = grind (arith, common_steps)
+pub returns-then-count-room-clause-read : goal.returns-then-count-room-clause-read
+returns-then-count-room-clause-read c = search rules
 
-pub returns-then-count-len-clause-read : goal.returns-then-count-len-clause-read
-returns-then-count-len-clause-read c = search rules
+pub returns-then-count-room-clause-unfailing : goal.returns-then-count-room-clause-unfailing
+returns-then-count-room-clause-unfailing c = search rules
 
-pub returns-then-count-len-clause-unfailing : goal.returns-then-count-len-clause-unfailing
-returns-then-count-len-clause-unfailing c = search rules
-
-pub returns-then-count-len-clause-turns : goal.returns-then-count-len-clause-turns
-returns-then-count-len-clause-turns c = search rules
-
-pub returns-then-is_err-clause-body : goal.returns-then-is_err-clause-body
-returns-then-is_err-clause-body c = search rules
-
-pub returns-then-is_err-clause-read : goal.returns-then-is_err-clause-read
-returns-then-is_err-clause-read c = search rules
-
-pub returns-then-is_err-clause-unfailing : goal.returns-then-is_err-clause-unfailing
-returns-then-is_err-clause-unfailing c = search rules
-
-pub returns-then-is_err-clause-turns : goal.returns-then-is_err-clause-turns
-returns-then-is_err-clause-turns c = search rules
+pub returns-then-count-room-clause-turns : goal.returns-then-count-room-clause-turns
+returns-then-count-room-clause-turns c = search rules

@@ -5,8 +5,8 @@ use Rattle.message_bytes.specs.Gather.{GoesOn}
 use Rattle.message_bytes.specs.Head.{ends_head}
 use Rattle.message_bytes.proofs.head.read_head.Given as goal
 
-abbrev pub invariant-loop-piece : goal.invariant-loop-piece
-invariant-loop-piece g l =
+abbrev pub invariant-loop-seen : goal.invariant-loop-seen
+invariant-loop-seen g l =
     let left = g.R.Read.remaining in
     record {
       on : GoesOn ends_head 65536 HeadTooLarge (left (inner_of l.fn.reader))
@@ -15,5 +15,5 @@ invariant-loop-piece g l =
       failures : failures_of l.reader ≡ failures_of l.fn.reader;
     }
 
-abbrev pub decreases-loop-piece : goal.decreases-loop-piece
-decreases-loop-piece g l = 65536 - length l.seen
+abbrev pub decreases-loop-seen : goal.decreases-loop-seen
+decreases-loop-seen g l = 65536 - length l.seen
