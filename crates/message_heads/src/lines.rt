@@ -4,27 +4,27 @@ ghost use Rattle.httparse.specs.Spans.{IsHeaderWithin};
 ghost use Rattle.message_heads.specs.Whole.{line_at};
 
 use httparse::spans::HeaderSpan;
-use message_parts::{Bytes, Header, Headers};
+use message_parts::{HeadText, Header, Headers};
 use std::alloc::{AllocError, Global};
 
 /// The greatest number of lines between the first one and the empty one.
 pub(crate) const MOST_LINES: usize = 100;
 
 // The line that the spans cover.
-fn copy_line(alloc: Global, text: &[u8], span: HeaderSpan) -> Result<Header, AllocError>
+fn line_at(text: &HeadText, span: HeaderSpan) -> Result<Header, AllocError>
     requires { IsHeaderWithin (length text.now) span }
     ensures { IfOk result (λ line. line ≡ line_at text.now span) }
 {
     Ok(Header {
-        name: Bytes::from_slice(alloc, span.name.of(text))?,
-        value: Bytes::from_slice(alloc, span.value.of(text))?,
+        name: text.piece(span.name.start, span.name.end)?,
+        value: text.piece(span.value.start, span.value.end)?,
     })
 }
 
 // The lines that the spans cover, in their order.
-pub(crate) fn copy_lines(
+pub(crate) fn lines_at(
     alloc: Global,
-    text: &[u8],
+    text: &HeadText,
     spans: &[HeaderSpan],
 ) -> Result<Headers, AllocError>
     requires { All (IsHeaderWithin (length text.now)) spans.now }
@@ -32,7 +32,7 @@ pub(crate) fn copy_lines(
 {
     let mut lines = Vec::with_capacity(alloc, spans.len())?;
     for at in 0..spans.len() {
-        lines.push(copy_line(alloc, text, spans[at])?)?;
+        lines.push(line_at(text, spans[at])?)?;
     }
     Ok(Headers::new(lines))
 }

@@ -6,12 +6,12 @@ ghost use Rattle.message_bytes.specs.Head.{line_ends};
 ghost use Rattle.message_bytes.specs.declared.fault.Fault.TheVariants.{Malformed};
 ghost use Rattle.message_heads.specs.Whole.{HasNoWholeRequest, IsWholeRequest, request_head};
 
-use crate::lines::{MOST_LINES, copy_lines};
+use crate::lines::{MOST_LINES, lines_at};
 use http::Method;
 use httparse::Status;
 use httparse::spans::{EMPTY_HEADER_SPAN, HeaderSpan, RequestSpans, parse_request as find_request};
 use message_bytes::{Fault, ReadFault};
-use message_parts::{Headers, Text};
+use message_parts::{HeadText, Headers, Text};
 use std::alloc::{AllocError, Global};
 
 /// The head of a request: its first line and the lines behind it.
@@ -48,28 +48,29 @@ fn whole_request(text: &[u8], spans: &mut [HeaderSpan]) -> Option<RequestSpans>
 }
 
 /// The head that the bytes are, which have at most 102 lines, the first and the empty one among
-/// them, but for the empty ones in front.
+/// them, but for the empty ones in front. Its lines lie in these bytes, which aren't copied.
 ///
 /// `Malformed` where they are no head and nothing else, `Memory` where a growth was refused.
 #[tactic(auto, using(crate::proofs::LineCounts::request_lines))]
-pub fn parse_request(alloc: Global, text: &[u8]) -> Result<RequestHead, ReadFault>
-    requires { line_ends text.now ≤ 102 }
+pub fn parse_request(alloc: Global, text: Vec<u8>) -> Result<RequestHead, ReadFault>
+    requires { line_ends text.items ≤ 102 }
     ensures head { IfOk result (λ head.
-        (h : GrammarHead) × IsWholeRequest text.now h × (head ≡ request_head h)) }
-    ensures malformed { IsErrOf result (ReadFault.Bytes Malformed) → HasNoWholeRequest text.now }
+        (h : GrammarHead) × IsWholeRequest text.items h × (head ≡ request_head h)) }
+    ensures malformed { IsErrOf result (ReadFault.Bytes Malformed) → HasNoWholeRequest text.items }
     ensures faults { IfErr result (λ fault.
         (fault ≡ ReadFault.Memory) ⊎ (fault ≡ ReadFault.Bytes Malformed)) }
 {
     let mut spans = [EMPTY_HEADER_SPAN; MOST_LINES];
-    let Some(found) = whole_request(text, &mut spans) else {
+    let Some(found) = whole_request(&text, &mut spans) else {
         return Err(ReadFault::Bytes(Fault::Malformed));
     };
     // A method is a token, so nothing but memory can be wanting.
-    let Ok(method) = Method::from_bytes(alloc, found.method.of(text)) else {
+    let Ok(method) = Method::from_bytes(alloc, found.method.of(&text)) else {
         return Err(ReadFault::Memory);
     };
-    let target = copy_text(alloc, found.path.of(text))?;
-    let lines = copy_lines(alloc, text, &spans[..found.headers])?;
+    let target = copy_text(alloc, found.path.of(&text))?;
+    let kept = HeadText::new(alloc, text)?;
+    let lines = lines_at(alloc, &kept, &spans[..found.headers])?;
     Ok(RequestHead {
         method,
         target,

@@ -6,13 +6,13 @@ ghost use Rattle.message_bytes.specs.Head.{line_ends};
 ghost use Rattle.message_bytes.specs.declared.fault.Fault.TheVariants.{Malformed};
 ghost use Rattle.message_heads.specs.Whole.{HasNoWholeResponse, IsWholeResponse, response_head};
 
-use crate::lines::{MOST_LINES, copy_lines};
+use crate::lines::{MOST_LINES, lines_at};
 use httparse::Status;
 use httparse::spans::{
     EMPTY_HEADER_SPAN, HeaderSpan, ResponseSpans, parse_response as find_response,
 };
 use message_bytes::{Fault, ReadFault};
-use message_parts::Headers;
+use message_parts::{HeadText, Headers};
 use std::alloc::Global;
 
 /// The head of a response: its status and the lines behind it.
@@ -40,24 +40,25 @@ fn whole_response(text: &[u8], spans: &mut [HeaderSpan]) -> Option<ResponseSpans
 }
 
 /// The head that the bytes are, which have at most 102 lines, the first and the empty one among
-/// them, but for the empty ones in front.
+/// them, but for the empty ones in front. Its lines lie in these bytes, which aren't copied.
 ///
 /// `Malformed` where they are no head and nothing else, `Memory` where a growth was refused.
 #[tactic(auto, using(crate::proofs::LineCounts::response_lines))]
-pub fn parse_response(alloc: Global, text: &[u8]) -> Result<ResponseHead, ReadFault>
-    requires { line_ends text.now ≤ 102 }
+pub fn parse_response(alloc: Global, text: Vec<u8>) -> Result<ResponseHead, ReadFault>
+    requires { line_ends text.items ≤ 102 }
     ensures head { IfOk result (λ head.
-        (h : GrammarHead) × IsWholeResponse text.now h × (head ≡ response_head h)) }
-    ensures malformed { IsErrOf result (ReadFault.Bytes Malformed) → HasNoWholeResponse text.now }
+        (h : GrammarHead) × IsWholeResponse text.items h × (head ≡ response_head h)) }
+    ensures malformed { IsErrOf result (ReadFault.Bytes Malformed) → HasNoWholeResponse text.items }
     ensures faults { IfErr result (λ fault.
         (fault ≡ ReadFault.Memory) ⊎ (fault ≡ ReadFault.Bytes Malformed)) }
     ensures three_digits { IfOk result (λ head. head.status ≤ 999) }
 {
     let mut spans = [EMPTY_HEADER_SPAN; MOST_LINES];
-    let Some(found) = whole_response(text, &mut spans) else {
+    let Some(found) = whole_response(&text, &mut spans) else {
         return Err(ReadFault::Bytes(Fault::Malformed));
     };
-    let lines = copy_lines(alloc, text, &spans[..found.headers])?;
+    let kept = HeadText::new(alloc, text)?;
+    let lines = lines_at(alloc, &kept, &spans[..found.headers])?;
     Ok(ResponseHead {
         status: found.code,
         minor: found.version,

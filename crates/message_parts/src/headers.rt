@@ -1,14 +1,15 @@
 // The header lines of a message, in their order.
 ghost use Rattle.std.specs.Prelude.{◌≡◌, ◌↔◌, [], length, IsTrue};
 
-use crate::bytes::Bytes;
+use crate::piece::Piece;
 use std::marker::Model;
 
-/// A header line: its name as it was written, and its value without the blanks around it.
+/// A header line: its name as it was written, and its value without the blanks around it. Both lie
+/// in the text of the head.
 #[derive(Drop)]
 pub struct Header {
-    pub name: Bytes,
-    pub value: Bytes,
+    pub name: Piece,
+    pub value: Piece,
 }
 
 /// The header lines of a message, in their order. A contract sees their list.

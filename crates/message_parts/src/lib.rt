@@ -6,8 +6,10 @@
 
 mod bytes;
 mod headers;
+mod piece;
 mod text;
 
 pub use bytes::Bytes;
 pub use headers::{Header, Headers};
+pub use piece::{HeadText, Piece};
 pub use text::Text;

@@ -24,7 +24,7 @@ fn read_request_head<R: BufRead>(
     ensures turns { IsErrOf result ReadFault.TurnLimit → limit ≤ calls_of reader.new }
 {
     let text = read_head(alloc, reader, limit)?;
-    parse_request(alloc, &text)
+    parse_request(alloc, text)
 }
 
 /// The head of a request, and how its body is delimited, once all checks passed.

@@ -27,7 +27,7 @@ fn read_response_head<R: BufRead>(
     ensures turns { IsErrOf result ReadFault.TurnLimit → limit ≤ calls_of reader.new }
 {
     let text = read_head(alloc, reader, limit)?;
-    parse_response(alloc, &text)
+    parse_response(alloc, text)
 }
 
 // The status is of a response that others follow.

@@ -1,6 +1,6 @@
 use Rattle.std.proofs.Common.{◌≡◌, map, take}
 use Rattle.message_heads.specs.Whole.{line_at}
-use Rattle.message_heads.proofs.lines.copy_lines.Given as goal
+use Rattle.message_heads.proofs.lines.lines_at.Given as goal
 
 abbrev pub invariant-loop-at : goal.invariant-loop-at
 invariant-loop-at l = record {

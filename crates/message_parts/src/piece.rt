@@ -1,0 +1,73 @@
+// Bytes that lie in the text of a head.
+ghost use Rattle.std.specs.Prelude.{◌≡◌, ◌≤◌, IfOk, length, slice_range};
+
+use std::alloc::{AllocError, Global};
+use std::marker::Model;
+use std::rc::Rc;
+
+/// The text of a head, in which its lines have their names and values. A contract sees the list of
+/// its bytes.
+#[derive(Drop)]
+pub struct HeadText {
+    bytes: Rc<Vec<u8>>,
+}
+
+impl Model for HeadText {
+    ghost use Rattle.std.specs.Prelude.{ℕ, List};
+
+    ghost Value = { List ℕ };
+
+    ghost view = { λ t. t.bytes.value.items };
+}
+
+impl HeadText {
+    /// These bytes, which stay where they are. Fails where memory for their owners' count is
+    /// wanting.
+    pub fn new(alloc: Global, bytes: Vec<u8>) -> Result<HeadText, AllocError>
+        ensures { IfOk result (λ text. text ≡ bytes.items) }
+    {
+        Ok(HeadText {
+            bytes: Rc::new(alloc, bytes)?,
+        })
+    }
+
+    /// The bytes from the place `start` to the one before `end`. Takes no memory; fails where
+    /// 2^64 - 1 pieces of the text are there.
+    pub fn piece(&self, start: usize, end: usize) -> Result<Piece, AllocError>
+        requires inside { (start ≤ end) × (end ≤ length self.now) }
+        ensures { IfOk result (λ piece. piece ≡ slice_range self.now start end) }
+    {
+        Ok(Piece {
+            text: self.bytes.clone()?,
+            start,
+            end,
+        })
+    }
+}
+
+/// Bytes of a head, such as a line's value, which lie in its text. A contract sees their list.
+#[derive(Drop)]
+pub struct Piece {
+    text: Rc<Vec<u8>>,
+    start: usize,
+    end: usize,
+}
+
+impl Model for Piece {
+    ghost use Rattle.std.specs.Prelude.{◌≤◌, ℕ, List, length, slice_range};
+
+    ghost Value = { List ℕ };
+
+    ghost view = { λ p. slice_range p.text.value.items p.start p.end };
+
+    ghost invariant = { λ p. (p.start ≤ p.end) × (p.end ≤ length p.text.value.items) };
+}
+
+impl Piece {
+    /// The bytes in place.
+    pub fn as_slice(&self) -> &[u8]
+        ensures { result.now ≡ self.now }
+    {
+        &self.text[self.start..self.end]
+    }
+}
