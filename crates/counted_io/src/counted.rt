@@ -119,8 +119,8 @@ impl<R: BufRead> Counted<R> {
     /// first `stop` among them where one is named: how many it was.
     ///
     /// It is one call, like a read. The reader shows what it has read ahead, so a whole line costs
-    /// one call where it lies in the reader's buffer, and is copied once. Where a growth is refused,
-    /// nothing is taken, and that is no failure of the reader.
+    /// one call where it lies in the reader's buffer, and is copied once. Where a growth is
+    /// refused, nothing is taken, and that is no failure of the reader.
     pub fn append(
         &mut self,
         stop: Option<u8>,

@@ -28,8 +28,8 @@ pub fn read_byte<R: Read>(reader: &mut Counted<R>, limit: u64) -> Result<u8, Rea
     }
 }
 
-// Puts some of the next bytes behind those of `into`, at most `most` of them, and no further than the
-// first `stop` where one is named.
+// Puts some of the next bytes behind those of `into`, at most `most` of them, and no further than
+// the first `stop` where one is named.
 fn append<R: BufRead>(
     reader: &mut Counted<R>,
     limit: u64,
@@ -60,8 +60,8 @@ fn append<R: BufRead>(
     }
 }
 
-/// Puts some of the next bytes behind those of `into`, at most `most` of them: how many, 0 where the
-/// reader is at its end.
+/// Puts some of the next bytes behind those of `into`, at most `most` of them: how many, 0 where
+/// the reader is at its end.
 ///
 /// The faults are `TurnLimit`, where the reader made `limit` calls already, `Read`, and `Memory`,
 /// where a growth was refused; after each of them `into` is as it was.
@@ -88,8 +88,8 @@ pub fn read_some<R: BufRead>(
     append(reader, limit, None, most, into)
 }
 
-/// Puts the next bytes behind those of `into`, at most `most` of them, and no further than the first
-/// LF among them.
+/// Puts the next bytes behind those of `into`, at most `most` of them, and no further than the
+/// first LF among them.
 ///
 /// It is one at least, and as many as the reader shows where it has them at hand. The faults are
 /// `TurnLimit`, where the reader made `limit` calls already, `Read`, `Early` at its end, and

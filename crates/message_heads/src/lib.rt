@@ -1,8 +1,9 @@
 //! The heads of HTTP/1 messages.
 //!
-//! `httparse` finds the parts; here they become values, and the lines share the head's bytes. What a
-//! head is, stands in `specs/Whole.antt`, by the grammar of `httparse`: [`parse_request`] and [`parse_response`]
-//! answer it exactly where the bytes are one, and are `Malformed` exactly where they are none.
+//! `httparse` finds the parts; here they become values, and the lines share the head's bytes. What
+//! a head is, stands in `specs/Whole.antt`, by the grammar of `httparse`: [`parse_request`] and
+//! [`parse_response`] answer it exactly where the bytes are one, and are `Malformed` exactly where
+//! they are none.
 #![tactic(auto)]
 
 mod laws;

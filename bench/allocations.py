@@ -1,0 +1,96 @@
+#!/usr/bin/env python3
+"""Counts the allocations of an exchange: bench/allocations.py PROGRAM
+
+One worker of `admission serve` (PROGRAM, built) runs under gdb, which counts its calls of malloc, realloc and free. A
+request and its answer have 5 header lines each, then 40, and the answer 13 bytes. Printed is what an exchange takes
+once the program runs: the difference of two runs, divided by the exchanges that the second has more. Needs gdb.
+"""
+import pathlib
+import re
+import shutil
+import socket
+import subprocess
+import sys
+import tempfile
+import threading
+import time
+
+CALLS = ("malloc", "realloc", "free")
+FEW, MANY = 10, 60
+WAITING = 60
+CONFIG = """version = 1
+listen = "127.0.0.1:{port}"
+backend = "127.0.0.1:{origin}"
+backlog = 0
+[limit]
+kind = "fixed"
+initial = 4
+"""
+
+
+def lines(count):
+    return b"".join(b"X-Field-%d: a value of some length, number %d\r\n" % (at, at) for at in range(count))
+
+
+def answer(listener, count):
+    """Answers each connection once its head has come, until the listener is closed."""
+    text = b"HTTP/1.1 200 OK\r\n%sContent-Length: 13\r\n\r\nhello, world\n" % lines(count - 1)
+    while True:
+        with listener.accept()[0] as caller:
+            head = b""
+            while b"\r\n\r\n" not in head:
+                head += caller.recv(65_536)
+            caller.sendall(text)
+
+
+def ask(port, count):
+    """One exchange, once the program listens."""
+    begun = time.monotonic()
+    while True:
+        try:
+            with socket.create_connection(("127.0.0.1", port)) as server:
+                server.sendall(b"GET /articles/today?page=2 HTTP/1.1\r\nHost: h\r\n%s\r\n" % lines(count - 1))
+                with server.makefile("rb") as said:
+                    status = said.read().split(b" ")[1]
+                assert status == b"200", f"answered {status}"
+                return
+        except ConnectionError:
+            if time.monotonic() - begun > WAITING:
+                sys.exit("allocations.py: the program doesn't listen")
+            time.sleep(0.2)
+
+
+def counted(program, room, count, exchanges):
+    """The calls of one run with so many exchanges of so many lines."""
+    with socket.create_server(("127.0.0.1", 0)) as origin, socket.create_server(("127.0.0.1", 0)) as free:
+        port, behind = free.getsockname()[1], origin.getsockname()[1]
+        free.close()
+        threading.Thread(target=answer, args=(origin.dup(), count), daemon=True).start()
+        config = room / "gateway.toml"
+        config.write_text(CONFIG.format(port=port, origin=behind))
+        words = ["gdb", "-q", "-batch", "-ex", "set breakpoint pending on", "-ex", "set startup-with-shell off"]
+        for number, name in enumerate(CALLS, 1):
+            words += ["-ex", f"break {name}", "-ex", f"ignore {number} 1000000000"]
+        run = f"run serve {config} --workers 1 --per-worker {exchanges}"
+        gdb = subprocess.Popen([*words, "-ex", run, "-ex", "info breakpoints", program],
+                               stdout=subprocess.PIPE, stderr=subprocess.STDOUT, text=True)
+        for _ in range(exchanges):
+            ask(port, count)
+        told = gdb.communicate(timeout=WAITING)[0]
+    found = [int(hits) for hits in re.findall(r"already hit (\d+) time", told)]
+    return found if len(found) == len(CALLS) else sys.exit(f"allocations.py: gdb says\n{told}")
+
+
+def main():
+    if len(sys.argv) != 2 or not shutil.which("gdb"):
+        sys.exit("usage: bench/allocations.py PROGRAM, with gdb installed")
+    program = str(pathlib.Path(sys.argv[1]).resolve())
+    print(f"| Header lines each way | {' | '.join(CALLS)} |\n|---|---|---|---|")
+    with tempfile.TemporaryDirectory(prefix="admission-bench-") as folder:
+        for count in (5, 40):
+            few, many = (counted(program, pathlib.Path(folder), count, times) for times in (FEW, MANY))
+            each = [(more - less) / (MANY - FEW) for less, more in zip(few, many)]
+            print(f"| {count} | {' | '.join(f'{calls:.1f}' for calls in each)} |", flush=True)
+
+
+main()
