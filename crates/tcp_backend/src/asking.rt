@@ -2,6 +2,7 @@
 ghost use Rattle.std.specs.Prelude.{◌≡◌};
 ghost use Rattle.tcp_backend.specs.Answers.{answer_of};
 
+use crate::broken::BrokenRead;
 use backend::Answer;
 use counted_io::Counted;
 use lent_io::{BufferedRead, BufferedWrite, ReadBuffer, WriteBuffer};
@@ -17,7 +18,8 @@ const LAST_READS: u32 = 16;
 /// How long each of them may take, in milliseconds.
 const LAST_MILLIS: u64 = 20;
 
-// Writes the request and reads its answer.
+// Writes the request and reads its answer. A backend may answer and close before it has read the
+// whole request (RFC 9112, section 9.5), so the answer is looked for behind a failed write too.
 pub(crate) fn ask<S: Read + Write>(
     alloc: Global,
     stream: &mut S,
@@ -27,9 +29,28 @@ pub(crate) fn ask<S: Read + Write>(
     host: &str,
 ) -> Result<Response, WireFault> {
     let mut writer = Counted::new(BufferedWrite::new(&mut *stream, behind));
-    write_request(&mut writer, request, host)?;
+    if write_request(&mut writer, request, host).is_err() {
+        return read_early(alloc, stream, ahead, request);
+    }
     let mut reader = Counted::new(BufferedRead::new(&mut *stream, ahead));
     read_response(alloc, &mut reader, &request.method)
+}
+
+// The answer that came before a write failed. It has to say its own length: where the connection
+// broke, its end may be a cut. Where there is none, the fault is that of the write.
+fn read_early<S: Read>(
+    alloc: Global,
+    stream: &mut S,
+    ahead: &mut ReadBuffer,
+    request: &Request,
+) -> Result<Response, WireFault> {
+    let broken = BrokenRead::new(&mut *stream);
+    let mut reader = Counted::new(BufferedRead::new(broken, ahead));
+    match read_response(alloc, &mut reader, &request.method) {
+        Ok(response) => Ok(response),
+        Err(WireFault::Memory) => Err(WireFault::Memory),
+        Err(_) => Err(WireFault::Write),
+    }
 }
 
 // Reads and drops what follows an answer, so that a backend which closes its connection does so

@@ -1,15 +1,17 @@
 // A backend at an address.
 ghost use Rattle.std.specs.Prelude.{◌≡◌, IfOk};
 ghost use Rattle.std.specs.Net.Text.{socket_v4_text};
+ghost use Rattle.counted_io.specs.Count.{raised};
 ghost use Rattle.tcp_backend.specs.Connecting.{count_of, host_of};
 
 use crate::asking::{answer_of, ask, read_on};
+use crate::dialing::{Connector, Dialer};
 use arrayvec::ArrayString;
 use backend::{Answer, Backend};
 use itoa::Buffer;
 use lent_io::{ReadBuffer, WriteBuffer};
 use std::alloc::{AllocError, Global};
-use std::net::{Net, SocketAddrV4, TcpStream};
+use std::net::{Net, SocketAddrV4};
 use wire::Request;
 
 /// How many bytes are read or written at once.
@@ -31,13 +33,17 @@ impl From<AllocError> for BackendFault {
 /// A backend at an address, with one connection for each request.
 #[derive(Drop)]
 pub struct TcpBackend<R> {
-    rt: R,
+    dialer: Dialer<R>,
+    line: Line,
+}
+
+/// What serves one connection after another.
+#[derive(Drop)]
+struct Line {
     alloc: Global,
-    address: SocketAddrV4,
     host: ArrayString<21>,
     ahead: ReadBuffer,
     behind: WriteBuffer,
-    forwards: u64,
 }
 
 impl<R: Net + Drop> TcpBackend<R> {
@@ -47,15 +53,14 @@ impl<R: Net + Drop> TcpBackend<R> {
         ensures host { IfOk result (λ backend. host_of backend ≡ socket_v4_text address) }
         ensures unused { IfOk result (λ backend. count_of backend ≡ 0) }
     {
-        Ok(TcpBackend {
-            rt,
+        let line = Line {
             alloc,
-            address,
             host: host_text(address),
             ahead: ReadBuffer::new(alloc, PIECE)?,
             behind: WriteBuffer::new(alloc, PIECE)?,
-            forwards: 0,
-        })
+        };
+        let dialer = Dialer::new(rt, address);
+        Ok(TcpBackend { dialer, line })
     }
 }
 
@@ -67,31 +72,38 @@ impl<R: Net> Backend for TcpBackend<R> {
 
     ghost shown = { λ _. None };
 
-    /// Connects, writes the request and reads one response. Where there is no connection, that is
-    /// `NotConnected`; each later fault is `Broken`, but want of memory, which is `Memory`.
+    /// Connects once, writes the request and reads one response. Where there is no connection, that
+    /// is `NotConnected`; each later fault is `Broken`, but want of memory, which is `Memory`. A
+    /// response that says its own length is read behind a failed write too: the backend may have
+    /// answered before it read the whole request, and closed.
     fn forward(&mut self, request: &Request) -> Answer {
-        self.forwards = self.forwards.saturating_add(1);
-        let mut stream = match TcpStream::connect(&self.rt, self.address) {
-            Ok(stream) => stream,
-            Err(_) => return Answer::NotConnected,
-        };
-        let asked = ask(
-            self.alloc,
-            &mut stream,
-            &mut self.ahead,
-            &mut self.behind,
-            request,
-            self.host.as_str(),
-        );
-        if asked.is_ok() {
-            read_on(&mut stream);
-        }
-        answer_of(asked)
+        forward_over(&mut self.dialer, &mut self.line, request)
     }
 
     fn forwards(&self) -> u64 {
-        self.forwards
+        self.dialer.connects()
     }
+}
+
+// Forwards a request over one connection: whatever fails, there is no second one.
+fn forward_over<C: Connector>(connector: &mut C, line: &mut Line, request: &Request) -> Answer
+    ensures once { C.connects connector.new ≡ raised (C.connects connector.old) }
+{
+    let Some(mut stream) = connector.connect() else {
+        return Answer::NotConnected;
+    };
+    let asked = ask(
+        line.alloc,
+        &mut stream,
+        &mut line.ahead,
+        &mut line.behind,
+        request,
+        line.host.as_str(),
+    );
+    if asked.is_ok() {
+        read_on(&mut stream);
+    }
+    answer_of(asked)
 }
 
 // The address as it is printed.

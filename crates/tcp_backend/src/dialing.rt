@@ -1,0 +1,62 @@
+// Where connections to a backend come from.
+ghost use Rattle.std.specs.Prelude.{◌≡◌};
+ghost use Rattle.counted_io.specs.Count.{raised};
+ghost use Rattle.tcp_backend.specs.Connecting.{dialed_of};
+
+use std::io::{Read, Write};
+use std::net::{Net, OpenStream, SocketAddrV4, TcpStream};
+
+/// What makes connections, and counts how often it was asked to.
+pub(crate) trait Connector {
+    type Stream: Read + Write + OpenStream + Drop;
+
+    ghost use Rattle.std.specs.Prelude.{ℕ};
+
+    // How often it was asked to connect.
+    ghost connects: { Self → ℕ };
+
+    // A new connection, where one can be had.
+    fn connect(&mut self) -> Option<Self::Stream>
+        ensures { connects self.new ≡ raised (connects self.old) };
+}
+
+/// Connections over TCP to one address.
+#[derive(Drop)]
+pub(crate) struct Dialer<R> {
+    rt: R,
+    address: SocketAddrV4,
+    connects: u64,
+}
+
+impl<R: Net> Dialer<R> {
+    // Nothing is connected yet.
+    pub(crate) fn new(rt: R, address: SocketAddrV4) -> Dialer<R>
+        ensures { dialed_of result ≡ 0 }
+    {
+        Dialer {
+            rt,
+            address,
+            connects: 0,
+        }
+    }
+
+    // How often it was asked to connect; the count stays at `u64::MAX`.
+    pub(crate) fn connects(&self) -> u64
+        ensures { result ≡ dialed_of self.now }
+    {
+        self.connects
+    }
+}
+
+impl<R: Net> Connector for Dialer<R> {
+    type Stream = R::Stream;
+
+    ghost use Rattle.tcp_backend.specs.Connecting.{dialed_of};
+
+    ghost connects = { dialed_of };
+
+    fn connect(&mut self) -> Option<R::Stream> {
+        self.connects = self.connects.saturating_add(1);
+        TcpStream::connect(&self.rt, self.address).ok()
+    }
+}
