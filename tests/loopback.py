@@ -44,6 +44,38 @@ def read_all(client):
     return found
 
 
+def read_head(client):
+    """What comes up to an empty line; what follows it soon may stay unread."""
+    text = b""
+    while b"\r\n\r\n" not in text and (piece := client.recv(64)):
+        text += piece
+    return text
+
+
+class Scripted:
+    """A backend that does the same with each of its connections, on a thread each, and counts them."""
+
+    def __init__(self, serve):
+        self.accepted, self.serve = 0, serve
+        self.socket = socket.create_server(("127.0.0.1", 0), backlog=128)
+        self.port = self.socket.getsockname()[1]
+        threading.Thread(target=self.accept, daemon=True).start()
+
+    def accept(self):
+        with contextlib.suppress(OSError):
+            while True:
+                client, _ = self.socket.accept()
+                self.accepted += 1
+                threading.Thread(target=self.answer, args=(client,), daemon=True).start()
+
+    def answer(self, client):
+        with client, contextlib.suppress(OSError):
+            self.serve(client)
+
+    def close(self):
+        self.socket.close()
+
+
 class Backend:
     """A backend on threads, which answers by the path, and keeps what it was given."""
 
@@ -83,6 +115,8 @@ class Backend:
                 self.release.wait(PATIENCE)
             elif path == b"/both":
                 self.both.wait(PATIENCE)
+            elif path == b"/rests":
+                time.sleep(0.5)
             if path == b"/closes":
                 return
             if cut := re.fullmatch(rb"/(closes|resets)/(\w+)/(\d+)", path):
@@ -110,6 +144,14 @@ class Gateway:
 
     running = []
 
+    @classmethod
+    def end_all(cls):
+        """No gateway is left that this thread started."""
+        for process in [it for it in cls.running if it.owner is threading.current_thread()]:
+            cls.running.remove(process)
+            process.kill()
+            process.wait()
+
     def __init__(self, *given, **how):
         # Another program may take a port between its choice and its binding.
         for _ in range(3):
@@ -117,15 +159,18 @@ class Gateway:
             if "admission: listen" not in self.log:
                 return
 
-    def start(self, program, room, backend, settings="", workers=1, each=1, words=(), listen="127.0.0.1"):
-        """`backend` is its port, or nothing for a gateway that forwards to itself."""
+    def start(self, program, room, backend, settings="", workers=1, each=1, words=(), listen="127.0.0.1", front=()):
+        """`backend` is its port, or nothing for a gateway that forwards to itself; `front` runs the words behind it."""
         self.port, self.log, self.is_listening = free_port(), [], threading.Event()
+        self.host = "127.0.0.1" if listen == "0.0.0.0" else listen
         path = pathlib.Path(room) / f"{self.port}.toml"
         top, _, tables = settings.partition("\n\n")
         path.write_text(f'version = 1\nlisten = "{listen}:{self.port}"\nbackend = "127.0.0.1:{backend or self.port}"\n'
                         f"{top}\n{tables or '[limit]' + chr(10) + 'kind = ' + chr(34) + 'fixed' + chr(34)}\n")
         given = ["serve", str(path), "--workers", str(workers), "--per-worker", str(each), *words]
-        self.process = subprocess.Popen([program, *given], stdout=subprocess.PIPE, stderr=subprocess.PIPE, text=True)
+        self.process = subprocess.Popen([*front, program, *given], stdout=subprocess.PIPE, stderr=subprocess.PIPE,
+                                        text=True)
+        self.process.owner = threading.current_thread()
         Gateway.running.append(self.process)
         self.reader = threading.Thread(target=self.read_log, daemon=True)
         self.reader.start()
@@ -139,7 +184,7 @@ class Gateway:
         self.is_listening.set()
 
     def connect(self):
-        return socket.create_connection(("127.0.0.1", self.port), timeout=PATIENCE)
+        return socket.create_connection((self.host, self.port), timeout=PATIENCE)
 
     def ask(self, *pieces, pause=0.0):
         """All that comes back for a request, which is sent in these pieces."""
@@ -173,7 +218,8 @@ class Later:
         self.thread.start()
 
     def run(self, call, given):
-        self.found = call(*given)
+        with contextlib.suppress(OSError):
+            self.found = call(*given)
 
     def result(self):
         self.thread.join(PATIENCE)

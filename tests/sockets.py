@@ -1,0 +1,169 @@
+"""Cases of `tests/serve` on what becomes of connections: of early answers, addresses, descriptors and slow ends."""
+import os
+import resource
+import socket
+import threading
+import time
+
+from loopback import BODY, PATIENCE, WHOLE, Later, Scripted, read_all, read_head
+from wires import CONTINUE, local
+
+PLAIN = b"GET /plain HTTP/1.1\r\nHost: h\r\n\r\n"
+# What is still to come of a request as its backend answers and closes.
+MUCH = b"x" * 6_000_000
+EARLY = {
+    "length": b"HTTP/1.1 403 Forbidden\r\nContent-Length: 13\r\n\r\n" + BODY,
+    "chunks": b"HTTP/1.1 403 Forbidden\r\nTransfer-Encoding: chunked\r\n\r\nd\r\n" + BODY + b"\r\n0\r\n\r\n",
+}
+# How often a case is tried whose mistake shows in most of its tries.
+TRIES = 5
+
+
+def passed_on(body, status=b"200 OK"):
+    return b"HTTP/1.1 %s\r\nContent-Length: %d\r\nConnection: close\r\n\r\n%s" % (status, len(body), body)
+
+
+def timed(call, *given):
+    """What a call gives, and how many seconds it took."""
+    begun = time.monotonic()
+    return call(*given), time.monotonic() - begun
+
+
+def unbroken(client, text):
+    """All that comes of a client that sends a text, and how its connection broke: a reset may take the answer."""
+    found = b""
+    try:
+        client.sendall(text)
+        while piece := client.recv(65536):
+            found += piece
+    except OSError as why:
+        return found, type(why).__name__
+    return found, None
+
+
+def drips(client):
+    """Sends a byte after another, for longer than anybody should listen."""
+    for _ in range(500):
+        time.sleep(0.015)
+        client.sendall(b"x")
+
+
+def processor_time(process):
+    """The seconds of a processor that a process took so far."""
+    with open(f"/proc/{process.pid}/stat", encoding="ascii") as file:
+        user, system = file.read().rpartition(")")[2].split()[11:13]
+    return (int(user) + int(system)) / os.sysconf("SC_CLK_TCK")
+
+
+class Sockets:
+    """Cases that a `Judge` with a `gateway` takes on; each is given a backend of its own."""
+
+    def answers_early(self, _):
+        """A backend that answers and closes at the head is told as it answered; one without an answer is 502."""
+        by_length = b"POST /plain HTTP/1.1\r\nHost: h\r\nContent-Length: %d\r\n\r\n%s" % (len(MUCH), MUCH)
+        in_chunks = (b"POST /plain HTTP/1.1\r\nHost: h\r\nTransfer-Encoding: chunked\r\n\r\n%x\r\n%s\r\n0\r\n\r\n"
+                     % (len(MUCH), MUCH))
+        told = passed_on(BODY, b"403 Forbidden")
+        for what, said, wanted, outcome in (
+                ("by a length", EARLY["length"], told, "success"), ("in chunks", EARLY["chunks"], told, "success"),
+                ("without a length", b"HTTP/1.1 403 Forbidden\r\n\r\n" + BODY, local(502), "dropped"),
+                ("in part", EARLY["length"][:-1], local(502), "dropped"), ("with nothing", b"", local(502), "dropped")):
+            def closes_at_the_head(client, said=said):
+                read_head(client)
+                client.sendall(said)
+
+            backend = Scripted(closes_at_the_head)
+            gate = self.gateway(backend, workers=2, each=3)
+            for turn, request in enumerate((by_length, in_chunks) * 3):
+                self.judge(f"an early answer {what}, {turn}", wanted, gate.ask(request))
+            self.judge(f"connections for early answers {what}", 6, backend.accepted)
+            self.judge(f"counters of early answers {what}", {"admitted": 6, outcome: 6}, gate.ending())
+            backend.close()
+
+    def listens_where_it_is_told(self, backend):
+        """It binds the configured address alone."""
+        gate = self.gateway(backend, listen="127.0.0.2")
+        try:
+            socket.create_connection(("127.0.0.1", gate.port), timeout=PATIENCE).close()
+            found = "somebody listens"
+        except ConnectionRefusedError:
+            found = "refused"
+        self.judge("another address at its port", "refused", found)
+        self.judge("its own address", passed_on(BODY), gate.ask(PLAIN))
+        self.judge("counters of its own address", {"admitted": 1, "success": 1}, gate.ending())
+
+    def begins_anew_behind_a_continue(self, backend):
+        """The time to take an answer isn't that of the text which asked for the body."""
+        gate = self.gateway(backend, words=("--client-timeout-ms", "1000"))
+        with gate.connect() as client:
+            client.sendall(b"POST /rests HTTP/1.1\r\nHost: h\r\nExpect: 100-continue\r\nContent-Length: 3\r\n\r\n")
+            self.judge("asked for its body", CONTINUE, client.recv(65536))
+            time.sleep(0.8)
+            client.sendall(b"abc")
+            self.judge("answered 1.3 seconds later", passed_on(BODY), read_all(client))
+        self.judge("counters of who was asked", {"admitted": 1, "success": 1}, gate.ending())
+
+    def is_short_of_descriptors(self, backend):
+        """A worker that gets no connection rests and tries again: it serves once there are descriptors."""
+        front = ("sh", "-c", 'ulimit -Sn 6 && exec "$@"', "sh")
+        gate = self.gateway(backend, workers=3, each=1_000_000, front=front)
+        self.judge("descriptors of a gateway without clients", 4, len(os.listdir(f"/proc/{gate.process.pid}/fd")))
+        with gate.connect(), gate.connect():
+            time.sleep(0.2)
+            waiting = [Later(gate.ask, PLAIN) for _ in range(3)]
+            begun = processor_time(gate.process)
+            time.sleep(1)
+            self.judge("it rests meanwhile", True, processor_time(gate.process) - begun < 0.5)
+            self.judge("nobody is served meanwhile", [None] * 3, [it.found for it in waiting])
+            hard = resource.prlimit(gate.process.pid, resource.RLIMIT_NOFILE)[1]
+            resource.prlimit(gate.process.pid, resource.RLIMIT_NOFILE, (64, hard))
+            self.judge("all are served then", [passed_on(BODY)] * 3, [it.result() for it in waiting])
+
+    def lingers_a_while(self, backend):
+        """Whoever is answered early sees the end of its answer, and holds a worker for two seconds; others for none."""
+        gate = self.gateway(backend, each=4, words=("--client-timeout-ms", "60000"))
+        with gate.connect() as early, gate.connect() as served:
+            early.sendall(b"GET /plain HTTP/1.1\r\n\r\n")
+            answer, took = timed(read_all, early)
+            self.judge("an early answer and its end", (local(400), True), (answer, took < 1))
+            served.sendall(PLAIN)
+            answer, took = timed(read_all, served)
+            self.judge("one behind a client that stays", (passed_on(BODY), True), (answer, took < 4))
+            answer, took = timed(gate.ask, PLAIN)
+            self.judge("one behind a client that was served and stays", (passed_on(BODY), True), (answer, took < 1))
+        self.judge("another one", passed_on(BODY), gate.ask(PLAIN))
+        self.judge("counters of who lingers", {"admitted": 3, "success": 3}, gate.ending())
+
+    def ends_with_its_backend(self, _):
+        """A backend's end is waited for after its answer, for a moment; behind a fault it isn't."""
+        seen, done = [], threading.Event()
+
+        def stays(client):
+            done.wait(PATIENCE)
+
+        def looks(client):
+            time.sleep(0.012)
+            client.setblocking(False)
+            try:
+                seen.append(client.recv(1))
+            except BlockingIOError:
+                seen.append(None)
+
+        whole, garbage = WHOLE["length"], b"no answer at all\r\n\r\n"
+        for what, said, then, most in (("stays", whole, stays, 0.5), ("drips bytes", whole, drips, 2),
+                                       ("looks whether it closes first", whole, looks, 0.5),
+                                       ("answers garbage and drips", garbage, drips, 0.2)):
+            def answers(client, said=said, then=then):
+                read_head(client)
+                client.sendall(said)
+                then(client)
+
+            backend = Scripted(answers)
+            gate = self.gateway(backend, each=TRIES)
+            wanted = passed_on(BODY) if said == whole else local(502)
+            found = [timed(gate.ask, PLAIN) for _ in range(TRIES)]
+            self.judge(f"answers of a backend that {what}", [wanted] * TRIES, [it[0] for it in found])
+            self.judge(f"in less than {most} seconds where it {what}", True, min(it[1] for it in found) < most)
+            backend.close()
+        done.set()
+        self.judge("a backend that closes first", True, None in seen)
