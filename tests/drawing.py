@@ -108,11 +108,12 @@ def random_settings(seed):
     lines = [f"limit {limit}", f"backlog {draw.choice([0, 1, 2, 3, 100, 10_000])}", keep, window,
              f"timeout {draw.choice(TIMES)}"]
     lines = [it for it in lines if draw.random() < 0.8 and (it != window or draw.random() < 0.5)]
-    left = 100
+    left = 1_000
     for name in draw.sample(NAMES, draw.randrange(5)):
-        percent = min(draw.choice([1, 2, 20, 33, 50, 97, 100]), left)
-        left -= percent
-        lines += [f"class {name} {percent}"] if percent else []
+        word, unit = draw.choice([("class", 10), ("share", 1)])
+        number = min(draw.choice([1, 2, 20, 33, 50, 97, 100, *((125, 333, 1_000) if unit == 1 else ())]), left // unit)
+        left -= number * unit
+        lines += [f"{word} {name} {number}"] if number else []
     draw.shuffle(lines)
     return lines
 
@@ -121,7 +122,7 @@ def random_trace(seed, most):
     """Setting lines, and up to so many calls of a trace."""
     draw = random.Random(seed)
     settings, calls = random_settings(seed), []
-    parts = [it.split()[1] for it in settings if it.startswith("class")] + ["unknown"]
+    parts = [it.split()[1] for it in settings if it.startswith(("class", "share"))] + ["unknown"]
     span, hold = draw.choice([1, 100, 1_000, 10_000]), draw.choice([1, 10, 100, HOUR])
     start = draw.choice([0, 0, 0, LAST_MOMENT - span // 2])
     for _ in range(draw.randrange(most + 1)):

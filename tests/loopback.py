@@ -159,13 +159,15 @@ class Gateway:
             if "admission: listen" not in self.log:
                 return
 
-    def start(self, program, room, backend, settings="", workers=1, each=1, words=(), listen="127.0.0.1", front=()):
+    def start(self, program, room, backend, settings="", workers=1, each=1, words=(), listen="127.0.0.1", front=(),
+              version=1):
         """`backend` is its port, or nothing for a gateway that forwards to itself; `front` runs the words behind it."""
         self.port, self.log, self.is_listening = free_port(), [], threading.Event()
         self.host = "127.0.0.1" if listen == "0.0.0.0" else listen
         path = pathlib.Path(room) / f"{self.port}.toml"
         top, _, tables = settings.partition("\n\n")
-        path.write_text(f'version = 1\nlisten = "{listen}:{self.port}"\nbackend = "127.0.0.1:{backend or self.port}"\n'
+        path.write_text(f'version = {version}\nlisten = "{listen}:{self.port}"\n'
+                        f'backend = "127.0.0.1:{backend or self.port}"\n'
                         f"{top}\n{tables or '[limit]' + chr(10) + 'kind = ' + chr(34) + 'fixed' + chr(34)}\n")
         given = ["serve", str(path), "--workers", str(workers), "--per-worker", str(each), *words]
         self.process = subprocess.Popen([*front, program, *given], stdout=subprocess.PIPE, stderr=subprocess.PIPE,

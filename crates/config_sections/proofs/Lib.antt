@@ -1,3 +1,4 @@
 mod Chains
+mod Classes
 mod Limits
 mod Lists

@@ -1,30 +1,41 @@
 -- A class of a configuration, and all of them one after the other.
-use Rattle.std.specs.Prelude.{List, [], ◌∷◌, Result, Ok, codes}
-use Rattle.toml.specs.Data.{Members}
+use Rattle.std.specs.Prelude.{ℕ, ◌*◌, ◌/◌, List, [], None, Result, Ok, codes}
+use Rattle.toml.specs.Data.{Members, get_member}
 use Rattle.partitions.specs.Table.{Row}
 use Rattle.config_values.specs.declared.fault.ConfigFault.{ConfigFault}
-use Rattle.config_values.specs.Outcomes.{◌>>=◌}
-use Rattle.config_sections.specs.declared.class.ClassKeys.{ClassKeys}
+use Rattle.config_values.specs.declared.key.Key.{Key}
+use Rattle.config_values.specs.Number.{number_from}
+use Rattle.config_values.specs.Outcomes.{result_map, ◌>>=◌}
+use Rattle.config_sections.specs.declared.version.Version.{Version}
+use Rattle.config_sections.specs.declared.version.Version.TheVariants.{One, Two}
 use Rattle.config_sections.specs.Rows.{class_rows}
-use Rattle.config_sections.specs.Section.{Values, number_at, number_is, read_each, section_values, text_at, text_is}
+use Rattle.config_sections.specs.Section.{Values, number_at, read_each, section_values, text_at}
+
+-- the thousandths among a class's values: ten times its percentage, or its share
+abbrev pub thousandths_at : Version → Values → ℕ
+thousandths_at One values = 10 * number_at (codes "percent") values
+thousandths_at Two values = number_at (codes "share") values
 
 -- the row of a class's values
-abbrev pub row_from : Values → Row
-row_from values = record {
+abbrev pub row_from : Version → Values → Row
+row_from version values = record {
   name = text_at (codes "name") values;
-  percent = number_at (codes "percent") values;
+  thousandths = thousandths_at version values;
 }
 
--- the keys as values
-abbrev pub class_values : ClassKeys → Values
-class_values class =
-    (codes "name", text_is class.name.now) ∷ (codes "percent", number_is class.percent) ∷ []
-
 -- a class behind the classes before it
-abbrev pub class_after : List Row → Members → Result Row ConfigFault
-class_after before t =
-    section_values before class_rows t >>= λ values. Ok (row_from values)
+abbrev pub class_after : Version → List Row → Members → Result Row ConfigFault
+class_after version before t =
+    section_values before (class_rows version) t >>= λ values. Ok (row_from version values)
 
 -- the classes, one after the other
-abbrev pub classes_of : List Members → Result (List Row) ConfigFault
-classes_of tables = read_each class_after [] tables
+abbrev pub classes_of : Version → List Members → Result (List Row) ConfigFault
+classes_of version tables = read_each (class_after version) [] tables
+
+-- a class's share in thousandths by the one key that tells it, of which so many are left
+abbrev pub thousandths_from : Version → ℕ → Members → Result ℕ ConfigFault
+thousandths_from One left t =
+    result_map (λ percent. 10 * percent)
+    (number_from Key.ClassPercent 1 (left / 10) None (get_member (codes "percent") t))
+thousandths_from Two left t =
+    number_from Key.ClassShare 1 left None (get_member (codes "share") t)

@@ -6,7 +6,7 @@ use Rattle.config_sections.specs.declared.class.ClassKeys.{ClassKeys}
 
 -- a class as a row of the table of partitions
 abbrev pub class_row : ClassKeys → Row
-class_row class = record { name = class.name.now; percent = class.percent }
+class_row class = record { name = class.name.now; thousandths = class.thousandths }
 
 -- the name of one of the classes
 abbrev pub is_class : List Row → List ℕ → Bool
@@ -16,6 +16,6 @@ is_class classes s = list_any (λ class. bytes_eq class.name s) classes
 abbrev pub is_new_name : List Row → List ℕ → Bool
 is_new_name classes s = is_name s && not (is_class classes s)
 
--- what the classes leave of a hundred percent
+-- what the classes leave of a thousand thousandths
 abbrev pub left_by : List Row → ℕ
-left_by classes = 100 - sum_by (λ class. class.percent) classes
+left_by classes = 1000 - sum_by (λ class. class.thousandths) classes

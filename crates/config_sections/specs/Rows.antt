@@ -1,14 +1,18 @@
 -- The table of keys: which keys there are, in the order in which faults are looked for, and what
--- each may hold.
+-- each may hold. The share of a class is told in percent by version 1, and in thousandths by
+-- version 2; all other keys are those of both.
 use Rattle.std.specs.Prelude.{ℕ, Bool, true, List, [], ◌∷◌, Option, Some, None, codes}
 use Rattle.config_values.specs.declared.key.Key.{Key}
+use Rattle.config_sections.specs.declared.version.Version.{Version}
+use Rattle.config_sections.specs.declared.version.Version.TheVariants.{One, Two}
 
 -- an end of a range: a number, the number of an earlier key of the section, or what the classes so
--- far leave of a hundred
+-- far leave of a hundred percent, or of a thousand thousandths
 pub data Bound : Type 0 where
   at : ℕ → Bound
   of : List ℕ → Bound
   left_of_hundred : Bound
+  left_of_thousand : Bound
 
 -- what a key holds
 pub data Holds : Type 0 where
@@ -92,10 +96,14 @@ window_rows =
     ∷ row Key.WindowMinRttUs (number (at 0) (at 3600000000) (Some 100))
     ∷ []
 
-abbrev pub class_rows : List Row
-class_rows =
+abbrev pub share_row : Version → Row
+share_row One = row Key.ClassPercent (number (at 1) left_of_hundred None)
+share_row Two = row Key.ClassShare (number (at 1) left_of_thousand None)
+
+abbrev pub class_rows : Version → List Row
+class_rows version =
     row Key.ClassName new_name
-    ∷ row Key.ClassPercent (number (at 1) left_of_hundred None)
+    ∷ share_row version
     ∷ []
 
 abbrev pub resolver_kinds : List (List ℕ)

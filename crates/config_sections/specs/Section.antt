@@ -1,5 +1,5 @@
 -- The keys of a section, read one after the other in the order of its rows.
-use Rattle.std.specs.Prelude.{ℕ, Bool, true, ◌||◌, List, [], ◌∷◌, ◌++◌, length, map, filter, find, fold, Option, Some, option_map, Result, Ok, bytes_eq, ◌==◌, codes, if◌then◌else◌}
+use Rattle.std.specs.Prelude.{ℕ, ◌/◌, Bool, true, ◌||◌, List, [], ◌∷◌, ◌++◌, length, map, filter, find, fold, Option, Some, option_map, Result, Ok, bytes_eq, ◌==◌, codes, if◌then◌else◌}
 use Rattle.toml.specs.Data.{Data, Members, get_member}
 use Rattle.partitions.specs.Table.{Row as ClassRow}
 use Rattle.config_values.specs.declared.fault.ConfigFault.{ConfigFault}
@@ -11,7 +11,7 @@ use Rattle.config_values.specs.Outcomes.{result_map, ◌>>=◌}
 use Rattle.config_values.specs.Text.{begins_path, is_among, is_token, text_from}
 use Rattle.config_sections.specs.ClassRows.{is_class, is_new_name, left_by}
 use Rattle.config_sections.specs.Routes.{routes_from}
-use Rattle.config_sections.specs.Rows.{Bound, Holds, Row, address, at, class_name, flag, left_of_hundred, new_name, number, of, prefix, routes, text, token, word}
+use Rattle.config_sections.specs.Rows.{Bound, Holds, Row, address, at, class_name, flag, left_of_hundred, left_of_thousand, new_name, number, of, prefix, routes, text, token, word}
 
 -- what was read at a key
 pub data Given : Type 0 where
@@ -60,7 +60,8 @@ routes_at name values = as_routes (given_at name values)
 abbrev pub bound_of : List ClassRow → Values → Bound → ℕ
 bound_of classes values (at n) = n
 bound_of classes values (of name) = number_at name values
-bound_of classes values left_of_hundred = left_by classes
+bound_of classes values left_of_hundred = left_by classes / 10
+bound_of classes values left_of_thousand = left_by classes
 
 -- what a key holds, where it is of the key's kind and in its range, or its default
 abbrev pub read_key : List ClassRow → Values → Key → Holds → Option Data → Result Given ConfigFault

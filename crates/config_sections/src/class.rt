@@ -8,36 +8,46 @@ ghost use Rattle.config_values.specs.Key.{name_of};
 ghost use Rattle.config_values.specs.Outcomes.{result_map};
 ghost use Rattle.config_values.specs.Table.{tables_among};
 ghost use Rattle.config_values.specs.Text.{text_from};
-ghost use Rattle.config_sections.specs.Class.{class_values, classes_of};
+ghost use Rattle.config_sections.specs.Class.{class_after, classes_of, thousandths_from};
 ghost use Rattle.config_sections.specs.ClassRows.{class_row, is_class, is_new_name, left_by};
 ghost use Rattle.config_sections.specs.Rows.{class_rows};
-ghost use Rattle.config_sections.specs.Section.{section_values};
 
+use crate::version::Version;
 use arrayvec::ArrayVec;
 use config_values::{ConfigFault, Key, Range, read_number, read_text};
-use partitions::is_name;
+use partitions::{from_percent, is_name};
 use toml::{Table, Value};
 
-/// The keys of a class.
-pub const CLASS_KEYS: [Key; 2] = [Key::ClassName, Key::ClassPercent];
+/// The keys that a class has in a version.
+pub fn class_keys(version: Version) -> &'static [Key]
+    ensures { map name_of result.now ≡ map (λ row. name_of row.key) (class_rows version) }
+{
+    match version {
+        Version::One => &[Key::ClassName, Key::ClassPercent],
+        Version::Two => &[Key::ClassName, Key::ClassShare],
+    }
+}
 
-/// What the keys of a class hold, as they stand in the text.
+/// What the keys of a class hold: its name as it stands in the text, and its share in thousandths.
 #[derive(Clone, Copy, Default)]
 pub struct ClassKeys<'a> {
     pub name: &'a str,
-    pub percent: u32,
+    pub thousandths: u32,
 }
 
-/// The keys of the classes, each read after those before it.
-pub fn read_classes<'a>(items: &'a [Value]) -> Result<ArrayVec<ClassKeys<'a>, 4>, ConfigFault>
+/// The keys of the classes in a version, each read after those before it.
+pub fn read_classes<'a>(
+    version: Version,
+    items: &'a [Value],
+) -> Result<ArrayVec<ClassKeys<'a>, 4>, ConfigFault>
     requires { length items.now ≤ 4 }
     ensures { result_map (λ classes. map class_row classes.items) result
-        ≡ classes_of (tables_among items.now) }
+        ≡ classes_of version (tables_among items.now) }
 {
     let mut classes = ArrayVec::new();
     for item in items {
         if let Some(table) = item.as_table() {
-            let class = read_class(&classes, table)?;
+            let class = read_class(version, &classes, table)?;
             classes.push(class);
         }
     }
@@ -45,14 +55,31 @@ pub fn read_classes<'a>(items: &'a [Value]) -> Result<ArrayVec<ClassKeys<'a>, 4>
 }
 
 /// The keys of a class behind the classes before it.
-fn read_class<'a>(before: &[ClassKeys], table: &'a Table) -> Result<ClassKeys<'a>, ConfigFault>
-    ensures { result_map class_values result
-        ≡ section_values (map class_row before.now) class_rows (table_view table.now) }
+fn read_class<'a>(
+    version: Version,
+    before: &[ClassKeys],
+    table: &'a Table,
+) -> Result<ClassKeys<'a>, ConfigFault>
+    ensures { result_map class_row result
+        ≡ class_after version (map class_row before.now) (table_view table.now) }
 {
     let name = new_name(before, table, Key::ClassName)?;
-    let range = Range::required(1, left_by(before));
-    let percent = read_number(table, Key::ClassPercent, range)?;
-    Ok(ClassKeys { name, percent })
+    let thousandths = read_thousandths(version, left_by(before), table)?;
+    Ok(ClassKeys { name, thousandths })
+}
+
+/// The share of a class in thousandths, of which so many are left.
+fn read_thousandths(version: Version, left: u32, table: &Table) -> Result<u32, ConfigFault>
+    requires { left ≤ 1000 }
+    ensures { result ≡ thousandths_from version left (table_view table.now) }
+{
+    match version {
+        Version::One => {
+            let percent = read_number(table, Key::ClassPercent, Range::required(1, left / 10))?;
+            Ok(from_percent(u64::from(percent)) as u32)
+        }
+        Version::Two => read_number(table, Key::ClassShare, Range::required(1, left)),
+    }
 }
 
 /// The name of a partition that none of the classes has.
@@ -101,13 +128,14 @@ fn has_name(classes: &[ClassKeys], name: &str) -> bool
     classes.iter().any(|class| class.name == name)
 }
 
-/// What the classes leave of a hundred percent.
+/// What the classes leave of a thousand thousandths.
 fn left_by(classes: &[ClassKeys]) -> u32
-    ensures { result ≡ left_by (map class_row classes.now) }
+    ensures value { result ≡ left_by (map class_row classes.now) }
+    ensures most { result ≤ 1000 }
 {
-    let mut left = 100u32;
+    let mut left = 1000u32;
     for class in classes {
-        left = left.saturating_sub(class.percent);
+        left = left.saturating_sub(class.thousandths);
     }
     left
 }

@@ -10,13 +10,15 @@ mod class;
 mod limit;
 mod resolver;
 mod top;
+mod version;
 mod window;
 
 pub use bypass::{BypassKeys, check_bypasses, read_bypasses};
-pub use class::{CLASS_KEYS, ClassKeys, read_classes};
+pub use class::{ClassKeys, class_keys, read_classes};
 pub use limit::{LimitKeys, Moving, read_limit};
 pub use resolver::{ResolverKeys, check_resolvers, read_resolvers};
 pub use top::{TOP_KEYS, TopKeys, read_top};
+pub use version::Version;
 pub use window::{WINDOW_KEYS, WindowKeys, read_window};
 
 /// One hour in microseconds.

@@ -20,7 +20,7 @@ pub enum ConfigFault {
     Memory,
     /// The text isn't TOML, or isn't UTF-8.
     Toml,
-    /// `version` isn't the whole number 1.
+    /// `version` isn't the whole number 1 or 2.
     Version,
     /// A required key is absent.
     Missing(Key),

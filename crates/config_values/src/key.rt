@@ -59,6 +59,7 @@ pub enum Key {
     Class,
     ClassName,
     ClassPercent,
+    ClassShare,
     Resolver,
     ResolverKind,
     ResolverHeader,
@@ -103,7 +104,7 @@ impl Key {
             Key::WindowSize | Key::WindowMinUs | Key::WindowMaxUs | Key::WindowMinRttUs => {
                 Section::Window
             }
-            Key::ClassName | Key::ClassPercent => Section::Class,
+            Key::ClassName | Key::ClassPercent | Key::ClassShare => Section::Class,
             Key::ResolverKind
             | Key::ResolverHeader
             | Key::ResolverMethod
@@ -147,6 +148,7 @@ impl Key {
             Key::Class | Key::ResolverClass => "class",
             Key::ClassName => "name",
             Key::ClassPercent => "percent",
+            Key::ClassShare => "share",
             Key::Resolver => "resolver",
             Key::ResolverHeader | Key::BypassHeader => "header",
             Key::ResolverMethod | Key::BypassMethod => "method",

@@ -4,6 +4,7 @@ use Rattle.toml.specs.Data.{Members}
 use Rattle.partitions.specs.Table.{Row}
 use Rattle.config_values.specs.declared.fault.ConfigFault.{ConfigFault}
 use Rattle.config_values.specs.Outcomes.{◌>>=◌}
+use Rattle.config_sections.specs.declared.version.Version.{Version}
 use Rattle.config_sections.specs.Rows.{top_rows}
 use Rattle.config_sections.specs.Section.{Values, section_values}
 use Rattle.gate_config.specs.Document.{DocumentValues, RuleValues, bypasses_of, classes_in, document_of, limit_of, resolvers_of, rules_of, window_of}
@@ -48,11 +49,11 @@ of_three (Err e) b c all make = refl
 of_three (Ok x) b c all make = of_two (b x) c (all x) make
 
 -- the document is at fault where the rules are
-pub document_read : (t : Members) (read : IsRead t) →
-    document_of t ≡ (rules_of t >>= λ rules. Ok (with_rules read rules))
-document_read t read =
+pub document_read : (v : Version) (t : Members) (read : IsRead t) →
+    document_of v t ≡ (rules_of v t >>= λ rules. Ok (with_rules read rules))
+document_read v t read =
     rw (read.is_top, read.is_limit, read.is_window)
-    (of_three (classes_in t) (λ classes. resolvers_of classes.1 t) (bypasses_of t)
+    (of_three (classes_in v t) (λ classes. resolvers_of classes.1 t) (bypasses_of t)
     (λ classes resolvers bypasses.
     record { classes = classes; resolvers = resolvers; bypasses = bypasses }) (with_rules read))
 
@@ -62,9 +63,10 @@ pub same_fault : {A B : Type 0} (a : Result A ConfigFault) (make : A → B) (fau
 same_fault (Err e) make fault said = cc
 same_fault (Ok x) make fault said = cc
 
-pub no_resolvers : (t : Members) (classes : List Members × List Row) (e : ConfigFault)
-    → classes_in t ≡ Ok classes → resolvers_of classes.1 t ≡ Err e → rules_of t ≡ Err e
-no_resolvers t classes e is_read fault = rw (is_read, fault)
+pub no_resolvers : (v : Version) (t : Members) (classes : List Members × List Row)
+    (e : ConfigFault) →
+    classes_in v t ≡ Ok classes → resolvers_of classes.1 t ≡ Err e → rules_of v t ≡ Err e
+no_resolvers v t classes e is_read fault = rw (is_read, fault)
 
 after_resolvers : {A B : Type 0} (r : Result A ConfigFault) (next : A → Result B ConfigFault)
     (e : ConfigFault) →
@@ -72,10 +74,11 @@ after_resolvers : {A B : Type 0} (r : Result A ConfigFault) (next : A → Result
 after_resolvers (Ok a) next e fine fault = fault a
 after_resolvers (Err f) next e fine fault = cc
 
-pub no_bypasses : (t : Members) (classes : List Members × List Row) (e : ConfigFault)
-    → classes_in t ≡ Ok classes → IsOk (resolvers_of classes.1 t) → bypasses_of t ≡ Err e →
-    rules_of t ≡ Err e
-no_bypasses t classes e is_read fine fault =
+pub no_bypasses : (v : Version) (t : Members) (classes : List Members × List Row)
+    (e : ConfigFault) →
+    classes_in v t ≡ Ok classes → IsOk (resolvers_of classes.1 t) → bypasses_of t ≡ Err e →
+    rules_of v t ≡ Err e
+no_bypasses v t classes e is_read fine fault =
     rw is_read (after_resolvers (resolvers_of classes.1 t) _ e fine λ resolvers. rw fault)
 
 -- an answer has one fault

@@ -5,6 +5,7 @@ use Rattle.config_values.specs.declared.fault.ConfigFault.{ConfigFault}
 use Rattle.config_values.specs.declared.fault.ConfigFault.TheVariants as Fault
 use Rattle.config_values.specs.Outcomes.{◌>>=◌}
 use Rattle.config_values.specs.Unknown.{Stranger, least}
+use Rattle.config_sections.specs.declared.version.Version.{Version}
 use Rattle.gate_config.specs.declared.settings.Settings.{Settings}
 use Rattle.gate_config.specs.Document.{DocumentValues}
 use Rattle.gate_config.specs.Settings.{IsOfKey, known, made_of}
@@ -27,10 +28,10 @@ not_known d None = not_made (made_of d)
 not_known d (Some key) = λ h. h
 
 -- a key's fault is that of the document
-pub of_document : (t : Members) (r : Result DocumentValues ConfigFault) (fault : ConfigFault)
-    → IsOfKey fault →
-    (r >>= λ d. known d (least (strangers_of t d))) ≡ Err fault → r ≡ Err fault
-of_document t (Err e) fault of_a_key said = cc
-of_document t (Ok d) fault of_a_key said =
-    absurd (not_known d (least (strangers_of t d))
-    (early (known d (least (strangers_of t d))) fault of_a_key said))
+pub of_document : (v : Version) (t : Members) (r : Result DocumentValues ConfigFault)
+    (fault : ConfigFault) → IsOfKey fault →
+    (r >>= λ d. known d (least (strangers_of v t d))) ≡ Err fault → r ≡ Err fault
+of_document v t (Err e) fault of_a_key said = cc
+of_document v t (Ok d) fault of_a_key said =
+    absurd (not_known d (least (strangers_of v t d))
+    (early (known d (least (strangers_of v t d))) fault of_a_key said))

@@ -14,6 +14,7 @@ use Rattle.config_values.specs.Outcomes.{◌>>=◌}
 use Rattle.config_values.specs.Table.{optional_from, table_from, tables_among, tables_from}
 use Rattle.config_sections.specs.declared.class.ClassKeys.{ClassKeys}
 use Rattle.config_sections.specs.declared.limit.LimitKeys.{LimitKeys}
+use Rattle.config_sections.specs.declared.version.Version.{Version}
 use Rattle.config_sections.specs.declared.window.WindowKeys.{WindowKeys}
 use Rattle.config_sections.specs.Bypass.{bypass_after, bypass_member}
 use Rattle.config_sections.specs.Class.{classes_of}
@@ -86,10 +87,10 @@ read_window (Some window) =
 abbrev pub window_of : Members → Result (Option (Members × Values)) ConfigFault
 window_of t = optional_from Key.Window (get_member (codes "window") t) >>= read_window
 
--- the classes: at most four tables, each read behind those before it
-abbrev pub classes_in : Members → Result (List Members × List Row) ConfigFault
-classes_in t = tables_from Key.Class 4 (get_member (codes "class") t) >>= λ tables.
-    classes_of tables >>= λ classes. Ok (tables, classes)
+-- the classes in a version: at most four tables, each read behind those before it
+abbrev pub classes_in : Version → Members → Result (List Members × List Row) ConfigFault
+classes_in version t = tables_from Key.Class 4 (get_member (codes "class") t) >>= λ tables.
+    classes_of version tables >>= λ classes. Ok (tables, classes)
 
 -- the resolvers among these classes, at most 32
 abbrev pub resolvers_of : List Row → Members → Result (List (Members × Values)) ConfigFault
@@ -102,21 +103,21 @@ abbrev pub bypasses_of : Members → Result (List (Members × Values)) ConfigFau
 bypasses_of t =
     tables_from Key.Bypass 32 (get_member (codes "bypass") t) >>= read_each bypass_after []
 
--- the keys of the three arrays, in the order of the rows
-abbrev pub rules_of : Members → Result RuleValues ConfigFault
-rules_of t =
-    classes_in t >>= λ classes.
+-- the keys of the three arrays in a version, in the order of the rows
+abbrev pub rules_of : Version → Members → Result RuleValues ConfigFault
+rules_of version t =
+    classes_in version t >>= λ classes.
     resolvers_of classes.1 t >>= λ resolvers.
     bypasses_of t >>= λ bypasses.
     Ok (record { classes = classes; resolvers = resolvers; bypasses = bypasses })
 
--- every key, in the order of the rows
-abbrev pub document_of : Members → Result DocumentValues ConfigFault
-document_of t =
+-- every key in a version, in the order of the rows
+abbrev pub document_of : Version → Members → Result DocumentValues ConfigFault
+document_of version t =
     section_values [] top_rows t >>= λ top.
     limit_of t >>= λ limit.
     window_of t >>= λ window.
-    classes_in t >>= λ classes.
+    classes_in version t >>= λ classes.
     resolvers_of classes.1 t >>= λ resolvers.
     bypasses_of t >>= λ bypasses.
     Ok (record {

@@ -1,5 +1,5 @@
 -- The settings that a text holds.
-use Rattle.std.specs.Prelude.{◌≡◌, ◌≤◌, ℕ, ◌*◌, ℤ, pos, Bool, false, ◌==◌, List, [], map, Option, Some, None, option_map, ok_or, Result, Err, codes, IsUtf8, if◌then◌else◌}
+use Rattle.std.specs.Prelude.{◌≡◌, ◌≤◌, ℕ, ◌*◌, ℤ, pos, ◌==◌, List, [], map, Option, Some, None, option_map, ok_or, Result, Err, codes, IsUtf8, if◌then◌else◌}
 use Rattle.toml.specs.Data.{Data, Members, get_member, integer}
 use Rattle.toml.specs.Parse.{parse_document}
 use Rattle.classifier.specs.declared.resolver.Resolver.{Resolver}
@@ -7,6 +7,8 @@ use Rattle.config_values.specs.declared.fault.ConfigFault.{ConfigFault}
 use Rattle.config_values.specs.declared.fault.ConfigFault.TheVariants as Fault
 use Rattle.config_values.specs.Outcomes.{◌>>=◌}
 use Rattle.config_values.specs.Unknown.{Stranger, least, stranger_text}
+use Rattle.config_sections.specs.declared.version.Version.{Version}
+use Rattle.config_sections.specs.declared.version.Version.TheVariants.{One, Two}
 use Rattle.config_sections.specs.Section.{flag_at, number_at, text_at}
 use Rattle.gate_config.specs.declared.settings.Settings.{Settings}
 use Rattle.gate_config.specs.Document.{DocumentValues, document_of}
@@ -18,14 +20,15 @@ use Rattle.gate_config.specs.Strangers.{strangers_of}
 abbrev pub Reads : List ℕ → Members → Type 0
 Reads bytes t = IsUtf8 bytes × (parse_document bytes ≡ Some t)
 
--- the version is the whole number 1
-abbrev pub is_one : ℤ → Bool
-is_one (pos n) = n == 1
-is_one _ = false
+-- the version of a whole number, which is 1 or 2
+abbrev pub version_from : ℤ → Option Version
+version_from (pos n) = if n == 1 then Some One else (if n == 2 then Some Two else None)
+version_from _ = None
 
-abbrev pub is_version_one : Option Data → Bool
-is_version_one (Some (integer z)) = is_one z
-is_version_one _ = false
+-- the version of what stands at the key `version`
+abbrev pub version_of : Option Data → Option Version
+version_of (Some (integer z)) = version_from z
+version_of _ = None
 
 -- the settings that keys make with these resolvers: times are in nanoseconds
 abbrev pub settings_with : DocumentValues → List Resolver → Settings
@@ -50,13 +53,16 @@ abbrev pub known : DocumentValues → Option Stranger → Result Settings Config
 known d None = ok_or (made_of d) Fault.Route
 known d (Some key) = Err (Fault.Unknown (stranger_text key))
 
--- the settings that a table holds, or the first fault: of the version, of a key, of an unknown key,
--- of a route
+-- the settings that a table of a version holds, or the first fault: of the version where it is none,
+-- of a key, of an unknown key, of a route
+abbrev pub settings_in_version : Members → Option Version → Result Settings ConfigFault
+settings_in_version t None = Err Fault.Version
+settings_in_version t (Some version) =
+    document_of version t >>= λ d. known d (least (strangers_of version t d))
+
+-- the settings that a table holds
 abbrev pub settings_of : Members → Result Settings ConfigFault
-settings_of t =
-    if is_version_one (get_member (codes "version") t)
-    then (document_of t >>= λ d. known d (least (strangers_of t d)))
-    else Err Fault.Version
+settings_of t = settings_in_version t (version_of (get_member (codes "version") t))
 
 -- the faults that are told whatever the memory: those of the version and of a key
 abbrev pub IsOfKey : ConfigFault → Type 0

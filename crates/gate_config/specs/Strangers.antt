@@ -5,6 +5,7 @@ use Rattle.config_values.specs.declared.key.Key.{Key}
 use Rattle.config_values.specs.declared.key.Section.TheVariants as In
 use Rattle.config_values.specs.Key.{name_of}
 use Rattle.config_values.specs.Unknown.{Stranger, strangers_in}
+use Rattle.config_sections.specs.declared.version.Version.{Version}
 use Rattle.config_sections.specs.Rows.{bypass_rows, class_rows, limit_rows, resolver_rows, top_rows, window_rows}
 use Rattle.config_sections.specs.Section.{Values, names_of}
 use Rattle.gate_config.specs.Document.{DocumentValues}
@@ -20,8 +21,9 @@ window_strangers None = []
 window_strangers (Some window) =
     strangers_in In.Window (map (λ row. name_of row.key) window_rows) window.0
 
-abbrev pub class_strangers : Members → List Stranger
-class_strangers t = strangers_in In.Class (map (λ row. name_of row.key) class_rows) t
+abbrev pub class_strangers : Version → Members → List Stranger
+class_strangers version t =
+    strangers_in In.Class (map (λ row. name_of row.key) (class_rows version)) t
 
 abbrev pub resolver_strangers : Members × Values → List Stranger
 resolver_strangers r = strangers_in In.Resolver (names_of resolver_rows r.1) r.0
@@ -29,10 +31,10 @@ resolver_strangers r = strangers_in In.Resolver (names_of resolver_rows r.1) r.0
 abbrev pub bypass_strangers : Members × Values → List Stranger
 bypass_strangers b = strangers_in In.Bypass (names_of bypass_rows b.1) b.0
 
--- all of them
-abbrev pub strangers_of : Members → DocumentValues → List Stranger
-strangers_of t d =
+-- all of them, in a version
+abbrev pub strangers_of : Version → Members → DocumentValues → List Stranger
+strangers_of version t d =
     strangers_in In.Top top_names t
     ++ strangers_in In.Limit (names_of limit_rows d.limit.1) d.limit.0
-    ++ window_strangers d.window ++ flat_map class_strangers d.classes.0
+    ++ window_strangers d.window ++ flat_map (class_strangers version) d.classes.0
     ++ flat_map resolver_strangers d.resolvers ++ flat_map bypass_strangers d.bypasses

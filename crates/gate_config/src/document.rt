@@ -16,7 +16,7 @@ ghost use Rattle.gate_config.specs.Document.{bypasses_of, classes_in, document_o
 
 use arrayvec::ArrayVec;
 use config_sections::{
-    BypassKeys, ClassKeys, LimitKeys, ResolverKeys, TopKeys, WindowKeys, check_bypasses,
+    BypassKeys, ClassKeys, LimitKeys, ResolverKeys, TopKeys, Version, WindowKeys, check_bypasses,
     check_resolvers, read_bypasses, read_classes, read_limit, read_resolvers, read_top,
     read_window,
 };
@@ -44,20 +44,24 @@ pub struct RuleKeys<'a> {
     pub bypasses: Vec<(&'a Table, BypassKeys<'a>)>,
 }
 
-/// The keys of a configuration, read in their order. The first fault of a key is told whatever the
-/// memory.
-pub fn read_document<'a>(alloc: Global, table: &'a Table) -> Result<Document<'a>, ConfigFault>
+/// The keys of a configuration of a version, read in their order. The first fault of a key is told
+/// whatever the memory.
+pub fn read_document<'a>(
+    alloc: Global,
+    version: Version,
+    table: &'a Table,
+) -> Result<Document<'a>, ConfigFault>
     ensures top { IfOk result (λ d. IsTop d.top) }
     ensures limit { IfOk result (λ d. AreInRange d.limit.1) }
     ensures window { IfOk result (λ d. ForSome d.window (λ window. IsWindow window.1)) }
-    ensures said { Answers document_values (document_of (table_view table.now)) result }
+    ensures said { Answers document_values (document_of version (table_view table.now)) result }
     ensures fault { (fault : FaultValue) →
-        document_of (table_view table.now) ≡ Err fault → IsErrOf result fault }
+        document_of version (table_view table.now) ≡ Err fault → IsErrOf result fault }
 {
     let top = read_top(table)?;
     let limit = limit_in(table)?;
     let window = window_in(table)?;
-    let rules = rules_in(alloc, table)?;
+    let rules = rules_in(alloc, version, table)?;
     Ok(Document {
         top,
         limit,
@@ -87,12 +91,16 @@ fn window_in<'a>(table: &'a Table) -> Result<Option<(&'a Table, WindowKeys)>, Co
 }
 
 /// The tables of the arrays `class`, `resolver` and `bypass`, and their keys.
-fn rules_in<'a>(alloc: Global, table: &'a Table) -> Result<RuleKeys<'a>, ConfigFault>
-    ensures said { Answers rule_values (rules_of (table_view table.now)) result }
+fn rules_in<'a>(
+    alloc: Global,
+    version: Version,
+    table: &'a Table,
+) -> Result<RuleKeys<'a>, ConfigFault>
+    ensures said { Answers rule_values (rules_of version (table_view table.now)) result }
     ensures fault { (fault : FaultValue) →
-        rules_of (table_view table.now) ≡ Err fault → IsErrOf result fault }
+        rules_of version (table_view table.now) ≡ Err fault → IsErrOf result fault }
 {
-    let classes = classes_in(table)?;
+    let classes = classes_in(version, table)?;
     let resolvers = resolvers_in(&classes.1, table)?;
     let bypasses = bypasses_in(table)?;
     // No key is at fault: from here on only memory can be wanting.
@@ -107,12 +115,13 @@ fn rules_in<'a>(alloc: Global, table: &'a Table) -> Result<RuleKeys<'a>, ConfigF
 
 /// The tables of the array `class`, and their keys.
 fn classes_in<'a>(
+    version: Version,
     table: &'a Table,
 ) -> Result<(&'a [Value], ArrayVec<ClassKeys<'a>, 4>), ConfigFault>
-    ensures { result_map tables_and_rows result ≡ classes_in (table_view table.now) }
+    ensures { result_map tables_and_rows result ≡ classes_in version (table_view table.now) }
 {
     let tables = read_tables(table, Key::Class, 4)?;
-    let classes = read_classes(tables)?;
+    let classes = read_classes(version, tables)?;
     Ok((tables, classes))
 }
 

@@ -13,7 +13,7 @@ ghost use Rattle.config_sections.specs.Top.{IsTop};
 ghost use Rattle.config_sections.specs.Window.{IsWindow};
 ghost use Rattle.gate_config.specs.Document.{document_values, rule_values};
 ghost use Rattle.gate_config.specs.Rules.{Makes, bypass_from, resolvers_after};
-ghost use Rattle.gate_config.specs.Settings.{AreSound, IsOfKey, Reads, is_version_one, made_of, settings_of};
+ghost use Rattle.gate_config.specs.Settings.{AreSound, IsOfKey, Reads, made_of, settings_of, version_of};
 
 use crate::build::limit::any_limit;
 use crate::build::rules::{add, make_bypass, make_resolver, partitions_of};
@@ -21,7 +21,7 @@ use crate::document::{Document, RuleKeys, read_document};
 use crate::settings::Settings;
 use crate::strangers::least_stranger;
 use classifier::{Bypass, Resolver, Rules};
-use config_sections::{BypassKeys, ResolverKeys};
+use config_sections::{BypassKeys, ResolverKeys, Version};
 use config_values::{ConfigFault, Key, value_at};
 use partitions::PartitionTable;
 use std::alloc::{AllocError, Global};
@@ -30,10 +30,10 @@ use toml::Table;
 /// The nanoseconds of a millisecond.
 const MILLI: u64 = 1_000_000;
 
-/// The settings that a text of version 1 holds.
+/// The settings that a text of version 1 or 2 holds.
 ///
 /// The faults, of which the first is told: [`ConfigFault::Toml`] for a text that isn't TOML in
-/// UTF-8; [`ConfigFault::Version`] unless `version` is 1; then key by key in the order of the keys,
+/// UTF-8; [`ConfigFault::Version`] unless `version` is 1 or 2; then key by key in the order of the keys,
 /// an array's members one after the other, [`ConfigFault::Missing`], [`ConfigFault::Kind`] and
 /// [`ConfigFault::Value`]; [`ConfigFault::Unknown`] for the least path that isn't allowed;
 /// [`ConfigFault::Route`] for patterns that can't stand together. [`ConfigFault::Memory`] comes
@@ -80,23 +80,24 @@ pub fn settings_in(alloc: Global, table: &Table) -> Result<Settings, ConfigFault
     ensures fault { (fault : FaultValue) → IsOfKey fault →
         settings_of (table_view table.now) ≡ Err fault → IsErrOf result fault }
 {
-    if !is_version_one(table) {
+    let Some(version) = version_of(table) else {
         return Err(ConfigFault::Version);
-    }
-    let document = read_document(alloc, table)?;
-    match least_stranger(table, &document) {
+    };
+    let document = read_document(alloc, version, table)?;
+    match least_stranger(version, table, &document) {
         Some(key) => Err(ConfigFault::Unknown(key.path(alloc)?)),
         None => made_of(alloc, document),
     }
 }
 
-/// Whether the version is the whole number 1.
-fn is_version_one(table: &Table) -> bool
-    ensures { result ≡ is_version_one (get_member (codes "version") (table_view table.now)) }
+/// The version of a table, where it is the whole number 1 or 2.
+fn version_of(table: &Table) -> Option<Version>
+    ensures { result ≡ version_of (get_member (codes "version") (table_view table.now)) }
 {
-    match value_at(table, Key::Version) {
-        Some(value) => value.as_integer() == Some(1),
-        None => false,
+    match value_at(table, Key::Version)?.as_integer()? {
+        1 => Some(Version::One),
+        2 => Some(Version::Two),
+        _ => None,
     }
 }
 

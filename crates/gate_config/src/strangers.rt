@@ -9,14 +9,18 @@ ghost use Rattle.gate_config.specs.Document.{document_values};
 ghost use Rattle.gate_config.specs.Strangers.{bypass_strangers, class_strangers, resolver_strangers, strangers_of};
 
 use crate::document::Document;
-use config_sections::{BypassKeys, CLASS_KEYS, ResolverKeys, TOP_KEYS, WINDOW_KEYS};
+use config_sections::{BypassKeys, ResolverKeys, TOP_KEYS, Version, WINDOW_KEYS, class_keys};
 use config_values::{Section, Stranger, least_unknown};
 use toml::{Table, Value};
 
-/// The key that isn't allowed where it stands, of several the one with the least path.
-pub fn least_stranger<'a>(table: &'a Table, document: &Document<'a>) -> Option<Stranger<'a>>
+/// The key that isn't allowed where it stands in a version, of several the one with the least path.
+pub fn least_stranger<'a>(
+    version: Version,
+    table: &'a Table,
+    document: &Document<'a>,
+) -> Option<Stranger<'a>>
     ensures { option_map stranger_of result
-        ≡ least (strangers_of (table_view table.now) (document_values document.now)) }
+        ≡ least (strangers_of version (table_view table.now) (document_values document.now)) }
 {
     let mut least = least_unknown(None, Section::Top, &TOP_KEYS, table);
     let (limit, keys) = &document.limit;
@@ -24,21 +28,25 @@ pub fn least_stranger<'a>(table: &'a Table, document: &Document<'a>) -> Option<S
     if let Some((window, _)) = &document.window {
         least = least_unknown(least, Section::Window, &WINDOW_KEYS, window);
     }
-    least = least_of_classes(least, document.rules.classes.0);
+    least = least_of_classes(version, least, document.rules.classes.0);
     least = least_of_resolvers(least, &document.rules.resolvers);
     least_of_bypasses(least, &document.rules.bypasses)
 }
 
 /// The least of these classes' and one more.
-fn least_of_classes<'a>(least: Option<Stranger<'a>>, items: &'a [Value]) -> Option<Stranger<'a>>
+fn least_of_classes<'a>(
+    version: Version,
+    least: Option<Stranger<'a>>,
+    items: &'a [Value],
+) -> Option<Stranger<'a>>
     ensures { option_map stranger_of result
         ≡ fold lesser (option_map stranger_of least.entry)
-        (flat_map class_strangers (tables_among items.now)) }
+        (flat_map (class_strangers version) (tables_among items.now)) }
 {
     let mut least = least;
     for item in items {
         if let Some(table) = item.as_table() {
-            least = least_unknown(least, Section::Class, &CLASS_KEYS, table);
+            least = least_unknown(least, Section::Class, class_keys(version), table);
         }
     }
     least

@@ -2,7 +2,7 @@
 use Rattle.std.specs.Prelude.{ℕ, Bool, true, false, List, [], ◌∷◌, Option, None, Some, option_map, bytes_eq, codes, if◌then◌else◌}
 use Rattle.std.specs.Borrow.{Bor}
 use Rattle.script.specs.declared.setting.Setting.{Setting}
-use Rattle.script.specs.declared.setting.Setting.TheVariants.{Limit, Window, Class, Backlog, Keep, Timeout}
+use Rattle.script.specs.declared.setting.Setting.TheVariants.{Limit, Window, Class, Share, Backlog, Keep, Timeout}
 use Rattle.script.specs.Words.{with_number, with_word, lone_number}
 use Rattle.script.specs.LimitLine.{limit_line}
 use Rattle.script.specs.WindowLine.{window_line}
@@ -10,6 +10,10 @@ use Rattle.script.specs.WindowLine.{window_line}
 -- what follows `class`: a name, and a number
 abbrev pub class_line : List (List ℕ) → Option (Setting (List ℕ))
 class_line ws = with_word (λ name rest. option_map (Class name) (lone_number rest)) ws
+
+-- what follows `share` is the same
+abbrev pub share_line : List (List ℕ) → Option (Setting (List ℕ))
+share_line ws = with_word (λ name rest. option_map (Share name) (lone_number rest)) ws
 
 -- whether the rest of a line says `rolling`, where it says nothing else
 abbrev pub rolling_of : List (List ℕ) → Option Bool
@@ -27,16 +31,18 @@ setting_of first rest =
     if bytes_eq first (codes "limit") then option_map Limit (limit_line rest)
     else (if bytes_eq first (codes "window") then option_map Window (window_line rest)
     else (if bytes_eq first (codes "class") then class_line rest
+    else (if bytes_eq first (codes "share") then share_line rest
     else (if bytes_eq first (codes "backlog") then option_map Backlog (lone_number rest)
     else (if bytes_eq first (codes "keep") then keep_line rest
     else (if bytes_eq first (codes "timeout") then option_map Timeout (lone_number rest)
-    else None)))))
+    else None))))))
 
 -- a setting with the bytes of its class's name
 abbrev pub setting_bytes : Setting (Bor (List ℕ)) → Setting (List ℕ)
 setting_bytes (Limit line) = Limit line
 setting_bytes (Window line) = Window line
 setting_bytes (Class name percent) = Class name.now percent
+setting_bytes (Share name thousandths) = Share name.now thousandths
 setting_bytes (Backlog room) = Backlog room
 setting_bytes (Keep entries is_rolling) = Keep entries is_rolling
 setting_bytes (Timeout nanos) = Timeout nanos

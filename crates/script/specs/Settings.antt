@@ -1,5 +1,5 @@
 -- The settings of a script, line by line.
-use Rattle.std.specs.Prelude.{◌≡◌, ℕ, Bool, false, ◌^◌, nat_lt, nat_le, ◌&&◌, List, [], ◌∷◌, ◌++◌, Option, None, Some, is_none, unwrap_or, Result, Ok, Err, MatchResult, if◌then◌else◌}
+use Rattle.std.specs.Prelude.{◌≡◌, ℕ, Bool, false, ◌*◌, ◌^◌, nat_lt, nat_le, ◌&&◌, List, [], ◌∷◌, ◌++◌, Option, None, Some, is_none, unwrap_or, Result, Ok, Err, MatchResult, if◌then◌else◌}
 use Rattle.limit_laws.specs.Facts.{hour}
 use Rattle.partitions.specs.Table.{Row}
 use Rattle.partitions.specs.Faults.{fault_of}
@@ -12,7 +12,7 @@ use Rattle.limit_kinds.specs.AnyKinds.{any_from}
 use Rattle.script.specs.declared.limit_line.LimitLine.{LimitLine}
 use Rattle.script.specs.declared.window_line.WindowLine.{WindowLine}
 use Rattle.script.specs.declared.setting.Setting.{Setting}
-use Rattle.script.specs.declared.setting.Setting.TheVariants.{Limit, Window, Class, Backlog, Keep, Timeout}
+use Rattle.script.specs.declared.setting.Setting.TheVariants.{Limit, Window, Class, Share, Backlog, Keep, Timeout}
 use Rattle.script.specs.declared.why.Why.{Why}
 use Rattle.script.specs.declared.why.Why.TheVariants.{Twice, Value}
 use Rattle.script.specs.Limits.{usual_backlog, usual_timeout, most_kept}
@@ -90,18 +90,24 @@ with_timeout s nanos =
 abbrev pub table_of : List Row → Option (List Row)
 table_of rows = if is_none (fault_of rows) then Some rows else None
 
--- one more partition: its percentage fits 32 bits, and the partitions with it make a table
+-- one more partition: its thousandths fit 32 bits, and the partitions with it make a table
 abbrev pub with_row : SettingFacts → Row → Set
 with_row s row =
-    if nat_lt row.percent (2 ^ 32) && is_none (fault_of (s.rows ++ row ∷ []))
+    if nat_lt row.thousandths (2 ^ 32) && is_none (fault_of (s.rows ++ row ∷ []))
     then Ok (record s { rows = s.rows ++ row ∷ [] })
     else Err Value
+
+-- the same, of a percentage: ten times as many thousandths
+abbrev pub with_percent : SettingFacts → List ℕ → ℕ → Set
+with_percent s name percent = with_row s (record { name = name; thousandths = 10 * percent })
 
 -- WHAT A SETTING LEADS TO behind these settings
 abbrev pub with_setting : SettingFacts → Setting (List ℕ) → Set
 with_setting s (Limit line) = with_limit s line
 with_setting s (Window line) = with_window s line
-with_setting s (Class name percent) = with_row s (record { name = name; percent = percent })
+with_setting s (Class name percent) = with_percent s name percent
+with_setting s (Share name thousandths) =
+    with_row s (record { name = name; thousandths = thousandths })
 with_setting s (Backlog room) = with_backlog s room
 with_setting s (Keep entries is_rolling) = with_keep s entries is_rolling
 with_setting s (Timeout nanos) = with_timeout s nanos

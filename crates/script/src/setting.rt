@@ -1,7 +1,7 @@
 // The lines that set.
 ghost use Rattle.std.specs.Prelude.{◌≡◌, option_map};
 ghost use Rattle.script.specs.Words.{words};
-ghost use Rattle.script.specs.Setting.{class_line, rolling_of, keep_line, setting_of, setting_bytes};
+ghost use Rattle.script.specs.Setting.{class_line, share_line, rolling_of, keep_line, setting_of, setting_bytes};
 
 use super::limit_line::{LimitLine, read_limit};
 use super::numbers::{next_number, read_lone_number};
@@ -18,6 +18,8 @@ pub enum Setting<C> {
     Window(WindowLine),
     /// One more class, and its percentage of the limit.
     Class { name: C, percent: u64 },
+    /// One more class, and its share of the limit in thousandths.
+    Share { name: C, thousandths: u64 },
     /// How many may wait.
     Backlog { room: u64 },
     /// How many entries of the history are kept, and whether it rolls.
@@ -34,6 +36,15 @@ fn read_class(line: &[u8]) -> Option<Setting<&[u8]>>
     let (name, line) = next_word(line)?;
     let percent = read_lone_number(line)?;
     Some(Setting::Class { name, percent })
+}
+
+/// What follows `share`: a name, and thousandths.
+fn read_share(line: &[u8]) -> Option<Setting<&[u8]>>
+    ensures { option_map setting_bytes result ≡ share_line (words line.now) }
+{
+    let (name, line) = next_word(line)?;
+    let thousandths = read_lone_number(line)?;
+    Some(Setting::Share { name, thousandths })
 }
 
 /// Whether the rest of a line says `rolling`; nothing where it says anything else.
@@ -71,6 +82,8 @@ pub(crate) fn read_setting<'a>(first: &[u8], line: &'a [u8]) -> Option<Setting<&
         Some(Setting::Window(read_window(line)?))
     } else if first == b"class".as_slice() {
         read_class(line)
+    } else if first == b"share".as_slice() {
+        read_share(line)
     } else if first == b"backlog".as_slice() {
         let room = read_lone_number(line)?;
         Some(Setting::Backlog { room })

@@ -11,7 +11,7 @@ use super::why::Why;
 use super::window_line::{WindowLine, make_windows};
 use limit_kinds::{AnyLimit, BaseLimit};
 use limit_laws::HOUR;
-use partitions::{PartitionTable, TableFault};
+use partitions::{PartitionTable, TableFault, from_percent};
 use std::alloc::{AllocError, Global};
 use std::marker::Model;
 use windowed::WindowSettings;
@@ -70,8 +70,8 @@ impl<'a> Settings<'a> {
     ghost use Rattle.script.specs.Limits.{most_kept};
     ghost use Rattle.script.specs.Setting.{setting_bytes};
     ghost use Rattle.script.specs.Settings.{no_settings, with_limit, with_window, with_backlog};
-    ghost use Rattle.script.specs.Settings.{with_keep, with_row, with_setting, Answers, limit_of};
-    ghost use Rattle.script.specs.Settings.{room_of, kept_of, with_timeout, timeout_of};
+    ghost use Rattle.script.specs.Settings.{with_keep, with_percent, with_row, with_setting};
+    ghost use Rattle.script.specs.Settings.{Answers, limit_of, room_of, kept_of, with_timeout, timeout_of};
 
     /// No settings.
     pub fn new(alloc: Global) -> Settings<'a>
@@ -102,6 +102,7 @@ impl<'a> Settings<'a> {
             Setting::Limit(line) => Ok(self.take_limit(line)),
             Setting::Window(line) => Ok(self.take_window(line)),
             Setting::Class { name, percent } => self.take_class(name, percent),
+            Setting::Share { name, thousandths } => self.take_share(name, thousandths),
             Setting::Backlog { room } => Ok(self.take_backlog(room)),
             Setting::Keep {
                 entries,
@@ -186,17 +187,30 @@ impl<'a> Settings<'a> {
         Ok(())
     }
 
-    /// Takes one more class, where those so far and this one make a table.
+    /// Takes one more class, whose share is told in percent.
     fn take_class(&mut self, name: &'a [u8], percent: u64) -> Result<Result<(), Why>, AllocError>
+        ensures answer { IfOk result
+            (Answers (with_percent self.old name.now percent) self.old self.new) }
+        ensures memory { OnErr result (self.new ≡ self.old) }
+    {
+        self.take_share(name, from_percent(percent))
+    }
+
+    /// Takes one more class, where those so far and this one make a table.
+    fn take_share(
+        &mut self,
+        name: &'a [u8],
+        thousandths: u64,
+    ) -> Result<Result<(), Why>, AllocError>
         ensures answer { IfOk result (Answers
-            (with_row self.old (record { name = name.now; percent = percent }))
+            (with_row self.old (record { name = name.now; thousandths = thousandths }))
             self.old self.new) }
         ensures memory { OnErr result (self.new ≡ self.old) }
     {
-        let Ok(percent) = u32::try_from(percent) else {
+        let Ok(thousandths) = u32::try_from(thousandths) else {
             return Ok(Err(Why::Value));
         };
-        match push_row(&mut self.rows, (name, percent))? {
+        match push_row(&mut self.rows, (name, thousandths))? {
             Some(table) => {
                 self.table = table;
                 Ok(Ok(()))

@@ -7,7 +7,7 @@ pub(crate) const CHECK_HELP: &str = "\
 Reads the file CONFIG, TOML text of at most 1 MiB, and serves nothing. /dev/stdin as CONFIG reads
 standard input. A smallest configuration is
 
-  version = 1
+  version = 2
   listen = \"127.0.0.1:8080\"    # where requests come in
   backend = \"127.0.0.1:9000\"   # where they go to
 
@@ -19,7 +19,7 @@ The keys, with unit, range and default. An omitted key takes its default, or the
 range if an earlier key leaves the default outside.
 
 Before the tables:
-  version       1; required
+  version       2, or 1 with the shares of classes in percent; required
   listen        A.B.C.D:PORT, port 1 to 65535, where requests come in; required
   backend       A.B.C.D:PORT, port 1 to 65535, where they go to; required
   backlog       how many callers may wait for a permit, 0 to 10000; 100
@@ -43,7 +43,8 @@ Before the tables:
   min_rtt_us    quicker answers are left out, microseconds, 0 to 3600000000; 100
 [[class]], at most four, a promised share of the limit:
   name          1 to 32 of a-z 0-9 - _, not unknown, not given before; required
-  percent       1 to what the classes before leave of 100; required
+  share         version 2: thousandths, 1 to what the classes before leave of 1000; required
+  percent       version 1: percent, 1 to what the classes before leave of 100; required
 [[resolver]], at most 32; the first that finds a class tells it. All its keys are required:
   kind          \"header\", \"method\" or \"route\"
   header        header: the name of the header that has the class's name
@@ -59,7 +60,7 @@ Before the tables:
 
 With a table of each kind:
 
-  version = 1
+  version = 2
   listen = \"127.0.0.1:8080\"
   backend = \"127.0.0.1:9000\"
   backlog = 40
@@ -78,7 +79,7 @@ With a table of each kind:
 
   [[class]]
   name = \"live\"
-  percent = 60
+  share = 600
 
   [[resolver]]
   kind = \"route\"
@@ -95,13 +96,13 @@ the first key at fault:
   admission: config: read         no such file, no permission, a folder, or more than 1 MiB
   admission: config: toml         not TOML in UTF-8: a number with a unit, such as 5s, a text
                                   without quotes or with typographic ones, a key given twice
-  admission: config: version      version is missing or isn't the whole number 1
+  admission: config: version      version is missing or isn't the whole number 1 or 2
   admission: config: missing KEY  a required key isn't there, or stands in another table
   admission: config: kind KEY     a text where a number is wanted, [class] in place of [[class]]
   admission: config: value KEY    out of the key's range, or a class that isn't there or is there
                                   twice
-  admission: config: unknown KEY  misspelt, in the wrong table, or of another kind of limit,
-                                  resolver or rule
+  admission: config: unknown KEY  misspelt, in the wrong table, of another version, or of another
+                                  kind of limit, resolver or rule
   admission: config: route        a pattern that can't be read, or two that can't stand together
   admission: config: memory       out of memory: lower the memory that other programs take
   admission: write                standard output can't be written: a full disk, a closed pipe";

@@ -47,8 +47,8 @@ closes:
   admission: line L: late    a setting after another line
   admission: line L: twice   a second limit, window, backlog, keep or timeout
   admission: line L: value   a number out of its range, N outside LO to HI, MIN above MAX, a class
-                             given twice, a fifth class, or shares above 100 percent together
-  admission: line L: class   no class line has this name
+                             given twice, a fifth class, or shares above the whole together
+  admission: line L: class   no class or share line has this name
   admission: read            standard input can't be read, such as a folder, or doesn't end
   admission: too large       the trace has more than 16 MiB
   admission: memory          out of memory: lower K, or the memory that other programs take

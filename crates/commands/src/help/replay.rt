@@ -23,8 +23,9 @@ limit is fixed at the N of --limit.
                                that last MIN to MAX (1 ns to one hour, MIN at most MAX); round trips
                                below MINRTT (0 to one hour) are left out. Without this line it
                                learns from each sample
-  class NAME PERCENT           a class and its share of the limit: 1 to 32 of a-z 0-9 - _ and not
-                               unknown, at most four; 1 to 100 percent, together at most 100
+  share NAME THOUSANDTHS       a class and its share of the limit: 1 to 32 of a-z 0-9 - _ and not
+                               unknown, at most four; 1 to 1000 thousandths, together at most 1000
+  class NAME PERCENT           the same in percent, 1 to 100; both kinds of lines may stand together
   backlog N                    how many may wait, 0 to 10000; 100 without this line
   keep K                       how many entries of the history are kept, 1 to 1000000; 100000
                                without this line
@@ -74,8 +75,8 @@ one line on standard error, which comes after the answers to the lines before it
   admission: line L: late    a setting after another line
   admission: line L: twice   a second limit, window, backlog, keep or timeout
   admission: line L: value   a number out of its range, N outside LO to HI, MIN above MAX, a class
-                             given twice, a fifth class, or shares above 100 percent together
-  admission: line L: class   no class line has this name
+                             given twice, a fifth class, or shares above the whole together
+  admission: line L: class   no class or share line has this name
   admission: read            standard input can't be read, such as a folder, or doesn't end
   admission: too large       the script has more than 16 MiB
   admission: memory          out of memory: lower the memory that other programs take

@@ -33,7 +33,7 @@ pub fn partitions_of(alloc: Global, classes: &[ClassKeys]) -> Result<PartitionTa
     }
 }
 
-/// The classes as pairs of a name and a percentage.
+/// The classes as pairs of a name and a share in thousandths.
 fn class_pairs<'a>(
     alloc: Global,
     classes: &'a [ClassKeys],
@@ -42,7 +42,7 @@ fn class_pairs<'a>(
 {
     let mut pairs = Vec::new(alloc);
     for class in classes {
-        add(&mut pairs, (class.name.as_bytes(), class.percent))?;
+        add(&mut pairs, (class.name.as_bytes(), class.thousandths))?;
     }
     Ok(pairs)
 }

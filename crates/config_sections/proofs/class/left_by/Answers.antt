@@ -2,8 +2,8 @@ use Rattle.std.proofs.Common.{rules, arith}
 use Rattle.std.proofs.lemmas.Grind.{common_steps}
 use Rattle.config_sections.proofs.class.left_by.Goals as goal
 
-pub returns : goal.returns
-returns c = grind (arith, common_steps)
+pub returns-clause-value : goal.returns-clause-value
+returns-clause-value c = grind (arith, common_steps)
 
 pub loop-class-init : goal.loop-class-init
 loop-class-init c = search rules

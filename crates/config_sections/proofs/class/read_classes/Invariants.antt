@@ -9,7 +9,7 @@ use Rattle.config_sections.proofs.class.read_classes.Given as goal
 abbrev pub invariant-loop-item : goal.invariant-loop-item
 invariant-loop-item l = record {
   few : length l.classes.items ≤ l.item-index;
-  said : classes_of (tables_among l.items)
-      ≡ read_each class_after (map class_row l.classes.items)
+  said : classes_of l.version (tables_among l.items)
+      ≡ read_each (class_after l.version) (map class_row l.classes.items)
       (tables_among (drop l.item-index l.items));
 }

@@ -17,9 +17,9 @@ returns-in_err-rules-clause-fault c = λ fault said.
       is_window = sym c.window_in.ensures.said
           ∙ ap (result_map (option_map window_member)) c.in_ok-window.was;
     } in
-    let whole = document_read (table_view c.args.table.now) read in
-    let key : rules_of (table_view c.args.table.now) ≡ Err fault =
-    same_fault (rules_of (table_view c.args.table.now)) (with_rules read) fault (rw whole at said) in
+    let whole = document_read c.args.version (table_view c.args.table.now) read in
+    let key : rules_of c.args.version (table_view c.args.table.now) ≡ Err fault =
+    same_fault (rules_of c.args.version (table_view c.args.table.now)) (with_rules read) fault (rw whole at said) in
     let told : IsErrOf c.rules_in.result fault = c.rules_in.ensures.fault fault key in
     search rules
 
@@ -34,7 +34,7 @@ returns-in_err-rules-clause-said c =
       is_window = sym c.window_in.ensures.said
           ∙ ap (result_map (option_map window_member)) c.in_ok-window.was;
     } in
-    let whole = document_read (table_view c.args.table.now) read in
+    let whole = document_read c.args.version (table_view c.args.table.now) read in
     search rules
 
 pub returns-clause-said : goal.returns-clause-said
@@ -48,7 +48,7 @@ returns-clause-said c =
       is_window = sym c.window_in.ensures.said
           ∙ ap (result_map (option_map window_member)) c.in_ok-window.was;
     } in
-    let whole = document_read (table_view c.args.table.now) read in
+    let whole = document_read c.args.version (table_view c.args.table.now) read in
     search rules
 
 pub returns-clause-fault : goal.returns-clause-fault
@@ -62,7 +62,7 @@ returns-clause-fault c =
       is_window = sym c.window_in.ensures.said
           ∙ ap (result_map (option_map window_member)) c.in_ok-window.was;
     } in
-    let whole = document_read (table_view c.args.table.now) read in
+    let whole = document_read c.args.version (table_view c.args.table.now) read in
     search rules
 
 pub returns-in_err-top-clause-said : goal.returns-in_err-top-clause-said

@@ -8,6 +8,6 @@ use Rattle.gate_config.proofs.strangers.least_of_classes.Given as goal
 abbrev pub invariant-loop-item : goal.invariant-loop-item
 invariant-loop-item l =
     fold lesser (option_map stranger_of l.initial.least)
-    (flat_map class_strangers (tables_among l.items))
+    (flat_map (class_strangers l.version) (tables_among l.items))
     ≡ fold lesser (option_map stranger_of l.least)
-    (flat_map class_strangers (tables_among (drop l.item-index l.items)))
+    (flat_map (class_strangers l.version) (tables_among (drop l.item-index l.items)))

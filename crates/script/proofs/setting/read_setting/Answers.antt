@@ -4,11 +4,14 @@ use Rattle.script.proofs.setting.read_setting.Goals as goal
 pub returns-then-eq-3 : goal.returns-then-eq-3
 returns-then-eq-3 c = search rules
 
-pub returns-then-eq-5 : goal.returns-then-eq-5
-returns-then-eq-5 c = search rules
+pub returns-then-eq-4 : goal.returns-then-eq-4
+returns-then-eq-4 c = search rules
 
-pub returns-else-eq-6 : goal.returns-else-eq-6
-returns-else-eq-6 c = search rules
+pub returns-then-eq-6 : goal.returns-then-eq-6
+returns-then-eq-6 c = search rules
+
+pub returns-else-eq-7 : goal.returns-else-eq-7
+returns-else-eq-7 c = search rules
 
 pub returns-in_ok-room : goal.returns-in_ok-room
 returns-in_ok-room c = search rules

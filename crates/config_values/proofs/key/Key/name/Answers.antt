@@ -76,6 +76,9 @@ returns-in-ClassName c = search rules
 pub returns-in-ClassPercent : goal.returns-in-ClassPercent
 returns-in-ClassPercent c = search rules
 
+pub returns-in-ClassShare : goal.returns-in-ClassShare
+returns-in-ClassShare c = search rules
+
 pub returns-in-Resolver : goal.returns-in-Resolver
 returns-in-Resolver c = search rules
 
