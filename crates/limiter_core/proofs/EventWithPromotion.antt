@@ -1,4 +1,4 @@
--- An event and its promotion, as one answer.
+-- An event and its promotions, as one answer.
 use Rattle.std.proofs.Common.{◌≡◌, ℕ, ◌+◌, List, [], ◌∷◌, Bool, true, false, cond, length, Option, None, Some, Result, Ok, Err, refl, sym, ap, ◌∙◌, arith, zero-le, nat_lt}
 use Rattle.limit_laws.specs.Facts.{moment}
 use Rattle.limit_laws.specs.Algorithm.{Algorithm}
@@ -11,7 +11,7 @@ use Rattle.limiter_core.specs.Answer.{answer, reply_to, has_room, queued, grante
 use Rattle.limiter_core.specs.Legal.{MayCome}
 use Rattle.limiter_core.specs.Standing.{gate_in, stands_in, KeepsRooms}
 use Rattle.limiter_core.proofs.ImageJoins.{IsBacked, image_nil, image-append}
-use Rattle.limiter_core.proofs.LegalJoins.{backed-push, call-fits}
+use Rattle.limiter_core.proofs.LegalJoins.{backed-push, call-fits, image-counting}
 use Rattle.limiter_core.proofs.HeldByChange.{same_gate}
 
 -- without promotions a reply stays as it is
@@ -28,18 +28,6 @@ stays-or (Some permit) x p = refl
 stays-set : {S : Type 0} (r : Result S SetFault) → counting 0 (set_reply r) ≡ set_reply r
 stays-set (Ok t) = refl
 stays-set (Err fault) = refl
-
--- what is no ending promotes nobody
-pub moment_of-other : (e : Event)
-    → ((permit : PermitFacts) (outcome : Outcome) (now : ℕ) → e ≡ End permit outcome now → ⊥)
-    → moment_of e ≡ None
-moment_of-other (End permit outcome now) other = absurd (other permit outcome now refl)
-moment_of-other (Acquire part bypass wait now) other = refl
-moment_of-other (Claim number) other = refl
-moment_of-other (GiveUp number) other = refl
-moment_of-other (SetLimit n now) other = refl
-moment_of-other (Reset now) other = refl
-moment_of-other (Look part) other = refl
 
 module _ {S : Type 0} (g : Gate S) (i : Image S) where
   stays-queued : (wait : Bool) → counting 0 (queued g i wait) ≡ queued g i wait
@@ -62,18 +50,25 @@ module _ {S : Type 0} (g : Gate S) (i : Image S) where
   stays (Reset now) = refl
   stays (Look part) = refl
 
+  -- the reply where no entry came yet
+  replied : (e : Event) (r : Reply) → r ≡ reply_to g i e → r ≡ reply_to g (image_after g i []) e
+  replied e r reply =
+      reply ∙ ap (λ (j : Image S). reply_to g j e) (sym (image_nil g i))
+
   -- an event that promotes nobody is answered by its reply alone
-  pub answered_alone : (e : Event) (r : Reply) → moment_of e ≡ None → r ≡ reply_to g i e
-      → Call e r ∷ [] ≡ answer g i [] e
+  pub answered_alone : (e : Event) (r : Reply) → moment_of g.promote e r ≡ None
+      → r ≡ reply_to g i e → Call e r ∷ [] ≡ answer g i [] e
   answered_alone e r quiet reply =
-      ap (λ (x : Reply). Call e x ∷ []) (reply ∙ sym (stays e)
-      ∙ ap (λ (j : Image S). counting 0 (reply_to g j e)) (sym (image_nil g i)))
-      ∙ ap (λ (at : Option ℕ).
-      Call e (counting (length (promotions_at g
-      (image_after g i (Call e (reply_to g (image_after g i []) e) ∷ [])) at))
-      (reply_to g (image_after g i []) e))
-      ∷ promotions_at g (image_after g i (Call e (reply_to g (image_after g i []) e) ∷ [])) at)
-      (sym quiet)
+      let told : [] ≡ promotions_at g (image_after g i (Call e r ∷ [])) (moment_of g.promote e r)
+      = ap (promotions_at g (image_after g i (Call e r ∷ []))) (sym quiet) in
+      ap (λ (x : Reply). Call e x ∷ [])
+      (reply ∙ sym (stays e) ∙ ap (counting 0) (sym reply))
+      ∙ (λ k. Call e (counting (length (told k)) r) ∷ told k)
+      ∙ (λ k.
+      let x : Reply = replied e r reply k in
+      let ps : List Entry =
+      promotions_at g (image_after g i (Call e x ∷ [])) (moment_of g.promote e x) in
+      Call e (counting (length ps) x) ∷ ps)
 
   backed-one : (e : Event) (r : Reply) → MayCome g i e → IsBacked g i (Call e r ∷ [])
   backed-one e r may =
@@ -84,30 +79,36 @@ module _ {S : Type 0} (g : Gate S) (i : Image S) where
       → image_after g (image_after g i (Call e r ∷ [])) ps ≡ image_after g i (Call e r ∷ ps)
   stands_with e r ps may = sym (image-append g i (Call e r ∷ []) ps (backed-one e r may))
 
-module _ {S : Type 0} (rules : Algorithm S) (s t u : State S) (permit : PermitFacts)
-    (outcome : Outcome) (now start : ℕ) (ps : List Entry) (r : Reply) (kept : KeepsRooms s t) where
+module _ {S : Type 0} (rules : Algorithm S) (s t u : State S) (e : Event) (start : ℕ)
+    (ps : List Entry) (r : Reply) (kept : KeepsRooms s t) where
   abbrev Gated : Gate S
   Gated = gate_in rules s
 
-  pub ended_answer : stands_in t
-      ≡ image_after Gated (stands_in s) (Call (End permit outcome now) r ∷ []) → start ≡ moment now
-      → ps ≡ promotions_at (gate_in rules t) (stands_in t) (Some start)
-      → Call (End permit outcome now) (Ended (length ps)) ∷ ps
-      ≡ answer Gated (stands_in s) [] (End permit outcome now)
-  ended_answer first at promoted =
-      let told : ps
-      ≡ promotions_at Gated
-      (image_after Gated (stands_in s) (Call (End permit outcome now) (Ended 0) ∷ []))
-      (Some (moment now))
-      = promoted
-      ∙ (λ k. promotions_at (sym (same_gate rules s t kept) k) (first k) (Some (at k))) in
-      ap (λ (xs : List Entry). Call (End permit outcome now) (Ended (length xs)) ∷ xs) told
+  abbrev Before : Image S
+  Before = stands_in s
 
-  pub ended_stands : MayCome Gated (stands_in s) (End permit outcome now)
-      → stands_in t ≡ image_after Gated (stands_in s) (Call (End permit outcome now) r ∷ [])
+  pub promoted_answer : r ≡ reply_to Gated Before e
+      → stands_in t ≡ image_after Gated Before (Call e r ∷ [])
+      → moment_of s.promote e r ≡ Some start
+      → ps ≡ promotions_at (gate_in rules t) (stands_in t) (Some start)
+      → Call e (counting (length ps) r) ∷ ps ≡ answer Gated Before [] e
+  promoted_answer reply first at promoted =
+      let told : ps
+      ≡ promotions_at Gated (image_after Gated Before (Call e r ∷ [])) (moment_of s.promote e r)
+      = promoted ∙ (λ k. promotions_at (sym (same_gate rules s t kept) k) (first k) (sym at k)) in
+      (λ k. Call e (counting (length (told k)) r) ∷ told k)
+      ∙ (λ k.
+      let x : Reply = replied Gated Before e r reply k in
+      let xs : List Entry =
+      promotions_at Gated (image_after Gated Before (Call e x ∷ [])) (moment_of s.promote e x) in
+      Call e (counting (length xs) x) ∷ xs)
+
+  pub promoted_stands : (n : ℕ) → MayCome Gated Before e
+      → stands_in t ≡ image_after Gated Before (Call e r ∷ [])
       → stands_in u ≡ image_after (gate_in rules t) (stands_in t) ps
-      → stands_in u
-      ≡ image_after Gated (stands_in s) (Call (End permit outcome now) (Ended (length ps)) ∷ ps)
-  ended_stands may first then =
-      then ∙ (λ k. image_after (sym (same_gate rules s t kept) k) (first k) ps)
-      ∙ stands_with Gated (stands_in s) (End permit outcome now) (Ended (length ps)) ps may
+      → stands_in u ≡ image_after Gated Before (Call e (counting n r) ∷ ps)
+  promoted_stands n may first then =
+      then
+      ∙ (λ k. image_after (sym (same_gate rules s t kept) k)
+      ((first ∙ sym (image-counting Gated Before e r n)) k) ps)
+      ∙ stands_with Gated Before e (counting n r) ps may

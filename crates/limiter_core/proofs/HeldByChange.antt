@@ -20,7 +20,12 @@ module _ {S : Type 0} (rules : Algorithm S) where
   -- the same table and room, the same gate
   pub same_gate : (s t : State S) → KeepsRooms s t → gate_in rules s ≡ gate_in rules t
   same_gate s t kept =
-      λ k. record { rules = rules; rows = sym kept.table k; room = sym kept.waiters k }
+      λ k. record {
+        rules = rules;
+        rows = sym kept.table k;
+        room = sym kept.waiters k;
+        promote = sym kept.promote k;
+      }
 
   module _ (lawful : IsLawful rules) (s : State S) (held : IsHeld rules s) where
     abbrev Gated : Gate S
@@ -81,6 +86,7 @@ module _ {S : Type 0} (rules : Algorithm S) where
         held_by (record t { next = t.next + 1 }) (Call e (reply_to Gated Now e) ∷ [])
         (record {
           table = kept.table;
+          promote = kept.promote;
           waiters = kept.waiters;
           permits = kept.permits;
           granted = kept.granted;
@@ -88,32 +94,22 @@ module _ {S : Type 0} (rules : Algorithm S) where
         (sound-call Gated lawful Now held.sound e may)
         (omega (arith, next, ap owed right, call-counted e (is_always_served Now e) refl may below))
 
-    -- the newest waiter is the next one where it has room, and else nobody is
-    pub next_is : (w : Waiter) → newest_of s.backlog.waiting ≡ Some w
-        → has_room Gated Now (place_of s.table w.part) ≡ true → next_waiter Gated Now ≡ Some w
-    next_is w newest room =
-        ap (λ (o : Option Waiter).
-        last_or None
-        (filter (λ v. has_room Gated Now (place_of s.table v.part)) (option_to_list o))) newest
-        ∙ ap (λ (b : Bool). last_or None (cond b (w ∷ []) [])) room
-
     pub held_promoted : (t : State S) (w : Waiter) (start n : ℕ)
-        → newest_of s.backlog.waiting ≡ Some w → has_room Gated Now (place_of s.table w.part) ≡ true
-        → n ≡ total Now
+        → next_waiter Gated Now ≡ Some w → n ≡ total Now
         → stands_in t ≡ image_after Gated Now (Promotion w.number w.part start (n + 1) ∷ [])
         → KeepsRooms s t → IsHeld rules t
-    held_promoted t w start n newest room all stands kept =
+    held_promoted t w start n chosen all stands kept =
         let right : stands_in t ≡ image_after Gated Now (promotion Now start w ∷ []) =
         stands
         ∙ ap (λ (m : ℕ). image_after Gated Now (Promotion w.number w.part start (m + 1) ∷ []))
         all in
         let next : t.next ≡ s.next + 1 = ap (λ (i : Image S). i.next) right in
         held_by t (promotion Now start w ∷ []) kept right
-        (sound-next Gated lawful Now held.sound start w (next_is w newest room))
+        (sound-next Gated lawful Now held.sound start w chosen)
         (omega (
           arith,
           next,
           ap owed right,
-          owed-next Gated held.sound.four Now start w (next_is w newest room),
+          owed-next Gated held.sound.four Now start w chosen,
           held.counted,
         ))

@@ -1,5 +1,5 @@
 -- A legal history from a sound opening ends sound.
-use Rattle.std.proofs.Common.{◌≡◌, ℕ, ◌+◌, ◌<◌, ◌≤◌, ◌==◌, List, [], ◌∷◌, ◌++◌, Bool, true, false, cond, length, Option, None, Some, option_to_list, map, unwrap_or, filter, count_by, Result, Ok, Err, IfOk, refl, sym, ap, ◌∙◌, subst, arith, append_assoc, append-nil, ltb, ltb-true, inl, inr, ◌⊎◌, ⊎_elim, is_some, true≢false, eq-eqb, eqb-true, get_or, ◌-◌}
+use Rattle.std.proofs.Common.{◌≡◌, ℕ, zero, suc, ◌+◌, ◌<◌, ◌≤◌, ◌==◌, List, [], ◌∷◌, ◌++◌, Bool, true, false, cond, length, Option, None, Some, option_to_list, map, unwrap_or, filter, count_by, Result, Ok, Err, IfOk, refl, sym, ap, ◌∙◌, subst, arith, append_assoc, append-nil, ltb, ltb-true, inl, inr, ◌⊎◌, ⊎_elim, is_some, true≢false, eq-eqb, eqb-true, get_or, ◌-◌}
 use Rattle.std.specs.List.{last_or}
 use Rattle.std.proofs.lemmas.List.Sums.{sum_by-cons}
 use Rattle.std.proofs.lemmas.Option.{get_or_from_slice_get}
@@ -8,18 +8,18 @@ use Rattle.limit_laws.specs.Algorithm.{IsWithin, IsLawful, Follows}
 use Rattle.limit_laws.specs.declared.limit.SetFault.{SetFault}
 use Rattle.partitions.specs.declared.part.Part.{Part}
 use Rattle.partitions.specs.declared.part.Part.TheVariants.{Unknown, Known}
-use Rattle.limiter_core.specs.Events.{Event, Acquire, End, Claim, GiveUp, SetLimit, Reset, Look, Reply, Admitted, Bypassed, Full, BacklogFull, Waiting, Ended, Granted, StillWaiting, TimedOut, Lost, LimitSet, Refused, ResetDone, Seen, Entry, Call, PermitFacts}
+use Rattle.limiter_core.specs.Events.{Event, Acquire, End, Claim, GiveUp, SetLimit, Reset, Look, Reply, Admitted, Bypassed, Full, BacklogFull, Waiting, Ended, Granted, StillWaiting, TimedOut, Lost, LimitSet, Refused, ResetDone, Seen, Promote, Newest, All, Entry, Call, PermitFacts}
 use Rattle.lifo_backlog.specs.declared.waiter.Waiter.{Waiter}
 use Rattle.partitions.specs.Table.{Row, place_of}
 use Rattle.limiter_core.specs.History.{Gate, Image, image_after, total, accepted_or}
-use Rattle.limiter_core.specs.Answer.{answer, reply_to, has_room, queued, granted_of, granted_or, set_reply, waits, promoted, promotions_at, promotion, next_waiter, moment_of, candidates, counting}
+use Rattle.limiter_core.specs.Answer.{answer, reply_to, has_room, queued, granted_of, granted_or, set_reply, waits, promoted, promotions_at, promotions, promotion_then, promotion, next_waiter, moment_of, candidates, counting}
 use Rattle.limiter_core.specs.Legal.{IsLegal, nothing, more, MayCome}
 use Rattle.limiter_core.specs.Bound.{IsSound}
 use Rattle.limiter_core.specs.Laws.{StaysSound, AnswersSoundly}
 use Rattle.limiter_core.proofs.ImageJoins.{IsBacked, image_nil, image-append}
 use Rattle.limiter_core.proofs.ImageAfterEntry.{after_bypassed, after_full, after_backlog_full, after_waiting, after_admitted, after_end, after_claim_waits, after_claim_lost, after_claim_granted, after_give_up_granted, after_give_up_lost, after_timed_out, after_set, after_reset, after_look, after_promotion}
 use Rattle.limiter_core.proofs.StateAfterEnd.{ending_within, ending_hi}
-use Rattle.limiter_core.proofs.LegalJoins.{backed_legal, backed-push, call-fits}
+use Rattle.limiter_core.proofs.LegalJoins.{backed_legal, backed-push, call-fits, promotion-joins, same-call}
 use Rattle.limiter_core.proofs.BoundSteps.{waiter-counted}
 use Rattle.limiter_core.proofs.SoundSteps.{sound_quiet, sound_admitted, sound_waiting, sound_handed, sound_timed_out, sound_state, sound_end, sound_promotion}
 
@@ -97,18 +97,26 @@ one-of (Some v) w xs e h = same (v.number == w.number) refl h
         (last-in v xs e)
     same false q k = absurd (omega (arith, k))
 
-candidate-in : (w : Waiter) (xs : List Waiter)
-    → 0 < count_by (λ v. v.number == w.number) (candidates xs)
+candidate-in : (promote : Promote) (w : Waiter) (xs : List Waiter)
+    → 0 < count_by (λ v. v.number == w.number) (candidates promote xs)
     → 0 < count_by (λ v. v.number == w.number) xs
-candidate-in w xs h = one-of (newest_of xs) w xs refl h
+candidate-in Newest w xs h = one-of (newest_of xs) w xs refl h
+candidate-in All w xs h = h
+
+-- whoever is promoted next waits, and has room
+next_found : {S : Type 0} (g : Gate S) (i : Image S) (w : Waiter) → next_waiter g i ≡ Some w
+    → Found (λ v. has_room g i (place_of g.rows v.part)) (candidates g.promote i.waiters) w
+next_found g i w e =
+    ⊎_elim (none-some w) (λ f. f) (last-found (λ v. has_room g i (place_of g.rows v.part)) w
+    None (candidates g.promote i.waiters) e)
 
 pub next_counted : {S : Type 0} (g : Gate S) (i : Image S) (w : Waiter) → next_waiter g i ≡ Some w
     → 0 < count_by (λ v. v.number == w.number) i.waiters
-next_counted g i w e =
-    let found : Found (λ v. has_room g i (place_of g.rows v.part)) (candidates i.waiters) w =
-    ⊎_elim (none-some w) (λ f. f)
-    (last-found (λ v. has_room g i (place_of g.rows v.part)) w None (candidates i.waiters) e) in
-    candidate-in w i.waiters found.1
+next_counted g i w e = candidate-in g.promote w i.waiters (next_found g i w e).1
+
+pub next_has_room : {S : Type 0} (g : Gate S) (i : Image S) (w : Waiter)
+    → next_waiter g i ≡ Some w → has_room g i (place_of g.rows w.part) ≡ true
+next_has_room g i w e = (next_found g i w e).0
 
 module _ {S : Type 0} (g : Gate S) (lawful : IsLawful g.rules) where
   module _ (i : Image S) (s : IsSound g i) where
@@ -195,56 +203,34 @@ module _ {S : Type 0} (g : Gate S) (lawful : IsLawful g.rules) where
     pub sound-next : (start : ℕ) (w : Waiter) → next_waiter g i ≡ Some w
         → IsSound g (image_after g i (promotion i start w ∷ []))
     sound-next start w e =
-        let found : Found (λ v. has_room g i (place_of g.rows v.part)) (candidates i.waiters) w =
-        ⊎_elim (none-some w) (λ f. f) (last-found (λ v. has_room g i (place_of g.rows v.part)) w
-        None (candidates i.waiters) e) in
         subst (IsSound g) (sym (after_promotion g i w.number w.part start (total i + 1)))
         (sound_promotion g i s w.number start (total i + 1) w.part
-        (small-place g.rows w.part s.four) found.0 (candidate-in w i.waiters found.1))
+        (small-place g.rows w.part s.four) (next_has_room g i w e) (next_counted g i w e))
 
-  pub image-counting : (i : Image S) (e : Event) (r : Reply) (n : ℕ)
-      → image_after g i (Call e (counting n r) ∷ []) ≡ image_after g i (Call e r ∷ [])
-  image-counting i (Acquire part bypass wait now) (Ended m) n = refl
-  image-counting i (End permit outcome now) (Ended m) n = refl
-  image-counting i (Claim number) (Ended m) n = refl
-  image-counting i (GiveUp number) (Ended m) n = refl
-  image-counting i (SetLimit k now) (Ended m) n = refl
-  image-counting i (Reset now) (Ended m) n = refl
-  image-counting i (Look part) (Ended m) n = refl
-  image-counting i e (Admitted m) n = refl
-  image-counting i e Bypassed n = refl
-  image-counting i e Full n = refl
-  image-counting i e BacklogFull n = refl
-  image-counting i e Waiting n = refl
-  image-counting i e (Granted part start inflight) n = refl
-  image-counting i e StillWaiting n = refl
-  image-counting i e TimedOut n = refl
-  image-counting i e Lost n = refl
-  image-counting i e LimitSet n = refl
-  image-counting i e (Refused fault) n = refl
-  image-counting i e ResetDone n = refl
-  image-counting i e (Seen a b c d f h) n = refl
+  -- each promotion leads from a sound image to a sound one
+  sound-then : (start : ℕ) (i : Image S) (s : IsSound g i) (rest : Image S → List Entry)
+      → ((j : Image S) → IsSound g j → IsSound g (image_after g j (rest j)))
+      → (w : Option Waiter) → next_waiter g i ≡ w
+      → IsSound g (image_after g i (promotion_then g i start rest w))
+  sound-then start i s rest keeps None e = subst (IsSound g) (sym (image_nil g i)) s
+  sound-then start i s rest keeps (Some w) e =
+      let j : Image S = image_after g i (promotion i start w ∷ []) in
+      subst (IsSound g) (sym (promotion-joins g i start w (rest j)))
+      (keeps j (sound-next i s start w e))
+
+  sound-promotions : (start turns : ℕ) (i : Image S) → IsSound g i
+      → IsSound g (image_after g i (promotions g start turns i))
+  sound-promotions start zero i s = subst (IsSound g) (sym (image_nil g i)) s
+  sound-promotions start (suc turns) i s =
+      sound-then start i s (promotions g start turns) (sound-promotions start turns)
+      (next_waiter g i) refl
+
+  sound-promotions_at : (at : Option ℕ) (i : Image S) → IsSound g i
+      → IsSound g (image_after g i (promotions_at g i at))
+  sound-promotions_at None i s = subst (IsSound g) (sym (image_nil g i)) s
+  sound-promotions_at (Some start) i s = sound-promotions start _ i s
 
   module _ (o : Image S) where
-    sound-promotion : (start : ℕ) (h : List Entry) → IsBacked g o h → IsSound g (image_after g o h)
-        → (w : Option Waiter) → next_waiter g (image_after g o h) ≡ w
-        → IsSound g
-        (image_after g o (h ++ map (promotion (image_after g o h) start) (option_to_list w)))
-    sound-promotion start h backed s None q =
-        subst (λ (xs : List Entry). IsSound g (image_after g o xs)) (sym (append-nil h)) s
-    sound-promotion start h backed s (Some w) q =
-        subst (IsSound g)
-        (sym (image-append g o h (promotion (image_after g o h) start w ∷ []) backed))
-        (sound-next (image_after g o h) s start w q)
-
-    sound-promotions_at : (at : Option ℕ) (h : List Entry) → IsBacked g o h
-        → IsSound g (image_after g o h)
-        → IsSound g (image_after g o (h ++ promotions_at g (image_after g o h) at))
-    sound-promotions_at None h backed s =
-        subst (λ (xs : List Entry). IsSound g (image_after g o xs)) (sym (append-nil h)) s
-    sound-promotions_at (Some start) h backed s =
-        sound-promotion start h backed s (next_waiter g (image_after g o h)) refl
-
     pub sound_answer : (h : List Entry) (e : Event) → IsBacked g o h → IsSound g (image_after g o h)
         → MayCome g (image_after g o h) e → IsSound g (image_after g o (h ++ answer g o h e))
     sound_answer h e backed s may =
@@ -258,10 +244,10 @@ module _ {S : Type 0} (g : Gate S) (lawful : IsLawful g.rules) where
         let sx : IsSound g (image_after g o (h ++ x ∷ [])) =
         subst (IsSound g) (sym (image-append g o h (x ∷ []) backed)) (sound-call i s e may) in
         let all : IsSound g (image_after g o ((h ++ x ∷ []) ++ ps)) =
-        sound-promotions_at (moment_of e) (h ++ x ∷ []) bx sx in
+        subst (IsSound g) (sym (image-append g o (h ++ x ∷ []) ps bx))
+        (sound-promotions_at (moment_of g.promote e r) (image_after g o (h ++ x ∷ [])) sx) in
         let same : image_after g o (h ++ x ∷ []) ≡ image_after g o (h ++ y ∷ []) =
-        image-append g o h (x ∷ []) backed ∙ sym (image-counting i e r (length ps))
-        ∙ sym (image-append g o h (y ∷ []) backed) in
+        same-call g o h backed e r (length ps) in
         let moved : image_after g o ((h ++ x ∷ []) ++ ps) ≡ image_after g o ((h ++ y ∷ []) ++ ps)
         = image-append g o (h ++ x ∷ []) ps bx ∙ ap (λ (j : Image S). image_after g j ps) same
         ∙ sym (image-append g o (h ++ y ∷ []) ps bz) in

@@ -13,6 +13,10 @@ pub mod ImageAfterChange
 pub mod HeldByChange
 pub mod EventWithPromotion
 pub mod CountersAfterCall
+pub mod WalkDown
+pub mod RoomTaken
+pub mod PromotingAll
+pub mod NobodyLeft
 pub mod FoundAndKept
 pub mod BroughtByOne
 pub mod InsertedPermit
@@ -22,3 +26,4 @@ pub mod OpenPermits
 pub mod OpenPermitFound
 pub mod EventNumbers
 mod Rows
+mod PromotionRows

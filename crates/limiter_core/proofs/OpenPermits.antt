@@ -1,12 +1,12 @@
 -- Open permits, one answer after another.
-use Rattle.std.proofs.Common.{◌≡◌, ℕ, ◌+◌, ◌<◌, ◌==◌, List, [], ◌∷◌, ◌++◌, Bool, true, false, not, cond, length, map, Option, None, Some, option_to_list, filter, count_by, refl, sym, ap, ◌∙◌, subst, arith, zero-le, append_assoc, append-nil, eq-eqb, nat_lt}
+use Rattle.std.proofs.Common.{◌≡◌, ℕ, zero, suc, ◌+◌, ◌<◌, ◌==◌, List, [], ◌∷◌, ◌++◌, Bool, true, false, not, cond, length, map, Option, None, Some, option_to_list, filter, count_by, refl, sym, ap, ◌∙◌, subst, arith, zero-le, append_assoc, append-nil, eq-eqb, nat_lt}
 use Rattle.partitions.specs.declared.part.Part.{Part}
 use Rattle.partitions.specs.Table.{place_of}
 use Rattle.limit_laws.specs.Facts.{moment}
 use Rattle.lifo_backlog.specs.declared.waiter.Waiter.{Waiter}
 use Rattle.limiter_core.specs.Events.{Outcome, PermitFacts, Event, Acquire, End, Claim, GiveUp, SetLimit, Reset, Look, Reply, Admitted, Bypassed, Full, BacklogFull, Waiting, Ended, Granted, StillWaiting, TimedOut, Lost, ResetDone, Entry, Call, Promotion}
 use Rattle.limiter_core.specs.History.{Gate, Image, image_after, total, empty_image}
-use Rattle.limiter_core.specs.Answer.{answer, reply_to, counting, has_room, queued, granted_of, granted_or, waits, promoted, promotion, next_waiter}
+use Rattle.limiter_core.specs.Answer.{answer, reply_to, counting, has_room, queued, granted_of, granted_or, waits, promoted, promotions_at, promotions, promotion_then, promotion, moment_of, next_waiter}
 use Rattle.limiter_core.specs.Legal.{MayCome}
 use Rattle.limiter_core.specs.Bound.{IsSound, named}
 use Rattle.limiter_core.specs.Open.{open_permits, open_permit, handed_out, is_ended}
@@ -15,7 +15,7 @@ use Rattle.limiter_core.proofs.PermitsAgree.{Agrees, agrees_quiet, agrees_timed_
 use Rattle.limiter_core.proofs.BroughtByOne.{brought-push}
 use Rattle.limiter_core.proofs.FoundAndKept.{count-found, found_number}
 use Rattle.limiter_core.proofs.ImageJoins.{IsBacked, image-append, filter-all}
-use Rattle.limiter_core.proofs.LegalJoins.{backed-push, call-fits}
+use Rattle.limiter_core.proofs.LegalJoins.{backed-push, call-fits, same-call}
 use Rattle.limiter_core.proofs.LegalStaysSound.{next_counted}
 use Rattle.limiter_core.proofs.ImageAfterEntry.{after_bypassed, after_full, after_backlog_full, after_waiting, after_admitted, after_end, after_claim_waits, after_claim_lost, after_claim_granted, after_give_up_granted, after_give_up_lost, after_timed_out, after_set, after_reset, after_look, after_promotion}
 
@@ -153,115 +153,138 @@ module _ {S : Type 0} (g : Gate S) (o : Image S) (h : List Entry) (backed : IsBa
               (opens ∙ (λ k. filter-all open_now k ++ own k ∷ []))
               (agrees_granted g Now open_now (agreed handed) number permit found sound.below)
 
-      handed-queued : (part : Part) (wait : Bool) (now : ℕ)
+      handed-queued : (k : ℕ) (part : Part) (wait : Bool) (now : ℕ)
           → IsHanded g o
-          (h ++ Call (Acquire part false wait now) (counting 0 (queued g Now wait)) ∷ [])
-      handed-queued part false now =
+          (h ++ Call (Acquire part false wait now) (counting k (queued g Now wait)) ∷ [])
+      handed-queued k part false now =
           handed-quiet (Call (Acquire part false false now) Full) _
           (after_full g Now part false false now) (all-stay open_now)
-      handed-queued part true now =
+      handed-queued k part true now =
           elim (nat_lt (length Now.waiters) g.room) as
           (λ b.
           IsHanded g o (h
-          ++ Call (Acquire part false true now) (counting 0 (cond b Waiting BacklogFull)) ∷ [])) [
+          ++ Call (Acquire part false true now) (counting k (cond b Waiting BacklogFull)) ∷ [])) [
             | true ↦ handed-waiting part false true now
             | false ↦ handed-quiet (Call (Acquire part false true now) BacklogFull) _
                 (after_backlog_full g Now part false true now) (all-stay open_now)
           ]
 
-      handed-acquire : (part : Part) (wait : Bool) (now : ℕ) (b : Bool)
+      handed-acquire : (k : ℕ) (part : Part) (wait : Bool) (now : ℕ) (b : Bool)
           → IsHanded g o (h
           ++ Call (Acquire part false wait now)
-          (counting 0 (cond b (Admitted (total Now + 1)) (queued g Now wait))) ∷ [])
-      handed-acquire part wait now true = handed-admitted part false wait now (total Now + 1)
-      handed-acquire part wait now false = handed-queued part wait now
+          (counting k (cond b (Admitted (total Now + 1)) (queued g Now wait))) ∷ [])
+      handed-acquire k part wait now true = handed-admitted part false wait now (total Now + 1)
+      handed-acquire k part wait now false = handed-queued k part wait now
 
-      handed-claim : (number : ℕ) (p : Option PermitFacts) (b : Bool) → granted_of Now number ≡ p
+      handed-claim : (k : ℕ) (number : ℕ) (p : Option PermitFacts) (b : Bool) → granted_of Now number ≡ p
           → IsHanded g o
-          (h ++ Call (Claim number) (counting 0 (granted_or p (cond b StillWaiting Lost))) ∷ [])
-      handed-claim number (Some permit) b found =
+          (h ++ Call (Claim number) (counting k (granted_or p (cond b StillWaiting Lost))) ∷ [])
+      handed-claim k number (Some permit) b found =
           handed-granted number permit found
           (Call (Claim number) (Granted permit.part permit.start permit.inflight))
           (after_claim_granted g Now number permit.part permit.start permit.inflight) refl
-      handed-claim number None true found =
+      handed-claim k number None true found =
           handed-quiet (Call (Claim number) StillWaiting) _ (after_claim_waits g Now number)
           (all-stay open_now)
-      handed-claim number None false found =
+      handed-claim k number None false found =
           handed-quiet (Call (Claim number) Lost) _ (after_claim_lost g Now number)
           (all-stay open_now)
 
-      handed-give_up : (number : ℕ) (p : Option PermitFacts) (b : Bool) → granted_of Now number ≡ p
+      handed-give_up : (k : ℕ) (number : ℕ) (p : Option PermitFacts) (b : Bool) → granted_of Now number ≡ p
           → IsHanded g o
-          (h ++ Call (GiveUp number) (counting 0 (granted_or p (cond b TimedOut Lost))) ∷ [])
-      handed-give_up number (Some permit) b found =
+          (h ++ Call (GiveUp number) (counting k (granted_or p (cond b TimedOut Lost))) ∷ [])
+      handed-give_up k number (Some permit) b found =
           handed-granted number permit found
           (Call (GiveUp number) (Granted permit.part permit.start permit.inflight))
           (after_give_up_granted g Now number permit.part permit.start permit.inflight) refl
-      handed-give_up number None true found =
+      handed-give_up k number None true found =
           handed-push (Call (GiveUp number) TimedOut) _ open_now (after_timed_out g Now number)
           (all-stay open_now) (agrees_timed_out g Now open_now (agreed handed) number)
-      handed-give_up number None false found =
+      handed-give_up k number None false found =
           handed-quiet (Call (GiveUp number) Lost) _ (after_give_up_lost g Now number)
           (all-stay open_now)
 
-  -- the image after an ending doesn't depend on its reply
-  same-end : (permit : PermitFacts) (outcome : Outcome) (now : ℕ) (r s : Reply)
-      → image_after g o (h ++ Call (End permit outcome now) r ∷ [])
-      ≡ image_after g o (h ++ Call (End permit outcome now) s ∷ [])
-  same-end permit outcome now r s =
-      image-append g o h (Call (End permit outcome now) r ∷ []) backed
-      ∙ after_end g Now permit outcome now r
-      ∙ sym (after_end g Now permit outcome now s)
-      ∙ sym (image-append g o h (Call (End permit outcome now) s ∷ []) backed)
+-- each promotion keeps it: j is what it is chosen by
+module _ {S : Type 0} (g : Gate S) (o : Image S) where
+  handed-then : (start : ℕ) (rest : Image S → List Entry)
+      → ((h : List Entry) → IsBacked g o h → IsHanded g o h → (j : Image S)
+      → j ≡ image_after g o h → IsHanded g o (h ++ rest j))
+      → (h : List Entry) → IsBacked g o h → IsHanded g o h → (j : Image S)
+      → j ≡ image_after g o h → (w : Option Waiter) → next_waiter g j ≡ w
+      → IsHanded g o (h ++ promotion_then g j start rest w)
+  handed-then start rest keeps h backed handed j same None chosen =
+      subst (λ (xs : List Entry). IsHanded g o xs) (sym (append-nil h)) handed
+  handed-then start rest keeps h backed handed j same (Some w) chosen =
+      let one : Entry = promotion j start w in
+      let then : image_after g j (one ∷ []) ≡ image_after g o (h ++ one ∷ []) =
+      ap (λ (i : Image S). image_after g i (one ∷ [])) same
+      ∙ sym (image-append g o h (one ∷ []) backed) in
+      subst (λ (xs : List Entry). IsHanded g o xs)
+      (append_assoc h (one ∷ []) (rest (image_after g j (one ∷ []))))
+      (keeps (h ++ one ∷ []) (backed-push g o h one backed (λ p. zero-le))
+      (handed-promotion g o h backed handed w.number start (total j + 1) w.part
+      (subst (λ (i : Image S). 0 < count_by (λ v. v.number == w.number) i.waiters) same
+      (next_counted g j w chosen)))
+      (image_after g j (one ∷ [])) then)
 
--- and after its promotion, if any: j is what the promotion is chosen by
-handed-promoted : {S : Type 0} (g : Gate S) (o : Image S) (h : List Entry) → IsBacked g o h
-    → IsHanded g o h → (j : Image S) → j ≡ image_after g o h → (start : ℕ) (w : Option Waiter)
-    → next_waiter g j ≡ w
-    → IsHanded g o (h ++ map (promotion j start) (option_to_list w))
-handed-promoted g o h backed handed j same start None chosen =
-    subst (λ (xs : List Entry). IsHanded g o xs) (sym (append-nil h)) handed
-handed-promoted g o h backed handed j same start (Some w) chosen =
-    handed-promotion g o h backed handed w.number start (total j + 1) w.part
-    (subst (λ (i : Image _). 0 < count_by (λ v. v.number == w.number) i.waiters) same
-    (next_counted g j w chosen))
+  handed_promotions : (start turns : ℕ) (h : List Entry) → IsBacked g o h → IsHanded g o h
+      → (j : Image S) → j ≡ image_after g o h
+      → IsHanded g o (h ++ promotions g start turns j)
+  handed_promotions start zero h backed handed j same =
+      subst (λ (xs : List Entry). IsHanded g o xs) (sym (append-nil h)) handed
+  handed_promotions start (suc turns) h backed handed j same =
+      handed-then start (promotions g start turns) (handed_promotions start turns) h backed handed
+      j same (next_waiter g j) refl
+
+  handed_promotions_at : (at : Option ℕ) (h : List Entry) → IsBacked g o h → IsHanded g o h
+      → (j : Image S) → j ≡ image_after g o h → IsHanded g o (h ++ promotions_at g j at)
+  handed_promotions_at None h backed handed j same =
+      subst (λ (xs : List Entry). IsHanded g o xs) (sym (append-nil h)) handed
+  handed_promotions_at (Some start) h backed handed j same =
+      handed_promotions start _ h backed handed j same
+
+-- and so does each call, whatever number of promotions its reply has
+handed_call : {S : Type 0} (g : Gate S) (o : Image S) (h : List Entry) → IsBacked g o h
+    → IsSound g (image_after g o h) → IsHanded g o h → (e : Event) → NamesOpen o h e → (k : ℕ)
+    → IsHanded g o (h ++ Call e (counting k (reply_to g (image_after g o h) e)) ∷ [])
+handed_call g o h backed sound handed (Acquire part true wait now) named k =
+    handed-quiet g o h backed handed (Call (Acquire part true wait now) Bypassed) _
+    (after_bypassed g (image_after g o h) part true wait now) (all-stay (open_permits o.next h))
+handed_call g o h backed sound handed (Acquire part false wait now) named k =
+    handed-acquire g o h backed handed sound k part wait now
+    (has_room g (image_after g o h) (place_of g.rows part))
+handed_call g o h backed sound handed (Claim number) named k =
+    handed-claim g o h backed handed sound k number (granted_of (image_after g o h) number)
+    (waits (image_after g o h) number) refl
+handed_call g o h backed sound handed (GiveUp number) named k =
+    handed-give_up g o h backed handed sound k number (granted_of (image_after g o h) number)
+    (waits (image_after g o h) number) refl
+handed_call g o h backed sound handed (SetLimit n now) named k =
+    handed-quiet g o h backed handed
+    (Call (SetLimit n now) (counting k (reply_to g (image_after g o h) (SetLimit n now)))) _
+    (after_set g (image_after g o h) n now
+    (counting k (reply_to g (image_after g o h) (SetLimit n now))))
+    (all-stay (open_permits o.next h))
+handed_call g o h backed sound handed (Reset now) named k =
+    handed-quiet g o h backed handed (Call (Reset now) ResetDone) _
+    (after_reset g (image_after g o h) now ResetDone) (all-stay (open_permits o.next h))
+handed_call g o h backed sound handed (Look part) named k =
+    handed-quiet g o h backed handed (Call (Look part) (reply_to g (image_after g o h) (Look part)))
+    _ (after_look g (image_after g o h) part (reply_to g (image_after g o h) (Look part)))
+    (all-stay (open_permits o.next h))
+handed_call g o h backed sound handed (End permit outcome now) named k =
+    handed-end g o h backed handed permit outcome now (Ended k) named
 
 -- THE PERMITS THAT CALLERS HOLD, with the granted ones, stay those in flight with each answer
 pub handed_answer : {S : Type 0} (g : Gate S) (o : Image S) (h : List Entry) → IsBacked g o h
     → IsSound g (image_after g o h) → IsHanded g o h → (e : Event) → NamesOpen o h e
     → IsHanded g o (h ++ answer g o h e)
-handed_answer g o h backed sound handed (Acquire part true wait now) named =
-    handed-quiet g o h backed handed (Call (Acquire part true wait now) Bypassed) _
-    (after_bypassed g (image_after g o h) part true wait now) (all-stay (open_permits o.next h))
-handed_answer g o h backed sound handed (Acquire part false wait now) named =
-    handed-acquire g o h backed handed sound part wait now
-    (has_room g (image_after g o h) (place_of g.rows part))
-handed_answer g o h backed sound handed (Claim number) named =
-    handed-claim g o h backed handed sound number (granted_of (image_after g o h) number)
-    (waits (image_after g o h) number) refl
-handed_answer g o h backed sound handed (GiveUp number) named =
-    handed-give_up g o h backed handed sound number (granted_of (image_after g o h) number)
-    (waits (image_after g o h) number) refl
-handed_answer g o h backed sound handed (SetLimit n now) named =
-    handed-quiet g o h backed handed
-    (Call (SetLimit n now) (counting 0 (reply_to g (image_after g o h) (SetLimit n now)))) _
-    (after_set g (image_after g o h) n now
-    (counting 0 (reply_to g (image_after g o h) (SetLimit n now))))
-    (all-stay (open_permits o.next h))
-handed_answer g o h backed sound handed (Reset now) named =
-    handed-quiet g o h backed handed (Call (Reset now) ResetDone) _
-    (after_reset g (image_after g o h) now ResetDone) (all-stay (open_permits o.next h))
-handed_answer g o h backed sound handed (Look part) named =
-    handed-quiet g o h backed handed (Call (Look part) (reply_to g (image_after g o h) (Look part)))
-    _ (after_look g (image_after g o h) part (reply_to g (image_after g o h) (Look part)))
-    (all-stay (open_permits o.next h))
-handed_answer g o h backed sound handed (End permit outcome now) named =
-    let e : Event = End permit outcome now in
-    let j : Image _ = image_after g o (h ++ Call e (Ended 0) ∷ []) in
-    let y : Entry = Call e (Ended (length (promoted g o h e))) in
-    subst (λ (xs : List Entry). IsHanded g o xs) (append_assoc h (y ∷ []) (promoted g o h e))
-    (handed-promoted g o (h ++ y ∷ []) (backed-push g o h y backed
-    (call-fits g (image_after g o h) e (may_end g o h e handed named)))
-    (handed-end g o h backed handed permit outcome now (Ended (length (promoted g o h e))) named) j
-    (same-end g o h backed permit outcome now (Ended 0) (Ended (length (promoted g o h e))))
-    (moment now) (next_waiter g j) refl)
+handed_answer g o h backed sound handed e named =
+    let r : Reply = reply_to g (image_after g o h) e in
+    let ps : List Entry = promoted g o h e in
+    let y : Entry = Call e (counting (length ps) r) in
+    subst (λ (xs : List Entry). IsHanded g o xs) (append_assoc h (y ∷ []) ps)
+    (handed_promotions_at g o (moment_of g.promote e r) (h ++ y ∷ [])
+    (backed-push g o h y backed (call-fits g (image_after g o h) e (may_end g o h e handed named)))
+    (handed_call g o h backed sound handed e named (length ps))
+    (image_after g o (h ++ Call e r ∷ [])) (same-call g o h backed e r (length ps)))

@@ -1,6 +1,6 @@
 -- Served events find their places: each entry that is added beyond the kept ones was owed before
 -- it.
-use Rattle.std.proofs.Common.{◌≡◌, ℕ, ◌+◌, ◌-◌, ◌*◌, ◌<◌, ◌≤◌, ◌==◌, List, [], ◌∷◌, ◌++◌, Bool, true, false, not, ◌||◌, cond, length, map, option_to_list, Option, None, Some, is_some, filter, find, count_by, sum_by, refl, sym, ap, ◌∙◌, subst, arith, append_assoc, append-nil, length-append, true≢false, leb-false, leb, ◌&&◌, ◌^◌}
+use Rattle.std.proofs.Common.{◌≡◌, ℕ, zero, suc, ◌+◌, ◌-◌, ◌*◌, ◌<◌, ◌≤◌, ◌==◌, List, [], ◌∷◌, ◌++◌, Bool, true, false, not, ◌||◌, cond, length, Option, None, Some, is_some, filter, find, count_by, sum_by, refl, sym, ap, ◌∙◌, subst, arith, append_assoc, append-nil, length-append, true≢false, leb-false, leb, ◌&&◌, ◌^◌}
 use Rattle.std.specs.List.{list_any}
 use Rattle.std.proofs.lemmas.List.Sums.{sum_by-cons, length-filter}
 use Rattle.std.proofs.lemmas.List.Filters.{length-filter_both}
@@ -10,20 +10,42 @@ use Rattle.lifo_backlog.specs.declared.waiter.Waiter.{Waiter}
 use Rattle.partitions.specs.Table.{place_of, places, bound}
 use Rattle.limiter_core.proofs.InsertedPermit.{length-inserted}
 use Rattle.limiter_core.specs.History.{Gate, Image, image_after, total}
-use Rattle.limiter_core.specs.Answer.{answer, reply_to, granted_of, granted_or, waits, promoted, promotions_at, promotion, next_waiter, moment_of, counting}
+use Rattle.limiter_core.specs.Answer.{answer, reply_to, granted_of, granted_or, waits, promoted, promotions_at, promotions, promotion_then, promotion, next_waiter, moment_of, counting}
 use Rattle.limiter_core.specs.Legal.{IsLegal, nothing, more, MayCome}
 use Rattle.limiter_core.specs.Bound.{IsSound, IsServed, none_yet, served, owed, is_always_served, is_exhausted, kept_places}
 use Rattle.limiter_core.specs.Laws.{KeepsPlaces}
 use Rattle.limiter_core.proofs.ImageJoins.{IsBacked, image_nil, image-append}
 use Rattle.limiter_core.proofs.BoundSteps.{ones}
-use Rattle.limiter_core.proofs.LegalStaysSound.{small-place, stays_sound, next_counted, sound-call, image-counting}
+use Rattle.limiter_core.proofs.LegalStaysSound.{small-place, stays_sound, next_counted, sound-call}
 use Rattle.limiter_core.proofs.ImageAfterEntry.{after_promotion, after_end, after_timed_out, after_give_up_granted}
-use Rattle.limiter_core.proofs.LegalJoins.{backed-push, backed_legal, call-fits}
+use Rattle.limiter_core.proofs.LegalJoins.{backed-push, backed_legal, call-fits, promotion-joins, same-call}
 use Rattle.limiter_core.proofs.WithinBound.{hi_stays_over, bound_at-le}
 
 gone : {X : Type 0} (t : X → Bool) (xs : List X)
     → length (filter (λ x. not (t x)) xs) + count_by t xs ≡ length xs
 gone t xs = omega (arith, length-filter_both t (λ x. not (t x)) (λ x. refl) xs, length-filter t xs)
+
+-- a waiter that is one of a kind leaves one fewer
+pub one_fewer : {S : Type 0} (g : Gate S) (i : Image S) (w : Waiter) → IsSound g i
+    → next_waiter g i ≡ Some w
+    → length (filter (λ v. not (v.number == w.number)) i.waiters) + 1 ≡ length i.waiters
+one_fewer g i w s chosen =
+    omega (
+      arith,
+      gone (λ (v : Waiter). v.number == w.number) i.waiters,
+      next_counted g i w chosen,
+      s.distinct w.number,
+    )
+
+pub fewer_by_next : {S : Type 0} (g : Gate S) (i : Image S) (w : Waiter)
+    → next_waiter g i ≡ Some w
+    → length (filter (λ v. not (v.number == w.number)) i.waiters) + 1 ≤ length i.waiters
+fewer_by_next g i w chosen =
+    omega (
+      arith,
+      gone (λ (v : Waiter). v.number == w.number) i.waiters,
+      next_counted g i w chosen,
+    )
 
 head-or : (b r : Bool) (n : ℕ) → (r ≡ true → 0 < n) → (b || r) ≡ true → 0 < cond b 1 0 + n
 head-or true r n h e = omega arith
@@ -107,23 +129,30 @@ module _ {S : Type 0} (g : Gate S) (four : length g.rows ≤ 4) where
         length-inserted one i.granted,
       ))
 
-  module _ (o : Image S) where
-    owed-promotion : (start : ℕ) (h : List Entry) → IsBacked g o h → (w : Option Waiter)
-        → next_waiter g (image_after g o h) ≡ w
-        → length (map (promotion (image_after g o h) start) (option_to_list w))
-        + owed
-        (image_after g o (h ++ map (promotion (image_after g o h) start) (option_to_list w)))
-        ≤ owed (image_after g o h)
-    owed-promotion start h backed None q =
-        subst (λ (xs : List Entry). 0 + owed (image_after g o xs) ≤ owed (image_after g o h))
-        (sym (append-nil h)) (omega arith)
-    owed-promotion start h backed (Some w) q =
-        let own : owed (image_after g o (h ++ promotion (image_after g o h) start w ∷ [])) + 1
-        ≤ owed (image_after g o h)
-        = subst (λ (j : Image S). owed j + 1 ≤ owed (image_after g o h))
-        (sym (image-append g o h (promotion (image_after g o h) start w ∷ []) backed))
-        (owed-next (image_after g o h) start w q) in
-        omega (arith, own)
+  owed-then : (start : ℕ) (i : Image S) (rest : Image S → List Entry)
+      → ((j : Image S) → length (rest j) + owed (image_after g j (rest j)) ≤ owed j)
+      → (w : Option Waiter) → next_waiter g i ≡ w
+      → length (promotion_then g i start rest w)
+      + owed (image_after g i (promotion_then g i start rest w))
+      ≤ owed i
+  owed-then start i rest less None e =
+      subst (λ (j : Image S). 0 + owed j ≤ owed i) (sym (image_nil g i)) (omega arith)
+  owed-then start i rest less (Some w) e =
+      let j : Image S = image_after g i (promotion i start w ∷ []) in
+      subst (λ (k : Image S). length (promotion i start w ∷ rest j) + owed k ≤ owed i)
+      (sym (promotion-joins g i start w (rest j)))
+      (omega (arith, owed-next i start w e, less j))
+
+  -- and so is each of several
+  owed-promotions : (start turns : ℕ) (i : Image S)
+      → length (promotions g start turns i)
+      + owed (image_after g i (promotions g start turns i))
+      ≤ owed i
+  owed-promotions start zero i =
+      subst (λ (j : Image S). 0 + owed j ≤ owed i) (sym (image_nil g i)) (omega arith)
+  owed-promotions start (suc turns) i =
+      owed-then start i (promotions g start turns) (owed-promotions start turns)
+      (next_waiter g i) refl
 
   -- an event that is always served lowers what is owed
   owed-end : (i : Image S) (k : ℕ) (fits : (p : ℕ) → cond (k == p) 1 0 ≤ i.inflight p) → k < 5
@@ -168,15 +197,11 @@ module _ {S : Type 0} (g : Gate S) (four : length g.rows ≤ 4) where
   owed-call i (Reset now) may t = absurd (true≢false (sym t))
   owed-call i (Look part) may t = absurd (true≢false (sym t))
 
-  owed-promotions_at : (o : Image S) (at : Option ℕ) (h : List Entry) → IsBacked g o h
-      → length (promotions_at g (image_after g o h) at)
-      + owed (image_after g o (h ++ promotions_at g (image_after g o h) at))
-      ≤ owed (image_after g o h)
-  owed-promotions_at o None h backed =
-      subst (λ (xs : List Entry). 0 + owed (image_after g o xs) ≤ owed (image_after g o h))
-      (sym (append-nil h)) (omega arith)
-  owed-promotions_at o (Some start) h backed =
-      owed-promotion o start h backed (next_waiter g (image_after g o h)) refl
+  owed-promotions_at : (at : Option ℕ) (i : Image S)
+      → length (promotions_at g i at) + owed (image_after g i (promotions_at g i at)) ≤ owed i
+  owed-promotions_at None i =
+      subst (λ (j : Image S). 0 + owed j ≤ owed i) (sym (image_nil g i)) (omega arith)
+  owed-promotions_at (Some start) i = owed-promotions start _ i
 
   held-first : (a b : Bool) → (a || b) ≡ false → a ≡ false
   held-first true b e = absurd (true≢false e)
@@ -232,8 +257,7 @@ module _ {S : Type 0} (g : Gate S) (k : ℕ) (o : Image S) (lawful : IsLawful g.
       let first : image_after g o (h ++ x ∷ []) ≡ image_after g i (x ∷ []) =
       image-append g o h (x ∷ []) backed in
       let same : image_after g o (h ++ x ∷ []) ≡ image_after g o (h ++ y ∷ []) =
-      first ∙ sym (image-counting g lawful i e r (length ps))
-      ∙ sym (image-append g o h (y ∷ []) backed) in
+      same-call g o h backed e r (length ps) in
       let moved : image_after g o ((h ++ x ∷ []) ++ ps) ≡ image_after g o (h ++ y ∷ ps)
       = image-append g o (h ++ x ∷ []) ps bx ∙ ap (λ (j : Image S). image_after g j ps) same
       ∙ sym (image-append g o (h ++ y ∷ []) ps bz)
@@ -242,7 +266,9 @@ module _ {S : Type 0} (g : Gate S) (k : ℕ) (o : Image S) (lawful : IsLawful g.
       after-call h e (is_always_served i e) refl free may sound room in
       let tail : length ps + owed (image_after g o ((h ++ x ∷ []) ++ ps))
       ≤ owed (image_after g o (h ++ x ∷ [])) =
-      owed-promotions_at g s.four o (moment_of e) (h ++ x ∷ []) bx in
+      subst (λ (j : Image S). length ps + owed j ≤ owed (image_after g o (h ++ x ∷ [])))
+      (sym (image-append g o (h ++ x ∷ []) ps bx))
+      (owed-promotions_at g s.four (moment_of g.promote e r) (image_after g o (h ++ x ∷ []))) in
       let tail2 : length ps + owed (image_after g o (h ++ y ∷ ps))
       ≤ owed (image_after g i (x ∷ [])) =
       subst (λ (j : Image S). length ps + owed (image_after g o (h ++ y ∷ ps)) ≤ owed j) first

@@ -1,11 +1,12 @@
 // The sequential limiter.
 ghost use Rattle.std.specs.Prelude.{◌≡◌, ◌≤◌, ◌<◌, ◌+◌, ◌^◌, ◌++◌, ◌↔◌, [], length, is_some};
-ghost use Rattle.std.specs.Prelude.{option_to_list, vec_capacity, IfOk, IsErrOf};
+ghost use Rattle.std.specs.Prelude.{vec_capacity, IfOk, IsErrOf};
 ghost use Rattle.partitions.specs.Table.{place_of, bound};
 ghost use Rattle.lifo_backlog.specs.Waiters.{most_waiters};
 ghost use Rattle.limiter_core.specs.History.{AreInOrder, image_after, total, limit};
 ghost use Rattle.limiter_core.specs.Answer.{answer, granted_of, waits};
 ghost use Rattle.limiter_core.specs.Legal.{MayCome};
+ghost use Rattle.limiter_core.specs.Settled.{IsSettled};
 ghost use Rattle.limiter_core.specs.Bound.{IsNumbered, IsSound, owed, most_owed};
 ghost use Rattle.limiter_core.specs.Counting.{counters_after};
 ghost use Rattle.limiter_core.specs.Limiter.{gate_of, stands, added, unasked};
@@ -15,6 +16,7 @@ use super::event::{Event, PermitFacts, Promotion, Reply};
 use super::fault::CoreFault;
 use super::granted::GrantedPermits;
 use super::permits::Permits;
+use super::promote::Promote;
 use super::state::State;
 use lifo_backlog::{Backlog, Waiter};
 use limit_laws::Limit;
@@ -36,7 +38,8 @@ pub struct Core<L: Limit> {
 impl<L: Limit> Model for Core<L> {
     ghost use Rattle.std.specs.Prelude.{◌≤◌, vec_capacity};
     ghost use Rattle.limiter_core.specs.Limiter.{Limiter};
-    ghost use Rattle.limiter_core.specs.Standing.{IsHeld};
+    ghost use Rattle.limiter_core.specs.Standing.{IsHeld, gate_in, stands_in};
+    ghost use Rattle.limiter_core.specs.Settled.{IsSettled};
     ghost use Rattle.limiter_core.specs.Counting.{AreAtMost};
 
     ghost Value = { Limiter L };
@@ -44,6 +47,7 @@ impl<L: Limit> Model for Core<L> {
     ghost view = { λ c. record {
       rows = c.state.table;
       room = c.state.backlog.room;
+      promote = c.state.promote;
       state = c.state.limit;
       counts = c.state.permits.counts;
       waiters = c.state.backlog.waiting;
@@ -54,7 +58,9 @@ impl<L: Limit> Model for Core<L> {
     } };
 
     ghost invariant = { λ c. IsHeld L.rules c.state
-        × (1 ≤ vec_capacity c.promoted) × AreAtMost c.counters c.state.next };
+        × (c.state.backlog.room ≤ vec_capacity c.promoted)
+        × AreAtMost c.counters c.state.next
+        × IsSettled (gate_in L.rules c.state) (stands_in c.state) };
 }
 
 impl<L: Limit> Core<L> {
@@ -67,8 +73,9 @@ impl<L: Limit> Core<L> {
         limit: L,
         table: PartitionTable,
         room: u32,
+        promote: Promote,
     ) -> Result<Core<L>, CoreFault>
-        ensures made { IfOk result (λ core. core ≡ unasked table room limit) }
+        ensures made { IfOk result (λ core. core ≡ unasked table room promote limit) }
         ensures room { IsErrOf result CoreFault.Room ↔ (most_waiters < room) }
     {
         prove!(table.len() <= 4);
@@ -79,6 +86,7 @@ impl<L: Limit> Core<L> {
             state: State {
                 limit,
                 table,
+                promote,
                 permits,
                 backlog,
                 granted,
@@ -106,9 +114,8 @@ impl<L: Limit> Core<L> {
         ensures counters { self.new.counters
             ≡ counters_after self.old.counters (added event result self.new) }
     {
-        let (reply, promotion) = self.state.apply(event);
-        self.counters.count(event, reply, promotion);
-        keep(&mut self.promoted, promotion);
+        let reply = self.state.apply(event, &mut self.promoted);
+        self.counters.count(event, reply, &self.promoted);
         reply
     }
 
@@ -227,10 +234,12 @@ impl<L: Limit> Core<L> {
         self.state.table.most(self.state.limit.hi()) as u32
     }
 
-    /// Does nothing: what every limiter keeps is in its contract. What stands is sound, and the
-    /// next number leaves room for the numbers of all entries that are owed.
+    /// Does nothing: what every limiter keeps is in its contract. What stands is sound; under
+    /// [`Promote::All`] nobody who waits has room; and the next number leaves room for the numbers
+    /// of all entries that are owed.
     pub fn check(&self)
         ensures sound { IsSound (gate_of L.rules self.now) (stands self.now) }
+        ensures settled { IsSettled (gate_of L.rules self.now) (stands self.now) }
         ensures owed { self.now.next + owed (stands self.now)
             ≤ 2 ^ 62 + most_owed (gate_of L.rules self.now) (stands self.now) }
     {
@@ -242,6 +251,13 @@ impl<L: Limit> Core<L> {
         ensures { result ≡ self.now.counters }
     {
         self.counters
+    }
+
+    /// Which waiters get the room that falls free.
+    pub fn promote(&self) -> Promote
+        ensures { result ≡ self.now.promote }
+    {
+        self.state.promote
     }
 
     /// The known partitions and their shares.
@@ -269,24 +285,11 @@ fn take_rooms(
     ensures backlog { IfOk result (λ lists. lists.0 ≡ record { waiting = []; room = room }) }
     ensures granted { IfOk result (λ lists. lists.1 ≡ record { permits = []; room = most }) }
     ensures promoted { IfOk result (λ lists. lists.2.items ≡ []) }
-    ensures one { IfOk result (λ lists. 1 ≤ vec_capacity lists.2) }
+    ensures reserved { IfOk result (λ lists. room ≤ vec_capacity lists.2) }
     ensures room { IsErrOf result CoreFault.Room ↔ (most_waiters < room) }
 {
     let backlog = Backlog::new(alloc, room)?;
     let granted = GrantedPermits::new(alloc, most)?;
-    let promoted = Vec::with_capacity(alloc, 1)?;
+    let promoted = Vec::with_capacity(alloc, room.max(1) as usize)?;
     Ok((backlog, granted, promoted))
-}
-
-/// Keeps one promotion, or none.
-fn keep(promoted: &mut Vec<Promotion>, promotion: Option<Promotion>)
-    requires { 1 ≤ vec_capacity promoted.old }
-    ensures items { promoted.new.items ≡ option_to_list promotion }
-    ensures room { 1 ≤ vec_capacity promoted.new }
-{
-    promoted.clear();
-    match promotion {
-        Some(promotion) => promoted.push_reserved(promotion),
-        None => {}
-    }
 }
