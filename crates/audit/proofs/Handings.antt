@@ -15,7 +15,7 @@ use Rattle.limiter_core.specs.declared.event.Reply.TheVariants.{Admitted, Grante
 use Rattle.limiter_core.specs.declared.event.Entry.{Entry}
 use Rattle.limiter_core.specs.declared.event.Entry.TheVariants.{Call}
 use Rattle.limiter_core.specs.History.{Gate, Image, image_after}
-use Rattle.limiter_core.specs.Answer.{answer, reply_to, counting, granted_of, granted_or, waits, promoted, promotion, promotions_at, next_waiter, moment_of}
+use Rattle.limiter_core.specs.Answer.{answer, reply_to, counting, granted_of, granted_or, waits, promoted, promotion, promotions, promotions_at, promotion_then, next_waiter, moment_of}
 use Rattle.limiter_core.specs.Legal.{IsLegal}
 use Rattle.limiter_core.specs.Legal.IsLegal.{nothing, more}
 use Rattle.limiter_core.specs.Bound.{IsSound, named}
@@ -99,21 +99,31 @@ found_counted {X} p (x ∷ xs) found = elim (cases_Bool (p x)) [
 ]
 
 -- a promotion hands out nothing
-promotions_hand_nothing : {S : Type 0} (i : Image S) (start : ℕ) (w : Option Waiter) (k number : ℕ)
-    (entry : Entry)
-    → slice_get (map (promotion i start) (option_to_list w)) k ≡ Some entry
-    → handed_out number entry ≡ None
-promotions_hand_nothing i start None k number entry here = absurd (none-some entry here)
-promotions_hand_nothing i start (Some w) zero number entry here =
-    ap (handed_out number) (sym (same_Some (promotion i start w) entry here))
-promotions_hand_nothing i start (Some w) (suc k) number entry here = absurd (none-some entry here)
+module _ {S : Type 0} (g : Gate S) where
+  then_hand_nothing : (i : Image S) (start : ℕ) (rest : Image S → List Entry)
+      → ((j : Image S) (k number : ℕ) (entry : Entry) → slice_get (rest j) k ≡ Some entry
+      → handed_out number entry ≡ None)
+      → (w : Option Waiter) (k number : ℕ) (entry : Entry)
+      → slice_get (promotion_then g i start rest w) k ≡ Some entry
+      → handed_out number entry ≡ None
+  then_hand_nothing i start rest hands None k number entry here = absurd (none-some entry here)
+  then_hand_nothing i start rest hands (Some w) zero number entry here =
+      ap (handed_out number) (sym (same_Some (promotion i start w) entry here))
+  then_hand_nothing i start rest hands (Some w) (suc k) number entry here =
+      hands (image_after g i (promotion i start w ∷ [])) k number entry here
 
-promoted_hand_nothing : {S : Type 0} (g : Gate S) (i : Image S) (start : Option ℕ) (k number : ℕ)
-    (entry : Entry)
-    → slice_get (promotions_at g i start) k ≡ Some entry → handed_out number entry ≡ None
-promoted_hand_nothing g i None k number entry here = absurd (none-some entry here)
-promoted_hand_nothing g i (Some start) k number entry here =
-    promotions_hand_nothing i start (next_waiter g i) k number entry here
+  promotions_hand_nothing : (start turns : ℕ) (i : Image S) (k number : ℕ) (entry : Entry)
+      → slice_get (promotions g start turns i) k ≡ Some entry → handed_out number entry ≡ None
+  promotions_hand_nothing start zero i k number entry here = absurd (none-some entry here)
+  promotions_hand_nothing start (suc turns) i k number entry here =
+      then_hand_nothing i start (promotions g start turns) (promotions_hand_nothing start turns)
+      (next_waiter g i) k number entry here
+
+  promoted_hand_nothing : (i : Image S) (at : Option ℕ) (k number : ℕ) (entry : Entry)
+      → slice_get (promotions_at g i at) k ≡ Some entry → handed_out number entry ≡ None
+  promoted_hand_nothing i None k number entry here = absurd (none-some entry here)
+  promoted_hand_nothing i (Some start) k number entry here =
+      promotions_hand_nothing start _ i k number entry here
 
 module _ {S : Type 0} (g : Gate S) where
   -- a number that lies granted was given out before
@@ -171,7 +181,8 @@ module _ {S : Type 0} (g : Gate S) where
     answered h e legal (suc k) entry permit here hands =
         let called_before = h ++ Call e (reply_to g (image_after g o h) e) ∷ [] in
         let nothing_given : handed_out (length h + suc k) entry ≡ None =
-        promoted_hand_nothing g (image_after g o called_before) (moment_of e) k
+        promoted_hand_nothing g (image_after g o called_before)
+        (moment_of g.promote e (reply_to g (image_after g o h) e)) k
         (length h + suc k) entry here in
         absurd (none-some permit (sym nothing_given ∙ hands))
 

@@ -20,6 +20,8 @@ pub(crate) fn ask<L: Limit, N: Naming>(
 ) -> Result<Receipt<N>, Spent<N>>
     requires may { MayCome (gate L.rules journal.old) (image L.rules journal.old) event }
     requires calls { tally.old.calls ≤ next_number journal.old }
+    requires kept { journal.old.kept ≡ N.kept }
+    requires rolling { journal.old.is_rolling ≡ N.is_rolling }
     ensures answered { IfOk result (λ told. IsAsked L.rules journal.old journal.new
         tally.old tally.new pass.old pass.new event told) }
     ensures refused { IfErr result (λ refusal. IsRefused L.rules journal.old journal.new

@@ -3,24 +3,25 @@ ghost use Rattle.std.specs.Prelude.{◌≡◌, ◌+◌, ◌<◌, ◌≤◌, ◌�
 ghost use Rattle.std.specs.Prelude.{IfOk, IfSome, IfNone};
 ghost use Rattle.lifo_backlog.specs.Waiters.{most_waiters};
 ghost use Rattle.limiter_core.specs.Legal.{IsLegal};
+ghost use Rattle.limiter_core.specs.Settled.{IsSettled};
 ghost use Rattle.limiter_core.specs.Bound.{IsSound};
 ghost use Rattle.limiter_core.specs.Limiter.{unasked};
-ghost use Rattle.gate_journal.specs.Journal.{gate, opening, next_number, opened};
+ghost use Rattle.gate_journal.specs.Journal.{gate, opening, image, next_number, opened};
 ghost use Rattle.gate_journal.specs.Journal.{most_kept};
 ghost use Rattle.gate_ledgers.specs.Names.{AreNamed, AreWhole};
 ghost use Rattle.gate_ledgers.specs.Places.{no_places};
-ghost use Rattle.gate_history.specs.Book.{Agrees, book_in, granted_now, inflight_now};
+ghost use Rattle.gate_history.specs.Book.{Agrees, IsUnasked, book_in, granted_now, inflight_now};
 ghost use Rattle.gate_history.specs.Handing.{IsChange, IsOfTicket};
 ghost use Rattle.gate_history.specs.Steps.{Steps, event_of};
 
 use crate::asking::ask;
-use crate::handing::{grant, hand_acquired, hand_back, hand_granted, last_entry};
+use crate::handing::{behind, grant_promoted, hand_acquired, hand_back, hand_granted};
 use crate::permit::Permit;
 use crate::step::{Call, Handed, Step};
 use gate_journal::Journal;
 use gate_ledgers::{Blanks, Naming, Pass, Places, Returned, Tally, open_ledgers};
 use limit_laws::{LAST_MOMENT, Limit};
-use limiter_core::{Event, Outcome, PermitFacts, answers_by_image};
+use limiter_core::{Event, Outcome, PermitFacts, Promote, answers_by_image};
 use partitions::{Part, PartitionTable};
 use std::alloc::{AllocError, Global};
 use std::marker::Model;
@@ -37,26 +38,32 @@ pub struct Book<L: Limit, N: Naming> {
 }
 
 impl<L: Limit, N: Naming> Model for Book<L, N> {
-    ghost use Rattle.gate_history.specs.Book.{Book, IsBook, book_in};
+    ghost use Rattle.gate_history.specs.Book.{Book, IsBook, book_in, made_as};
 
     ghost Value = { Book L };
 
     ghost view = { λ b. book_in b.journal b.tally b.places b.is_sealed };
 
     ghost invariant = { λ b.
-        IsBook L.rules N.rows N.room (book_in b.journal b.tally b.places b.is_sealed) };
+        IsBook L.rules (made_as N.rows N.room N.promote N.kept N.is_rolling N.limit)
+        (book_in b.journal b.tally b.places b.is_sealed) };
 }
 
 impl<L: Limit, N: Naming> Book<L, N> {
     /// Opens the ledgers of a journal that has no entries and begins with number 0, and in whose
-    /// limiter nothing is in flight and nothing lies granted.
+    /// limiter nothing is in flight, nobody waits and nothing lies granted.
     pub fn new(journal: Journal<L>, blanks: Blanks) -> Book<L, N>
         requires empty { journal.entries ≡ [] }
         requires base { journal.opening.next ≡ 0 }
         requires idle { journal.opening.counts ≡ 0 ∷ 0 ∷ 0 ∷ 0 ∷ 0 ∷ [] }
-        requires nobody { journal.opening.granted ≡ [] }
+        requires nobody { journal.opening.waiters ≡ [] }
+        requires none { journal.opening.granted ≡ [] }
         requires rows { journal.rows ≡ N.rows }
         requires room { journal.room ≡ N.room }
+        requires promote { journal.promote ≡ N.promote }
+        requires kept { journal.kept ≡ N.kept }
+        requires rolling { journal.is_rolling ≡ N.is_rolling }
+        requires limit { L.rules.limit journal.opening.state ≡ N.limit }
         requires names { AreNamed N.calls N.place blanks }
         requires parts { AreWhole blanks }
         ensures { result ≡ book_in journal (record { calls = 0; passes = 0 }) no_places false }
@@ -77,6 +84,7 @@ impl<L: Limit, N: Naming> Book<L, N> {
         limit: L,
         table: PartitionTable,
         room: u32,
+        promote: Promote,
         kept: usize,
         is_rolling: bool,
         blanks: Blanks,
@@ -86,13 +94,17 @@ impl<L: Limit, N: Naming> Book<L, N> {
         requires few_kept { kept ≤ most_kept }
         requires rows { table ≡ N.rows }
         requires room { room ≡ N.room }
+        requires promote { promote ≡ N.promote }
+        requires kept { kept ≡ N.kept }
+        requires rolling { is_rolling ≡ N.is_rolling }
+        requires limit { L.rules.limit limit ≡ N.limit }
         requires names { AreNamed N.calls N.place blanks }
         requires parts { AreWhole blanks }
         ensures { IfOk result (λ book.
-            book ≡ book_in (opened (unasked table room limit) kept is_rolling)
+            book ≡ book_in (opened (unasked table room promote limit) kept is_rolling)
             (record { calls = 0; passes = 0 }) no_places false) }
     {
-        let journal = Journal::begin(alloc, limit, table, room, kept, is_rolling)?;
+        let journal = Journal::begin(alloc, limit, table, room, promote, kept, is_rolling)?;
         Ok(Book::new(journal, blanks))
     }
 
@@ -166,16 +178,25 @@ impl<L: Limit, N: Naming> Book<L, N> {
         self.tally.take_back(returned, pass)
     }
 
-    /// What every book keeps: its history is legal, from a sound opening; its table and the room
-    /// for waiters are those of its names; and its ledgers stand at what the history says.
+    /// What every book keeps: its history is legal, from a sound opening, and where that is its
+    /// first nothing was asked before; it is made as its names say; its ledgers stand at what the
+    /// history says; and, under [`Promote::All`], nobody who waits has room.
     pub fn check(&self)
         ensures legal { IsLegal (gate L.rules self.now.journal) (opening self.now.journal)
             self.now.journal.entries }
         ensures sound { IsSound (gate L.rules self.now.journal) (opening self.now.journal) }
         ensures rows { self.now.journal.rows ≡ N.rows }
         ensures room { self.now.journal.room ≡ N.room }
+        ensures promote { self.now.journal.promote ≡ N.promote }
+        ensures kept { self.now.journal.kept ≡ N.kept }
+        ensures rolling { self.now.journal.is_rolling ≡ N.is_rolling }
+        ensures unasked { self.now.journal.opening.next ≡ 0 →
+            IsUnasked L.rules N.limit self.now.journal.opening }
         ensures agrees { Agrees L.rules self.now }
+        ensures settled { IsSettled (gate L.rules self.now.journal)
+            (image L.rules self.now.journal) }
     {
+        self.journal.check();
         let _kept = self.journal.entries();
     }
 
@@ -261,7 +282,7 @@ impl<L: Limit, N: Naming> Book<L, N> {
         Step::Done(receipt, handed)
     }
 
-    /// Ends a permit; the newest waiter may be promoted by it.
+    /// Ends a permit; waiters may be promoted by it.
     fn end(&mut self, pass: &mut Pass<N>, permit: Permit<N>, outcome: Outcome, now: u64) -> Step<N>
         ensures { Steps L.rules self.old self.new pass.old pass.new
             (Event.End permit outcome now) result }
@@ -279,8 +300,8 @@ impl<L: Limit, N: Naming> Book<L, N> {
             Ok(receipt) => receipt,
             Err(_spent) => unreachable!(),
         };
-        let entry = last_entry(self.journal.entries());
-        grant(&mut self.places, self.journal.core().table(), entry);
+        let promoted = behind(&self.journal, receipt.number());
+        grant_promoted(&mut self.places, self.journal.core().table(), promoted);
         Step::Done(receipt, Handed::Nothing)
     }
 
@@ -301,7 +322,7 @@ impl<L: Limit, N: Naming> Book<L, N> {
         Step::Done(receipt, handed)
     }
 
-    /// An event that hands nothing out and ends no permit.
+    /// An event that hands nothing out and ends no permit; waiters may be promoted by it.
     fn change(&mut self, pass: &mut Pass<N>, event: Event) -> Step<N>
         requires { IsChange event }
         ensures { Steps L.rules self.old self.new pass.old pass.new event result }
@@ -312,6 +333,8 @@ impl<L: Limit, N: Naming> Book<L, N> {
             Ok(receipt) => receipt,
             Err(spent) => return Step::Exhausted(spent, Handed::Nothing),
         };
+        let promoted = behind(&self.journal, receipt.number());
+        grant_promoted(&mut self.places, self.journal.core().table(), promoted);
         Step::Done(receipt, Handed::Nothing)
     }
 }

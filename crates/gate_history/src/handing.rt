@@ -1,5 +1,6 @@
 // What callers get, and what that does to the ledgers of the places.
-ghost use Rattle.std.specs.Prelude.{◌≡◌, ◌^◌, ◌<◌, ◌-◌, All, get_or, length, slice_get};
+ghost use Rattle.std.specs.Prelude.{◌≡◌, ◌^◌, ◌+◌, ◌-◌, ◌<◌, ◌≤◌, All, fold, get_or, length, drop};
+ghost use Rattle.gate_journal.specs.Journal.{next_number};
 ghost use Rattle.partitions.specs.Table.{place_of};
 ghost use Rattle.gate_history.specs.Handing.{IsOfTicket, LiesGranted, acquired, given, given_by};
 ghost use Rattle.gate_history.specs.Handing.{given_acquired, given_back, handed_out, promoted_by};
@@ -7,24 +8,47 @@ ghost use Rattle.gate_history.specs.Handing.{given_acquired, given_back, handed_
 use crate::permit::Permit;
 use crate::step::Handed;
 use crate::ticket::Ticket;
+use gate_journal::Journal;
 use gate_ledgers::{Naming, Places};
+use limit_laws::Limit;
 use limiter_core::{Entry, Event, PermitFacts, Reply};
 use partitions::PartitionTable;
 
-/// The last of the entries.
-pub(crate) fn last_entry(entries: &[Entry]) -> Option<Entry>
-    ensures { result ≡ slice_get entries.now (length entries.now - 1) }
+/// The entries behind the one of this number.
+pub(crate) fn behind<L: Limit>(journal: &Journal<L>, number: u64) -> &[Entry]
+    requires from { journal.now.opening.next ≤ number }
+    requires until { number < next_number journal.now }
+    ensures entries { result.now
+        ≡ drop (number - journal.now.opening.next + 1) journal.now.entries }
+    ensures few { length result.now ≤ 2000000 }
 {
-    entries.last().copied()
+    journal.check();
+    let first = (number - journal.base()) as usize + 1;
+    &journal.entries()[first..]
 }
 
 /// A promoted permit is in flight, and lies granted.
-pub(crate) fn grant<N: Naming>(places: &mut Places<N>, table: &PartitionTable, entry: Option<Entry>)
+fn grant<N: Naming>(places: &mut Places<N>, table: &PartitionTable, entry: Entry)
     requires fits { All (λ n. n < 2 ^ 32) places.old.inflight }
-    ensures { places.new ≡ promoted_by (place_of table.now) entry places.old }
+    ensures { places.new ≡ promoted_by (place_of table.now) places.old entry }
 {
-    if let Some(Entry::Promotion { part, .. }) = entry {
+    if let Entry::Promotion { part, .. } = entry {
         places.grant(table.place(part));
+    }
+}
+
+/// Each promoted permit is in flight, and lies granted.
+pub(crate) fn grant_promoted<N: Naming>(
+    places: &mut Places<N>,
+    table: &PartitionTable,
+    entries: &[Entry],
+)
+    requires fits { All (λ n. n < 2 ^ 31) places.old.inflight }
+    requires few { length entries.now ≤ 2000000 }
+    ensures { places.new ≡ fold (promoted_by (place_of table.now)) places.old entries.now }
+{
+    for entry in entries {
+        grant(places, table, *entry);
     }
 }
 

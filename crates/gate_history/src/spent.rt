@@ -19,6 +19,7 @@ pub struct Spent<N: Naming> {
 }
 
 impl<N: Naming> Model for Spent<N> {
+    ghost use Rattle.std.specs.Prelude.{◌≡◌};
     ghost use Rattle.gate_history.specs.Told.{Refusal, IsSpent};
 
     ghost Value = { Refusal };
@@ -31,13 +32,16 @@ impl<N: Naming> Model for Spent<N> {
       next = s.next;
     } };
 
-    ghost invariant = { λ s. IsSpent s.held s.kept s.is_rolling s.next };
+    ghost invariant = { λ s. IsSpent s.held s.kept s.is_rolling s.next
+        × (s.kept ≡ N.kept) × (s.is_rolling ≡ N.is_rolling) };
 }
 
 impl<N: Naming> Spent<N> {
     /// A call that wasn't answered.
     pub(crate) fn new(event: Event, held: u64, kept: u64, is_rolling: bool, next: u64) -> Spent<N>
-        requires { IsSpent held kept is_rolling next }
+        requires spent { IsSpent held kept is_rolling next }
+        requires kept { kept ≡ N.kept }
+        requires rolling { is_rolling ≡ N.is_rolling }
         ensures { result ≡ record {
           event = event;
           held = held;
@@ -71,16 +75,19 @@ impl<N: Naming> Spent<N> {
         self.held
     }
 
-    /// How many entries are kept.
+    /// How many entries are kept: as many as in every history of these names.
     pub fn kept(&self) -> u64
-        ensures { result ≡ self.now.kept }
+        ensures kept { result ≡ self.now.kept }
+        ensures named { result ≡ N.kept }
     {
         self.kept
     }
 
-    /// Whether the history rolls, so that the number of its entries spends nothing.
+    /// Whether the history rolls, so that the number of its entries spends nothing, as in every
+    /// history of these names.
     pub fn is_rolling(&self) -> bool
-        ensures { result ≡ self.now.is_rolling }
+        ensures rolling { result ≡ self.now.is_rolling }
+        ensures named { result ≡ N.is_rolling }
     {
         self.is_rolling
     }

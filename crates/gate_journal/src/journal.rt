@@ -7,6 +7,7 @@ ghost use Rattle.limiter_core.specs.declared.event.Event.{Event};
 ghost use Rattle.limiter_core.specs.declared.event.Entry.TheVariants.{Call};
 ghost use Rattle.limiter_core.specs.History.{total};
 ghost use Rattle.limiter_core.specs.Legal.{IsLegal, MayCome};
+ghost use Rattle.limiter_core.specs.Settled.{IsSettled};
 ghost use Rattle.limiter_core.specs.Bound.{IsSound, is_always_served, is_exhausted};
 ghost use Rattle.limiter_core.specs.Counting.{counters_after};
 ghost use Rattle.limiter_core.specs.Limiter.{stands, entry_of, unasked};
@@ -19,7 +20,7 @@ use crate::history::History;
 use crate::image::Image;
 use limit_laws::Limit;
 use limiter_core::{
-    Core, CoreFault, Entry, Event, Promotion, Reply, answers_by_image, counters_add_up,
+    Core, CoreFault, Entry, Event, Promote, Promotion, Reply, answers_by_image, counters_add_up,
     greatest_limit_stays, reserved_room_suffices, soundness_is_kept,
 };
 use partitions::PartitionTable;
@@ -94,6 +95,7 @@ impl<L: Limit> Journal<L> {
         limit: L,
         table: PartitionTable,
         room: u32,
+        promote: Promote,
         kept: usize,
         is_rolling: bool,
     ) -> Result<Journal<L>, AllocError>
@@ -101,9 +103,9 @@ impl<L: Limit> Journal<L> {
         requires some_kept { 1 ≤ kept }
         requires few_kept { kept ≤ most_kept }
         ensures { IfOk result (λ journal.
-            journal ≡ opened (unasked table room limit) kept is_rolling) }
+            journal ≡ opened (unasked table room promote limit) kept is_rolling) }
     {
-        let core = match Core::new(alloc, limit, table, room) {
+        let core = match Core::new(alloc, limit, table, room, promote) {
             Ok(core) => core,
             Err(CoreFault::Memory) => return Err(AllocError),
             Err(CoreFault::Room) => unreachable!(),
@@ -184,6 +186,7 @@ impl<L: Limit> Journal<L> {
     pub fn core(&self) -> &Core<L>
         ensures rows { result.now.rows ≡ self.now.rows }
         ensures room { result.now.room ≡ self.now.room }
+        ensures promote { result.now.promote ≡ self.now.promote }
         ensures stands { stands result.now ≡ image L.rules self.now }
         ensures counters { result.now.counters
             ≡ counters_after self.now.opening.counters self.now.entries }
@@ -212,12 +215,13 @@ impl<L: Limit> Journal<L> {
         }
     }
 
-    /// What every journal keeps: its entries are legal, what stands is sound, few are held, few
-    /// permits are out, and a place is kept; and a roll changes nothing of what stands, nor of what
-    /// is answered.
+    /// What every journal keeps: its entries are legal, what stands is sound and, under
+    /// [`Promote::All`], nobody who waits has room, few entries are held, few permits are out, and
+    /// a place is kept; and a roll changes nothing of what stands, nor of what is answered.
     pub fn check(&self)
         ensures legal { IsLegal (gate L.rules self.now) (opening self.now) self.now.entries }
         ensures sound { IsSound (gate L.rules self.now) (image L.rules self.now) }
+        ensures settled { IsSettled (gate L.rules self.now) (image L.rules self.now) }
         ensures few { length self.now.entries ≤ 2000000 }
         ensures bounded { total (image L.rules self.now) ≤ 1000000 }
         ensures some { 1 ≤ self.now.kept }
@@ -230,6 +234,7 @@ impl<L: Limit> Journal<L> {
         soundness_is_kept::<L>();
         reserved_room_suffices::<L>();
         answers_by_image::<L>();
+        self.core.check();
         let _counts = self.core.counts();
     }
 

@@ -1,6 +1,6 @@
 -- What a step of a book adds and hands out, as its port sees it.
-use Rattle.std.proofs.Common.{◌≡◌, ℕ, ◌+◌, ◌≤◌, nat_lt, Bool, true, false, not, ◌&&◌, ◌||◌, cond}
-use Rattle.std.proofs.Common.{List, [], ◌∷◌, ◌++◌, length, Option, None, Some, map}
+use Rattle.std.proofs.Common.{◌≡◌, ℕ, zero, suc, ◌+◌, ◌≤◌, nat_lt, Bool, true, false, not, ◌&&◌, ◌||◌, cond}
+use Rattle.std.proofs.Common.{List, [], ◌∷◌, ◌++◌, length, Option, None, Some}
 use Rattle.std.proofs.Common.{All, refl, sym, ap, ◌∙◌, subst, arith, rules, true≢false}
 use Rattle.limit_laws.specs.Algorithm.{Algorithm}
 use Rattle.limit_laws.specs.Facts.{moment}
@@ -15,9 +15,12 @@ use Rattle.limiter_core.specs.declared.event.Reply.TheVariants as reply
 use Rattle.limiter_core.specs.declared.event.Entry.{Entry}
 use Rattle.limiter_core.specs.declared.event.Entry.TheVariants.{Call, Promotion}
 use Rattle.limiter_core.specs.declared.event.PermitFacts.{PermitFacts}
+use Rattle.limiter_core.specs.declared.promote.Promote.{Promote}
+use Rattle.limiter_core.specs.declared.promote.Promote.TheVariants as rule
 use Rattle.limiter_core.specs.History.{Gate, Image, image_after, permit_of, total}
-use Rattle.limiter_core.specs.Answer.{counting, granted_of, granted_or, has_room, promoted}
-use Rattle.limiter_core.specs.Answer.{promotion, promotions_at, queued, reply_to, waits}
+use Rattle.limiter_core.specs.Answer.{candidates, counting, granted_of, granted_or, has_room}
+use Rattle.limiter_core.specs.Answer.{moment_of, next_waiter, promoted, promotion, promotion_then}
+use Rattle.limiter_core.specs.Answer.{promotions, promotions_at, queued, reply_to, waits}
 use Rattle.gate_journal.specs.Journal.{Journal, answered, gate, image, is_over, opening}
 use Rattle.gate_journal.specs.Rolling.{continued, ready}
 use Rattle.gate_history.specs.declared.step.Handed.{Handed}
@@ -71,14 +74,33 @@ module _ {N : Type 0} (X : Handed N → Type 0) where
       subst (λ (n : ℕ). X (handed.Ticket n)) (sym (ap (number_or number) is)) x
 
 -- all promotions are some
-module _ {S : Type 0} (g : Gate S) (i : Image S) where
-  all_promoted : (start : ℕ) (ws : List Waiter) → All IsPromotion (map (promotion i start) ws)
-  all_promoted start [] = search rules
-  all_promoted start (w ∷ ws) = search (rules, all_promoted start ws)
+module _ {S : Type 0} (g : Gate S) where
+  all_then : (i : Image S) (start : ℕ) (rest : Image S → List Entry)
+      → ((then : Image S) → All IsPromotion (rest then)) → (w : Option Waiter)
+      → All IsPromotion (promotion_then g i start rest w)
+  all_then i start rest all None = search rules
+  all_then i start rest all (Some w) =
+      search (rules, all (image_after g i (promotion i start w ∷ [])))
 
-  all_at : (when : Option ℕ) → All IsPromotion (promotions_at g i when)
-  all_at None = search rules
-  all_at (Some start) = all_promoted start _
+  all_promoted : (start turns : ℕ) (i : Image S) → All IsPromotion (promotions g start turns i)
+  all_promoted start zero i = search rules
+  all_promoted start (suc turns) i =
+      all_then i start (promotions g start turns) (all_promoted start turns) (next_waiter g i)
+
+  all_at : (i : Image S) (when : Option ℕ) → All IsPromotion (promotions_at g i when)
+  all_at i None = search rules
+  all_at i (Some start) = all_promoted start (length (candidates g.promote i.waiters)) i
+
+-- an acquire promotes nobody, nor does a giving up
+acquire_is_alone : (promote : Promote) (part : Part) (bypass wait : Bool) (now : ℕ) (r : Reply)
+    → moment_of promote (Acquire part bypass wait now) r ≡ None
+acquire_is_alone rule.Newest part bypass wait now r = refl
+acquire_is_alone rule.All part bypass wait now r = refl
+
+give_up_is_alone : (promote : Promote) (number : ℕ) (r : Reply)
+    → moment_of promote (GiveUp number) r ≡ None
+give_up_is_alone rule.Newest number r = refl
+give_up_is_alone rule.All number r = refl
 
 not_over : (a b c : Bool) → (not (a || b) && c) ≡ true → a ≡ true → ⊥
 not_over true b c over waiting = true≢false (sym over)
@@ -100,19 +122,42 @@ module _ {S : Type 0} (rules : Algorithm S) (j : Journal S) where
   abbrev own : Event → Reply
   own e = counting (length (follow e)) (reply_to (gate rules j) (image rules j) e)
 
+  -- what stands behind an event's call
+  abbrev behind : Event → Image S
+  behind e =
+      image_after (gate rules j) (opening j)
+      (j.entries ++ Call e (reply_to (gate rules j) (image rules j) e) ∷ [])
+
+  acquire_alone : (part : Part) (bypass wait : Bool) (now : ℕ)
+      → answered rules j (Acquire part bypass wait now)
+      ≡ Call (Acquire part bypass wait now) (own (Acquire part bypass wait now)) ∷ []
+  acquire_alone part bypass wait now =
+      let e : Event = Acquire part bypass wait now in
+      ap (λ (when : Option ℕ).
+      Call e (own e) ∷ promotions_at (gate rules j) (behind e) when)
+      (acquire_is_alone j.promote part bypass wait now
+      (reply_to (gate rules j) (image rules j) e))
+
+  give_up_alone : (number : ℕ)
+      → answered rules j (GiveUp number) ≡ Call (GiveUp number) (own (GiveUp number)) ∷ []
+  give_up_alone number =
+      let e : Event = GiveUp number in
+      ap (λ (when : Option ℕ).
+      Call e (own e) ∷ promotions_at (gate rules j) (behind e) when)
+      (give_up_is_alone j.promote number (reply_to (gate rules j) (image rules j) e))
+
   records : (e : Event) → IsOfPort e → (r : Reply) → own e ≡ r → (added : List Entry)
       → added ≡ answered rules j e → Records e r added
   records (Acquire part bypass wait now) port r is added all =
-      all ∙ ap (λ (x : Reply). Call (Acquire part bypass wait now) x ∷ []) is
+      all ∙ acquire_alone part bypass wait now
+      ∙ ap (λ (x : Reply). Call (Acquire part bypass wait now) x ∷ []) is
   records (GiveUp number) port r is added all =
-      all ∙ ap (λ (x : Reply). Call (GiveUp number) x ∷ []) is
+      all ∙ give_up_alone number ∙ ap (λ (x : Reply). Call (GiveUp number) x ∷ []) is
   records (End ended outcome now) port r is added all = (
     follow (End ended outcome now),
-    all_at (gate rules j)
-        (image_after (gate rules j) (opening j)
-        (j.entries ++ Call (End ended outcome now)
-        (reply_to (gate rules j) (image rules j) (End ended outcome now)) ∷ []))
-        (Some (moment now)),
+    all_at (gate rules j) (behind (End ended outcome now))
+        (moment_of j.promote (End ended outcome now)
+        (reply_to (gate rules j) (image rules j) (End ended outcome now))),
     sym is,
     all ∙ ap (λ (x : Reply).
         Call (End ended outcome now) x ∷ follow (End ended outcome now)) is,
@@ -157,44 +202,45 @@ module _ {S : Type 0} (rules : Algorithm S) (j : Journal S) where
         let m : Journal S = ready rules j in
         let e : Event = Acquire part false true now in
         let entries : answered rules m e ≡ Call e reply.Waiting ∷ [] =
-        same e ∙ ap (λ (r : Reply). Call e r ∷ []) waiting in
+        same e ∙ acquire_alone part false true now
+        ∙ ap (λ (r : Reply). Call e r ∷ []) waiting in
         subst (Waits rules number)
         (sym (goes ∙ ap (λ (xs : List Entry). record m { entries = m.entries ++ xs }) entries))
         (last_waits part now rules m number (is ∙ next_ready rules j))
 
-    acquire_fits : (part : Part) (wait : Bool) (now : ℕ) (room behind : Bool)
+    acquire_fits : (told : ℕ) (part : Part) (wait : Bool) (now : ℕ) (room behind : Bool)
         → Fits (Acquire part false wait now)
-        (counting 0 (cond room (reply.Admitted (total (image rules j) + 1))
+        (counting told (cond room (reply.Admitted (total (image rules j) + 1))
         (cond wait (cond behind reply.Waiting reply.BacklogFull) reply.Full)))
-    acquire_fits part wait now true behind = (
+    acquire_fits told part wait now true behind = (
       for_permit (Hands number (Acquire part false wait now)
           (reply.Admitted (total (image rules j) + 1)))
           (permit_of number part (moment now) (total (image rules j) + 1)) refl,
       λ goes r. tt,
     )
-    acquire_fits part true now false true = (
+    acquire_fits told part true now false true = (
       for_ticket (Hands number (Acquire part false true now) reply.Waiting) number refl,
       queued_waits part now,
     )
-    acquire_fits part true now false false = (
+    acquire_fits told part true now false false = (
       for_nothing (Hands number (Acquire part false true now) reply.BacklogFull) tt,
       λ goes r. tt,
     )
-    acquire_fits part false now false behind = (
+    acquire_fits told part false now false behind = (
       for_nothing (Hands number (Acquire part false false now) reply.Full) tt,
       λ goes r. tt,
     )
 
-    give_up_fits : (n : ℕ) (o : Option PermitFacts) (b : Bool)
-        → Fits (GiveUp n) (counting 0 (granted_or o (cond b reply.TimedOut reply.Lost)))
-    give_up_fits n (Some one) b = (
+    give_up_fits : (told n : ℕ) (o : Option PermitFacts) (b : Bool)
+        → Fits (GiveUp n) (counting told (granted_or o (cond b reply.TimedOut reply.Lost)))
+    give_up_fits told n (Some one) b = (
       for_permit (Hands number (GiveUp n) (reply.Granted one.part one.start one.inflight))
           (permit_of n one.part one.start one.inflight) refl,
       λ goes r. tt,
     )
-    give_up_fits n None true =
+    give_up_fits told n None true =
         (for_nothing (Hands number (GiveUp n) reply.TimedOut) tt, λ goes r. tt)
-    give_up_fits n None false =
+    give_up_fits told n None false =
         (for_nothing (Hands number (GiveUp n) reply.Lost) tt, λ goes r. tt)
 
     reply_fits : (e : Event) → IsOfPort e → Fits e (own e)
@@ -206,15 +252,16 @@ module _ {S : Type 0} (rules : Algorithm S) (j : Journal S) where
       where
         acquires : (wait : Bool)
             → Fits (Acquire part false wait now)
-            (counting 0 (cond (has_room (gate rules j) (image rules j) (place_of j.rows part))
+            (counting (length (follow (Acquire part false wait now)))
+            (cond (has_room (gate rules j) (image rules j) (place_of j.rows part))
             (reply.Admitted (total (image rules j) + 1))
             (queued (gate rules j) (image rules j) wait)))
         acquires true =
-            acquire_fits part true now
+            acquire_fits (length (follow (Acquire part false true now))) part true now
             (has_room (gate rules j) (image rules j) (place_of j.rows part))
             (nat_lt (length (image rules j).waiters) j.room)
         acquires false =
-            acquire_fits part false now
+            acquire_fits (length (follow (Acquire part false false now))) part false now
             (has_room (gate rules j) (image rules j) (place_of j.rows part)) true
     reply_fits (End ended outcome now) port = (
       for_nothing (Hands number (End ended outcome now)
@@ -222,7 +269,8 @@ module _ {S : Type 0} (rules : Algorithm S) (j : Journal S) where
       λ goes r. tt,
     )
     reply_fits (GiveUp n) port =
-        give_up_fits n (granted_of (image rules j) n) (waits (image rules j) n)
+        give_up_fits (length (follow (GiveUp n))) n (granted_of (image rules j) n)
+        (waits (image rules j) n)
     reply_fits (Claim n) port = absurd port
     reply_fits (SetLimit n now) port = absurd port
     reply_fits (Reset now) port = absurd port

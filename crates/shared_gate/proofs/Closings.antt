@@ -3,20 +3,19 @@ use Rattle.std.proofs.Common.{◌≡◌, ℕ, ◌≤◌, List, length, sym, ap, 
 use Rattle.std.specs.Prelude.{Vec}
 use Rattle.std.specs.declared.alloc.Global.{Global}
 use Rattle.limit_laws.specs.Algorithm.{Algorithm}
-use Rattle.partitions.specs.Table.{Row}
 use Rattle.limiter_core.specs.declared.event.Entry.{Entry}
 use Rattle.limiter_core.specs.History.{Gate}
 use Rattle.limiter_core.specs.Legal.{IsLegal}
 use Rattle.limiter_core.specs.Bound.{IsSound}
 use Rattle.gate_journal.specs.Image.{Standing, image_of}
 use Rattle.gate_journal.specs.Journal.{Journal, gate, opening}
-use Rattle.gate_history.specs.Book.{Agrees, Book, calls_of}
+use Rattle.gate_history.specs.Book.{Agrees, Book, IsUnasked, Making, calls_of}
 use Rattle.gate_history.specs.Told.{Told}
 use Rattle.audit.specs.declared.cause.Cause.{Cause}
 use Rattle.audit.specs.declared.judge.Calls.{Calls}
 use Rattle.audit.specs.Accepted.{IsHistoryOf}
 use Rattle.audit.specs.Verdict.{audited, IsFirstCause}
-use Rattle.shared_gate.specs.Closing.{FailsBy, IsKept, made_with}
+use Rattle.shared_gate.specs.Closing.{FailsBy, IsKept, limiter_of}
 
 -- the book's journal as a value of its own
 pub record IsHistoryIn {S : Type 0} (b : Book S) (base : ℕ) (entries : List Entry) : Type 0 where
@@ -68,25 +67,34 @@ is_accepted entries shown kept lists same lent is =
     subst (λ (h : List Entry). IsHistoryOf h kept) same
     (subst (λ (ls : List (Vec Told Global)). IsHistoryOf shown ls) lent is)
 
--- and the gate kept it
-pub is_kept : {S : Type 0} (rules : Algorithm S) (rows : List Row) (room : ℕ) (b : Book S)
+-- and the gate kept it, which is made so
+pub is_kept : {S : Type 0} (rules : Algorithm S) (m : Making) (b : Book S)
     (j : Journal S) (o : Standing S) (base : ℕ) (entries : List Entry)
     → IsLegal (gate rules b.journal) (opening b.journal) b.journal.entries
     → IsSound (gate rules b.journal) (opening b.journal)
-    → b.journal.rows ≡ rows → b.journal.room ≡ room
+    → b.journal.rows ≡ m.rows → b.journal.room ≡ m.room → b.journal.promote ≡ m.promote
+    → b.journal.is_rolling ≡ m.is_rolling
+    → (b.journal.opening.next ≡ 0 → IsUnasked rules m.limit b.journal.opening) → Agrees rules b
     → j ≡ b.journal → o ≡ j.opening → base ≡ j.opening.next → entries ≡ j.entries
-    → IsKept (made_with rules rows room) o base entries
-is_kept {S} rules rows room b j o base entries legal sound of_rows of_room same opens first all =
-    let g : Gate S = made_with rules rows room in
+    → IsKept rules m o base entries
+is_kept {S} rules m b j o base entries legal sound of_rows of_room rule rolling unasked agrees same opens
+    first all =
+    let g : Gate S = limiter_of rules m in
     let same_gate : gate rules b.journal ≡ g =
-    ap (λ (rs : List Row). made_with rules rs b.journal.room) of_rows
-    ∙ ap (λ (n : ℕ). made_with rules rows n) of_room in
+    (λ k. record { rules = rules; rows = of_rows k; room = of_room k; promote = rule k }) in
     let same_opening : b.journal.opening ≡ o =
     sym (opens ∙ ap (λ (k : Journal S). k.opening) same) in
     let same_entries : b.journal.entries ≡ entries =
     sym (all ∙ ap (λ (k : Journal S). k.entries) same) in
+    let same_base : base ≡ b.journal.opening.next =
+    first ∙ ap (λ (k : Journal S). k.opening.next) same in
     record {
       first = first ∙ ap (λ (s : Standing S). s.next) (sym opens);
+      whole = λ still. same_base ∙ agrees.begins (rolling ∙ still);
+      unasked =
+          λ zero_base.
+          subst (λ (s : Standing S). IsUnasked rules m.limit s) same_opening
+          (unasked (sym same_base ∙ zero_base));
       sound =
           subst (λ (s : Standing S). IsSound g (image_of s)) same_opening
           (subst (λ (h : Gate S). IsSound h (opening b.journal)) same_gate sound);

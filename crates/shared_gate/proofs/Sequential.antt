@@ -1,5 +1,5 @@
 -- Each call of a legal history has the sequential limiter's reply.
-use Rattle.std.proofs.Common.{◌≡◌, ℕ, zero, suc, ◌+◌, [], ◌∷◌, ◌++◌, false, List, Option, Some, None, length, map, take, drop, option_to_list, sym, ap, ◌∙◌, refl, subst, arith, inl, inr, ◌⊎◌}
+use Rattle.std.proofs.Common.{◌≡◌, ℕ, zero, suc, ◌+◌, [], ◌∷◌, ◌++◌, false, List, Option, Some, None, length, take, drop, sym, ap, ◌∙◌, refl, subst, arith, inl, inr, ◌⊎◌}
 use Rattle.std.specs.Prelude.{slice_get}
 use Rattle.std.proofs.Math.Seq.{take-append_seam}
 use Rattle.std.proofs.lemmas.Bool.{false≢true}
@@ -11,7 +11,7 @@ use Rattle.limiter_core.specs.declared.event.Reply.{Reply}
 use Rattle.limiter_core.specs.declared.event.Entry.{Entry}
 use Rattle.limiter_core.specs.declared.event.Entry.TheVariants.{Call, Promotion}
 use Rattle.limiter_core.specs.History.{Gate, Image, image_after}
-use Rattle.limiter_core.specs.Answer.{answer, reply_to, promotion, promotions_at, next_waiter, moment_of}
+use Rattle.limiter_core.specs.Answer.{answer, reply_to, promotion, promotion_then, promotions, promotions_at, next_waiter, moment_of}
 use Rattle.limiter_core.specs.Legal.{IsLegal}
 use Rattle.limiter_core.specs.Legal.IsLegal.{nothing, more}
 use Rattle.limiter_core.specs.Laws.{TurnsAwayRightly}
@@ -41,19 +41,29 @@ asked other (Call event reply) = event
 asked other (Promotion waiter part start inflight) = other
 
 -- a promotion is no call
-promotion_is_no_call : {S : Type 0} (i : Image S) (start : ℕ) (w : Option Waiter) (k : ℕ)
-    (entry : Entry) → slice_get (map (promotion i start) (option_to_list w)) k ≡ Some entry
-    → is_call entry ≡ false
-promotion_is_no_call i start None k entry here = absurd (none-some entry here)
-promotion_is_no_call i start (Some w) zero entry here =
-    ap is_call (sym (same_Some (promotion i start w) entry here))
-promotion_is_no_call i start (Some w) (suc k) entry here = absurd (none-some entry here)
+module _ {S : Type 0} (g : Gate S) where
+  then_is_no_call : (i : Image S) (start : ℕ) (rest : Image S → List Entry)
+      → ((j : Image S) (k : ℕ) (entry : Entry) → slice_get (rest j) k ≡ Some entry
+      → is_call entry ≡ false)
+      → (w : Option Waiter) (k : ℕ) (entry : Entry)
+      → slice_get (promotion_then g i start rest w) k ≡ Some entry → is_call entry ≡ false
+  then_is_no_call i start rest none None k entry here = absurd (none-some entry here)
+  then_is_no_call i start rest none (Some w) zero entry here =
+      ap is_call (sym (same_Some (promotion i start w) entry here))
+  then_is_no_call i start rest none (Some w) (suc k) entry here =
+      none (image_after g i (promotion i start w ∷ [])) k entry here
 
-promoted_is_no_call : {S : Type 0} (g : Gate S) (i : Image S) (start : Option ℕ) (k : ℕ)
-    (entry : Entry) → slice_get (promotions_at g i start) k ≡ Some entry → is_call entry ≡ false
-promoted_is_no_call g i None k entry here = absurd (none-some entry here)
-promoted_is_no_call g i (Some start) k entry here =
-    promotion_is_no_call i start (next_waiter g i) k entry here
+  promotion_is_no_call : (start turns : ℕ) (i : Image S) (k : ℕ) (entry : Entry)
+      → slice_get (promotions g start turns i) k ≡ Some entry → is_call entry ≡ false
+  promotion_is_no_call start zero i k entry here = absurd (none-some entry here)
+  promotion_is_no_call start (suc turns) i k entry here =
+      then_is_no_call i start (promotions g start turns) (promotion_is_no_call start turns)
+      (next_waiter g i) k entry here
+
+  promoted_is_no_call : (i : Image S) (at : Option ℕ) (k : ℕ) (entry : Entry)
+      → slice_get (promotions_at g i at) k ≡ Some entry → is_call entry ≡ false
+  promoted_is_no_call i None k entry here = absurd (none-some entry here)
+  promoted_is_no_call i (Some start) k entry here = promotion_is_no_call start _ i k entry here
 
 module _ {S : Type 0} (g : Gate S) (o : Image S) where
   -- the answer's call is its first entry
@@ -69,8 +79,8 @@ module _ {S : Type 0} (g : Gate S) (o : Image S) where
       )
   answers_itself h e event reply (suc k) here =
       let called_before = h ++ Call e (reply_to g (image_after g o h) e) ∷ [] in
-      absurd (false≢true (sym (promoted_is_no_call g (image_after g o called_before) (moment_of e) k
-      (Call event reply) here)))
+      absurd (false≢true (sym (promoted_is_no_call g (image_after g o called_before)
+      (moment_of g.promote e (reply_to g (image_after g o h) e)) k (Call event reply) here)))
 
   pub is_sequential : (h : List Entry) → IsLegal g o h → (n : ℕ) (event : Event) (reply : Reply)
       → slice_get h n ≡ Some (Call event reply)

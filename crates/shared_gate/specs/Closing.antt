@@ -1,5 +1,5 @@
 -- What a gate tells as it is closed.
-use Rattle.std.specs.Prelude.{◌≡◌, ℕ, ◌+◌, ◌≤◌, List, Vec, length, sum_by}
+use Rattle.std.specs.Prelude.{◌≡◌, ℕ, ◌+◌, ◌≤◌, false, List, Vec, length, sum_by}
 use Rattle.std.specs.declared.alloc.Global.{Global}
 use Rattle.limit_laws.specs.Algorithm.{Algorithm}
 use Rattle.partitions.specs.Table.{Row}
@@ -8,27 +8,31 @@ use Rattle.limiter_core.specs.History.{Gate}
 use Rattle.limiter_core.specs.Legal.{IsLegal}
 use Rattle.limiter_core.specs.Bound.{IsSound}
 use Rattle.gate_journal.specs.Image.{Standing, image_of}
-use Rattle.gate_history.specs.Book.{calls_of}
+use Rattle.gate_history.specs.Book.{IsUnasked, Making, calls_of, made_as}
 use Rattle.gate_history.specs.Told.{Told}
 use Rattle.audit.specs.declared.cause.Cause.{Cause}
 use Rattle.audit.specs.Verdict.{audited, IsFirstCause}
 use Rattle.shared_gate.specs.Calls.{Pass}
 
--- what the limiter was made with
-abbrev pub made_with : {S : Type 0} → Algorithm S → List Row → ℕ → Gate S
-made_with rules rows room = record { rules = rules; rows = rows; room = room }
+-- the limiter of a gate that is made so
+abbrev pub limiter_of : {S : Type 0} → Algorithm S → Making → Gate S
+limiter_of rules m =
+    record { rules = rules; rows = m.rows; room = m.room; promote = m.promote }
 
 -- the calls that were made by these passes
 abbrev pub calls_by : List Pass → ℕ
 calls_by passes = sum_by (λ pass. pass.count) passes
 
--- a history that a gate kept: its first entry has the opening's next number, and the entries are
--- legal, from an opening that is sound
-pub record IsKept {S : Type 0} (g : Gate S) (o : Standing S) (base : ℕ) (entries : List Entry)
-    : Type 0 where
+-- a history that a gate kept which was made so: its first entry has the opening's next number, and
+-- the entries are legal, from an opening that is sound. It begins with number 0 where the gate
+-- doesn't roll, and before number 0 nothing was asked
+pub record IsKept {S : Type 0} (rules : Algorithm S) (m : Making) (o : Standing S) (base : ℕ)
+    (entries : List Entry) : Type 0 where
   pub first : base ≡ o.next
-  pub sound : IsSound g (image_of o)
-  pub legal : IsLegal g (image_of o) entries
+  pub whole : m.is_rolling ≡ false → base ≡ 0
+  pub unasked : base ≡ 0 → IsUnasked rules m.limit o
+  pub sound : IsSound (limiter_of rules m) (image_of o)
+  pub legal : IsLegal (limiter_of rules m) (image_of o) entries
 
 -- why an audit fails, where the passes that were handed in made so many calls: the cause is the
 -- first that applies to the history and the lists, by the calls of all passes. Those are no fewer,

@@ -1,4 +1,5 @@
 pub mod Answers
 pub mod Calls
+pub mod Clock
 pub mod Closing
 pub mod Headline

@@ -1,5 +1,6 @@
 // Clocks.
-ghost use Rattle.std.specs.Prelude.{◌≤◌, ◌^◌};
+ghost use Rattle.std.specs.Prelude.{◌≡◌, ◌≤◌, ◌^◌, None};
+ghost use Rattle.shared_gate.specs.Clock.{start_of};
 
 use limit_laws::LAST_MOMENT;
 use std::time::{Clock as SystemClock, Duration};
@@ -26,9 +27,10 @@ impl<R: SystemClock> ProgramClock<R> {
 }
 
 impl<R: SystemClock> Clock for ProgramClock<R> {
-    /// The nanoseconds since its start, at most 2^62.
+    /// The nanoseconds since its start, at most 2^62; and 2^62 where either reading failed.
     fn now(&self) -> u64
-        ensures { result ≤ 2 ^ 62 }
+        ensures most { result ≤ 2 ^ 62 }
+        ensures failed { start_of self.now ≡ None → result ≡ 2 ^ 62 }
     {
         match (self.start, self.rt.monotonic()) {
             (Some(start), Ok(now)) => {

@@ -1,8 +1,8 @@
 // The audit of a gate that is closed.
 ghost use Rattle.std.specs.Prelude.{◌≡◌, ◌+◌, ◌≤◌, IfOk, IfErr, length};
 ghost use Rattle.audit.specs.Accepted.{IsHistoryOf};
-ghost use Rattle.gate_history.specs.Book.{calls_of};
-ghost use Rattle.shared_gate.specs.Closing.{FailsBy, IsKept, calls_by, made_with};
+ghost use Rattle.gate_history.specs.Book.{calls_of, made_as};
+ghost use Rattle.shared_gate.specs.Closing.{FailsBy, IsKept, calls_by};
 
 use crate::pass::Pass;
 use audit::{Calls, Cause, verdict};
@@ -48,14 +48,16 @@ pub(crate) fn judge<L: Limit, M: Naming>(
     requires book { calls.book ≡ book.tally.calls }
     requires enough { calls.sum ≤ calls.book }
     ensures whole { IfOk result (λ history. history.base ≡ 0) }
-    ensures legal { IfOk result (λ history. IsKept (made_with L.rules M.rows M.room)
+    ensures legal { IfOk result (λ history. IsKept L.rules
+        (made_as M.rows M.room M.promote M.kept M.is_rolling M.limit)
         history.opening.standing history.base history.entries.items) }
     ensures counted { IfOk result (λ history. calls.sum ≡ calls_of history.entries.items) }
     ensures accepted { IfOk result (λ history.
         IsHistoryOf history.entries.items kept.items) }
     ensures first { IfErr result (λ fault. FailsBy calls.sum
         fault.history.base fault.history.entries.items fault.kept.items fault.cause) }
-    ensures history { IfErr result (λ fault. IsKept (made_with L.rules M.rows M.room)
+    ensures history { IfErr result (λ fault. IsKept L.rules
+        (made_as M.rows M.room M.promote M.kept M.is_rolling M.limit)
         fault.history.opening.standing fault.history.base fault.history.entries.items) }
     ensures kept { IfErr result (λ fault. fault.kept ≡ kept) }
 {

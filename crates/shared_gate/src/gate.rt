@@ -2,12 +2,12 @@
 ghost use Rattle.std.specs.Prelude.{◌≡◌, true, IfOk, IfErr};
 ghost use Rattle.limiter_core.specs.declared.event.Event.TheVariants.{SetLimit, Reset, Look};
 ghost use Rattle.audit.specs.Accepted.{IsHistoryOf};
-ghost use Rattle.gate_history.specs.Book.{calls_of};
+ghost use Rattle.gate_history.specs.Book.{calls_of, made_as};
 ghost use Rattle.gate_history.specs.Handing.{IsChange};
 ghost use Rattle.gate_history.specs.Steps.{event_of};
 ghost use Rattle.shared_gate.specs.Calls.{Tells, Gets, Waits, Claims, GivesUp, Ends, Changes};
 ghost use Rattle.shared_gate.specs.Calls.{HandsNothing, plainly};
-ghost use Rattle.shared_gate.specs.Closing.{FailsBy, IsKept, calls_by, made_with};
+ghost use Rattle.shared_gate.specs.Closing.{FailsBy, IsKept, calls_by};
 
 use crate::answers::{Claimed, GaveUp, Got, Waited};
 use crate::clock::Clock;
@@ -170,7 +170,7 @@ impl<L: Limit, M: Naming> SharedGate<L, M> {
             now,
         };
         let step = self.step(rt, pass, call);
-        self.freed.notify_all();
+        self.wake_behind(&step);
         match step {
             Step::Done(receipt, handed) => match handed {
                 Handed::Nothing => receipt,
@@ -179,6 +179,11 @@ impl<L: Limit, M: Naming> SharedGate<L, M> {
             },
             Step::Exhausted(_spent, _handed) => unreachable!(),
         }
+    }
+
+    /// Wakes all who wait. It wants the step that was made: one who looks before it sleeps on.
+    fn wake_behind(&self, _step: &Step<M>) {
+        self.freed.notify_all();
     }
 
     /// Asks for the permit of a waiter.
@@ -220,7 +225,7 @@ impl<L: Limit, M: Naming> SharedGate<L, M> {
         }
     }
 
-    /// Sets the limit by hand.
+    /// Sets the limit by hand, and wakes all who wait.
     pub fn set_limit(
         &self,
         rt: &impl Wait,
@@ -230,10 +235,13 @@ impl<L: Limit, M: Naming> SharedGate<L, M> {
     ) -> Result<Receipt<M>, Spent<M>>
         ensures { Changes pass.old.count pass.new.count (SetLimit n now) result }
     {
-        self.change(rt, pass, Call::SetLimit { n, now })
+        let receipt = self.change(rt, pass, Call::SetLimit { n, now });
+        self.freed.notify_all();
+        receipt
     }
 
-    /// Puts the algorithm back into its first state; what is in flight and who waits stay.
+    /// Puts the algorithm back into its first state, and wakes all who wait. What is in flight
+    /// stays.
     pub fn reset(
         &self,
         rt: &impl Wait,
@@ -242,7 +250,9 @@ impl<L: Limit, M: Naming> SharedGate<L, M> {
     ) -> Result<Receipt<M>, Spent<M>>
         ensures { Changes pass.old.count pass.new.count (Reset now) result }
     {
-        self.change(rt, pass, Call::Reset { now })
+        let receipt = self.change(rt, pass, Call::Reset { now });
+        self.freed.notify_all();
+        receipt
     }
 
     /// Shows what stands.
@@ -270,7 +280,8 @@ impl<L: Limit, M: Naming> SharedGate<L, M> {
         kept: Vec<Vec<Receipt<M>>>,
     ) -> Result<History<L>, AuditFault<L, M>>
         ensures whole { IfOk result (λ history. history.base ≡ 0) }
-        ensures legal { IfOk result (λ history. IsKept (made_with L.rules M.rows M.room)
+        ensures legal { IfOk result (λ history. IsKept L.rules
+            (made_as M.rows M.room M.promote M.kept M.is_rolling M.limit)
             history.opening.standing history.base history.entries.items) }
         ensures counted { IfOk result (λ history.
             calls_by passes.items ≡ calls_of history.entries.items) }
@@ -278,7 +289,8 @@ impl<L: Limit, M: Naming> SharedGate<L, M> {
             IsHistoryOf history.entries.items kept.items) }
         ensures first { IfErr result (λ fault. FailsBy (calls_by passes.items)
             fault.history.base fault.history.entries.items fault.kept.items fault.cause) }
-        ensures history { IfErr result (λ fault. IsKept (made_with L.rules M.rows M.room)
+        ensures history { IfErr result (λ fault. IsKept L.rules
+            (made_as M.rows M.room M.promote M.kept M.is_rolling M.limit)
             fault.history.opening.standing fault.history.base fault.history.entries.items) }
         ensures kept { IfErr result (λ fault. fault.kept ≡ kept) }
     {

@@ -7,10 +7,12 @@ returns-in-None-clause-whole g c = c.in-None.ensures.none.whole
 
 pub returns-in-None-clause-legal : goal.returns-in-None-clause-legal
 returns-in-None-clause-legal g c =
-    is_kept g.L.Limit.rules g.M.Naming.rows g.M.Naming.room c.args.book c.into_journal.result
+    is_kept g.L.Limit.rules _ c.args.book c.into_journal.result
     c.into_history-history.result.opening.standing c.into_history-history.result.base
     c.into_history-history.result.entries.items c.check.ensures.legal c.check.ensures.sound
-    c.check.ensures.rows c.check.ensures.room c.into_journal.ensures
+    c.check.ensures.rows c.check.ensures.room c.check.ensures.promote c.check.ensures.rolling
+    c.check.ensures.unasked
+    c.check.ensures.agrees c.into_journal.ensures
     c.into_history-history.ensures.opening c.into_history-history.ensures.base
     c.into_history-history.ensures.entries
 
@@ -52,10 +54,12 @@ returns-in-Some-clause-accepted g c = tt
 
 pub returns-in-Some-clause-history : goal.returns-in-Some-clause-history
 returns-in-Some-clause-history g c =
-    is_kept g.L.Limit.rules g.M.Naming.rows g.M.Naming.room c.args.book c.into_journal.result
+    is_kept g.L.Limit.rules _ c.args.book c.into_journal.result
     c.into_history-history.result.opening.standing c.into_history-history.result.base
     c.into_history-history.result.entries.items c.check.ensures.legal c.check.ensures.sound
-    c.check.ensures.rows c.check.ensures.room c.into_journal.ensures
+    c.check.ensures.rows c.check.ensures.room c.check.ensures.promote c.check.ensures.rolling
+    c.check.ensures.unasked
+    c.check.ensures.agrees c.into_journal.ensures
     c.into_history-history.ensures.opening c.into_history-history.ensures.base
     c.into_history-history.ensures.entries
 

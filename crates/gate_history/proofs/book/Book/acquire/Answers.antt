@@ -13,7 +13,7 @@ use Rattle.gate_history.proofs.book.Book.acquire.Goals as goal
 
 pub invariant_of-self : goal.invariant_of-self
 invariant_of-self g c =
-    kept_refused g.L.Limit.rules _ _ _ _ _ _ _ _ _ _ _ _ c.in-Err.ensures.refused
+    kept_refused g.L.Limit.rules _ _ _ _ _ _ _ _ _ _ _ c.in-Err.ensures.refused
     c.self.invariant
 
 -- the places after the reply
@@ -42,7 +42,7 @@ at_last g c =
     (acquire_at _ _ _
     (at_first g.L.Limit.rules c.answers_by_image.ensures.answers
     c.answers_by_image.ensures.leads _ _ _ _ _ _ _ _ c.in-Ok.ensures.answered
-    c.check.ensures.legal c.check.ensures.anew c.check.ensures.ready _ _ _ _ c.self.invariant)
+    c.check.ensures.legal c.check.ensures.anew c.check.ensures.ready c.check.ensures.some _ _ _ c.self.invariant)
     c.check.ensures.sound.four c.args.part c.args.bypass c.args.wait c.args.now
     c.in-Ok.receipt.reply)
 
@@ -50,7 +50,7 @@ pub invariant_of-self-2 : goal.invariant_of-self-2
 invariant_of-self-2 g c =
     kept_then g.L.Limit.rules c.answers_by_image.ensures.answers
     c.answers_by_image.ensures.leads _ _ _ _ _ _ _ _ c.in-Ok.ensures.answered
-    c.check.ensures.legal c.check.ensures.anew c.check.ensures.ready _ _ _ _ c.self.invariant
+    c.check.ensures.legal c.check.ensures.anew c.check.ensures.ready c.check.ensures.some _ _ _ c.self.invariant
     c.hand_acquired-handed.new.places (at_last g c)
 
 pub returns : goal.returns
@@ -58,7 +58,7 @@ returns g c =
     let start : c.min.result ≡ moment c.args.now = search rules in
     done g.L.Limit.rules c.answers_by_image.ensures.answers c.answers_by_image.ensures.leads
     _ _ _ _ _ _ _ _ c.in-Ok.ensures.answered c.check.ensures.legal
-    c.check.ensures.anew c.check.ensures.ready _ _ _ _ c.self.invariant
+    c.check.ensures.anew c.check.ensures.ready c.check.ensures.some _ _ _ c.self.invariant
     {N = g.row.N.Denot} c.args.self.now c.self.view_is
     c.hand_acquired-handed.new.places (at_last g c) c.hand_acquired-handed.result
     (c.hand_acquired-handed.ensures.gives

@@ -2,7 +2,7 @@ use Rattle.std.proofs.Common.{◌≡◌, ◌≤◌, length, ap, sym, ◌∙◌, 
 use Rattle.gate_journal.specs.Journal.{Journal}
 use Rattle.gate_journal.specs.Rolling.{ready}
 use Rattle.gate_journal.proofs.Ready.{anew, ready_legal, answers_ready}
-use Rattle.gate_journal.proofs.Grown.{legal, sound_now, few_held, few_out}
+use Rattle.gate_journal.proofs.Grown.{legal, sound_now, settled_now, few_held, few_out}
 use Rattle.gate_journal.proofs.journal.Journal.check.Goals as goal
 
 pub returns-clause-legal : goal.returns-clause-legal
@@ -13,6 +13,11 @@ pub returns-clause-sound : goal.returns-clause-sound
 returns-clause-sound g c =
     sound_now g.L.Limit.rules _ _ c.self.view_is c.self.inside.core _ c.self.invariant.0
     g.met.L.Limit.lawful c.soundness_is_kept.ensures.sound
+
+pub returns-clause-settled : goal.returns-clause-settled
+returns-clause-settled g c =
+    settled_now g.L.Limit.rules _ _ c.self.view_is c.self.inside.core _ c.self.invariant.0
+    c.check.ensures.settled
 
 pub returns-clause-few : goal.returns-clause-few
 returns-clause-few g c =
