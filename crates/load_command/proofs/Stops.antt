@@ -18,12 +18,12 @@ abbrev fault_or : LoadFault → Result (Unit {0}) LoadFault → LoadFault
 fault_or other (Ok v) = other
 fault_or other (Err fault) = fault
 
-pub load_stops : {R W : Type 0} (remaining : R → Option (List ℕ)) (workers : ℕ)
+pub load_stops : {R W : Type 0} (remaining : R → Option (List ℕ)) (workers n : ℕ)
     (result : Result (Unit {0}) LoadFault) (before after : Counted R) (old new : Counted W)
     → IfErr result (λ fault. IfLine fault (λ at. IfLeft remaining before (λ text.
     IsAtFault text at)))
     → IfErr result (λ fault. IfAudit fault (λ cause. IfLeft remaining before (λ text.
-    IsRefused workers text cause)))
+    IsRefused workers n text cause)))
     → (IsErrOf result load.Memory → ReadWithin remaining most_script before after)
     → (IsErrOf result load.Thread → ReadWithin remaining most_script before after)
     → (IsErrOf result load.Read → IsReadCause most_reads before after)
@@ -33,11 +33,11 @@ pub load_stops : {R W : Type 0} (remaining : R → Option (List ℕ)) (workers :
     → (¬ IsErrOf result load.Read → failures_of after ≡ failures_of before)
     → (¬ IsErrOf result load.Write → failures_of new ≡ failures_of old)
     → OnErr result (¬ IsErrOf result load.Write → new ≡ old)
-    → IfErr result (IsLoadStop remaining workers before after old new)
-load_stops remaining workers (Ok v) before after old new line audit memory thread read too_large
+    → IfErr result (IsLoadStop remaining workers n before after old new)
+load_stops remaining workers n (Ok v) before after old new line audit memory thread read too_large
     write only_read only_write nothing =
     tt
-load_stops remaining workers (Err fault) before after old new line audit memory thread read
+load_stops remaining workers n (Err fault) before after old new line audit memory thread read
     too_large write only_read only_write nothing =
     record {
       line = line;

@@ -25,11 +25,11 @@ load_fault_text (Audit cause) = concat (codes "audit: " ∷ cause_text cause ∷
 -- why a load stops: a line at fault is the trace's, and an audit's cause that of its run; each
 -- other fault has its cause, and no other call failed; and nothing is written but on a fault of
 -- writing
-pub record IsLoadStop {R W : Type 0} (remaining : R → Option (List ℕ)) (workers : ℕ)
+pub record IsLoadStop {R W : Type 0} (remaining : R → Option (List ℕ)) (workers n : ℕ)
     (before after : Counted R) (old new : Counted W) (fault : LoadFault) : Type 0 where
   pub line : IfLine fault (λ at. IfLeft remaining before (λ text. IsAtFault text at))
   pub audit : IfAudit fault (λ cause. IfLeft remaining before (λ text.
-      IsRefused workers text cause))
+      IsRefused workers n text cause))
   pub memory : fault ≡ Memory → ReadWithin remaining most_script before after
   pub thread : fault ≡ Thread → ReadWithin remaining most_script before after
   pub too_large : fault ≡ TooLarge → IfLeft remaining before (λ text. most_script < length text)

@@ -45,7 +45,7 @@ where
 
     // Both lines are written and flushed.
     ensures done { result ≡ 0 → IfLeft R.remaining reader.old (λ text.
-        IsLoaded workers text (Wrote W.contents writer.old writer.new)) }
+        IsLoaded workers limit text (Wrote W.contents writer.old writer.new)) }
     ensures flushed { result ≡ 0 → is_flushed writer.new ≡ true }
     ensures read { result ≡ 0 → failures_of reader.new ≡ failures_of reader.old }
     ensures unfailing { result ≡ 0 → failures_of writer.new ≡ failures_of writer.old }
@@ -53,7 +53,7 @@ where
 
     // The fault is told.
     ensures stopped { result ≡ 1 → (fault : LoadFault)
-        × IsLoadStop R.remaining workers reader.old reader.new writer.old writer.new fault
+        × IsLoadStop R.remaining workers limit reader.old reader.new writer.old writer.new fault
         × IsTold E.contents errors.old errors.new (fault_line (load_fault_text fault)) }
 {
     match carry_out(rt, alloc, limit, workers, reader, writer) {
@@ -81,11 +81,11 @@ where
     requires some { 1 ≤ workers }
     requires few { workers ≤ 64 }
     ensures done { OnOk result (IfLeft R.remaining reader.old (λ text.
-        IsLoaded workers text (Wrote W.contents writer.old writer.new))) }
+        IsLoaded workers limit text (Wrote W.contents writer.old writer.new))) }
     ensures flushed { OnOk result (is_flushed writer.new ≡ true) }
     ensures read { OnOk result (failures_of reader.new ≡ failures_of reader.old) }
     ensures unfailing { OnOk result (failures_of writer.new ≡ failures_of writer.old) }
-    ensures stopped { IfErr result (IsLoadStop R.remaining workers
+    ensures stopped { IfErr result (IsLoadStop R.remaining workers limit
         reader.old reader.new writer.old writer.new) }
 {
     load(rt, alloc, reader, writer, limit, workers)

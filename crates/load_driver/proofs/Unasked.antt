@@ -4,6 +4,7 @@ use Rattle.std.proofs.Common.{slice_index, nat_eq, refl, sym, ap, ◌∙◌, sub
 use Rattle.std.specs.Map.{lookup}
 use Rattle.limit_laws.specs.Algorithm.{Algorithm, IsLawful}
 use Rattle.partitions.specs.Table.{Row}
+use Rattle.limiter_core.specs.declared.promote.Promote.{Promote}
 use Rattle.limiter_core.specs.declared.event.PermitFacts.{PermitFacts}
 use Rattle.limiter_core.specs.declared.event.Entry.{Entry}
 use Rattle.limiter_core.specs.History.{Gate, Image, image_after, empty_image}
@@ -30,11 +31,12 @@ zeros (suc (suc (suc (suc zero)))) = refl
 zeros (suc (suc (suc (suc (suc p))))) = refl
 
 -- a journal that opens with a limiter that was asked nothing
-pub opens_unasked : {S : Type 0} (rows : List Row) (room : ℕ) (limit : S) (kept : ℕ)
-    (is_rolling : Bool) (j : Journal S) → j ≡ opened (unasked rows room limit) kept is_rolling
+pub opens_unasked : {S : Type 0} (rows : List Row) (room : ℕ) (promote : Promote) (limit : S)
+    (kept : ℕ) (is_rolling : Bool) (j : Journal S)
+    → j ≡ opened (unasked rows room promote limit) kept is_rolling
     → IsUnasked j
-opens_unasked {S} rows room limit kept is_rolling j begun =
-    let there : IsUnasked (opened (unasked rows room limit) kept is_rolling) = record {
+opens_unasked {S} rows room promote limit kept is_rolling j begun =
+    let there : IsUnasked (opened (unasked rows room promote limit) kept is_rolling) = record {
       empty = refl;
       base = refl;
       idle = refl;

@@ -10,14 +10,14 @@ use Rattle.script.specs.declared.line_fault.LineFault.{LineFault}
 use Rattle.script.specs.declared.line.Line.TheVariants.{Setting, Request}
 use Rattle.script.specs.Words.{words}
 use Rattle.script.specs.Line.{Said, line_of}
-use Rattle.script.specs.Settings.{SettingFacts, Set, no_settings, with_setting, limit_of, room_of, kept_of}
+use Rattle.script.specs.Settings.{SettingFacts, Set, no_settings, with_setting, limit_of, room_of, promote_of, kept_of}
 use Rattle.load_driver.specs.Replay.{Told, lines_text}
 
 -- the journal of a limiter that the settings make: fixed at n where they give no limit, with so
 -- many entries kept where they don't say how many, and rolling where they say so
 abbrev pub journal_of : ℕ → ℕ → SettingFacts → Journal AnyLimit
 journal_of n kept s =
-    opened (unasked s.rows (room_of s) (limit_of n s)) (kept_of kept s) s.is_rolling
+    opened (unasked s.rows (room_of s) (promote_of s) (limit_of n s)) (kept_of kept s) s.is_rolling
 
 -- nothing is written, and this line is at fault
 abbrev pub faulty : ℕ → Why → Told

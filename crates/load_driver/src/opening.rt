@@ -86,10 +86,11 @@ pub(crate) fn answer_script(
     }
     let limit = settings.limit(n);
     let room = settings.room();
+    let promote = settings.promote();
     let kept = settings.kept(kept);
     let is_rolling = settings.is_rolling();
     let table = settings.into_table();
-    let mut session = Session::new(alloc, limit, table, room, kept, is_rolling)?;
+    let mut session = Session::new(alloc, limit, table, room, promote, kept, is_rolling)?;
     let fault = answer_all(&mut session, &mut text, rest, line)?;
     Ok((text, fault))
 }

@@ -16,7 +16,7 @@ ghost use Rattle.load_driver.specs.Stretches.{IsOpen, StandsFor, told_at, open_t
 use gate_journal::{Journal, rolling_runs_are_legal};
 use limit_laws::{LAST_MOMENT, Limit};
 use limiter_core::{
-    Entry, Event, PermitFacts, Reply, open_permits_are_in_flight, open_permits_may_end,
+    Entry, Event, PermitFacts, Promote, Reply, open_permits_are_in_flight, open_permits_may_end,
 };
 use partitions::PartitionTable;
 use std::alloc::{AllocError, Global};
@@ -52,13 +52,14 @@ pub struct Added {
 }
 
 impl<L: Limit> Session<L> {
-    /// Nothing was asked yet; up to `room` may wait, and so many entries are kept of a history
-    /// that rolls or doesn't.
+    /// Nothing was asked yet; up to `room` may wait, waiters are promoted by this rule, and so many
+    /// entries are kept of a history that rolls or doesn't.
     pub fn new(
         alloc: Global,
         limit: L,
         table: PartitionTable,
         room: u32,
+        promote: Promote,
         kept: usize,
         is_rolling: bool,
     ) -> Result<Session<L>, AllocError>
@@ -66,14 +67,14 @@ impl<L: Limit> Session<L> {
         requires some_kept { 1 ≤ kept }
         requires few_kept { kept ≤ most_kept }
         ensures begun { IfOk result (λ session. session ≡ record {
-          journal = opened (unasked table room limit) kept is_rolling;
+          journal = opened (unasked table room promote limit) kept is_rolling;
           permits = [];
         }) }
         ensures stands { IfOk result (λ session.
-            StandsFor L.rules (opened (unasked table room limit) kept is_rolling) session) }
+            StandsFor L.rules (opened (unasked table room promote limit) kept is_rolling) session) }
     {
         open_permits_are_in_flight::<L>();
-        let journal = Journal::begin(alloc, limit, table, room, kept, is_rolling)?;
+        let journal = Journal::begin(alloc, limit, table, room, promote, kept, is_rolling)?;
         let _entries = journal.entries();
         Ok(Session {
             journal,

@@ -1,3 +1,4 @@
 pub mod Calling
 pub mod Runs
+pub mod Walks
 pub mod Working

@@ -38,24 +38,24 @@ IfAudit (Audit cause) P = P cause
 IfAudit _ P = Unit {0}
 
 -- why a run stops: for want of memory or of a thread, or since its audit fails by this cause
-abbrev pub StopsRun : ℕ → SettingFacts → List Arrival → LoadFault → Type 0
-StopsRun workers settings arrivals Memory = Unit {0}
-StopsRun workers settings arrivals Thread = Unit {0}
-StopsRun workers settings arrivals (Audit cause) = IsUnaccepted workers settings arrivals cause
-StopsRun workers settings arrivals _ = ⊥
+abbrev pub StopsRun : ℕ → ℕ → SettingFacts → List Arrival → LoadFault → Type 0
+StopsRun workers n settings arrivals Memory = Unit {0}
+StopsRun workers n settings arrivals Thread = Unit {0}
+StopsRun workers n settings arrivals (Audit cause) = IsUnaccepted workers n settings arrivals cause
+StopsRun workers n settings arrivals _ = ⊥
 
 -- why a trace stops: at its line at fault, which starts no worker, or as its run does
-abbrev pub StopsTrace : ℕ → TraceFacts → LoadFault → Type 0
-StopsTrace workers trace (Line fault) = trace.calls.fault ≡ Some fault
-StopsTrace workers trace fault = StopsRun workers trace.settings trace.calls.arrivals fault
+abbrev pub StopsTrace : ℕ → ℕ → TraceFacts → LoadFault → Type 0
+StopsTrace workers n trace (Line fault) = trace.calls.fault ≡ Some fault
+StopsTrace workers n trace fault = StopsRun workers n trace.settings trace.calls.arrivals fault
 
 -- THE ANSWER to a trace of at most 16 MiB without a line at fault: the two lines of a run of its
 -- calls that an audit accepted
-pub record IsLoaded (workers : ℕ) (text : List ℕ) (Written : List ℕ → Type 0) : Type 0 where
+pub record IsLoaded (workers n : ℕ) (text : List ℕ) (Written : List ℕ → Type 0) : Type 0 where
   pub small : length text ≤ most_script
   pub whole : (trace_of text).calls.fault ≡ None
   pub summary : Summary
-  pub run : IsRun workers (trace_of text).settings (trace_of text).calls.arrivals summary
+  pub run : IsRun workers n (trace_of text).settings (trace_of text).calls.arrivals summary
   pub written : Written (summary_text summary)
 
 -- the answer to a trace of at most 16 MiB that has this line at fault
@@ -63,7 +63,7 @@ abbrev pub IsAtFault : List ℕ → LineFault → Type 0
 IsAtFault text fault = (length text ≤ most_script) × ((trace_of text).calls.fault ≡ Some fault)
 
 -- the answer to a trace of at most 16 MiB, of whose run the audit fails by this cause
-abbrev pub IsRefused : ℕ → List ℕ → Cause → Type 0
-IsRefused workers text cause =
+abbrev pub IsRefused : ℕ → ℕ → List ℕ → Cause → Type 0
+IsRefused workers n text cause =
     (length text ≤ most_script)
-    × IsUnaccepted workers (trace_of text).settings (trace_of text).calls.arrivals cause
+    × IsUnaccepted workers n (trace_of text).settings (trace_of text).calls.arrivals cause

@@ -1,55 +1,72 @@
 -- What a load is: an audited run of the calls of a trace.
-use Rattle.std.specs.Prelude.{◌≡◌, ℕ, List, Vec, length}
+use Rattle.std.specs.Prelude.{◌≡◌, ℕ, Bool, List, Vec, length}
 use Rattle.std.specs.declared.alloc.Global.{Global}
 use Rattle.limit_kinds.specs.declared.kinds.AnyLimit.{AnyLimit}
 use Rattle.limit_kinds.specs.AnyKinds.{any_rules}
 use Rattle.partitions.specs.Table.{Row}
 use Rattle.limiter_core.specs.declared.event.Entry.{Entry}
 use Rattle.gate_journal.specs.Image.{Standing}
-use Rattle.gate_history.specs.Told.{Told}
+use Rattle.limiter_core.specs.declared.promote.Promote.{Promote}
+use Rattle.gate_history.specs.Book.{Making, made_as}
+use Rattle.gate_history.specs.Told.{Refusal, Told}
 use Rattle.audit.specs.declared.cause.Cause.{Cause}
 use Rattle.audit.specs.Accepted.{IsHistoryOf}
-use Rattle.shared_gate.specs.Closing.{FailsBy, IsKept, made_with}
-use Rattle.script.specs.Settings.{SettingFacts, room_of}
+use Rattle.shared_gate.specs.Closing.{FailsBy, IsKept}
+use Rattle.script.specs.Settings.{SettingFacts, kept_of, limit_of, promote_of, room_of}
+use Rattle.load_driver.specs.Limits.{kept_entries}
 use Rattle.trace.specs.declared.arrival.Arrival.{Arrival}
-use Rattle.load_run.specs.Workers.{AreWork}
+use Rattle.load_run.specs.Workers.{AllOfAllFit, AreWork}
 use Rattle.load_run.specs.declared.summary.Summary.{Summary}
 use Rattle.load_run.specs.Summary.{summary_of}
 
--- AN ACCEPTED HISTORY of a gate with these partitions and this room: it is whole and legal, and
--- that of just these receipts; and what is told is counted from it
-pub record IsAccepted (rows : List Row) (room : ℕ) (kept : List (Vec Told Global))
-    (summary : Summary) : Type 0 where
+-- what a gate of these settings is made with, whose limit is fixed at n where no line gives one
+abbrev pub making_of : ℕ → SettingFacts → Making
+making_of n settings =
+    made_as settings.rows (room_of settings) (promote_of settings) (kept_of kept_entries settings)
+    settings.is_rolling (any_rules.limit (limit_of n settings))
+
+-- these are what is made so
+abbrev pub AreOf : Making → List Row → ℕ → Promote → ℕ → Bool → ℕ → Type 0
+AreOf m rows room promote kept is_rolling limit =
+    (rows ≡ m.rows) × (room ≡ m.room) × (promote ≡ m.promote) × (kept ≡ m.kept)
+    × (is_rolling ≡ m.is_rolling) × (limit ≡ m.limit)
+
+-- AN ACCEPTED HISTORY of a gate that was made so: it is whole and legal, and that of just these
+-- receipts; these refusals fit it; and what is told is counted from it
+pub record IsAccepted (m : Making) (kept : List (Vec Told Global))
+    (spent : List (Vec Refusal Global)) (summary : Summary) : Type 0 where
   pub opening : Standing AnyLimit
   pub entries : List Entry
-  pub legal : IsKept (made_with any_rules rows room) opening 0 entries
+  pub legal : IsKept any_rules m opening 0 entries
   pub receipts : IsHistoryOf entries kept
+  pub refusals : AllOfAllFit m (length entries) spent
   pub told : summary ≡ summary_of entries
 
 -- A RUN by so many workers: an accepted history of their receipts, a list for each worker, which
 -- beside its refusals is what it made of its arrivals
-pub record IsRun (workers : ℕ) (settings : SettingFacts) (arrivals : List Arrival)
+pub record IsRun (workers n : ℕ) (settings : SettingFacts) (arrivals : List Arrival)
     (summary : Summary) : Type 0 where
   pub kept : List (Vec Told Global)
+  pub spent : List (Vec Refusal Global)
   pub many : length kept ≡ workers
-  pub work : AreWork workers arrivals kept
-  pub accepted : IsAccepted settings.rows (room_of settings) kept summary
+  pub work : AreWork workers arrivals kept spent
+  pub accepted : IsAccepted (making_of n settings) kept spent summary
 
 -- a history of a gate that isn't that of just these receipts: the audit fails by this cause, the
 -- first that applies
-pub record IsRejected (rows : List Row) (room : ℕ) (kept : List (Vec Told Global))
-    (cause : Cause) : Type 0 where
+pub record IsRejected (m : Making) (kept : List (Vec Told Global)) (cause : Cause) : Type 0 where
   pub opening : Standing AnyLimit
   pub base : ℕ
   pub entries : List Entry
   pub calls : ℕ
-  pub legal : IsKept (made_with any_rules rows room) opening base entries
+  pub legal : IsKept any_rules m opening base entries
   pub fails : FailsBy calls base entries kept cause
 
 -- a run that isn't accepted: the workers made such lists
-pub record IsUnaccepted (workers : ℕ) (settings : SettingFacts) (arrivals : List Arrival)
+pub record IsUnaccepted (workers n : ℕ) (settings : SettingFacts) (arrivals : List Arrival)
     (cause : Cause) : Type 0 where
   pub kept : List (Vec Told Global)
+  pub spent : List (Vec Refusal Global)
   pub many : length kept ≡ workers
-  pub work : AreWork workers arrivals kept
-  pub rejected : IsRejected settings.rows (room_of settings) kept cause
+  pub work : AreWork workers arrivals kept spent
+  pub rejected : IsRejected (making_of n settings) kept cause

@@ -43,9 +43,9 @@ where
     requires few { crew.workers ≤ 64 }
     requires short { length text.now ≤ most_script }
     ensures whole { OnOk result ((trace_of text.now).calls.fault ≡ None) }
-    ensures run { IfOk result (IsRun crew.workers
+    ensures run { IfOk result (IsRun crew.workers crew.limit
         (trace_of text.now).settings (trace_of text.now).calls.arrivals) }
-    ensures stops { IfErr result (StopsTrace crew.workers (trace_of text.now)) }
+    ensures stops { IfErr result (StopsTrace crew.workers crew.limit (trace_of text.now)) }
 {
     let Trace {
         settings,
@@ -97,14 +97,14 @@ where
 
     // Both lines are written, of a run that the audit accepted.
     ensures done { OnOk result (IfLeft R.remaining reader.old (λ text.
-        IsLoaded workers text (Wrote W.contents writer.old writer.new))) }
+        IsLoaded workers n text (Wrote W.contents writer.old writer.new))) }
     ensures flushed { OnOk result (is_flushed writer.new ≡ true) }
 
     // Each fault comes only for its cause.
     ensures line { IfErr result (λ fault. IfLine fault (λ at.
         IfLeft R.remaining reader.old (λ text. IsAtFault text at))) }
     ensures audit { IfErr result (λ fault. IfAudit fault (λ cause.
-        IfLeft R.remaining reader.old (λ text. IsRefused workers text cause))) }
+        IfLeft R.remaining reader.old (λ text. IsRefused workers n text cause))) }
     ensures memory { IsErrOf result LoadFault.Memory →
         ReadWithin R.remaining most_script reader.old reader.new }
     ensures thread { IsErrOf result LoadFault.Thread →
@@ -148,14 +148,14 @@ where
 
     // Both lines are written, of a run that the audit accepted.
     ensures done { OnOk result (IfLeft R.remaining reader.old (λ text.
-        IsLoaded workers text (Wrote W.contents writer.old writer.new))) }
+        IsLoaded workers n text (Wrote W.contents writer.old writer.new))) }
     ensures flushed { OnOk result (is_flushed writer.new ≡ true) }
 
     // Each fault comes only for its cause.
     ensures line { IfErr result (λ fault. IfLine fault (λ at.
         IfLeft R.remaining reader.old (λ text. IsAtFault text at))) }
     ensures audit { IfErr result (λ fault. IfAudit fault (λ cause.
-        IfLeft R.remaining reader.old (λ text. IsRefused workers text cause))) }
+        IfLeft R.remaining reader.old (λ text. IsRefused workers n text cause))) }
     ensures memory { IsErrOf result LoadFault.Memory →
         ReadWithin R.remaining most_script reader.old reader.new }
     ensures thread { IsErrOf result LoadFault.Thread →

@@ -13,6 +13,7 @@ mod calls;
 mod counting;
 mod driver;
 mod fault;
+mod fitting;
 mod hiring;
 mod run;
 mod summary;

@@ -2,12 +2,13 @@
 ghost use Rattle.std.specs.Prelude.{◌≡◌, ◌≤◌, Ok, IfErr, IfOk, false, vec_len};
 ghost use Rattle.limit_laws.specs.Algorithm.{greatest_limit};
 ghost use Rattle.gate_ledgers.specs.Names.{AreNamed, AreWhole};
-ghost use Rattle.script.specs.Settings.{room_of};
+ghost use Rattle.gate_history.specs.Book.{made_as};
 ghost use Rattle.load_run.specs.Driver.{StopsRun};
-ghost use Rattle.load_run.specs.Load.{IsAccepted, IsRejected, IsRun};
+ghost use Rattle.load_run.specs.Load.{AreOf, IsAccepted, IsRejected, IsRun, making_of};
 
 use crate::counting::count_entries;
 use crate::fault::LoadFault;
+use crate::fitting::all_fit;
 use crate::hiring::hire;
 use crate::summary::Summary;
 use crate::worker::{Shop, Worker};
@@ -47,12 +48,13 @@ where
     requires most { crew.limit ≤ greatest_limit }
     requires some { 1 ≤ crew.workers }
     requires few { crew.workers ≤ 64 }
-    requires rows { M.rows ≡ settings.rows }
-    requires room { M.room ≡ room_of settings }
+    requires making { AreOf (making_of crew.limit settings)
+        M.rows M.room M.promote M.kept M.is_rolling M.limit }
     requires names { AreNamed M.calls M.place blanks }
     requires parts { AreWhole blanks }
-    ensures run { IfOk result (IsRun crew.workers settings.entry arrivals.items) }
-    ensures stops { IfErr result (StopsRun crew.workers settings.entry arrivals.items) }
+    ensures run { IfOk result (IsRun crew.workers crew.limit settings.entry arrivals.items) }
+    ensures stops { IfErr result
+        (StopsRun crew.workers crew.limit settings.entry arrivals.items) }
 {
     let timeout = settings.timeout();
     let turns = (arrivals.len() / crew.workers).saturating_add(1);
@@ -78,8 +80,8 @@ fn begin_book<M: Naming>(
 ) -> Result<Book<AnyLimit, M>, AllocError>
     requires least { 1 ≤ limit }
     requires most { limit ≤ greatest_limit }
-    requires rows { M.rows ≡ settings.rows }
-    requires room { M.room ≡ room_of settings }
+    requires making { AreOf (making_of limit settings)
+        M.rows M.room M.promote M.kept M.is_rolling M.limit }
     requires names { AreNamed M.calls M.place blanks }
     requires parts { AreWhole blanks }
     ensures passes { IfOk result (λ book. book.tally.passes ≡ 0) }
@@ -87,10 +89,11 @@ fn begin_book<M: Naming>(
 {
     let limit = settings.limit(limit);
     let room = settings.room();
+    let promote = settings.promote();
     let kept = settings.kept(KEPT);
     let is_rolling = settings.is_rolling();
     let table = settings.into_table();
-    Book::begin(alloc, limit, table, room, kept, is_rolling, blanks)
+    Book::begin(alloc, limit, table, room, promote, kept, is_rolling, blanks)
 }
 
 /// The gate of a run, and its workers, each with room for so many turns.
@@ -104,8 +107,8 @@ fn open_gate<M: Naming>(
     requires least { 1 ≤ crew.limit }
     requires most { crew.limit ≤ greatest_limit }
     requires few { crew.workers ≤ 64 }
-    requires rows { M.rows ≡ settings.rows }
-    requires room { M.room ≡ room_of settings }
+    requires making { AreOf (making_of crew.limit settings)
+        M.rows M.room M.promote M.kept M.is_rolling M.limit }
     requires names { AreNamed M.calls M.place blanks }
     requires parts { AreWhole blanks }
     ensures { IfOk result (λ opened. vec_len opened.1 ≡ crew.workers) }
@@ -123,17 +126,34 @@ fn beside<A: Drop, B: Drop>(one: A, other: Result<B, AllocError>) -> Result<(A, 
     Ok((one, other?))
 }
 
-/// What is counted of the history of a gate that is closed, where its audit accepts it.
+/// What is counted of the history of a gate that is closed, where its audit accepts it and the
+/// refusals fit it. They do, since a history that doesn't roll never gets shorter; but a step tells
+/// nothing of what comes after it, so it is looked at, and a misfit told as an audit without the
+/// memory for it.
 fn close<M: Naming>(
     alloc: Global,
     gate: SharedGate<AnyLimit, M>,
     worked: Worked<M>,
 ) -> Result<Summary, Cause>
-    ensures accepted { IfOk result (IsAccepted M.rows M.room worked.kept.items) }
-    ensures rejected { IfErr result (IsRejected M.rows M.room worked.kept.items) }
+    ensures accepted { IfOk result (IsAccepted
+        (made_as M.rows M.room M.promote M.kept M.is_rolling M.limit)
+        worked.kept.items worked.spent.items) }
+    ensures rejected { IfErr result (IsRejected
+        (made_as M.rows M.room M.promote M.kept M.is_rolling M.limit) worked.kept.items) }
 {
-    match gate.close(alloc, worked.passes, worked.kept) {
-        Ok(history) => Ok(count_entries(&history.entries)),
+    let Worked {
+        passes,
+        kept,
+        spent,
+    } = worked;
+    match gate.close(alloc, passes, kept) {
+        Ok(history) => {
+            if all_fit(&spent, history.entries.len() as u64) {
+                Ok(count_entries(&history.entries))
+            } else {
+                Err(Cause::Memory)
+            }
+        }
         Err(fault) => Err(fault.cause),
     }
 }

@@ -4,7 +4,7 @@ ghost use Rattle.load_run.specs.Worker.{IsWork};
 ghost use Rattle.load_run.specs.Workers.{AreWork};
 
 use crate::worker::{Shop, Worker, work};
-use gate_history::{Naming, Receipt};
+use gate_history::{Naming, Receipt, Spent};
 use limit_laws::Limit;
 use shared_gate::{Clock, Pass};
 use std::alloc::{AllocError, Global};
@@ -34,11 +34,12 @@ impl From<AllocError> for WorkFault {
     }
 }
 
-/// The passes and the receipts of the workers, in order of their numbers.
+/// The passes, the receipts and the refusals of the workers, in order of their numbers.
 #[derive(Drop)]
 pub(crate) struct Worked<M: Naming> {
     pub(crate) passes: Vec<Pass<M>>,
     pub(crate) kept: Vec<Vec<Receipt<M>>>,
+    pub(crate) spent: Vec<Vec<Spent<M>>>,
 }
 
 /// What the worker of a number, one of so many, brings back of these arrivals.
@@ -58,8 +59,8 @@ impl<M: Naming> Promise<Result<Worker<M>, AllocError>> for WorkOf {
         done.receipts.items done.refusals.items) };
 }
 
-/// Runs these workers, the last of them first: once all that were started have ended, their passes
-/// and receipts.
+/// Runs these workers, the last of them first: once all that were started have ended, their
+/// passes, receipts and refusals.
 fn run_from<'s, E, L: Limit + Send, M: Naming + Send + Sync, R, C>(
     scope: &Scope<'s, E>,
     alloc: Global,
@@ -71,13 +72,15 @@ where
     C: Clock + Sync,
     requires { 0 < shop.now.workers }
     ensures count { IfOk result (λ worked. vec_len worked.kept ≡ vec_len workers) }
-    ensures work { IfOk result (λ worked.
-        AreWork shop.now.workers shop.now.arrivals.now.items worked.kept.items) }
+    ensures beside { IfOk result (λ worked. vec_len worked.spent ≡ vec_len workers) }
+    ensures work { IfOk result (λ worked. AreWork shop.now.workers
+        shop.now.arrivals.now.items worked.kept.items worked.spent.items) }
 {
     let Some(worker) = workers.pop() else {
         return Ok(Worked {
             passes: Vec::new(alloc),
             kept: Vec::new(alloc),
+            spent: Vec::new(alloc),
         });
     };
     let number = workers.len();
@@ -102,7 +105,7 @@ where
     Ok(before?.add(done?)?)
 }
 
-/// Runs all workers: once they have ended, their passes and receipts.
+/// Runs all workers: once they have ended, their passes, receipts and refusals.
 pub(crate) fn run_all<L: Limit + Send, M: Naming + Send + Sync, R, C>(
     alloc: Global,
     shop: &Shop<L, M, R, C>,
@@ -113,8 +116,8 @@ where
     C: Clock + Sync,
     requires { 0 < shop.now.workers }
     ensures count { IfOk result (λ worked. vec_len worked.kept ≡ vec_len workers) }
-    ensures work { IfOk result (λ worked.
-        AreWork shop.now.workers shop.now.arrivals.now.items worked.kept.items) }
+    ensures work { IfOk result (λ worked. AreWork shop.now.workers
+        shop.now.arrivals.now.items worked.kept.items worked.spent.items) }
 {
     thread::scope(
         thread::scope_env(),
@@ -124,7 +127,7 @@ where
             ensures count { IfOk result (λ worked. vec_len worked.kept ≡ vec_len workers) }
             ensures work { IfOk result (λ worked.
                 AreWork shop.entry.now.workers shop.entry.now.arrivals.now.items
-                worked.kept.items) }
+                worked.kept.items worked.spent.items) }
         { run_from(scope, alloc, shop, workers) },
     )
 }
@@ -132,20 +135,28 @@ where
 impl<M: Naming> Worked<M> {
     /// With what one more worker brings back.
     fn add(self, worker: Worker<M>) -> Result<Worked<M>, AllocError>
-        ensures { IfOk result (λ worked.
+        ensures kept { IfOk result (λ worked.
             worked.kept.items ≡ self.kept.items ++ worker.receipts ∷ []) }
+        ensures spent { IfOk result (λ worked.
+            worked.spent.items ≡ self.spent.items ++ worker.refusals ∷ []) }
     {
         let Worked {
             mut passes,
             mut kept,
+            mut spent,
         } = self;
         let Worker {
             pass,
             receipts,
-            refusals: _refusals,
+            refusals,
         } = worker;
         passes.push(pass)?;
         kept.push(receipts)?;
-        Ok(Worked { passes, kept })
+        spent.push(refusals)?;
+        Ok(Worked {
+            passes,
+            kept,
+            spent,
+        })
     }
 }

@@ -1,8 +1,10 @@
 -- The settings that lines give, by their words.
 use Rattle.std.specs.Prelude.{ℕ, Bool, true, false, List, [], ◌∷◌, Option, None, Some, option_map, bytes_eq, codes, if◌then◌else◌}
 use Rattle.std.specs.Borrow.{Bor}
+use Rattle.limiter_core.specs.declared.promote.Promote.{Promote}
+use Rattle.limiter_core.specs.declared.promote.Promote.TheVariants.{Newest, All}
 use Rattle.script.specs.declared.setting.Setting.{Setting}
-use Rattle.script.specs.declared.setting.Setting.TheVariants.{Limit, Window, Class, Share, Backlog, Keep, Timeout}
+use Rattle.script.specs.declared.setting.Setting.TheVariants.{Limit, Window, Class, Share, Backlog, Keep, Timeout, Promotion}
 use Rattle.script.specs.Words.{with_number, with_word, lone_number}
 use Rattle.script.specs.LimitLine.{limit_line}
 use Rattle.script.specs.WindowLine.{window_line}
@@ -25,6 +27,16 @@ rolling_of _ = None
 abbrev pub keep_line : List (List ℕ) → Option (Setting (List ℕ))
 keep_line ws = with_number (λ entries rest. option_map (Keep entries) (rolling_of rest)) ws
 
+-- the rule of promotion that the rest of a line names, where it says nothing else
+abbrev pub rule_named : List ℕ → Option Promote
+rule_named word =
+    if bytes_eq word (codes "newest") then Some Newest
+    else (if bytes_eq word (codes "all") then Some All else None)
+
+abbrev pub rule_of : List (List ℕ) → Option Promote
+rule_of (word ∷ []) = rule_named word
+rule_of _ = None
+
 -- the setting of a line by its first word and the others; nothing where it has no setting's format
 abbrev pub setting_of : List ℕ → List (List ℕ) → Option (Setting (List ℕ))
 setting_of first rest =
@@ -35,7 +47,8 @@ setting_of first rest =
     else (if bytes_eq first (codes "backlog") then option_map Backlog (lone_number rest)
     else (if bytes_eq first (codes "keep") then keep_line rest
     else (if bytes_eq first (codes "timeout") then option_map Timeout (lone_number rest)
-    else None))))))
+    else (if bytes_eq first (codes "promote") then option_map Promotion (rule_of rest)
+    else None)))))))
 
 -- a setting with the bytes of its class's name
 abbrev pub setting_bytes : Setting (Bor (List ℕ)) → Setting (List ℕ)
@@ -46,3 +59,4 @@ setting_bytes (Share name thousandths) = Share name.now thousandths
 setting_bytes (Backlog room) = Backlog room
 setting_bytes (Keep entries is_rolling) = Keep entries is_rolling
 setting_bytes (Timeout nanos) = Timeout nanos
+setting_bytes (Promotion rule) = Promotion rule

@@ -4,6 +4,8 @@ use Rattle.limit_laws.specs.Facts.{hour}
 use Rattle.partitions.specs.Table.{Row}
 use Rattle.partitions.specs.Faults.{fault_of}
 use Rattle.lifo_backlog.specs.Waiters.{most_waiters}
+use Rattle.limiter_core.specs.declared.promote.Promote.{Promote}
+use Rattle.limiter_core.specs.declared.promote.Promote.TheVariants.{Newest}
 use Rattle.windowed.specs.WindowedRules.{WindowNumbers}
 use Rattle.limit_kinds.specs.declared.kinds.BaseLimit.{BaseLimit}
 use Rattle.limit_kinds.specs.declared.kinds.BaseLimit.TheVariants.{Fixed}
@@ -12,16 +14,16 @@ use Rattle.limit_kinds.specs.AnyKinds.{any_from}
 use Rattle.script.specs.declared.limit_line.LimitLine.{LimitLine}
 use Rattle.script.specs.declared.window_line.WindowLine.{WindowLine}
 use Rattle.script.specs.declared.setting.Setting.{Setting}
-use Rattle.script.specs.declared.setting.Setting.TheVariants.{Limit, Window, Class, Share, Backlog, Keep, Timeout}
+use Rattle.script.specs.declared.setting.Setting.TheVariants.{Limit, Window, Class, Share, Backlog, Keep, Timeout, Promotion}
 use Rattle.script.specs.declared.why.Why.{Why}
 use Rattle.script.specs.declared.why.Why.TheVariants.{Twice, Value}
 use Rattle.script.specs.Limits.{usual_backlog, usual_timeout, most_kept}
 use Rattle.script.specs.LimitLine.{base_of}
 use Rattle.script.specs.WindowLine.{windows_of}
 
--- the settings so far: the limit, the windows over it, how many may wait, how many entries are kept
--- and how long a caller waits, where a line gave them, whether the history rolls, and the known
--- partitions
+-- the settings so far: the limit, the windows over it, how many may wait, how many entries are
+-- kept, how long a caller waits and which waiters are promoted, where a line gave them, whether the
+-- history rolls, and the known partitions
 pub record SettingFacts : Type 0 where
   pub limit : Option BaseLimit
   pub window : Option WindowNumbers
@@ -29,6 +31,7 @@ pub record SettingFacts : Type 0 where
   pub keep : Option ℕ
   pub is_rolling : Bool
   pub timeout : Option ℕ
+  pub promote : Option Promote
   pub rows : List Row
 
 abbrev pub no_settings : SettingFacts
@@ -39,6 +42,7 @@ no_settings = record {
   keep = None;
   is_rolling = false;
   timeout = None;
+  promote = None;
   rows = [];
 }
 
@@ -86,6 +90,10 @@ with_timeout s nanos =
     then Ok (record s { timeout = Some nanos })
     else Err Value)
 
+-- which waiters are promoted
+abbrev pub with_promote : SettingFacts → Promote → Set
+with_promote s rule = once s.promote (Ok (record s { promote = Some rule }))
+
 -- the table of the partitions that make one
 abbrev pub table_of : List Row → Option (List Row)
 table_of rows = if is_none (fault_of rows) then Some rows else None
@@ -111,6 +119,7 @@ with_setting s (Share name thousandths) =
 with_setting s (Backlog room) = with_backlog s room
 with_setting s (Keep entries is_rolling) = with_keep s entries is_rolling
 with_setting s (Timeout nanos) = with_timeout s nanos
+with_setting s (Promotion rule) = with_promote s rule
 
 -- the limit of the settings, which is fixed at n where no line gave one
 abbrev pub base_or : ℕ → Option BaseLimit → BaseLimit
@@ -132,6 +141,10 @@ kept_of usual s = unwrap_or s.keep usual
 -- how long a caller waits: one second where no line says it
 abbrev pub timeout_of : SettingFacts → ℕ
 timeout_of s = unwrap_or s.timeout usual_timeout
+
+-- which waiters are promoted: the newest alone where no line says it
+abbrev pub promote_of : SettingFacts → Promote
+promote_of s = unwrap_or s.promote Newest
 
 -- what is answered to a setting: that it is taken, or why it is at fault, and then the settings
 -- stay

@@ -1,12 +1,13 @@
 // The lines that set.
 ghost use Rattle.std.specs.Prelude.{◌≡◌, option_map};
 ghost use Rattle.script.specs.Words.{words};
-ghost use Rattle.script.specs.Setting.{class_line, share_line, rolling_of, keep_line, setting_of, setting_bytes};
+ghost use Rattle.script.specs.Setting.{class_line, share_line, rolling_of, keep_line, rule_of, setting_of, setting_bytes};
 
 use super::limit_line::{LimitLine, read_limit};
 use super::numbers::{next_number, read_lone_number};
 use super::window_line::{WindowLine, read_window};
 use super::words::next_word;
+use limiter_core::Promote;
 
 /// A setting, whose numbers may be out of their ranges. A class is told by a `C`, as a line is read
 /// by its name.
@@ -27,6 +28,8 @@ pub enum Setting<C> {
     /// How long a caller of a trace waits, in nanoseconds; a script may say it, and it counts for
     /// nothing there.
     Timeout { nanos: u64 },
+    /// Which waiters are promoted.
+    Promotion { rule: Promote },
 }
 
 /// What follows `class`: a name, and a percentage.
@@ -72,6 +75,23 @@ fn read_keep(line: &[u8]) -> Option<Setting<&[u8]>>
     })
 }
 
+/// The rule of promotion that a line names; nothing where it says anything else.
+fn read_rule(line: &[u8]) -> Option<Promote>
+    ensures { result ≡ rule_of (words line.now) }
+{
+    let (word, line) = next_word(line)?;
+    if next_word(line).is_some() {
+        return None;
+    }
+    if word == b"newest".as_slice() {
+        Some(Promote::Newest)
+    } else if word == b"all".as_slice() {
+        Some(Promote::All)
+    } else {
+        None
+    }
+}
+
 /// The setting of a line by its first word and the rest; nothing where it has no setting's format.
 pub(crate) fn read_setting<'a>(first: &[u8], line: &'a [u8]) -> Option<Setting<&'a [u8]>>
     ensures { option_map setting_bytes result ≡ setting_of first.now (words line.now) }
@@ -92,6 +112,9 @@ pub(crate) fn read_setting<'a>(first: &[u8], line: &'a [u8]) -> Option<Setting<&
     } else if first == b"timeout".as_slice() {
         let nanos = read_lone_number(line)?;
         Some(Setting::Timeout { nanos })
+    } else if first == b"promote".as_slice() {
+        let rule = read_rule(line)?;
+        Some(Setting::Promotion { rule })
     } else {
         None
     }

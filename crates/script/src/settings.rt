@@ -11,6 +11,7 @@ use super::why::Why;
 use super::window_line::{WindowLine, make_windows};
 use limit_kinds::{AnyLimit, BaseLimit};
 use limit_laws::HOUR;
+use limiter_core::Promote;
 use partitions::{PartitionTable, TableFault, from_percent};
 use std::alloc::{AllocError, Global};
 use std::marker::Model;
@@ -37,6 +38,7 @@ pub struct Settings<'a> {
     keep: Option<usize>,
     is_rolling: bool,
     timeout: Option<u64>,
+    promote: Option<Promote>,
     rows: Vec<(&'a [u8], u32)>,
     table: PartitionTable,
 }
@@ -57,6 +59,7 @@ impl<'a> Model for Settings<'a> {
       keep = s.keep;
       is_rolling = s.is_rolling;
       timeout = s.timeout;
+      promote = s.promote;
       rows = given s.rows.items;
     } };
 
@@ -72,6 +75,7 @@ impl<'a> Settings<'a> {
     ghost use Rattle.script.specs.Settings.{no_settings, with_limit, with_window, with_backlog};
     ghost use Rattle.script.specs.Settings.{with_keep, with_percent, with_row, with_setting};
     ghost use Rattle.script.specs.Settings.{Answers, limit_of, room_of, kept_of, with_timeout, timeout_of};
+    ghost use Rattle.script.specs.Settings.{with_promote, promote_of};
 
     /// No settings.
     pub fn new(alloc: Global) -> Settings<'a>
@@ -84,6 +88,7 @@ impl<'a> Settings<'a> {
             keep: None,
             is_rolling: false,
             timeout: None,
+            promote: None,
             rows: Vec::new(alloc),
             table: PartitionTable::unknown_only(),
         }
@@ -109,6 +114,7 @@ impl<'a> Settings<'a> {
                 is_rolling,
             } => Ok(self.take_keep(entries, is_rolling)),
             Setting::Timeout { nanos } => Ok(self.take_timeout(nanos)),
+            Setting::Promotion { rule } => Ok(self.take_promote(rule)),
         }
     }
 
@@ -184,6 +190,19 @@ impl<'a> Settings<'a> {
             return Err(Why::Value);
         }
         self.timeout = Some(nanos);
+        Ok(())
+    }
+
+    /// Takes a rule of promotion.
+    fn take_promote(&mut self, rule: Promote) -> Result<(), Why>
+        ensures taken { OnOk result (with_promote self.old rule ≡ Ok self.new) }
+        ensures fault { IfErr result (λ why. with_promote self.old rule ≡ Err why) }
+        ensures unchanged { OnErr result (self.new ≡ self.old) }
+    {
+        if self.promote.is_some() {
+            return Err(Why::Twice);
+        }
+        self.promote = Some(rule);
         Ok(())
     }
 
@@ -263,6 +282,13 @@ impl<'a> Settings<'a> {
         ensures { result ≡ timeout_of self.now }
     {
         self.timeout.unwrap_or(USUAL_TIMEOUT)
+    }
+
+    /// Which waiters are promoted: the newest alone where no line says it.
+    pub fn promote(&self) -> Promote
+        ensures { result ≡ promote_of self.now }
+    {
+        self.promote.unwrap_or(Promote::Newest)
     }
 
     /// The table of the known partitions, as it stands.

@@ -41,11 +41,12 @@ fn run_trace(
     } = read_trace(alloc, text)?;
     let limit = settings.limit(n);
     let room = settings.room();
+    let promote = settings.promote();
     let kept = settings.kept(kept);
     let is_rolling = settings.is_rolling();
     let timeout = settings.timeout();
     let table = settings.into_table();
-    let mut session = Session::new(alloc, limit, table, room, kept, is_rolling)?;
+    let mut session = Session::new(alloc, limit, table, room, promote, kept, is_rolling)?;
     let told = run(alloc, &mut session, &arrivals, timeout)?;
     Ok((told, fault))
 }

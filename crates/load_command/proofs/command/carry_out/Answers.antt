@@ -4,6 +4,6 @@ use Rattle.load_command.proofs.command.carry_out.Goals as goal
 pub returns-clause-stopped : goal.returns-clause-stopped
 returns-clause-stopped g c =
     let of = c.load.ensures in
-    load_stops g.R.Read.remaining c.args.workers c.load.result c.args.reader.now
+    load_stops g.R.Read.remaining c.args.workers c.args.limit c.load.result c.args.reader.now
     c.load.new.reader c.args.writer.now c.load.new.writer of.line of.audit of.memory of.thread
     of.read of.too_large of.write of.only_read_fails of.only_write_fails of.writes_nothing

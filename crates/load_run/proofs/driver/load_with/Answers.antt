@@ -14,6 +14,6 @@ returns-clause-done g c =
     subst (Wrote g.W.Write.contents c.args.writer.now c.write_and_flush.new.writer)
     (c.as_bytes.ensures.value ∙ c.in_ok-told.ensures) c.in_ok-write_and_flush.ensures.all in
     IfSome_then _ c.in_ok-text.ensures.whole
-    (λ all same. is_loaded c.args.workers c.deref.result.now all _ c.in_ok-summary.summary
+    (λ all same. is_loaded c.args.workers c.args.n c.deref.result.now all _ c.in_ok-summary.summary
     (c.deref.ensures.value ∙ same) small c.in_ok-summary.ensures.whole c.in_ok-summary.ensures.run
     written)

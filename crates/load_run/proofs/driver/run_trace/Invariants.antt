@@ -1,12 +1,18 @@
 use Rattle.gate_ledgers.specs.Names.{places_of}
-use Rattle.script.specs.Settings.{room_of}
+use Rattle.load_run.specs.Load.{making_of}
 use Rattle.load_run.proofs.driver.run_trace.Given as goal
 
--- the ledgers that were just made, over the table and the backlog of the trace
+-- the ledgers that were just made, and what a gate of the trace is made with
 abbrev pub ghosts-run_named : goal.ghosts-run_named
-ghosts-run_named g a = record {
-  calls = a.blanks.calls.name;
-  place = places_of a.blanks;
-  rows = a.settings.rows;
-  room = room_of a.settings;
-}
+ghosts-run_named g a =
+    let making = making_of a.crew.limit a.settings in
+    record {
+      calls = a.blanks.calls.name;
+      place = places_of a.blanks;
+      rows = making.rows;
+      room = making.room;
+      promote = making.promote;
+      kept = making.kept;
+      is_rolling = making.is_rolling;
+      limit = making.limit;
+    }

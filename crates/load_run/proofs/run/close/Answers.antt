@@ -1,0 +1,32 @@
+use Rattle.std.proofs.Common.{rules, ◌≡◌, ℕ, length, subst}
+use Rattle.limit_kinds.specs.AnyKinds.{any_rules}
+use Rattle.gate_history.specs.Book.{Making, made_as}
+use Rattle.shared_gate.specs.Closing.{IsKept}
+use Rattle.load_run.specs.Summary.{summary_of}
+use Rattle.load_run.specs.Workers.{AllOfAllFit}
+use Rattle.load_run.proofs.Runs.{is_rejected_unread}
+use Rattle.load_run.proofs.run.close.Goals as goal
+
+pub returns-then-all_fit-clause-accepted : goal.returns-then-all_fit-clause-accepted
+returns-then-all_fit-clause-accepted g c =
+    let n = g.M.Naming in
+    let m : Making = made_as n.rows n.room n.promote n.kept n.is_rolling n.limit in
+    let history = c.in-Ok.history in
+    let held : c.len.result ≡ length history.entries.items = search rules in
+    let told : c.count_entries.result ≡ summary_of history.entries.items = search rules in
+    record {
+      opening = history.opening.standing;
+      entries = history.entries.items;
+      legal =
+          subst (λ (base : ℕ).
+          IsKept any_rules m history.opening.standing base history.entries.items)
+          c.in-Ok.ensures.whole c.in-Ok.ensures.legal;
+      receipts = c.in-Ok.ensures.accepted;
+      refusals =
+          subst (λ (entries : ℕ). AllOfAllFit m entries c.args.worked.spent.items) held
+          (c.all_fit.ensures c.if-all_fit.true);
+      told = told;
+    }
+
+pub returns-in-Ok-clause-rejected : goal.returns-in-Ok-clause-rejected
+returns-in-Ok-clause-rejected g c = is_rejected_unread _ _ _ _ _ c.in-Ok.ensures.legal
