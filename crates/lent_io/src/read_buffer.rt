@@ -32,6 +32,13 @@ impl ReadBuffer {
         self.bytes.len()
     }
 
+    /// How many bytes were read ahead and not handed on yet.
+    pub fn left(&self) -> usize
+        ensures { result ≡ length (ahead_of self.now) }
+    {
+        self.held().len()
+    }
+
     // Whether all was handed on.
     pub(crate) fn is_empty(&self) -> bool
         ensures { IsTrue result → ahead_of self.now ≡ [] }

@@ -1,5 +1,7 @@
 -- The text that asks for a body.
-use Rattle.std.specs.Prelude.{ℕ, Bool, true, false, ◌&&◌, ◌==◌, nat_lt, List, [], Ok, Err, codes, if◌then◌else◌}
+use Rattle.std.specs.Prelude.{◌≡◌, ◌⊎◌, ℕ, Bool, true, false, ◌&&◌, ◌==◌, nat_lt, List, [], Ok, Err, codes, if◌then◌else◌}
+use Rattle.counted_io.specs.declared.counted.Counted.{Counted}
+use Rattle.counted_io.specs.Counted.{is_flushed}
 use Rattle.message_fields.specs.Lines.{asks_continue}
 use Rattle.message_bytes.specs.declared.fault.Fault.{Fault}
 use Rattle.message_heads.specs.declared.request.RequestHead.{RequestHead}
@@ -22,6 +24,10 @@ is_awaited head framing =
 abbrev pub continue_of : RequestHead → Framing → List ℕ
 continue_of head framing =
     if is_awaited head framing then codes "HTTP/1.1 100 Continue\r\n\r\n" else []
+
+-- the writer is as it was, or all that was written to it is flushed
+abbrev pub IsSeen : {W : Type 0} → Counted W → Counted W → Type 0
+IsSeen old new = (new ≡ old) ⊎ (is_flushed new ≡ true)
 
 -- what is said to a client that sends these bytes
 pub data Says : List ℕ → List ℕ → Type 0 where

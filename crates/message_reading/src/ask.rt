@@ -3,7 +3,7 @@ ghost use Rattle.std.specs.Prelude.{◌≡◌, OnOk, OnErr};
 ghost use Rattle.counted_io.specs.Causes.{IsWriteCause};
 ghost use Rattle.counted_io.specs.Counted.{failures_of};
 ghost use Rattle.counted_io.specs.Effects.{Wrote};
-ghost use Rattle.message_reading.specs.Continue.{continue_of, is_awaited, wants_body};
+ghost use Rattle.message_reading.specs.Continue.{IsSeen, continue_of, is_awaited, wants_body};
 
 use crate::framing::Framing;
 use counted_io::{Counted, WriteFault, write_and_flush};
@@ -30,7 +30,8 @@ fn is_awaited(head: &RequestHead, framing: Framing) -> bool
 }
 
 /// Asks for the body where the client waits for that: in HTTP/1.1, with a line
-/// `Expect: 100-continue`, and with a body that isn't empty. The text is flushed.
+/// `Expect: 100-continue`, and with a body that isn't empty. The text is flushed, so that a client
+/// which waits for it gets it.
 pub fn say_continue<W: Write>(
     writer: &mut Counted<W>,
     head: &RequestHead,
@@ -38,6 +39,7 @@ pub fn say_continue<W: Write>(
 ) -> Result<(), WriteFault>
     ensures said { OnOk result
         (Wrote W.contents writer.old writer.new (continue_of head.now framing)) }
+    ensures seen { OnOk result (IsSeen writer.old writer.new) }
     ensures unfailing { OnOk result (failures_of writer.new ≡ failures_of writer.old) }
     ensures failed { OnErr result (IsWriteCause writer.old writer.new) }
 {

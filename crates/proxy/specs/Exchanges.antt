@@ -1,6 +1,7 @@
 -- What an exchange is.
 use Rattle.std.specs.Prelude.{◌≡◌, ℕ, List, Option, None, Some, Result, Ok, Err, IsErrOf}
 use Rattle.counted_io.specs.declared.counted.Counted.{Counted}
+use Rattle.counted_io.specs.Causes.{IsWriteCause}
 use Rattle.counted_io.specs.Counted.{inner_of}
 use Rattle.counted_io.specs.Effects.{Wrote}
 use Rattle.message_bytes.specs.Reading.{HasFailed}
@@ -28,8 +29,8 @@ pub record World (R W : Type 0) : Type 0 where
   pub log : Option (List Forwarded)
 
 -- READ: the request that the reader's bytes begin with, or the fault that comes first in them,
--- with what was said to the client meanwhile; a fault of the reader, or of too many reads, has its
--- cause
+-- with what was said to the client meanwhile; a fault of the reader, of too many reads, or of the
+-- writer has its cause
 pub record IsRead {R W : Type 0} (remaining : R → Option (List ℕ)) (contents : W → Option (List ℕ))
     (reader reader' : Counted R) (writer writer' : Counted W) (read : Result Request WireFault)
     : Type 0 where
@@ -39,6 +40,7 @@ pub record IsRead {R W : Type 0} (remaining : R → Option (List ℕ)) (contents
       (contents (inner_of writer')) read
   pub failed : IsErrOf read fault.Read → HasFailed reader reader'
   pub used_up : IsErrOf read fault.TurnLimit → IsUsedUp reader reader'
+  pub unsaid : IsErrOf read fault.Write → IsWriteCause writer writer'
 
 -- after a fault of reading the gate isn't asked and nothing is forwarded; else what was read is
 -- settled
@@ -53,7 +55,8 @@ Deals s old new (Ok request) answer x =
     (class_by s request) x.admission answer
 
 -- AN EXCHANGE: something is read, and dealt with; what is told of it, and without a fault of
--- writing what is written to the client, is by the table of answers
+-- writing what is written to the client, is by the table of answers. A fault of writing as
+-- something was read is told as such
 pub record IsExchange {R W : Type 0} (remaining : R → Option (List ℕ))
     (contents : W → Option (List ℕ)) (s : Settings) (old new : World R W) (x : Exchange)
     : Type 0 where
@@ -65,3 +68,4 @@ pub record IsExchange {R W : Type 0} (remaining : R → Option (List ℕ))
   pub status : x.answer ≡ sent_status read answer
   pub outcome : x.outcome ≡ outcome_at answer
   pub text : x.written_fault ≡ None → Wrote contents asked new.writer (sent_text read answer)
+  pub unasked : IsErrOf read fault.Write → x.written_fault ≡ Some fault.Write

@@ -1,5 +1,5 @@
 // An exchange.
-ghost use Rattle.std.specs.Prelude.{◌≡◌, ◌⊎◌, None, IfSome, is_some, true};
+ghost use Rattle.std.specs.Prelude.{◌≡◌, ◌⊎◌, None, Some, IfSome, is_some, true};
 ghost use Rattle.counted_io.specs.Causes.{IsWriteCause};
 ghost use Rattle.counted_io.specs.Counted.{is_flushed};
 ghost use Rattle.counted_io.specs.Effects.{Wrote};
@@ -84,6 +84,7 @@ fn unread<W: Write>(fault: WireFault, writer: &mut Counted<W>) -> Exchange
     ensures written { IfSome result.written_fault (λ written. (written ≡ WireFault.Write)
         × ((fault ≡ WireFault.Write) ⊎ IsWriteCause writer.old writer.new)) }
     ensures untouched { fault ≡ WireFault.Write → writer.new ≡ writer.old }
+    ensures told { fault ≡ WireFault.Write → result.written_fault ≡ Some WireFault.Write }
 {
     let answer = fault_status(fault);
     let written_fault = match answer {

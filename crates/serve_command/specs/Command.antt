@@ -5,6 +5,7 @@ use Rattle.counted_io.specs.Causes.{IsWriteCause}
 use Rattle.counted_io.specs.Counted.{failures_of, is_flushed}
 use Rattle.counted_io.specs.Effects.{Wrote}
 use Rattle.limit_kinds.specs.AnyKinds.{any_hi}
+use Rattle.partitions.specs.Table.{bound}
 use Rattle.limiter_core.specs.declared.counters.Counters.{Counters}
 use Rattle.gate_config.specs.declared.settings.Settings.{Settings}
 use Rattle.config_check.specs.Check.{Held, IsUnset, Says}
@@ -13,9 +14,10 @@ use Rattle.counters_line.specs.Line.{counters_line}
 use Rattle.serve_command.specs.declared.fault.ServiceFault.{ServiceFault}
 use Rattle.serve_command.specs.declared.fault.ServiceFault.TheVariants as Service
 
--- how many callers can be in flight at the greatest limit, or wait where callers wait
+-- how many callers can be in flight at the greatest limit, with each class's share of it, or wait
+-- where callers wait
 abbrev pub most_inside : Settings → ℕ
-most_inside s = any_hi s.limit + (if s.wait then s.backlog else 0)
+most_inside s = bound s.table (any_hi s.limit) + (if s.wait then s.backlog else 0)
 
 -- SERVED: a file held a configuration, and the line of some counters is written and flushed, and no
 -- write failed

@@ -114,7 +114,7 @@ fn serve_settings<R>(
     service: &Service<'_>,
 ) -> Result<Counters, ServiceFault>
 where
-    R: Net + Threads + Wait + SystemClock + Log + Sync,
+    R: Files + Net + Threads + Wait + SystemClock + Log + Sync,
     R::Stream: Send + Sync,
     R::Listener: Send + Sync,
     requires sound { AreSound settings.now }
@@ -125,7 +125,7 @@ where
     let Ok(front) = Front::bind(rt, SocketAddr::V4(settings.listen.socket())) else {
         return Err(ServiceFault::Listen);
     };
-    log_listening(rt, settings, service.workers);
+    log_listening(rt, alloc, settings, service.workers);
     let clock = ProgramClock::start(rt);
     let shift = Shift {
         listener: &front,

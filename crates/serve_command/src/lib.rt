@@ -7,6 +7,7 @@
 
 mod command;
 mod config_text;
+mod descriptors;
 mod fault;
 mod logging;
 

@@ -3,24 +3,33 @@ ghost use Rattle.std.specs.Prelude.{◌≡◌};
 ghost use Rattle.gate_config.specs.Settings.{AreSound};
 ghost use Rattle.serve_command.specs.Command.{most_inside};
 
+use crate::descriptors::most_descriptors;
 use gate_config::Settings;
 use limit_laws::Limit;
 use log::{Log, info, warn};
+use std::alloc::Global;
+use std::fs::Files;
 use std::net::SocketAddrV4;
 
-/// Logs a warning where the greatest limit, with the callers who may wait, exceeds the workers,
-/// since who comes while all workers are taken waits unseen in the system's accept queue, and isn't
-/// refused; one where the backend is this gateway itself, since each request would then take one
-/// worker after the other; and at last where clients are listened for, by how many workers, and the
-/// kind of limit.
-pub(crate) fn log_listening<R: Log>(rt: &R, settings: &Settings, workers: u32)
+/// Logs a warning where as many as may be in flight or wait exceed the workers, since who comes
+/// while all workers are taken waits unseen in the system's accept queue, and isn't refused; one
+/// where the workers may want more descriptors than the system gives; one where the backend is this
+/// gateway itself, since each request would then take one worker after the other; and at last where
+/// clients are listened for, by how many workers, and the kind of limit.
+pub(crate) fn log_listening<R: Files + Log>(
+    rt: &R,
+    alloc: Global,
+    settings: &Settings,
+    workers: u32,
+)
     requires { AreSound settings.now }
 {
     let inside = most_inside(settings);
     if inside > u64::from(workers) {
         warn!(rt; target: "admission", inside, workers;
-            "limit and backlog exceed the workers: callers past them wait unseen");
+            "limit, shares and backlog exceed the workers: callers past them wait unseen");
     }
+    log_descriptors(rt, alloc, workers);
     let address = settings.listen.socket();
     let backend = settings.backend.socket();
     if leads_back(address, backend) {
@@ -31,13 +40,27 @@ pub(crate) fn log_listening<R: Log>(rt: &R, settings: &Settings, workers: u32)
     info!(rt; target: "admission", address:%, workers, limit; "listening");
 }
 
-/// How many callers the gate lets be in flight at the greatest limit, or wait.
+/// Logs a warning where each worker with a client and a backend would want more descriptors than
+/// the system gives, with some for the program itself.
+fn log_descriptors<R: Files + Log>(rt: &R, alloc: Global, workers: u32) {
+    let wanted = 2 * u64::from(workers) + 8;
+    let Some(descriptors) = most_descriptors(rt, alloc) else {
+        return;
+    };
+    if descriptors < wanted {
+        warn!(rt; target: "admission", descriptors, wanted;
+            "workers exceed the descriptors: clients past them get no answer or 502");
+    }
+}
+
+/// How many callers the gate lets be in flight at the greatest limit, by it or by their shares, or
+/// wait.
 pub(crate) fn most_inside(settings: &Settings) -> u64
     requires { AreSound settings.now }
     ensures { result ≡ most_inside settings.now }
 {
     let waiting = if settings.wait { settings.backlog } else { 0 };
-    u64::from(settings.limit.hi()) + u64::from(waiting)
+    settings.table.most(settings.limit.hi()) + u64::from(waiting)
 }
 
 /// Whether who connects to the backend arrives where clients are listened for: at the same port of

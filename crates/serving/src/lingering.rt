@@ -1,8 +1,9 @@
 // What a client sends behind its answer.
+use lent_io::ReadBuffer;
 use proxy::Exchange;
 use shared_gate::Clock;
 use std::io::Read;
-use timed_io::{Connection, Lent, TimedReader};
+use timed_io::{Connection, Lent, TimedReader, Uninterrupted};
 
 /// How long a client may go on sending behind its answer, in nanoseconds.
 const LONGEST: u64 = 2_000_000_000;
@@ -10,16 +11,32 @@ const LONGEST: u64 = 2_000_000_000;
 /// How many reads that may take.
 const MOST_READS: u32 = 65_536;
 
-/// Where a client was answered before its whole request was read: ends what is written to it, and
-/// then reads and drops what it still sends, up to its end or for so many nanoseconds, two seconds
-/// at most. A connection that is closed with bytes unread is reset, and the client may lose the
-/// answer with it (RFC 9112, section 9.6).
-pub(crate) fn linger<T: Connection, C: Clock>(served: &Exchange, stream: &T, clock: &C, most: u64) {
+/// Where a client was answered and has sent more than was read, or may still: ends what is written
+/// to it, and then reads and drops what it still sends, up to its end or for so many nanoseconds,
+/// two seconds at most. A connection that is closed with bytes unread is reset, and the client may
+/// lose the answer with it (RFC 9112, section 9.6).
+pub(crate) fn linger<T: Connection, C: Clock>(
+    served: &Exchange,
+    ahead: &ReadBuffer,
+    stream: &T,
+    clock: &C,
+    most: u64,
+) {
     let is_answered = served.answer.is_some() && served.written_fault.is_none();
-    if served.class.is_some() || !is_answered || stream.finish().is_err() {
-        return;
+    if is_answered && has_more(served, ahead, stream) && stream.finish().is_ok() {
+        drop_rest(stream, clock, most.min(LONGEST));
     }
-    let mut reader = TimedReader::new(Lent::new(stream), clock, most.min(LONGEST));
+}
+
+/// Whether the client's request wasn't read whole, or more than it lies in the buffer or unread.
+fn has_more<T: Connection>(served: &Exchange, ahead: &ReadBuffer, stream: &T) -> bool {
+    served.class.is_none() || ahead.left() > 0 || stream.has_unread()
+}
+
+/// Reads and drops what comes, up to its end or for so many nanoseconds.
+fn drop_rest<T: Connection, C: Clock>(stream: &T, clock: &C, most: u64) {
+    let timed = TimedReader::new(Lent::new(stream), clock, most);
+    let mut reader = Uninterrupted::new(timed);
     let mut dropped = [0u8; 4096];
     for _ in 0..MOST_READS {
         match reader.read(&mut dropped) {

@@ -1,6 +1,8 @@
 // The gate that stands between clients and the backend.
-ghost use Rattle.std.specs.Prelude.{◌≡◌, true, false, IfOk};
+ghost use Rattle.std.specs.Prelude.{◌≡◌, true, false, IfOk, vec_len};
+ghost use Rattle.limit_kinds.specs.AnyKinds.{any_rules};
 ghost use Rattle.limiter_core.specs.Limiter.{unasked};
+ghost use Rattle.limiter_core.specs.declared.promote.Promote.TheVariants.{Newest};
 ghost use Rattle.gate_journal.specs.Journal.{opened};
 ghost use Rattle.gate_ledgers.specs.Names.{AreNamed, AreWhole};
 ghost use Rattle.gate_ledgers.specs.Places.{no_places};
@@ -11,6 +13,7 @@ use crate::fault::ServeFault;
 use gate_config::{AnyLimit, Settings};
 use gate_history::{Blanks, Book, Naming};
 use limit_laws::Limit;
+use limiter_core::Promote;
 use shared_gate::{Pass, SharedGate};
 use std::alloc::Global;
 
@@ -25,9 +28,13 @@ fn open_book<M: Naming>(
     requires parts { AreWhole blanks }
     requires rows { M.rows ≡ settings.now.table }
     requires room { M.room ≡ settings.now.backlog }
+    requires promote { M.promote ≡ Newest }
+    requires kept { M.kept ≡ settings.now.keep }
+    requires rolling { M.is_rolling ≡ true }
+    requires limit { M.limit ≡ any_rules.limit settings.now.limit }
     requires sound { AreSound settings.now }
     ensures { IfOk result (λ book. book ≡ book_in
-        (opened (unasked settings.now.table settings.now.backlog settings.now.limit)
+        (opened (unasked settings.now.table settings.now.backlog Newest settings.now.limit)
         settings.now.keep true)
         (record { calls = 0; passes = 0 }) no_places false) }
 {
@@ -36,7 +43,16 @@ fn open_book<M: Naming>(
     };
     let limit = settings.limit.copy();
     let keep = settings.keep as usize;
-    let book = Book::begin(alloc, limit, table, settings.backlog, keep, true, blanks)?;
+    let book = Book::begin(
+        alloc,
+        limit,
+        table,
+        settings.backlog,
+        Promote::Newest,
+        keep,
+        true,
+        blanks,
+    )?;
     Ok(book)
 }
 
@@ -51,6 +67,10 @@ pub(crate) fn open_gate<M: Naming>(
     requires parts { AreWhole blanks }
     requires rows { M.rows ≡ settings.now.table }
     requires room { M.room ≡ settings.now.backlog }
+    requires promote { M.promote ≡ Newest }
+    requires kept { M.kept ≡ settings.now.keep }
+    requires rolling { M.is_rolling ≡ true }
+    requires limit { M.limit ≡ any_rules.limit settings.now.limit }
     requires sound { AreSound settings.now }
 {
     let mut book = open_book::<M>(alloc, settings, blanks)?;
@@ -64,18 +84,21 @@ fn beside<A: Drop, B: Drop>(one: A, other: Result<B, ServeFault>) -> Result<(A, 
     Ok((one, other?))
 }
 
-/// So many passes of a book.
+/// So many passes of a book that gives them.
 fn make_passes<M: Naming>(
     alloc: Global,
     book: &mut Book<AnyLimit, M>,
     count: usize,
-) -> Result<Vec<Pass<M>>, ServeFault> {
+) -> Result<Vec<Pass<M>>, ServeFault>
+    ensures all { IfOk result (λ passes. vec_len passes ≡ count) }
+{
     let mut passes = Vec::with_capacity(alloc, count)?;
     for _ in 0..count {
-        if let Some(pass) = book.pass() {
-            if passes.push(Pass::of(pass)).is_err() {
-                return Err(ServeFault::Memory);
-            }
+        let Some(pass) = book.pass() else {
+            return Err(ServeFault::Memory);
+        };
+        if passes.push(Pass::of(pass)).is_err() {
+            return Err(ServeFault::Memory);
         }
     }
     Ok(passes)

@@ -1,5 +1,7 @@
 // Workers that serve through one gate.
-ghost use Rattle.std.specs.Prelude.{◌≡◌, ◌≤◌, vec_len};
+ghost use Rattle.std.specs.Prelude.{◌≡◌, ◌≤◌, true, IfOk, vec_len};
+ghost use Rattle.limit_kinds.specs.AnyKinds.{any_rules};
+ghost use Rattle.limiter_core.specs.declared.promote.Promote.TheVariants.{Newest};
 ghost use Rattle.gate_ledgers.specs.Names.{AreNamed, AreWhole};
 ghost use Rattle.gate_config.specs.Settings.{AreSound};
 
@@ -46,15 +48,27 @@ where
     requires few { workers ≤ 64 }
     requires sound { AreSound settings.now }
 {
-    let alloc = shift.alloc;
-    let mut backends = Vec::with_capacity(alloc, workers)?;
-    for _ in 0..workers {
+    let backends = make_backends(rt, shift.alloc, settings, workers)?;
+    serve_with(rt, shift, settings, backends)
+}
+
+/// So many backends at the address of the settings.
+fn make_backends<'r, R: Net>(
+    rt: &'r R,
+    alloc: Global,
+    settings: &Settings,
+    count: usize,
+) -> Result<Vec<TcpBackend<&'r R>>, ServeFault>
+    ensures all { IfOk result (λ backends. vec_len backends ≡ count) }
+{
+    let mut backends = Vec::with_capacity(alloc, count)?;
+    for _ in 0..count {
         let backend = TcpBackend::new(rt, alloc, settings.backend.socket())?;
         if backends.push(backend).is_err() {
             return Err(ServeFault::Memory);
         }
     }
-    serve_with(rt, shift, settings, backends)
+    Ok(backends)
 }
 
 /// Serves clients by one worker for each backend.
@@ -95,6 +109,10 @@ where
     requires parts { AreWhole blanks }
     requires rows { M.rows ≡ settings.now.table }
     requires room { M.room ≡ settings.now.backlog }
+    requires promote { M.promote ≡ Newest }
+    requires kept { M.kept ≡ settings.now.keep }
+    requires rolling { M.is_rolling ≡ true }
+    requires limit { M.limit ≡ any_rules.limit settings.now.limit }
     requires sound { AreSound settings.now }
 {
     let (gate, passes) = open_gate::<M>(shift.alloc, settings, blanks, backends.len())?;
@@ -164,7 +182,7 @@ struct Worker<'a, M: Naming, R, L, B, C, S> {
     buffers: Buffers,
 }
 
-/// A worker for each pass and backend.
+/// A worker for each backend, with a pass each.
 fn hire<'a, M, R, L, B, C, S>(
     post: &'a Post<'a, M, R, L, C, S>,
     passes: Vec<Pass<M>>,
@@ -173,10 +191,15 @@ fn hire<'a, M, R, L, B, C, S>(
 where
     M: Naming,
     B: Drop,
+    ensures all { IfOk result (λ workers. vec_len workers ≡ vec_len backends) }
 {
     let alloc = post.shift.alloc;
     let mut workers = Vec::with_capacity(alloc, backends.len())?;
-    for (pass, backend) in passes.into_iter().zip(backends) {
+    let mut passes = passes.into_iter();
+    for backend in backends {
+        let Some(pass) = passes.next() else {
+            return Err(ServeFault::Memory);
+        };
         let buffers = Buffers::new(alloc)?;
         let worker = Worker {
             post,

@@ -17,7 +17,7 @@ use std::alloc::{AllocError, Global};
 use std::io::{BufRead, Write};
 use std::thread;
 use std::time::{Clock as SystemClock, Duration};
-use timed_io::{Connection, Lent, TimedReader, TimedWriter};
+use timed_io::{Connection, Lent, TimedReader, TimedWriter, Uninterrupted};
 
 /// How many bytes are read or written at once.
 const PIECE: usize = 16_384;
@@ -74,8 +74,9 @@ pub struct Shift<'a, L, C, S> {
 
 /// Accepts as many connections as the shift says, one after the other, and serves each by one
 /// exchange. A connection that can't be had counts as one, and the next one is tried a while later:
-/// what was wanting, such as a free descriptor, isn't there at once. None is forwarded twice.
-pub fn work<R: SystemClock, P: GatePort, B: Backend, C: Clock, L: Listener, S>(
+/// what was wanting, such as a free descriptor, isn't there at once. None is forwarded twice. The
+/// settings are some that the shift's source gives.
+pub fn work<R: SystemClock, P: GatePort, B: Backend, C: Clock, L: Listener, S: Source>(
     rt: &R,
     shift: &Shift<'_, L, C, S>,
     settings: &Settings,
@@ -83,6 +84,7 @@ pub fn work<R: SystemClock, P: GatePort, B: Backend, C: Clock, L: Listener, S>(
     backend: &mut B,
     buffers: &mut Buffers,
 )
+    requires settings { S.gives shift.now.source.now settings.now }
     ensures once { B.forwarded backend.new ≤ B.forwarded backend.old + shift.now.per_worker }
 {
     for _ in 0..shift.per_worker {
@@ -97,8 +99,9 @@ pub fn work<R: SystemClock, P: GatePort, B: Backend, C: Clock, L: Listener, S>(
 
 /// Serves one client over its connection, by readers and writers that last as long as it may take.
 /// It is forwarded once where its request was let through, and else not at all. Where it is
-/// answered before its whole request was read, what it still sends is dropped, so that it gets to
-/// read the answer.
+/// answered before its whole request was read, or has sent more than that, what it still sends is
+/// dropped, so that it gets to read the answer. A signal that cuts a read or a write short changes
+/// nothing.
 pub fn serve_client<T: Connection, P: GatePort, B: Backend, C: Clock, L, S>(
     shift: &Shift<'_, L, C, S>,
     settings: &Settings,
@@ -113,10 +116,10 @@ pub fn serve_client<T: Connection, P: GatePort, B: Backend, C: Clock, L, S>(
     let (clock, time) = (shift.clock, shift.client_time);
     let from = TimedReader::new(Lent::new(stream), clock, time);
     let to = TimedWriter::new(Lent::new(stream), clock, time);
-    let reader = BufferedRead::new(from, &mut buffers.ahead);
-    let writer = BufferedWrite::new(to, &mut buffers.behind);
+    let reader = BufferedRead::new(Uninterrupted::new(from), &mut buffers.ahead);
+    let writer = BufferedWrite::new(Uninterrupted::new(to), &mut buffers.behind);
     let served = exchange_over(shift, settings, port, backend, reader, writer);
-    linger(&served, stream, clock, time);
+    linger(&served, &buffers.ahead, stream, clock, time);
     served
 }
 

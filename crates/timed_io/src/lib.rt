@@ -4,15 +4,18 @@
 //! request together, and all writes of an answer up to its flush, each have so long, counted from
 //! the first of them; past that a read or a write fails and touches nothing below. Before each one
 //! the connection's own limit is set to the time that is left, so that it doesn't wait for longer.
-//! `specs/` has the words. Nothing is promised of what a clock tells, or of how long a call takes.
+//! An [`Uninterrupted`] reader or writer begins a call anew that a signal cut short. `specs/` has
+//! the words. Nothing is promised of what a clock tells, or of how long a call takes.
 #![tactic(auto)]
 
 mod connection;
 mod countdown;
 mod reading;
+mod uninterrupted;
 mod writing;
 
 pub use connection::{Connection, Lent};
 pub use countdown::Countdown;
 pub use reading::{LimitedRead, TimedReader};
+pub use uninterrupted::Uninterrupted;
 pub use writing::{LimitedWrite, TimedWriter};

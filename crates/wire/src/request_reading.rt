@@ -4,6 +4,7 @@ ghost use Rattle.counted_io.specs.Causes.{IsWriteCause};
 ghost use Rattle.counted_io.specs.Counted.{failures_of, inner_of};
 ghost use Rattle.message_bytes.specs.Reading.{HasFailed};
 ghost use Rattle.message_fields.specs.Target.{path_of};
+ghost use Rattle.message_reading.specs.Continue.{IsSeen};
 ghost use Rattle.wire.specs.Fault.{IsUsedUp, Reads};
 ghost use Rattle.wire.specs.Messages.{IsRequest, Said, request_of, version_of};
 
@@ -54,10 +55,11 @@ fn request_of(head: RequestHead, path: Text, body: Option<Bytes>) -> Request
 
 /// The request that the reader's bytes begin with; what follows it stays unread.
 ///
-/// A client that waits to be asked for the body is asked, once the head passed all checks; nothing
-/// else is written. `Memory`, `Read`, `Write` and `TurnLimit` come where a growth was refused, the
-/// reader or the writer failed, or 100,000,000 reads were made; each other fault where the bytes
-/// have it first: in the head, in its checks, in the lengths or in the body.
+/// A client that waits to be asked for the body is asked, once the head passed all checks, and what
+/// asks it is flushed before the body is read; nothing else is written. `Memory`, `Read`, `Write`
+/// and `TurnLimit` come where a growth was refused, the reader or the writer failed, or 100,000,000
+/// reads were made; each other fault where the bytes have it first: in the head, in its checks, in
+/// the lengths or in the body.
 #[tactic(auto, using(crate::proofs::SaidTexts::request_told))]
 pub fn read_request<R: BufRead, W: Write>(
     alloc: Global,
@@ -68,6 +70,7 @@ pub fn read_request<R: BufRead, W: Write>(
         IsRequest result }
     ensures said { ¬ (IsErrOf result WireFault.Write) → Said (R.remaining (inner_of reader.old))
         (W.contents (inner_of writer.old)) (W.contents (inner_of writer.new)) result }
+    ensures seen { ¬ (IsErrOf result WireFault.Write) → IsSeen writer.old writer.new }
     ensures unfailing { ¬ (IsErrOf result WireFault.Write) →
         failures_of writer.new ≡ failures_of writer.old }
     ensures read { IsErrOf result WireFault.Read → HasFailed reader.old reader.new }

@@ -1,10 +1,16 @@
-use Rattle.std.proofs.Common.{◌≡◌, ℕ, ◌<◌, ◌⊎◌, IfSome, None, Some, Ok, Err, ap, is_ok, refl}
+use Rattle.std.proofs.Common.{◌≡◌, ℕ, ◌<◌, ◌⊎◌, IfSome, None, Some, Result, Ok, Err, ap, is_ok, refl}
 use Rattle.std.proofs.Common.{subst, true≢false}
 use Rattle.counted_io.specs.Count.{count_end}
 use Rattle.counted_io.specs.Counted.{failures_of}
+use Rattle.wire.specs.declared.request.Request.{Request}
 use Rattle.wire.specs.declared.fault.WireFault.{WireFault}
 use Rattle.wire.specs.declared.fault.WireFault.TheVariants.{Write}
 use Rattle.proxy.proofs.exchanging.exchange.Goals as goal
+
+-- the fault of a result that has one
+abbrev fault_in : Result Request WireFault → WireFault
+fault_in (Ok request) = Write
+fault_in (Err fault) = fault
 
 pub returns-in-Err-clause-exchanged : goal.returns-in-Err-clause-exchanged
 returns-in-Err-clause-exchanged g c = record {
@@ -16,11 +22,13 @@ returns-in-Err-clause-exchanged g c = record {
     said = c.in-Err.ensures.said;
     failed = c.in-Err.ensures.read;
     used_up = c.in-Err.ensures.turns;
+    unsaid = c.in-Err.ensures.write;
   };
   deals = (c.unread.ensures.class, c.unread.ensures.admission, refl, refl, refl, refl);
   status = c.unread.ensures.answer;
   outcome = c.unread.ensures.outcome;
   text = c.unread.ensures.text;
+  unasked = λ same. c.unread.ensures.told (ap fault_in same);
 }
 
 pub returns-clause-exchanged : goal.returns-clause-exchanged
@@ -33,6 +41,7 @@ returns-clause-exchanged g c = record {
     said = c.in-Ok.ensures.said;
     failed = c.in-Ok.ensures.read;
     used_up = c.in-Ok.ensures.turns;
+    unsaid = c.in-Ok.ensures.write;
   };
   deals = (
     ap Some c.settle-settled.ensures.class_is,
@@ -48,6 +57,7 @@ returns-clause-exchanged g c = record {
   status = ap Some c.reply_status.ensures;
   outcome = c.outcome_at.ensures;
   text = c.reply-written_fault.ensures.all;
+  unasked = λ same. absurd (true≢false (ap is_ok same));
 }
 
 pub returns-clause-written : goal.returns-clause-written

@@ -1,7 +1,10 @@
+use Rattle.std.specs.Prelude.{true}
+use Rattle.limiter_core.specs.declared.promote.Promote.TheVariants.{Newest}
+use Rattle.limit_kinds.specs.AnyKinds.{any_rules}
 use Rattle.gate_ledgers.specs.Names.{places_of}
 use Rattle.serving.proofs.workers.serve_with.Given as goal
 
--- the ledgers that were just made, over the table and the backlog of the settings
+-- the ledgers that were just made, of a gate of the settings, which rolls
 abbrev pub ghosts-serve_named : goal.ghosts-serve_named
 ghosts-serve_named g a =
     let settings = a.settings.now in
@@ -10,4 +13,8 @@ ghosts-serve_named g a =
       place = places_of a.blanks;
       rows = settings.table;
       room = settings.backlog;
+      promote = Newest;
+      kept = settings.keep;
+      is_rolling = true;
+      limit = any_rules.limit settings.limit;
     }
