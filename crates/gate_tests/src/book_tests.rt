@@ -1,11 +1,12 @@
 // How many passes a book gives, and how many entries a journal may be asked to keep.
-ghost use Rattle.std.specs.Prelude.{◌≡◌, []};
+ghost use Rattle.std.specs.Prelude.{◌≡◌, [], false};
+ghost use Rattle.limiter_core.specs.declared.promote.Promote.TheVariants.{Newest};
 ghost use Rattle.gate_ledgers.specs.Names.{AreNamed, AreWhole};
 
 use crate::books::book_over;
 use gate_history::{Blanks, Journal, JournalFault, Naming};
 use limit_laws::Fixed;
-use limiter_core::Core;
+use limiter_core::{Core, Promote};
 use partitions::PartitionTable;
 use std::alloc::Global;
 use std::marker::Brand;
@@ -21,6 +22,10 @@ fn a_million_passes<N: Naming, R: Abort>(rt: &R, alloc: Global, blanks: Blanks)
     requires parts { AreWhole blanks }
     requires rows { N.rows ≡ [] }
     requires room { N.room ≡ 100 }
+    requires promote { N.promote ≡ Newest }
+    requires kept { N.kept ≡ 1 }
+    requires rolling { N.is_rolling ≡ false }
+    requires limit { N.limit ≡ 1 }
 {
     let mut book = book_over::<N, R>(rt, alloc, 1, 1, false, blanks);
     for _ in 0..1_000_000 {
@@ -39,6 +44,10 @@ fn sealed<N: Naming, R: Abort>(rt: &R, alloc: Global, blanks: Blanks)
     requires parts { AreWhole blanks }
     requires rows { N.rows ≡ [] }
     requires room { N.room ≡ 100 }
+    requires promote { N.promote ≡ Newest }
+    requires kept { N.kept ≡ 1 }
+    requires rolling { N.is_rolling ≡ false }
+    requires limit { N.limit ≡ 1 }
 {
     let mut book = book_over::<N, R>(rt, alloc, 1, 1, false, blanks);
     book.seal();
@@ -49,7 +58,7 @@ fn sealed<N: Naming, R: Abort>(rt: &R, alloc: Global, blanks: Blanks)
 fn fault<R: Abort>(rt: &R, alloc: Global, kept: usize) -> Option<JournalFault> {
     let limit = Fixed::new(1).expect(rt, "a limit");
     let table = PartitionTable::unknown_only();
-    let core = Core::new(alloc, limit, table, 100).expect(rt, "a limiter");
+    let core = Core::new(alloc, limit, table, 100, Promote::Newest).expect(rt, "a limiter");
     Journal::new(alloc, core, kept, false).err()
 }
 

@@ -1,10 +1,12 @@
 // A book over a few permits.
 ghost use Rattle.std.specs.Prelude.{◌≡◌, ◌≤◌, []};
+ghost use Rattle.limiter_core.specs.declared.promote.Promote.TheVariants.{Newest};
 ghost use Rattle.gate_journal.specs.Journal.{most_kept};
 ghost use Rattle.gate_ledgers.specs.Names.{AreNamed, AreWhole};
 
 use gate_history::{Blanks, Book, Naming};
 use limit_laws::Fixed;
+use limiter_core::Promote;
 use partitions::PartitionTable;
 use std::alloc::Global;
 use std::process::Abort;
@@ -23,10 +25,24 @@ pub(crate) fn book_over<N: Naming, R: Abort>(
     requires parts { AreWhole blanks }
     requires rows { N.rows ≡ [] }
     requires room { N.room ≡ 100 }
+    requires promote { N.promote ≡ Newest }
+    requires kept { N.kept ≡ kept }
+    requires rolling { N.is_rolling ≡ is_rolling }
+    requires limit { N.limit ≡ permits }
     requires some_kept { 1 ≤ kept }
     requires few_kept { kept ≤ most_kept }
 {
     let limit = Fixed::new(permits).expect(rt, "a limit");
     let table = PartitionTable::unknown_only();
-    Book::begin(alloc, limit, table, 100, kept, is_rolling, blanks).expect(rt, "memory")
+    Book::begin(
+        alloc,
+        limit,
+        table,
+        100,
+        Promote::Newest,
+        kept,
+        is_rolling,
+        blanks,
+    )
+    .expect(rt, "memory")
 }

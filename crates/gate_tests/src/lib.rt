@@ -1,5 +1,6 @@
 //! Tests of a gate by its public calls: its book, calls through the lock by worked rows and by four
-//! threads at random, how it is closed, and loads of it over devices that fail.
+//! threads at random, when who waits is woken, how it is closed, and loads of it over devices that
+//! fail.
 #![tactic(auto)]
 
 #[cfg(test)]
@@ -11,6 +12,8 @@ mod closing;
 #[cfg(test)]
 mod load;
 #[cfg(test)]
+mod raised_limit_tests;
+#[cfg(test)]
 mod random;
 #[cfg(test)]
 mod rolling_tests;
@@ -20,3 +23,5 @@ mod shared_gate_tests;
 mod threads;
 #[cfg(test)]
 mod waiting_tests;
+#[cfg(test)]
+mod waking_tests;

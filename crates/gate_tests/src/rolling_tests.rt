@@ -1,11 +1,12 @@
 // Gates whose history rolls, through the lock: the worked rows by one pass.
-ghost use Rattle.std.specs.Prelude.{◌≡◌, []};
+ghost use Rattle.std.specs.Prelude.{◌≡◌, [], true};
+ghost use Rattle.limiter_core.specs.declared.promote.Promote.TheVariants.{Newest};
 ghost use Rattle.gate_ledgers.specs.Names.{AreNamed, AreWhole};
 
 use crate::shared_gate_tests::admitted;
 use gate_history::{Blanks, Book, Naming, Receipt, Spent};
 use limit_laws::{SetFault, Settable};
-use limiter_core::{Outcome, Reply};
+use limiter_core::{Outcome, Promote, Reply};
 use partitions::{Part, PartitionTable};
 use shared_gate::{Pass, SharedGate};
 use std::alloc::Global;
@@ -23,8 +24,12 @@ fn set_and_seen<M: Naming, R: Wait + Abort>(rt: &R, alloc: Global, blanks: Blank
     requires parts { AreWhole blanks }
     requires rows { M.rows ≡ [] }
     requires room { M.room ≡ 100 }
+    requires promote { M.promote ≡ Newest }
+    requires kept { M.kept ≡ 2 }
+    requires rolling { M.is_rolling ≡ true }
+    requires limit { M.limit ≡ 20 }
 {
-    let book = settable::<M, R>(rt, alloc, [1, 20, 100], blanks);
+    let book = settable::<M, R>(rt, alloc, 1, 20, 100, blanks);
     is_seen(rt, book);
 }
 
@@ -50,8 +55,12 @@ fn set_and_reset<M: Naming, R: Wait + Abort>(rt: &R, alloc: Global, blanks: Blan
     requires parts { AreWhole blanks }
     requires rows { M.rows ≡ [] }
     requires room { M.room ≡ 100 }
+    requires promote { M.promote ≡ Newest }
+    requires kept { M.kept ≡ 2 }
+    requires rolling { M.is_rolling ≡ true }
+    requires limit { M.limit ≡ 10 }
 {
-    let book = settable::<M, R>(rt, alloc, [5, 10, 20], blanks);
+    let book = settable::<M, R>(rt, alloc, 5, 10, 20, blanks);
     is_reset(rt, book);
 }
 
@@ -76,18 +85,23 @@ fn is_reset<M: Naming, R: Wait + Abort>(rt: &R, mut book: Book<Settable, M>) {
 fn settable<M: Naming, R: Abort>(
     rt: &R,
     alloc: Global,
-    limits: [u32; 3],
+    lo: u32,
+    first: u32,
+    hi: u32,
     blanks: Blanks,
 ) -> Book<Settable, M>
     requires names { AreNamed M.calls M.place blanks }
     requires parts { AreWhole blanks }
     requires rows { M.rows ≡ [] }
     requires room { M.room ≡ 100 }
+    requires promote { M.promote ≡ Newest }
+    requires kept { M.kept ≡ 2 }
+    requires rolling { M.is_rolling ≡ true }
+    requires limit { M.limit ≡ first }
 {
-    let [lo, first, hi] = limits;
     let limit = Settable::new(lo, first, hi).expect(rt, "a limit");
     let table = PartitionTable::unknown_only();
-    Book::begin(alloc, limit, table, 100, 2, true, blanks).expect(rt, "memory")
+    Book::begin(alloc, limit, table, 100, Promote::Newest, 2, true, blanks).expect(rt, "memory")
 }
 
 /// It is told with this number and reply.

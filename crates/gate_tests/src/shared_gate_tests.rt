@@ -1,5 +1,6 @@
 // A shared gate by worked rows, and by two threads of which one waits for the other.
-ghost use Rattle.std.specs.Prelude.{◌≡◌, ◌≤◌, []};
+ghost use Rattle.std.specs.Prelude.{◌≡◌, ◌≤◌, [], false};
+ghost use Rattle.limiter_core.specs.declared.promote.Promote.TheVariants.{Newest};
 ghost use Rattle.gate_journal.specs.Journal.{most_kept};
 ghost use Rattle.gate_ledgers.specs.Names.{AreNamed, AreWhole};
 
@@ -70,6 +71,10 @@ fn by_one_pass<M: Naming, R: Wait + Abort>(
     requires parts { AreWhole blanks }
     requires rows { M.rows ≡ [] }
     requires room { M.room ≡ 100 }
+    requires promote { M.promote ≡ Newest }
+    requires kept { M.kept ≡ kept }
+    requires rolling { M.is_rolling ≡ is_rolling }
+    requires limit { M.limit ≡ 1 }
     requires some_kept { 1 ≤ kept }
     requires few_kept { kept ≤ most_kept }
 {
@@ -165,6 +170,10 @@ fn by_two_threads<M: Naming + Send + Sync, R: Threads + Wait + SystemClock + Abo
     requires parts { AreWhole blanks }
     requires rows { M.rows ≡ [] }
     requires room { M.room ≡ 100 }
+    requires promote { M.promote ≡ Newest }
+    requires kept { M.kept ≡ 1000000 }
+    requires rolling { M.is_rolling ≡ false }
+    requires limit { M.limit ≡ 1 }
 {
     let mut book = book_over::<M, R>(rt, alloc, 1, 1_000_000, false, blanks);
     let one = Pass::of(book.pass().expect(rt, "a pass"));

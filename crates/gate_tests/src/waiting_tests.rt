@@ -1,5 +1,6 @@
 // Waiting at a shared gate by clocks of several kinds, and a gate whose history is exhausted.
-ghost use Rattle.std.specs.Prelude.{◌≡◌, []};
+ghost use Rattle.std.specs.Prelude.{◌≡◌, [], false};
+ghost use Rattle.limiter_core.specs.declared.promote.Promote.TheVariants.{Newest};
 ghost use Rattle.gate_ledgers.specs.Names.{AreNamed, AreWhole};
 
 use crate::books::book_over;
@@ -95,7 +96,7 @@ fn a_clock_may_tell_more_than_the_last_moment(rt: HostRuntime) {
 }
 
 /// A caller holds the only permit and waits for another, until its clock has reached the deadline.
-fn in_vain<M: Naming, R: Wait + SystemClock + Abort, C: Clock>(
+pub(crate) fn in_vain<M: Naming, R: Wait + SystemClock + Abort, C: Clock>(
     rt: &R,
     alloc: Global,
     blanks: Blanks,
@@ -107,6 +108,10 @@ fn in_vain<M: Naming, R: Wait + SystemClock + Abort, C: Clock>(
     requires parts { AreWhole blanks }
     requires rows { M.rows ≡ [] }
     requires room { M.room ≡ 100 }
+    requires promote { M.promote ≡ Newest }
+    requires kept { M.kept ≡ 1000 }
+    requires rolling { M.is_rolling ≡ false }
+    requires limit { M.limit ≡ 1 }
 {
     let book = book_over::<M, R>(rt, alloc, 1, 1_000, false, blanks);
     waits_in_vain(rt, book, now, clock, deadline);
@@ -155,6 +160,10 @@ fn exhausted<M: Naming, R: Wait + SystemClock + Abort>(rt: &R, alloc: Global, bl
     requires parts { AreWhole blanks }
     requires rows { M.rows ≡ [] }
     requires room { M.room ≡ 100 }
+    requires promote { M.promote ≡ Newest }
+    requires kept { M.kept ≡ 2 }
+    requires rolling { M.is_rolling ≡ false }
+    requires limit { M.limit ≡ 1 }
 {
     let book = book_over::<M, R>(rt, alloc, 1, 2, false, blanks);
     answers_what_is_owed(rt, book);

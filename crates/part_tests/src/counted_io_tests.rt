@@ -204,9 +204,9 @@ fn all_is_written_or_the_writer_failed(rt: HostRuntime) {
 
 // Takes all that is written; a flush is answered by `outcome`, where there is one, and counted.
 #[derive(Drop)]
-struct Valve {
-    taken: usize,
-    flushed: u64,
+pub(crate) struct Valve {
+    pub(crate) taken: usize,
+    pub(crate) flushed: u64,
     outcome: Option<ErrorKind>,
 }
 
@@ -226,7 +226,7 @@ impl Write for Valve {
 }
 
 /// A valve that answers a flush so.
-fn valve_of(outcome: Option<ErrorKind>) -> Valve {
+pub(crate) fn valve_of(outcome: Option<ErrorKind>) -> Valve {
     Valve {
         taken: 0,
         flushed: 0,

@@ -8,4 +8,6 @@ mod counted_io_tests;
 #[cfg(test)]
 mod sample_window_tests;
 #[cfg(test)]
+mod timed_io_tests;
+#[cfg(test)]
 mod window_tests;

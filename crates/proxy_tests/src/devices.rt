@@ -1,5 +1,5 @@
 // A reader and a writer that fail once, a gate that keeps what it is asked, a backend that answers
-// 200, and a clock.
+// what it was told to, and a clock.
 ghost use Rattle.std.specs.Prelude.{◌≡◌};
 ghost use Rattle.counted_io.specs.Count.{raised};
 
@@ -12,7 +12,7 @@ use shared_gate::Clock;
 use std::alloc::Global;
 use std::cell::Cell;
 use std::io::{BufRead, Error, ErrorKind, Read, Result, Write};
-use wire::{Request, Response};
+use wire::{Request, Response, WireFault};
 
 /// Gives its bytes, or shows them, at most `most` in a call. One call alone fails.
 #[derive(Drop)]
@@ -62,11 +62,17 @@ impl<'a> BufRead for Source<'a> {
     }
 }
 
-/// Takes what is written. Flushes are calls like writes, and one call alone fails.
+/// How many bytes of what is written are kept: up to the end of a status.
+pub(crate) const KEPT: usize = 12;
+
+/// Takes what is written, and keeps how much it was and what it began with. Flushes are calls like
+/// writes, and one call alone fails.
 #[derive(Drop)]
 pub(crate) struct Sink {
     pub(crate) calls: u64,
     pub(crate) failing: u64,
+    pub(crate) taken: usize,
+    pub(crate) first: [u8; KEPT],
 }
 
 impl Sink {
@@ -83,6 +89,12 @@ impl Sink {
 impl Write for Sink {
     fn write(&mut self, buf: &[u8]) -> Result<usize> {
         self.next_call()?;
+        for byte in buf {
+            if let Some(place) = self.first.get_mut(self.taken) {
+                *place = *byte;
+            }
+            self.taken = self.taken.saturating_add(1);
+        }
         Ok(buf.len())
     }
 
@@ -101,6 +113,7 @@ pub(crate) struct Watched {
     pub(crate) asked: Option<u64>,
     pub(crate) deadline: Option<u64>,
     pub(crate) ended: Option<u64>,
+    pub(crate) learnt: Option<Outcome>,
 }
 
 impl GatePort for Watched {
@@ -137,19 +150,31 @@ impl GatePort for Watched {
         })
     }
 
-    fn end(&mut self, _permit: PermitFacts, _outcome: Outcome, now: u64) {
+    fn end(&mut self, _permit: PermitFacts, outcome: Outcome, now: u64) {
         self.ended = Some(now);
+        self.learnt = Some(outcome);
     }
 }
 
-/// A backend that answers 200.
+/// What a backend answers.
+#[derive(Clone, Copy, Drop)]
+pub(crate) enum Says {
+    /// A response of this status.
+    Status(u16),
+    NotConnected,
+    Broken(WireFault),
+    Memory,
+}
+
+/// A backend that answers what it was told to.
 #[derive(Drop)]
-pub(crate) struct Willing {
+pub(crate) struct Told {
     pub(crate) alloc: Global,
+    pub(crate) says: Says,
     pub(crate) count: u64,
 }
 
-impl Backend for Willing {
+impl Backend for Told {
     ghost use Rattle.std.specs.Prelude.{None};
 
     ghost forwarded = { λ b. b.count };
@@ -160,7 +185,15 @@ impl Backend for Willing {
         ensures { self.new.count ≡ raised self.old.count }
     {
         self.count = self.count.saturating_add(1);
-        Answer::Answered(Response::new(200, Headers::new(Vec::new(self.alloc)), None))
+        match self.says {
+            Says::Status(status) => {
+                let headers = Headers::new(Vec::new(self.alloc));
+                Answer::Answered(Response::new(status.clamp(100, 999), headers, None))
+            }
+            Says::NotConnected => Answer::NotConnected,
+            Says::Broken(fault) => Answer::Broken(fault),
+            Says::Memory => Answer::Memory,
+        }
     }
 
     fn forwards(&self) -> u64

@@ -1,7 +1,8 @@
 // One exchange with a gate that keeps what it is asked.
-use crate::devices::{Moments, Sink, Source, Ticking, Watched, Willing};
+use crate::devices::{KEPT, Moments, Says, Sink, Source, Ticking, Told, Watched};
 use counted_io::Counted;
 use gate_config::{Settings, read};
+use limiter_core::Outcome;
 use proxy::{Exchange, exchange};
 use std::alloc::Global;
 use std::process::Abort;
@@ -29,12 +30,15 @@ pub(crate) struct Case<'a> {
     /// The one read and the one write at which the client's end fails.
     pub(crate) failing_read: u64,
     pub(crate) failing_write: u64,
+    /// What the backend answers.
+    pub(crate) says: Says,
     /// The text of a configuration.
     pub(crate) settings: &'a str,
 }
 
 impl<'a> Case<'a> {
-    /// A request that comes whole, by these settings, with room at the gate.
+    /// A request that comes whole, by these settings, with room at the gate and a backend that
+    /// answers 200.
     pub(crate) fn new(sent: &'a [u8], settings: &'a str) -> Case<'a> {
         Case {
             sent,
@@ -42,6 +46,7 @@ impl<'a> Case<'a> {
             is_full: false,
             failing_read: u64::MAX,
             failing_write: u64::MAX,
+            says: Says::Status(200),
             settings,
         }
     }
@@ -54,8 +59,14 @@ pub(crate) struct Came {
     /// How often the client's end was read and written.
     pub(crate) reads: u64,
     pub(crate) writes: u64,
-    /// When it asked and ended.
+    /// How many bytes the client was sent, and what they began with.
+    pub(crate) sent: usize,
+    pub(crate) first: [u8; KEPT],
+    /// How often the backend was given the request.
+    pub(crate) forwards: u64,
+    /// When it asked and ended, and with which outcome.
     pub(crate) moments: Moments,
+    pub(crate) learnt: Option<Outcome>,
 }
 
 /// One exchange.
@@ -71,6 +82,12 @@ fn came_by(alloc: Global, case: Case, settings: &Settings) -> Came {
         asked: None,
         deadline: None,
         ended: None,
+        learnt: None,
+    };
+    let mut backend = Told {
+        alloc,
+        says: case.says,
+        count: 0,
     };
     let mut source = Source {
         left: case.sent,
@@ -81,11 +98,13 @@ fn came_by(alloc: Global, case: Case, settings: &Settings) -> Came {
     let mut sink = Sink {
         calls: 0,
         failing: case.failing_write,
+        taken: 0,
+        first: [0; KEPT],
     };
     let told = exchange(
         alloc,
         &mut gate,
-        &mut Willing { alloc, count: 0 },
+        &mut backend,
         settings,
         &Ticking::new(),
         &mut Counted::new(&mut source),
@@ -95,6 +114,10 @@ fn came_by(alloc: Global, case: Case, settings: &Settings) -> Came {
         told,
         reads: source.calls,
         writes: sink.calls,
+        sent: sink.taken,
+        first: sink.first,
+        forwards: backend.count,
         moments: (gate.asked, gate.deadline, gate.ended),
+        learnt: gate.learnt,
     }
 }

@@ -1,8 +1,10 @@
-//! Tests of the moments of an exchange and of ends that fail once, over a gate that keeps what it
-//! is asked; and of a port over a gate that threads share. What clients and backends see of
-//! exchanges, `tests/messages` and `tests/exchanges` try by the program.
+//! Tests of the moments of an exchange, of ends that fail once, and of what a backend answers, over
+//! a gate that keeps what it is asked; and of a port over a gate that threads share. What clients
+//! and backends see of exchanges, `tests/messages` and `tests/exchanges` try by the program.
 #![tactic(auto)]
 
+#[cfg(test)]
+mod answer_tests;
 #[cfg(test)]
 mod devices;
 #[cfg(test)]

@@ -1,11 +1,12 @@
 // A port over a gate that threads share, whose one permit is out.
-ghost use Rattle.std.specs.Prelude.{◌≡◌, []};
+ghost use Rattle.std.specs.Prelude.{◌≡◌, [], false};
+ghost use Rattle.limiter_core.specs.declared.promote.Promote.TheVariants.{Newest};
 ghost use Rattle.gate_ledgers.specs.Names.{AreNamed, AreWhole};
 
 use crate::devices::{SECOND, Ticking};
 use gate_history::{Blanks, Book, Naming};
 use limit_laws::Fixed;
-use limiter_core::Outcome;
+use limiter_core::{Outcome, Promote};
 use partitions::{Part, PartitionTable};
 use ports::{Admission, GatePort, Port, Why};
 use shared_gate::{Pass, SharedGate};
@@ -26,10 +27,24 @@ fn open_book<N: Naming, R: Abort>(rt: &R, alloc: Global, blanks: Blanks) -> Book
     requires parts { AreWhole blanks }
     requires rows { N.rows ≡ [] }
     requires room { N.room ≡ 100 }
+    requires promote { N.promote ≡ Newest }
+    requires kept { N.kept ≡ 100 }
+    requires rolling { N.is_rolling ≡ false }
+    requires limit { N.limit ≡ 1 }
 {
     let table = PartitionTable::unknown_only();
     let limit = Fixed::new(1).expect(rt, "a limit");
-    Book::begin(alloc, limit, table, 100, 100, false, blanks).expect(rt, "memory")
+    Book::begin(
+        alloc,
+        limit,
+        table,
+        100,
+        Promote::Newest,
+        100,
+        false,
+        blanks,
+    )
+    .expect(rt, "memory")
 }
 
 fn over_one_permit<N: Naming, R: Wait + SystemClock + Abort>(rt: &R, alloc: Global, blanks: Blanks)
@@ -37,6 +52,10 @@ fn over_one_permit<N: Naming, R: Wait + SystemClock + Abort>(rt: &R, alloc: Glob
     requires parts { AreWhole blanks }
     requires rows { N.rows ≡ [] }
     requires room { N.room ≡ 100 }
+    requires promote { N.promote ≡ Newest }
+    requires kept { N.kept ≡ 100 }
+    requires rolling { N.is_rolling ≡ false }
+    requires limit { N.limit ≡ 1 }
 {
     let mut book = open_book::<N, R>(rt, alloc, blanks);
     let pass = book.pass().expect(rt, "a pass");

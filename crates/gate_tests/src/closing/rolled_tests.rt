@@ -1,5 +1,6 @@
 // A gate that rolled isn't accepted: two looks, of which one entry is kept.
-ghost use Rattle.std.specs.Prelude.{◌≡◌, []};
+ghost use Rattle.std.specs.Prelude.{◌≡◌, [], true};
+ghost use Rattle.limiter_core.specs.declared.promote.Promote.TheVariants.{Newest};
 ghost use Rattle.gate_ledgers.specs.Names.{AreNamed, AreWhole};
 
 use super::callers::{Caller, look};
@@ -41,6 +42,10 @@ fn closes_rolled<M: Naming, R: Wait + Abort>(
     requires parts { AreWhole blanks }
     requires rows { M.rows ≡ [] }
     requires room { M.room ≡ 100 }
+    requires promote { M.promote ≡ Newest }
+    requires kept { M.kept ≡ 1 }
+    requires rolling { M.is_rolling ≡ true }
+    requires limit { M.limit ≡ 10 }
 {
     let book = book_over::<M, R>(rt, alloc, 10, 1, true, blanks);
     closes_book(rt, alloc, book, handing);

@@ -1,5 +1,6 @@
 // Two threads make 100 acquires and 100 endings each, and their gate is accepted.
-ghost use Rattle.std.specs.Prelude.{◌≡◌, []};
+ghost use Rattle.std.specs.Prelude.{◌≡◌, [], false};
+ghost use Rattle.limiter_core.specs.declared.promote.Promote.TheVariants.{Newest};
 ghost use Rattle.gate_ledgers.specs.Names.{AreNamed, AreWhole};
 
 use super::callers::{Caller, acquire_and_end};
@@ -28,6 +29,10 @@ fn closes_two_threads<M: Naming + Send + Sync, R: Threads + Wait + Abort + Sync>
     requires parts { AreWhole blanks }
     requires rows { M.rows ≡ [] }
     requires room { M.room ≡ 100 }
+    requires promote { M.promote ≡ Newest }
+    requires kept { M.kept ≡ 1000 }
+    requires rolling { M.is_rolling ≡ false }
+    requires limit { M.limit ≡ 10 }
 {
     let book = book_over::<M, R>(rt, alloc, 10, 1_000, false, blanks);
     closes_book(rt, alloc, book);

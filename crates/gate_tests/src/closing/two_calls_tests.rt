@@ -1,6 +1,7 @@
 // A gate of an acquire and its ending: each fault of what is handed in is told, and history and
 // lists come back.
-ghost use Rattle.std.specs.Prelude.{◌≡◌, []};
+ghost use Rattle.std.specs.Prelude.{◌≡◌, [], false};
+ghost use Rattle.limiter_core.specs.declared.promote.Promote.TheVariants.{Newest};
 ghost use Rattle.gate_ledgers.specs.Names.{AreNamed, AreWhole};
 
 use super::callers::{Caller, acquire_and_end};
@@ -50,6 +51,10 @@ fn closes_two_calls<M: Naming, R: Wait + Abort>(
     requires parts { AreWhole blanks }
     requires rows { M.rows ≡ [] }
     requires room { M.room ≡ 100 }
+    requires promote { M.promote ≡ Newest }
+    requires kept { M.kept ≡ 1000 }
+    requires rolling { M.is_rolling ≡ false }
+    requires limit { M.limit ≡ 10 }
 {
     let book = book_over::<M, R>(rt, alloc, 10, 1_000, false, blanks);
     closes_book(rt, alloc, book, handing);

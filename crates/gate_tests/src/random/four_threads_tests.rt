@@ -1,7 +1,9 @@
 // Four threads make random calls of one gate: what they are told is what one thread is told.
 ghost use Rattle.std.specs.Prelude.{◌≡◌, ◌≤◌};
+ghost use Rattle.aimd.specs.AimdRules.{aimd_rules};
 ghost use Rattle.limiter_core.specs.Answer.{granted_at};
 ghost use Rattle.limiter_core.specs.Limiter.{gate_of, stands};
+ghost use Rattle.limiter_core.specs.declared.promote.Promote.TheVariants.{Newest};
 ghost use Rattle.gate_journal.specs.Journal.{most_kept};
 ghost use Rattle.gate_ledgers.specs.Names.{AreNamed, AreWhole};
 
@@ -10,7 +12,7 @@ use crate::threads::{Work, four_done};
 use aimd::Aimd;
 use gate_history::{Blanks, Book, Naming};
 use limit_laws::Limit;
-use limiter_core::{Core, Counters, Event, Reply};
+use limiter_core::{Core, Counters, Event, Promote, Reply};
 use partitions::PartitionTable;
 use shared_gate::{Pass, SharedGate};
 use std::alloc::Global;
@@ -24,18 +26,20 @@ const ROOM: u32 = 2;
 
 /// Three classes.
 fn classes<R: Abort>(rt: &R, alloc: Global) -> PartitionTable {
-    let rows = [(b"live".as_slice(), 50), (b"batch", 30), (b"scan", 10)];
+    let rows = [(b"live".as_slice(), 500), (b"batch", 300), (b"scan", 100)];
     PartitionTable::new(alloc, &rows).expect(rt, "a table")
 }
 
-/// A limit of 1 to 5.
-fn limit<R: Abort>(rt: &R) -> Aimd {
+/// A limit of 1 to 5, which begins with 3.
+fn limit<R: Abort>(rt: &R) -> Aimd
+    ensures { aimd_rules.limit result ≡ 3 }
+{
     Aimd::new(1, 3, 5, 900, 1_000_000).expect(rt, "a limit")
 }
 
 /// A limiter that is asked by one thread.
 fn limiter<R: Abort>(rt: &R, alloc: Global) -> Core<Aimd> {
-    Core::new(alloc, limit(rt), classes(rt, alloc), ROOM).expect(rt, "a limiter")
+    Core::new(alloc, limit(rt), classes(rt, alloc), ROOM, Promote::Newest).expect(rt, "a limiter")
 }
 
 #[test]
@@ -62,6 +66,10 @@ fn told_by_four<M: Naming + Send + Sync, R: Threads + Wait + Abort + Sync>(
     requires parts { AreWhole blanks }
     requires rows { M.rows ≡ table }
     requires room { M.room ≡ 2 }
+    requires promote { M.promote ≡ Newest }
+    requires kept { M.kept ≡ kept }
+    requires rolling { M.is_rolling ≡ is_rolling }
+    requires limit { M.limit ≡ 3 }
     requires some_kept { 1 ≤ kept }
     requires few_kept { kept ≤ most_kept }
 {
@@ -81,11 +89,25 @@ fn a_book<M: Naming, R: Abort>(
     requires parts { AreWhole blanks }
     requires rows { M.rows ≡ table }
     requires room { M.room ≡ 2 }
+    requires promote { M.promote ≡ Newest }
+    requires kept { M.kept ≡ kept }
+    requires rolling { M.is_rolling ≡ is_rolling }
+    requires limit { M.limit ≡ 3 }
     requires some_kept { 1 ≤ kept }
     requires few_kept { kept ≤ most_kept }
 {
     let limit = limit(rt);
-    Book::begin(alloc, limit, table, ROOM, kept, is_rolling, blanks).expect(rt, "memory")
+    Book::begin(
+        alloc,
+        limit,
+        table,
+        ROOM,
+        Promote::Newest,
+        kept,
+        is_rolling,
+        blanks,
+    )
+    .expect(rt, "memory")
 }
 
 fn told_of_book<M: Naming + Send + Sync, R: Threads + Wait + Abort + Sync>(

@@ -1,8 +1,18 @@
-use Rattle.std.specs.Prelude.{[]}
+use Rattle.std.specs.Prelude.{[], false}
+use Rattle.limiter_core.specs.declared.promote.Promote.TheVariants.{Newest}
 use Rattle.gate_ledgers.specs.Names.{places_of}
 use Rattle.gate_tests.proofs.book_tests.a_book_gives_a_million_passes.Given as goal
 
 -- the ledgers that were just made, over a table without classes
 abbrev pub ghosts-a_million_passes : goal.ghosts-a_million_passes
 ghosts-a_million_passes g a =
-    record { calls = a.blanks.calls.name; place = places_of a.blanks; rows = []; room = 100 }
+    record {
+      calls = a.blanks.calls.name;
+      place = places_of a.blanks;
+      rows = [];
+      room = 100;
+      promote = Newest;
+      kept = 1;
+      is_rolling = false;
+      limit = 1;
+    }

@@ -1,8 +1,18 @@
-use Rattle.std.specs.Prelude.{[]}
+use Rattle.std.specs.Prelude.{[], true}
+use Rattle.limiter_core.specs.declared.promote.Promote.TheVariants.{Newest}
 use Rattle.gate_ledgers.specs.Names.{places_of}
 use Rattle.gate_tests.proofs.rolling_tests.a_limit_that_is_reset_is_the_first_after_rolls.Given as goal
 
 -- the ledgers that were just made, over a table without classes
 abbrev pub ghosts-set_and_reset : goal.ghosts-set_and_reset
 ghosts-set_and_reset g a =
-    record { calls = a.blanks.calls.name; place = places_of a.blanks; rows = []; room = 100 }
+    record {
+      calls = a.blanks.calls.name;
+      place = places_of a.blanks;
+      rows = [];
+      room = 100;
+      promote = Newest;
+      kept = 2;
+      is_rolling = true;
+      limit = 10;
+    }

@@ -1,8 +1,18 @@
-use Rattle.std.specs.Prelude.{[]}
+use Rattle.std.specs.Prelude.{[], false}
+use Rattle.limiter_core.specs.declared.promote.Promote.TheVariants.{Newest}
 use Rattle.gate_ledgers.specs.Names.{places_of}
 use Rattle.proxy_tests.proofs.shared_tests.a_full_gate_refuses_at_once_or_at_the_deadline.Given as goal
 
 -- the ledgers that were just made, over a table without classes
 abbrev pub ghosts-over_one_permit : goal.ghosts-over_one_permit
 ghosts-over_one_permit g a =
-    record { calls = a.blanks.calls.name; place = places_of a.blanks; rows = []; room = 100 }
+    record {
+      calls = a.blanks.calls.name;
+      place = places_of a.blanks;
+      rows = [];
+      room = 100;
+      promote = Newest;
+      kept = 100;
+      is_rolling = false;
+      limit = 1;
+    }

@@ -1,8 +1,18 @@
-use Rattle.std.specs.Prelude.{[]}
+use Rattle.std.specs.Prelude.{[], true}
+use Rattle.limiter_core.specs.declared.promote.Promote.TheVariants.{Newest}
 use Rattle.gate_ledgers.specs.Names.{places_of}
 use Rattle.gate_tests.proofs.closing.rolled_tests.a_gate_that_rolled_is_not_accepted.Given as goal
 
 -- the ledgers that were just made, over a table without classes
 abbrev pub ghosts-closes_rolled : goal.ghosts-closes_rolled
 ghosts-closes_rolled g a =
-    record { calls = a.blanks.calls.name; place = places_of a.blanks; rows = []; room = 100 }
+    record {
+      calls = a.blanks.calls.name;
+      place = places_of a.blanks;
+      rows = [];
+      room = 100;
+      promote = Newest;
+      kept = 1;
+      is_rolling = true;
+      limit = 10;
+    }

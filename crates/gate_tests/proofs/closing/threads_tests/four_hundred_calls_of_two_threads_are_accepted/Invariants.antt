@@ -1,8 +1,18 @@
-use Rattle.std.specs.Prelude.{[]}
+use Rattle.std.specs.Prelude.{[], false}
+use Rattle.limiter_core.specs.declared.promote.Promote.TheVariants.{Newest}
 use Rattle.gate_ledgers.specs.Names.{places_of}
 use Rattle.gate_tests.proofs.closing.threads_tests.four_hundred_calls_of_two_threads_are_accepted.Given as goal
 
 -- the ledgers that were just made, over a table without classes
 abbrev pub ghosts-closes_two_threads : goal.ghosts-closes_two_threads
 ghosts-closes_two_threads g a =
-    record { calls = a.blanks.calls.name; place = places_of a.blanks; rows = []; room = 100 }
+    record {
+      calls = a.blanks.calls.name;
+      place = places_of a.blanks;
+      rows = [];
+      room = 100;
+      promote = Newest;
+      kept = 1000;
+      is_rolling = false;
+      limit = 10;
+    }

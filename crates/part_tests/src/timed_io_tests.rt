@@ -1,0 +1,193 @@
+// Connections whose limits can't be set, whose calls are interrupted, and how long each call may
+// take; and a flush through a buffer.
+ghost use Rattle.std.specs.Io.{ReadsAtMost, WritesAtMost};
+
+use crate::counted_io_tests::valve_of;
+use lent_io::{BufferedWrite, WriteBuffer};
+use shared_gate::Clock;
+use std::alloc::Global;
+use std::cell::Cell;
+use std::io::{Error, ErrorKind, Read, Result, Write};
+use std::time::Duration;
+use timed_io::{Connection, Lent, TimedReader, TimedWriter, Uninterrupted};
+
+/// A connection that gives and takes one byte a call, once it was interrupted so often. It keeps
+/// how long the last call may wait, unless that fails.
+#[derive(Drop)]
+struct Fake {
+    takes_limits: bool,
+    interruptions: Cell<u64>,
+    calls: Cell<u64>,
+    limit: Cell<u64>,
+}
+
+/// A connection that wasn't called yet.
+fn fake_of(takes_limits: bool, interruptions: u64) -> Fake {
+    Fake {
+        takes_limits,
+        interruptions: Cell::new(interruptions),
+        calls: Cell::new(0),
+        limit: Cell::new(0),
+    }
+}
+
+impl Fake {
+    fn call(&self, room: usize) -> Result<usize> {
+        self.calls.set(self.calls.get().saturating_add(1));
+        let left = self.interruptions.get();
+        if left > 0 {
+            self.interruptions.set(left - 1);
+            return Err(Error::from(ErrorKind::Interrupted));
+        }
+        Ok(room.min(1))
+    }
+
+    fn limit(&self, most: Duration) -> Result<()> {
+        if !self.takes_limits {
+            return Err(Error::from(ErrorKind::InvalidInput));
+        }
+        self.limit.set(most.as_secs());
+        Ok(())
+    }
+}
+
+impl Connection for Fake {
+    fn receive(&self, buf: &mut [u8]) -> Result<usize>
+        ensures { ReadsAtMost result buf.new }
+    {
+        self.call(buf.len()).map(|count| count.min(buf.len()))
+    }
+
+    fn send(&self, buf: &[u8]) -> Result<usize>
+        ensures { WritesAtMost result buf.now }
+    {
+        self.call(buf.len()).map(|count| count.min(buf.len()))
+    }
+
+    fn limit_reads(&self, most: Duration) -> Result<()> {
+        self.limit(most)
+    }
+
+    fn limit_writes(&self, most: Duration) -> Result<()> {
+        self.limit(most)
+    }
+
+    fn has_unread(&self) -> bool {
+        false
+    }
+
+    fn finish(&self) -> Result<()> {
+        Ok(())
+    }
+}
+
+/// In nanoseconds.
+const SECOND: u64 = 1_000_000_000;
+
+/// A clock that goes on by a second at each look.
+#[derive(Drop)]
+struct Ticking {
+    nanos: Cell<u64>,
+}
+
+/// A clock that nobody has looked at.
+fn fresh_ticking() -> Ticking {
+    Ticking {
+        nanos: Cell::new(SECOND),
+    }
+}
+
+impl Clock for Ticking {
+    fn now(&self) -> u64 {
+        let nanos = self.nanos.get();
+        self.nanos.set(nanos.saturating_add(SECOND));
+        nanos
+    }
+}
+
+/// Where no limit can be set, nothing is read, and nothing written.
+fn calls_without_limits() -> u64 {
+    let (fake, clock) = (fake_of(false, 0), fresh_ticking());
+    let mut reader = TimedReader::new(Lent::new(&fake), &clock, 5 * SECOND);
+    let mut writer = TimedWriter::new(Lent::new(&fake), &clock, 5 * SECOND);
+    let is_read = reader.read(&mut [0u8; 4]).is_ok();
+    let is_written = writer.write(b"four").is_ok();
+    if is_read || is_written {
+        return u64::MAX;
+    }
+    fake.calls.get()
+}
+
+#[test]
+fn a_call_that_cannot_be_limited_is_not_made(rt: HostRuntime) {
+    assert!(rt; calls_without_limits() == 0);
+}
+
+/// How many seconds four reads, and four writes, may wait, by a second's look each.
+fn seconds_left(is_reading: bool) -> [u64; 4] {
+    let (fake, clock) = (fake_of(true, 0), fresh_ticking());
+    let mut reader = TimedReader::new(Lent::new(&fake), &clock, 4 * SECOND);
+    let mut writer = TimedWriter::new(Lent::new(&fake), &clock, 4 * SECOND);
+    let mut found = [9; 4];
+    for place in &mut found {
+        let outcome = if is_reading {
+            reader.read(&mut [0u8; 4])
+        } else {
+            writer.write(b"four")
+        };
+        *place = match outcome {
+            Ok(_) => fake.limit.get(),
+            Err(_) => 9,
+        };
+    }
+    found
+}
+
+#[test]
+fn each_call_waits_for_what_is_left(rt: HostRuntime) {
+    assert!(rt; seconds_left(true) == [4, 3, 2, 1]);
+    assert!(rt; seconds_left(false) == [4, 3, 2, 1]);
+}
+
+/// What a read and a write give that are interrupted three times, and how often each was called.
+fn read_through(seconds: u64) -> (Option<usize>, u64) {
+    let (fake, clock) = (fake_of(true, 3), fresh_ticking());
+    let timed = TimedReader::new(Lent::new(&fake), &clock, seconds.saturating_mul(SECOND));
+    let found = Uninterrupted::new(timed).read(&mut [0u8; 4]).ok();
+    (found, fake.calls.get())
+}
+
+fn written_through(seconds: u64) -> (Option<usize>, u64) {
+    let (fake, clock) = (fake_of(true, 3), fresh_ticking());
+    let timed = TimedWriter::new(Lent::new(&fake), &clock, seconds.saturating_mul(SECOND));
+    let found = Uninterrupted::new(timed).write(b"four").ok();
+    (found, fake.calls.get())
+}
+
+#[test]
+fn an_interrupted_call_begins_anew_within_its_time(rt: HostRuntime) {
+    assert!(rt; read_through(9) == (Some(1), 4));
+    assert!(rt; written_through(9) == (Some(1), 4));
+    assert!(rt; read_through(2) == (None, 2));
+    assert!(rt; written_through(2) == (None, 2));
+}
+
+/// How many bytes and flushes come through a buffer, by a write and a flush.
+fn through_a_buffer(alloc: Global) -> (usize, u64) {
+    let Ok(mut buffer) = WriteBuffer::new(alloc, 8) else {
+        return (0, 0);
+    };
+    let mut valve = valve_of(None);
+    let mut writer = BufferedWrite::new(&mut valve, &mut buffer);
+    let is_well = writer.write(b"four").is_ok() && writer.flush().is_ok();
+    if is_well {
+        (valve.taken, valve.flushed)
+    } else {
+        (0, 0)
+    }
+}
+
+#[test]
+fn a_flush_goes_through_a_buffer(rt: HostRuntime) {
+    assert!(rt; through_a_buffer(rt.alloc()) == (4, 1));
+}
