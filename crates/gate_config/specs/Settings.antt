@@ -53,8 +53,8 @@ abbrev pub known : DocumentValues → Option Stranger → Result Settings Config
 known d None = ok_or (made_of d) Fault.Route
 known d (Some key) = Err (Fault.Unknown (stranger_text key))
 
--- the settings that a table of a version holds, or the first fault: of the version where it is none,
--- of a key, of an unknown key, of a route
+-- the settings that a table of a version holds, or the first fault: of the version where it is
+-- none, of a key, of an unknown key, of a route
 abbrev pub settings_in_version : Members → Option Version → Result Settings ConfigFault
 settings_in_version t None = Err Fault.Version
 settings_in_version t (Some version) =

@@ -33,9 +33,9 @@ const MILLI: u64 = 1_000_000;
 /// The settings that a text of version 1 or 2 holds.
 ///
 /// The faults, of which the first is told: [`ConfigFault::Toml`] for a text that isn't TOML in
-/// UTF-8; [`ConfigFault::Version`] unless `version` is 1 or 2; then key by key in the order of the keys,
-/// an array's members one after the other, [`ConfigFault::Missing`], [`ConfigFault::Kind`] and
-/// [`ConfigFault::Value`]; [`ConfigFault::Unknown`] for the least path that isn't allowed;
+/// UTF-8; [`ConfigFault::Version`] unless `version` is 1 or 2; then key by key in the order of the
+/// keys, an array's members one after the other, [`ConfigFault::Missing`], [`ConfigFault::Kind`]
+/// and [`ConfigFault::Value`]; [`ConfigFault::Unknown`] for the least path that isn't allowed;
 /// [`ConfigFault::Route`] for patterns that can't stand together. [`ConfigFault::Memory`] comes
 /// where memory is wanting for the table of the text, and otherwise as [`settings_in`] says; a text
 /// of white space and comments alone never asks for any.

@@ -30,6 +30,10 @@ limit is fixed at the N of --limit.
   keep K                       how many entries of the history are kept, 1 to 1000000; 100000
                                without this line
   keep K rolling               the same of a history that rolls: it forgets entries to go on
+  promote newest               who gets the room that falls free: after an ending the newest waiter,
+                               where it has room, and nobody else; so without this line
+  promote all                  after an ending, an accepted set and a reset the newest of those that
+                               have room, again and again until none has
   timeout T                    accepted and ignored: it is a setting of `simulate`
 
 Then, with every NOW in nanoseconds:

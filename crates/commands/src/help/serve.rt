@@ -53,11 +53,12 @@ what the limit learns from it:
 An ignored ending gives the permit back and changes no limit. The backend has no timeout: one that
 never answers holds its permit and its worker until it closes the connection.
 
-The log on standard error has three kinds of lines. `listening`, with the address, the number of
-workers and the kind of limit, comes once the address is bound. Before it comes a warning if the
-limit, or its max, and the backlog together exceed the workers: callers past the workers then wait
-unseen in the system's accept queue and are never refused, so raise the workers or lower the two.
-Another warning comes if the backend is this gateway itself: each request would come back to it.
+The log on standard error says `listening`, with the address, the number of workers and the kind of
+limit, once the address is bound. Before it come warnings. One comes if the limit, or its max, with
+the shares of it and the backlog exceed the workers: callers past the workers then wait unseen in
+the system's accept queue and are never refused, so raise the workers or lower the others. Another
+comes if the workers may need more descriptors than the system gives, and one if the backend is this
+gateway itself, so that each request would come back to it.
 
 At its end `serve` writes its counters to standard output, in one line:
 `admitted A bypassed B full F backlog G waiting W promoted P timed-out T success S ignored I
