@@ -1,15 +1,17 @@
 #!/usr/bin/env python3
 """Times calls through a shared gate against a plain Rust gate, in one run.
 
-Usage: bench/gate.py [--still] [--rolling] [--history]. The product's side is gate/, a program over `shared_gate`;
-the peer is plain_gate.rs. They run in turn and must do the same work: pairs of acquire and end, with
+Usage: bench/gate.py [--still] [--rolling] [--history | --all]. The product's side is gate/, a program over
+`shared_gate`; the peer is plain_gate.rs. They run in turn and must do the same work: pairs of acquire and end, with
 each number of threads and of permits that stay out meanwhile, and givings up, with each number of
 callers that wait at a time, oldest first and in a drawn order. Printed are the median time of a pair, or
 of a giving up, on either side, the median ratio of the turns, and that of the processor time that the
 programs took. With --still calls tell the moment 0 and read no clock. With --rolling the product's gate
 rolls at 4,096 entries, and runs beside the same gate that keeps all of them; nobody waits then. With
 --history the peer keeps a history too, of events and replies, and makes receipts; with both flags the
-product's gate rolls and the peer begins its history anew at 4,096 entries. Needs rt and rustc.
+product's gate rolls and the peer begins its history anew at 4,096 entries. With --all others wait meanwhile
+that have no room, under either rule of promotion, and endings are timed that promote a waiter past them.
+Needs rt and rustc.
 """
 import sys
 
@@ -19,6 +21,9 @@ from words import reader_of
 THREADS = (1, 2, 4)
 HELD = (10, 1_000, 10_000)
 WAITING = (10, 1_000, 10_000)
+# Who waits and has no room; beside those who are promoted past them there is room for so many.
+PASSED = (10, 9_900)
+PROMOTIONS = 10_000
 TIMES = 400_000
 LIMIT = 10_000
 ROLLS_AT = 4_096
@@ -26,30 +31,43 @@ MOST_ENTRIES = 1_000_000
 
 
 def rows(is_still, is_rolling, has_history):
-    """What each row is called, and the words of the program on either side."""
-    kept = (ROLLS_AT if is_rolling else MOST_ENTRIES,) if has_history else ()
+    """What each row is called, how many times it does what is timed, and the words of the program on either side."""
+    kept = (ROLLS_AT if is_rolling else MOST_ENTRIES) if has_history else 0
     for threads in THREADS:
         for held in HELD:
             name = f"pairs, threads {threads}, permits out {held:,}"
             words = (threads, held, TIMES, 0 if is_still else 1)
-            yield name, (*words, 1 if is_rolling else 0), (*words, 0, *kept)
+            yield name, TIMES, (*words, 1 if is_rolling else 0, 0, 0), (*words, 0, 0, 0, kept)
     for waiting in () if is_rolling else WAITING:
         for is_drawn, order in ((0, "oldest first"), (1, "drawn order")):
             name = f"givings up, {order}, of {waiting:,} who wait"
             words = (0, LIMIT, TIMES, waiting, is_drawn)
-            yield name, words, (*words, *kept)
+            yield name, TIMES, words, (*words, 0, 0, kept)
+
+
+def rows_past_waiters():
+    """The same of endings while others wait that have no room."""
+    for promotes_all, rule in ((0, "newest"), (1, "all")):
+        for waiting in (0, 10, LIMIT):
+            words = (1, LIMIT, TIMES, 0, 0, waiting, promotes_all)
+            yield f"pairs, under {rule}, {waiting:,} wait without room", TIMES, words, (*words, 0)
+    for waiting in PASSED:
+        words = (3, LIMIT, PROMOTIONS, waiting)
+        yield f"promotions past {waiting:,} who wait without room", PROMOTIONS, words, (*words, 0, 0, 0, 0)
 
 
 def main():
     reader = reader_of(__doc__)
-    for flag in ("--still", "--rolling", "--history"):
+    for flag in ("--still", "--rolling", "--history", "--all"):
         reader.add_argument(flag, action="store_true")
     given = reader.parse_args()
     is_rolling, has_history = given.rolling, given.history
+    if given.all and (given.still or is_rolling or has_history):
+        reader.error("--all goes with no other flag")
     bench = Bench("gate", "shared_gate", ["aimd"])
     with open(bench.tree / "build.log", "w") as log:
         print(f"building, some minutes at most; {log.name} tells how far it is", file=sys.stderr)
-        program, plain = bench.product((1, 10, 10, 1, 0), b"", log), bench.peer(log)
+        program, plain = bench.product((1, 10, 10, 1, 0, 0, 0), b"", log), bench.peer(log)
     peers = {
         (False, False): (plain, "plain"),
         (True, False): (program, "not rolling"),
@@ -59,9 +77,10 @@ def main():
     other, name = peers[is_rolling, has_history]
     print(f"| calls | admission | {name} | ratio | of processor time |")
     print("|---|---|---|---|---|")
-    for calls, ours, theirs in rows(given.still, is_rolling, has_history):
+    timed = rows_past_waiters() if given.all else rows(given.still, is_rolling, has_history)
+    for calls, times, ours, theirs in timed:
         took, least, ratio, used = row((program, ours), (other, theirs))
-        print(f"| {calls} | {took / TIMES:.0f} ns | {least / TIMES:.0f} ns | {ratio:.2f} | {used:.2f} |",
+        print(f"| {calls} | {took / times:.0f} ns | {least / times:.0f} ns | {ratio:.2f} | {used:.2f} |",
               flush=True)
 
 

@@ -1,5 +1,5 @@
-//! A plain program that answers scripts of one class under a fixed limit, with running counts, a
-//! set of waiters and maps of permits, and no history: the peer of the replay benchmark.
+//! A plain program that answers scripts of one class under a fixed limit or one that is set by hand, with
+//! running counts, a set of waiters and maps of permits, and no history: the peer of the replay benchmark.
 use std::collections::{BTreeSet, HashMap};
 use std::env;
 use std::io::{self, Read, Write};
@@ -8,6 +8,9 @@ const KEPT: u64 = 100_000;
 
 struct Limiter {
     limit: u64,
+    /// The least and the greatest that it may be set to.
+    settable: Option<(u64, u64)>,
+    promotes_all: bool,
     total: u64,
     next: u64,
     open: HashMap<u64, u64>,
@@ -21,6 +24,8 @@ impl Limiter {
     fn new(limit: u64) -> Limiter {
         Limiter {
             limit,
+            settable: None,
+            promotes_all: false,
             total: 0,
             next: 0,
             open: HashMap::new(),
@@ -61,13 +66,43 @@ impl Limiter {
             return;
         }
         self.total -= 1;
-        let promoted = if self.total < self.limit { self.waiters.pop_last() } else { None };
-        self.tell(format_args!("ended promoted {}", u8::from(promoted.is_some())));
-        if let Some(waiter) = promoted {
+        let promoted = self.promote(if self.promotes_all { usize::MAX } else { 1 });
+        self.tell(format_args!("ended promoted {}", promoted.len()));
+        self.tell_promoted(&promoted);
+    }
+
+    /// Promotes so many waiters at most, the newest first, as long as there is room.
+    fn promote(&mut self, most: usize) -> Vec<(u64, u64)> {
+        let mut promoted = Vec::new();
+        while promoted.len() < most && self.total < self.limit {
+            let Some(waiter) = self.waiters.pop_last() else { break };
             self.total += 1;
-            let inflight = self.total;
-            self.granted.insert(waiter, inflight);
+            self.granted.insert(waiter, self.total);
+            promoted.push((waiter, self.total));
+        }
+        promoted
+    }
+
+    fn tell_promoted(&mut self, promoted: &[(u64, u64)]) {
+        for (waiter, inflight) in promoted {
             self.tell(format_args!("promoted {waiter} inflight {inflight}"));
+        }
+    }
+
+    fn set(&mut self, limit: u64) {
+        match self.settable {
+            None => {
+                self.tell(format_args!("refused not settable"));
+            }
+            Some((lo, hi)) if limit < lo || hi < limit => {
+                self.tell(format_args!("refused out of range"));
+            }
+            Some(_) => {
+                self.limit = limit;
+                self.tell(format_args!("limit set"));
+                let promoted = self.promote(if self.promotes_all { usize::MAX } else { 0 });
+                self.tell_promoted(&promoted);
+            }
         }
     }
 
@@ -115,14 +150,20 @@ impl Limiter {
     }
 
     fn answer(&mut self, words: &[&str]) {
+        let number = |word: &str| word.parse::<u64>().unwrap();
         match words {
             _ if self.is_exhausted(words) => self.out.extend_from_slice(b"- exhausted\n"),
+            ["limit", "settable", lo, limit, hi] => {
+                (self.limit, self.settable) = (number(limit), Some((number(lo), number(hi))));
+            }
+            ["promote", rule] => self.promotes_all = *rule == "all",
             ["backlog", room] => self.room = room.parse().unwrap(),
-            ["acquire", "unknown", now] => self.acquire(now.parse().unwrap(), false),
-            ["acquire", "unknown", now, "wait"] => self.acquire(now.parse().unwrap(), true),
-            ["end", number, _, _] => self.end(number.parse().unwrap()),
-            ["claim", number] => self.claim(number.parse().unwrap()),
-            ["giveup", number] => self.give_up(number.parse().unwrap()),
+            ["acquire", "unknown", now] => self.acquire(number(now), false),
+            ["acquire", "unknown", now, "wait"] => self.acquire(number(now), true),
+            ["end", ended, _, _] => self.end(number(ended)),
+            ["claim", waiter] => self.claim(number(waiter)),
+            ["giveup", waiter] => self.give_up(number(waiter)),
+            ["set", limit, _] => self.set(number(limit)),
             ["look", "unknown"] => self.look(),
             _ => panic!("no line of this benchmark: {words:?}"),
         }

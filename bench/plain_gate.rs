@@ -1,15 +1,11 @@
 //! A plain gate that threads share, with running counts and no history: the peer of the gate's
 //! benchmark. It admits by the same rule as the product, keeps the same shares, limit, numbers and
-//! counters, and promotes the newest waiter at an ending.
+//! counters, and promotes the newest waiter at an ending, or all who have room.
 //!
-//! Its words: how many threads, how many permits stay out meanwhile, how many pairs of acquire and
-//! end the threads make in all, and 1 where moments come from the clock, 0 where they stand still.
-//! Where the first word is 0, one thread lets callers wait and gives them up again: the others are how
-//! many permits stay out, how many give up in all, how many of them wait at a time, and 1 where their
-//! order is drawn, 0 where the oldest goes first. With a sixth word above 0 it keeps a history of so many
-//! entries, and begins it anew where they are full: each call's event and reply go into a list whose room is
-//! reserved, and the caller gets a receipt of them. It writes the nanoseconds that the pairs, or the givings
-//! up, took, then what was done.
+//! Its words are those of the product's side, `gate/src/main.rt.in`, and one more: above 0 it keeps a
+//! history of so many entries, and begins it anew where they are full: each call's event and reply go into a
+//! list whose room is reserved, and the caller gets a receipt of them. It writes the nanoseconds that the
+//! pairs, the givings up or the endings took, then what was done.
 use std::collections::BTreeMap;
 use std::env;
 use std::hint::black_box;
@@ -20,6 +16,8 @@ use std::time::{Duration, Instant};
 const LAST_MOMENT: u64 = 1 << 62;
 const UNKNOWN_PLACE: usize = 4;
 const ROOM: usize = 10_000;
+const SHARE: u32 = 3_000;
+const AT_A_TIME: u32 = 100;
 
 /// What a history keeps of a call: what was asked, and what it was answered.
 #[derive(Clone, Copy)]
@@ -146,7 +144,10 @@ struct Limiter {
     aimd: Aimd,
     inflight: [u32; 5],
     total: u32,
-    waiters: BTreeMap<u64, Part>,
+    /// The waiters of each place.
+    waiters: [BTreeMap<u64, Part>; 5],
+    waiting: usize,
+    promotes_all: bool,
     granted: Vec<Permit>,
     next: u64,
     counters: Counters,
@@ -196,12 +197,13 @@ impl Limiter {
             self.counters.full += 1;
             return Reply::Full;
         }
-        if self.waiters.len() == ROOM {
+        if self.waiting == ROOM {
             self.counters.backlog_full += 1;
             return Reply::BacklogFull;
         }
         self.counters.waiting += 1;
-        self.waiters.insert(number, part);
+        self.waiters[place].insert(number, part);
+        self.waiting += 1;
         Reply::Waiting(number)
     }
 
@@ -219,20 +221,26 @@ impl Limiter {
             let dropped = matches!(outcome, Outcome::Dropped);
             self.aimd.on_sample(permit.start, now, permit.inflight, dropped);
         }
-        self.promote(now.min(LAST_MOMENT))
+        let most = if self.promotes_all { u32::MAX } else { 1 };
+        let mut promoted = 0;
+        while self.waiting > 0 && promoted < most && self.promote(now.min(LAST_MOMENT)) == 1 {
+            promoted += 1;
+        }
+        promoted
     }
 
-    /// Promotes the newest waiter, where it has room.
+    /// Promotes the newest waiter where it has room, or the newest of those that have.
     fn promote(&mut self, start: u64) -> u32 {
-        let Some(newest) = self.waiters.last_entry() else { return 0 };
-        let (waiter, part) = (*newest.key(), *newest.get());
-        let place = self.table.place(part);
+        let looked_at = |place: &usize| !self.promotes_all || self.has_room(*place);
+        let newest = |place: &usize| self.waiters[*place].last_key_value().map(|(waiter, _)| *waiter);
+        let Some(place) = (0..5).filter(looked_at).max_by_key(newest) else { return 0 };
         if !self.has_room(place) {
             return 0;
         }
+        let Some((waiter, part)) = self.waiters[place].pop_last() else { return 0 };
+        self.waiting -= 1;
         self.number();
         let inflight = self.enter(place);
-        self.waiters.remove(&waiter);
         self.granted.push(Permit { number: waiter, part, start, inflight });
         if let Some(entries) = &mut self.history {
             entries.push(Entry::Promotion { waiter, part, start, inflight });
@@ -244,9 +252,17 @@ impl Limiter {
     /// Whether a waiter gave up that still waited.
     fn give_up(&mut self, waiter: u64) -> bool {
         self.number();
-        let waited = self.waiters.remove(&waiter).is_some();
+        let waited = self.waiters.iter_mut().any(|waiters| waiters.remove(&waiter).is_some());
+        self.waiting -= usize::from(waited);
         self.counters.timed_out += u64::from(waited);
         waited
+    }
+
+    /// The permit that lies granted under a number.
+    fn fetch(&mut self, waiter: u64) -> Option<Permit> {
+        self.number();
+        let place = self.granted.iter().position(|permit| permit.number == waiter)?;
+        Some(self.granted.swap_remove(place))
     }
 }
 
@@ -257,14 +273,16 @@ struct Gate {
 
 impl Gate {
     /// A gate that keeps a history of so many entries, or none.
-    fn new(kept: usize) -> Gate {
+    fn new(kept: usize, promotes_all: bool) -> Gate {
         let aimd = Aimd { lo: 1, limit: 10_000, hi: 10_000, ratio: 900, timeout: 3_600_000_000_000 };
         let limiter = Limiter {
             table: Table(vec![60, 30]),
             aimd,
             inflight: [0; 5],
             total: 0,
-            waiters: BTreeMap::new(),
+            waiters: Default::default(),
+            waiting: 0,
+            promotes_all,
             granted: Vec::with_capacity(20_000),
             next: 0,
             counters: Counters::default(),
@@ -312,6 +330,16 @@ impl Gate {
     }
 }
 
+/// So many permits of a class.
+fn hold(gate: &Gate, part: Part, held: u32) -> Vec<Permit> {
+    (0..held).map(|_| admitted(gate.acquire(part, false, 0).0)).collect()
+}
+
+/// So many callers of a class that wait.
+fn queue(gate: &Gate, part: Part, at_a_time: u32) -> Vec<u64> {
+    (0..at_a_time).map(|_| waiting(gate.acquire(part, true, 0).0)).collect()
+}
+
 /// The number of a caller that waits.
 fn waiting(reply: Reply) -> u64 {
     match reply {
@@ -333,8 +361,7 @@ fn shuffle(items: &mut [u64]) {
 fn givings_up(gate: &Gate, times: u32, at_a_time: u32, drawn: bool) -> Duration {
     let mut took = Duration::ZERO;
     for _ in 0..times / at_a_time {
-        let mut waiters: Vec<u64> =
-            (0..at_a_time).map(|_| waiting(gate.acquire(Part::Unknown, true, 0).0)).collect();
+        let mut waiters = queue(gate, Part::Unknown, at_a_time);
         if drawn {
             shuffle(&mut waiters);
         }
@@ -384,19 +411,47 @@ fn timed_pairs(gate: &Gate, threads: u32, times: u32, is_clocked: bool) -> Durat
     began.elapsed()
 }
 
+/// How long so many endings take, each of which promotes a waiter past so many others.
+fn promotions(gate: &Gate, times: u32, others: u32) -> Duration {
+    let batch = Part::Known(1);
+    let mut permits = hold(gate, batch, SHARE);
+    let mut took = Duration::ZERO;
+    for _ in 0..times / AT_A_TIME {
+        let mut first = queue(gate, batch, AT_A_TIME);
+        let late = queue(gate, Part::Unknown, others);
+        let began = Instant::now();
+        for permit in permits.drain(permits.len() - AT_A_TIME as usize..).rev() {
+            black_box(gate.end(permit, Outcome::Success, 0));
+        }
+        took += began.elapsed();
+        while let Some(waiter) = first.pop() {
+            permits.push(gate.limiter.lock().unwrap().fetch(waiter).expect("a permit"));
+        }
+        late.into_iter().for_each(|waiter| assert!(gate.give_up(waiter).0));
+    }
+    for permit in permits.into_iter().rev() {
+        gate.end(permit, Outcome::Success, 0);
+    }
+    took
+}
+
 fn main() {
     let words: Vec<u32> = env::args().skip(1).map(|word| word.parse().unwrap()).collect();
-    let [threads, held, times, fourth, fifth, ref rest @ ..] = words[..] else {
-        panic!("words: threads held times and two more")
+    let [threads, held, times, fourth, fifth, waiting, promotes_all, kept] = words[..] else {
+        panic!("words: threads held times and five more")
     };
-    let gate = Gate::new(rest.first().map_or(0, |kept| *kept as usize));
-    let out: Vec<Permit> =
-        (0..held).map(|_| admitted(gate.acquire(Part::Unknown, false, 0).0)).collect();
+    let gate = Gate::new(kept as usize, threads == 3 || promotes_all == 1);
+    let out = hold(&gate, Part::Unknown, held);
     let took = match threads {
         0 => givings_up(&gate, times, fourth, fifth == 1),
-        _ => timed_pairs(&gate, threads, times, fourth == 1),
+        3 => promotions(&gate, times, fourth),
+        _ => {
+            queue(&gate, Part::Unknown, waiting);
+            timed_pairs(&gate, threads, times, fourth == 1)
+        }
     };
-    let Counters { admitted, success, timed_out, .. } = gate.limiter.lock().unwrap().counters;
-    println!("{} admitted {admitted} success {success} timed out {timed_out}", took.as_nanos());
+    let Counters { admitted, promoted, success, timed_out, .. } = gate.limiter.lock().unwrap().counters;
+    let took = took.as_nanos();
+    println!("{took} admitted {admitted} promoted {promoted} success {success} timed out {timed_out}");
     drop(out);
 }

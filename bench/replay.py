@@ -33,6 +33,14 @@ def promotions(number, now):
     return lines, len(lines) + 1
 
 
+def raised(number, now):
+    """A limit of 1, and nine more calls, which wait until it is set to 10, are promoted at once, claim and end."""
+    late = range(number + 1, number + IN_FLIGHT)
+    lines = [f"acquire unknown {now} wait" for _ in range(IN_FLIGHT)] + [f"set {IN_FLIGHT} {now}"]
+    lines += [f"claim {waiter}" for waiter in late] + [f"end {out} success {now + 9}" for out in (number, *late)]
+    return lines + [f"set 1 {now + 9}"], len(lines) + len(late) + 1
+
+
 def timeouts(number, now):
     """A full limit, and five more calls, which wait, are asked for once, and give up oldest first."""
     late = range(number + IN_FLIGHT, number + IN_FLIGHT + 5)
@@ -88,6 +96,9 @@ SCRIPTS = [
     ("acquire, look, end; all entries kept", IN_FLIGHT, repeated(looks, 99_000)),
     ("the same, past the entries that are kept", IN_FLIGHT, repeated(looks, 600_000)),
     ("waiting, promotions and claims", IN_FLIGHT, repeated(promotions, 90_000)),
+    ("the same, and all who have room are promoted", IN_FLIGHT, ["promote all"] + repeated(promotions, 90_000)),
+    ("a limit set by hand, and all who have room are promoted", IN_FLIGHT,
+     [f"limit settable 1 1 {IN_FLIGHT}", "promote all"] + repeated(raised, 70_000)),
     ("waiting, claims and timeouts", IN_FLIGHT, repeated(timeouts, 99_000)),
     ("thousands in flight, ended in a drawn order", CROWD, crowds(99_000)),
     ("thousands wait, and give up oldest first", IN_FLIGHT, late(99_000, list)),

@@ -6,10 +6,10 @@ most of its numbers name something.
 import itertools
 import random
 
-from reference import HOUR, LAST_MOMENT, Limiter
+from reference import HOUR, LAST_MOMENT, SHARES, Limiter
 
 # How often each event is drawn where many come, and where few do; which it is changes after so many lines.
-BUSY = {"acquire": 400, "wait": 500, "bypass": 50, "end": 450, "claim": 300, "giveup": 100, "set": 40, "reset": 1,
+BUSY = {"acquire": 400, "wait": 500, "bypass": 50, "end": 450, "claim": 300, "giveup": 100, "set": 40, "reset": 4,
         "look": 100}
 SLACK = BUSY | {"acquire": 250, "wait": 50, "end": 600}
 PHASE = 1_000
@@ -17,6 +17,7 @@ PHASE = 1_000
 OUTCOMES = ["success"] * 15 + ["dropped", "ignored", "ignored"]
 SET_TO = [0, 1, 2, 3, 5, 8, 9, 10, 20, 40, 41, 60, 100, 9_999, 10_000, 10_001, 2 ** 32 - 1]
 NAMES = ["a", "b-2", "c_3", "a-name_of-32-letters-and-figures"]
+THOUSANDTHS = [1, 2, 10, 20, 125, 200, 330, 333, 500, 970, 999, 1_000]
 LIMITS = [1, 1, 2, 3, 5, 8, 20, 100, 9_999, 10_000]
 TIMES = [1, 2, 50, 100, 1_000, HOUR - 1, HOUR]
 MOMENTS = [0, 1, 2, 100, HOUR, HOUR + 1, HOUR + 2, LAST_MOMENT - HOUR, LAST_MOMENT - 1, LAST_MOMENT, LAST_MOMENT + 1,
@@ -108,21 +109,27 @@ def random_settings(seed):
     lines = [f"limit {limit}", f"backlog {draw.choice([0, 1, 2, 3, 100, 10_000])}", keep, window,
              f"timeout {draw.choice(TIMES)}"]
     lines = [it for it in lines if draw.random() < 0.8 and (it != window or draw.random() < 0.5)]
-    left = 1_000
-    for name in draw.sample(NAMES, draw.randrange(5)):
-        word, unit = draw.choice([("class", 10), ("share", 1)])
-        number = min(draw.choice([1, 2, 20, 33, 50, 97, 100, *((125, 333, 1_000) if unit == 1 else ())]), left // unit)
-        left -= number * unit
-        lines += [f"{word} {name} {number}"] if number else []
+    lines += draw.choice([[], ["promote newest"], ["promote all"], ["promote all"]]) + random_shares(draw)
     draw.shuffle(lines)
     return lines
 
 
-def random_trace(seed, most):
-    """Setting lines, and up to so many calls of a trace."""
+def random_shares(draw):
+    """Lines of classes, in percent or in thousandths, as far as the limit suffices."""
+    lines, left = [], 1_000
+    for name in draw.sample(NAMES, draw.randrange(5)):
+        kind = draw.choice([*SHARES])
+        number = min(draw.choice(THOUSANDTHS), left) // SHARES[kind]
+        left -= SHARES[kind] * number
+        lines += [f"{kind} {name} {number}"] if number else []
+    return lines
+
+
+def random_trace(seed, most, settings=None):
+    """Setting lines, where none are given, and up to so many calls of a trace."""
     draw = random.Random(seed)
-    settings, calls = random_settings(seed), []
-    parts = [it.split()[1] for it in settings if it.startswith(("class", "share"))] + ["unknown"]
+    settings, calls = settings or random_settings(seed), []
+    parts = [it.split()[1] for it in settings if it.split()[0] in SHARES] + ["unknown"]
     span, hold = draw.choice([1, 100, 1_000, 10_000]), draw.choice([1, 10, 100, HOUR])
     start = draw.choice([0, 0, 0, LAST_MOMENT - span // 2])
     for _ in range(draw.randrange(most + 1)):

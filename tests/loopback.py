@@ -13,7 +13,7 @@ from judging import counts_of
 
 PATIENCE = 20
 BODY = b"hello, world\n"
-LARGE = 8_000_000
+LARGE, FIVE = 8_000_000, 5_000_000
 # The same body by a length, and in chunks.
 WHOLE = {
     "length": b"HTTP/1.1 200 OK\r\nContent-Length: 13\r\n\r\nhello, world\n",
@@ -116,7 +116,7 @@ class Backend:
             elif path == b"/both":
                 self.both.wait(PATIENCE)
             elif path == b"/rests":
-                time.sleep(0.5)
+                time.sleep(1.5)
             if path == b"/closes":
                 return
             if cut := re.fullmatch(rb"/(closes|resets)/(\w+)/(\d+)", path):
@@ -129,7 +129,7 @@ class Backend:
             elif path == b"/garbage":
                 client.sendall(b"no answer at all\r\n\r\n")
             else:
-                body = b"x" * LARGE if path == b"/large" else BODY
+                body = {b"/large": b"x" * LARGE, b"/five": b"x" * FIVE}.get(path, BODY)
                 client.sendall(b"HTTP/1.1 200 OK\r\nContent-Length: %d\r\n\r\n%s" % (len(body), body))
                 if path == b"/stays":
                     self.stayed.put(self.release.wait(PATIENCE))
@@ -159,8 +159,8 @@ class Gateway:
             if "admission: listen" not in self.log:
                 return
 
-    def start(self, program, room, backend, settings="", workers=1, each=1, words=(), listen="127.0.0.1", front=(),
-              version=1):
+    def start(self, program, room, backend, settings="", workers=1, each=1, words=(), listen="127.0.0.1", version=1,
+              front=()):
         """`backend` is its port, or nothing for a gateway that forwards to itself; `front` runs the words behind it."""
         self.port, self.log, self.is_listening = free_port(), [], threading.Event()
         self.host = "127.0.0.1" if listen == "0.0.0.0" else listen

@@ -1,11 +1,13 @@
-"""Cases of `tests/serve` on what becomes of connections: of early answers, addresses, descriptors and slow ends."""
+"""Cases of `tests/serve` on what becomes of connections: of early answers, resets, signals, descriptors and slow ends."""
 import os
 import resource
+import signal
 import socket
 import threading
 import time
+from concurrent.futures import ThreadPoolExecutor
 
-from loopback import BODY, PATIENCE, WHOLE, Later, Scripted, read_all, read_head
+from loopback import BODY, FIVE, LARGE, PATIENCE, WHOLE, Later, Scripted, read_all, read_head
 from wires import CONTINUE, local
 
 PLAIN = b"GET /plain HTTP/1.1\r\nHost: h\r\n\r\n"
@@ -80,6 +82,45 @@ class Sockets:
             self.judge(f"counters of early answers {what}", {"admitted": 6, outcome: 6}, gate.ending())
             backend.close()
 
+    def resets_nobody(self, backend):
+        """A client that has sent a second request by the time that its large answer is written gets all of it."""
+        gate = self.gateway(backend, workers=4, each=5)
+
+        def asks_twice(_):
+            with gate.connect() as client:
+                client.sendall(b"GET /five HTTP/1.1\r\nHost: h\r\n\r\n")
+                time.sleep(0.05)
+                found, why = unbroken(client, PLAIN)
+                return len(found.partition(b"\r\n\r\n")[2]), why
+
+        with ThreadPoolExecutor(4) as pool:
+            self.judge("large answers before second requests", [(FIVE, None)] * 20, [*pool.map(asks_twice, range(20))])
+        self.judge("counters of second requests", {"admitted": 20, "success": 20}, gate.ending())
+
+    def is_stopped(self, backend):
+        """A gateway that is stopped and goes on loses nobody inside a head, a body, an answer or before a connection."""
+        gate = self.gateway(backend, workers=4, each=1, words=("--client-timeout-ms", "60000"))
+        with gate.connect() as head, gate.connect() as body, socket.socket() as deaf:
+            head.sendall(PLAIN[:9])
+            body.sendall(b"POST /plain HTTP/1.1\r\nHost: h\r\nContent-Length: 3\r\n\r\na")
+            deaf.setsockopt(socket.SOL_SOCKET, socket.SO_RCVBUF, 4096)
+            deaf.connect(("127.0.0.1", gate.port))
+            deaf.sendall(b"GET /large HTTP/1.1\r\nHost: h\r\n\r\n")
+            begun = deaf.recv(1)
+            for _ in range(3):
+                time.sleep(0.2)
+                gate.process.send_signal(signal.SIGSTOP)
+                time.sleep(0.1)
+                gate.process.send_signal(signal.SIGCONT)
+            time.sleep(0.2)
+            head.sendall(PLAIN[9:])
+            body.sendall(b"bc")
+            self.judge("inside a head", passed_on(BODY), read_all(head))
+            self.judge("inside a body", passed_on(BODY), read_all(body))
+            self.judge("inside an answer", LARGE, len((begun + read_all(deaf)).partition(b"\r\n\r\n")[2]))
+        self.judge("before a connection", passed_on(BODY), gate.ask(PLAIN))
+        self.judge("counters of a gateway that was stopped", {"admitted": 4, "success": 4}, gate.ending())
+
     def listens_where_it_is_told(self, backend):
         """It binds the configured address alone."""
         gate = self.gateway(backend, listen="127.0.0.2")
@@ -94,13 +135,13 @@ class Sockets:
 
     def begins_anew_behind_a_continue(self, backend):
         """The time to take an answer isn't that of the text which asked for the body."""
-        gate = self.gateway(backend, words=("--client-timeout-ms", "1000"))
+        gate = self.gateway(backend, words=("--client-timeout-ms", "3000"))
         with gate.connect() as client:
             client.sendall(b"POST /rests HTTP/1.1\r\nHost: h\r\nExpect: 100-continue\r\nContent-Length: 3\r\n\r\n")
             self.judge("asked for its body", CONTINUE, client.recv(65536))
-            time.sleep(0.8)
+            time.sleep(2)
             client.sendall(b"abc")
-            self.judge("answered 1.3 seconds later", passed_on(BODY), read_all(client))
+            self.judge("answered 3.5 seconds later", passed_on(BODY), read_all(client))
         self.judge("counters of who was asked", {"admitted": 1, "success": 1}, gate.ending())
 
     def is_short_of_descriptors(self, backend):
