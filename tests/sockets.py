@@ -17,6 +17,8 @@ EARLY = {
     "length": b"HTTP/1.1 403 Forbidden\r\nContent-Length: 13\r\n\r\n" + BODY,
     "chunks": b"HTTP/1.1 403 Forbidden\r\nTransfer-Encoding: chunked\r\n\r\nd\r\n" + BODY + b"\r\n0\r\n\r\n",
 }
+# More behind an answer than buffers of the system hold.
+FLOOD = b"x" * 20_000_000
 # How often a case is tried whose mistake shows in most of its tries.
 TRIES = 5
 
@@ -147,14 +149,14 @@ class Sockets:
     def is_short_of_descriptors(self, backend):
         """A worker that gets no connection rests and tries again: it serves once there are descriptors."""
         front = ("sh", "-c", 'ulimit -Sn 6 && exec "$@"', "sh")
-        gate = self.gateway(backend, workers=3, each=1_000_000, front=front)
+        gate = self.gateway(backend, workers=3, each=1_000_000, front=front, words=("--client-timeout-ms", "60000"))
         self.judge("descriptors of a gateway without clients", 4, len(os.listdir(f"/proc/{gate.process.pid}/fd")))
         with gate.connect(), gate.connect():
             time.sleep(0.2)
             waiting = [Later(gate.ask, PLAIN) for _ in range(3)]
             begun = processor_time(gate.process)
             time.sleep(1)
-            self.judge("it rests meanwhile", True, processor_time(gate.process) - begun < 0.5)
+            self.judge("it rests meanwhile", True, processor_time(gate.process) - begun < 0.08)
             self.judge("nobody is served meanwhile", [None] * 3, [it.found for it in waiting])
             hard = resource.prlimit(gate.process.pid, resource.RLIMIT_NOFILE)[1]
             resource.prlimit(gate.process.pid, resource.RLIMIT_NOFILE, (64, hard))
@@ -177,7 +179,7 @@ class Sockets:
 
     def ends_with_its_backend(self, _):
         """A backend's end is waited for after its answer, for a moment; behind a fault it isn't."""
-        seen, done = [], threading.Event()
+        seen, swallowed, ended, done = [], [], [], threading.Event()
 
         def stays(client):
             done.wait(PATIENCE)
@@ -190,10 +192,22 @@ class Sockets:
             except BlockingIOError:
                 seen.append(None)
 
-        whole, garbage = WHOLE["length"], b"no answer at all\r\n\r\n"
+        def floods(client):
+            client.sendall(FLOOD)
+            swallowed.append(len(FLOOD))
+
+        def ends(client):
+            try:
+                ended.append(client.recv(1))
+            except ConnectionResetError:
+                ended.append("reset")
+
+        # More than one read takes: what isn't read resets the connection as it is closed.
+        whole, garbage = WHOLE["length"], b"no answer at all\r\n\r\n" + b"x" * 30_000
         for what, said, then, most in (("stays", whole, stays, 0.5), ("drips bytes", whole, drips, 2),
+                                       ("goes on sending", whole, floods, 2),
                                        ("looks whether it closes first", whole, looks, 0.5),
-                                       ("answers garbage and drips", garbage, drips, 0.2)):
+                                       ("answers garbage", garbage, ends, 0.2)):
             def answers(client, said=said, then=then):
                 read_head(client)
                 client.sendall(said)
@@ -208,3 +222,5 @@ class Sockets:
             backend.close()
         done.set()
         self.judge("a backend that closes first", True, None in seen)
+        self.judge("what is sent behind an answer is read for a moment alone", [], swallowed)
+        self.judge("what is sent behind a fault is left unread", {"reset"}, {*ended})
