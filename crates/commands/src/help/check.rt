@@ -5,11 +5,12 @@ pub(crate) const CHECK_ABOUT: &str =
 
 pub(crate) const CHECK_HELP: &str = "\
 Reads the file CONFIG, TOML text of at most 1 MiB, and serves nothing. /dev/stdin as CONFIG reads
-standard input. A smallest configuration is
+standard input. A small configuration, for 64 workers, is
 
   version = 2
   listen = \"127.0.0.1:8080\"    # where requests come in
   backend = \"127.0.0.1:9000\"   # where they go to
+  backlog = 20                 # callers that may wait
 
   [limit]
   kind = \"fixed\"               # or settable, aimd, vegas
@@ -63,14 +64,14 @@ With a table of each kind:
   version = 2
   listen = \"127.0.0.1:8080\"
   backend = \"127.0.0.1:9000\"
-  backlog = 40
+  backlog = 10
   timeout_ms = 500
 
   [limit]
   kind = \"aimd\"
   min = 5
-  max = 200
-  initial = 40
+  max = 30
+  initial = 20
   ratio = 900
   timeout_us = 2_000_000
 
