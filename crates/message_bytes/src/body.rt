@@ -1,5 +1,5 @@
 // Bodies of a known length, and bodies that run to the reader's end.
-ghost use Rattle.std.specs.Prelude.{◌≡◌, ◌≤◌, ◌+◌, ◌++◌, length, drop, IsErrOf, OnOk};
+ghost use Rattle.std.specs.Prelude.{◌≡◌, ◌≤◌, ◌+◌, ◌++◌, max, length, drop, IsErrOf, OnOk};
 ghost use Rattle.counted_io.specs.Counted.{inner_of, calls_of, failures_of};
 ghost use Rattle.message_bytes.specs.Body.{all_of, sized_of};
 ghost use Rattle.message_bytes.specs.Reading.{By, HasFailed, Reads};
@@ -31,6 +31,7 @@ pub fn fill<R: BufRead>(
     ensures read { IsErrOf result ReadFault.Read → HasFailed reader.old reader.new }
     ensures unfailing { OnOk result (failures_of reader.new ≡ failures_of reader.old) }
     ensures turns { IsErrOf result ReadFault.TurnLimit → limit ≤ calls_of reader.new }
+    ensures few { calls_of reader.new ≤ max limit (calls_of reader.old) }
 {
     let mut left = size;
     while left > 0 {
@@ -55,6 +56,7 @@ pub fn read_sized<R: BufRead>(
     ensures read { IsErrOf result ReadFault.Read → HasFailed reader.old reader.new }
     ensures unfailing { OnOk result (failures_of reader.new ≡ failures_of reader.old) }
     ensures turns { IsErrOf result ReadFault.TurnLimit → limit ≤ calls_of reader.new }
+    ensures few { calls_of reader.new ≤ max limit (calls_of reader.old) }
 {
     let mut body = Vec::new(alloc);
     fill(reader, limit, &mut body, size)?;
@@ -72,6 +74,7 @@ pub fn read_to_end<R: BufRead>(
     ensures read { IsErrOf result ReadFault.Read → HasFailed reader.old reader.new }
     ensures unfailing { OnOk result (failures_of reader.new ≡ failures_of reader.old) }
     ensures turns { IsErrOf result ReadFault.TurnLimit → limit ≤ calls_of reader.new }
+    ensures few { calls_of reader.new ≤ max limit (calls_of reader.old) }
 {
     let mut body = Vec::new(alloc);
     loop {

@@ -1,5 +1,5 @@
 // The bytes of a head.
-ghost use Rattle.std.specs.Prelude.{◌≡◌, ◌≤◌, ◌<◌, ◌-◌, ◌⊎◌, ◌++◌, ℕ, List, [], length, IsErrOf, IfErr, IfOk, OnErr, OnOk};
+ghost use Rattle.std.specs.Prelude.{◌≡◌, ◌≤◌, ◌<◌, ◌-◌, ◌⊎◌, ◌++◌, max, ℕ, List, [], length, IsErrOf, IfErr, IfOk, OnErr, OnOk};
 ghost use Rattle.std.specs.Io.{StopsAt};
 ghost use Rattle.counted_io.specs.Counted.{inner_of, calls_of, failures_of};
 ghost use Rattle.counted_io.specs.Effects.{Gave, IfLeft};
@@ -70,6 +70,7 @@ impl Seen {
         ensures read { IsErrOf result ReadFault.Read → HasFailed reader.old reader.new }
         ensures unfailing { OnOk result (failures_of reader.new ≡ failures_of reader.old) }
         ensures turns { IsErrOf result ReadFault.TurnLimit → limit ≤ calls_of reader.new }
+        ensures few { calls_of reader.new ≤ max limit (calls_of reader.old) }
     {
         let before = self.bytes.len();
         read_line_part(reader, limit, MOST_HEAD - before, &mut self.bytes)?;
@@ -112,6 +113,7 @@ pub fn read_head<R: BufRead>(
     ensures read { IsErrOf result ReadFault.Read → HasFailed reader.old reader.new }
     ensures unfailing { OnOk result (failures_of reader.new ≡ failures_of reader.old) }
     ensures turns { IsErrOf result ReadFault.TurnLimit → limit ≤ calls_of reader.new }
+    ensures few { calls_of reader.new ≤ max limit (calls_of reader.old) }
 {
     let mut seen = Seen::new(alloc)?;
     while seen.len() < MOST_HEAD {

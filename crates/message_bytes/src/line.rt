@@ -1,5 +1,5 @@
 // The line of a chunk's size.
-ghost use Rattle.std.specs.Prelude.{◌≡◌, ◌≤◌, IsErrOf, OnOk};
+ghost use Rattle.std.specs.Prelude.{◌≡◌, ◌≤◌, max, IsErrOf, OnOk};
 ghost use Rattle.counted_io.specs.Counted.{inner_of, calls_of, failures_of};
 ghost use Rattle.message_bytes.specs.Lines.{size_line_of};
 ghost use Rattle.message_bytes.specs.Reading.{By, HasFailed, Reads};
@@ -26,6 +26,7 @@ pub fn read_size_line<R: Read>(
     ensures read { IsErrOf result ReadFault.Read → HasFailed reader.old reader.new }
     ensures unfailing { OnOk result (failures_of reader.new ≡ failures_of reader.old) }
     ensures turns { IsErrOf result ReadFault.TurnLimit → limit ≤ calls_of reader.new }
+    ensures few { calls_of reader.new ≤ max limit (calls_of reader.old) }
 {
     line.clear();
     for _ in 0..MOST_SIZE_LINE {

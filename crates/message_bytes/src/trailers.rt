@@ -1,5 +1,5 @@
 // The lines behind a chunked body.
-ghost use Rattle.std.specs.Prelude.{◌≡◌, ◌≤◌, [], IsErrOf, OnOk};
+ghost use Rattle.std.specs.Prelude.{◌≡◌, ◌≤◌, max, [], IsErrOf, OnOk};
 ghost use Rattle.counted_io.specs.Counted.{inner_of, calls_of, failures_of};
 ghost use Rattle.message_bytes.specs.Lines.{trailers_of};
 ghost use Rattle.message_bytes.specs.Reading.{By, HasFailed, Reads};
@@ -21,6 +21,7 @@ pub fn read_trailers<R: Read>(reader: &mut Counted<R>, limit: u64) -> Result<(),
     ensures read { IsErrOf result ReadFault.Read → HasFailed reader.old reader.new }
     ensures unfailing { OnOk result (failures_of reader.new ≡ failures_of reader.old) }
     ensures turns { IsErrOf result ReadFault.TurnLimit → limit ≤ calls_of reader.new }
+    ensures few { calls_of reader.new ≤ max limit (calls_of reader.old) }
 {
     let mut before = 0u8;
     let mut last = b'\n';

@@ -25,6 +25,7 @@ loop-left-preserved g c =
         c.in_ok-count.ensures.fits,
       ));
       failures = c.in_ok-count.ensures.unfailing ∙ invariant.failures;
+      few = omega (arith, c.in_ok-count.ensures.few, invariant.few);
     }
 
 pub returns-then-count-eq0-clause-bytes : goal.returns-then-count-eq0-clause-bytes
@@ -52,6 +53,9 @@ returns-in_err-count-clause-unfailing c = search rules
 pub returns-in_err-count-clause-turns : goal.returns-in_err-count-clause-turns
 returns-in_err-count-clause-turns c = search rules
 
+pub returns-in_err-count-clause-few : goal.returns-in_err-count-clause-few
+returns-in_err-count-clause-few c = search rules
+
 pub returns-then-count-eq0-clause-kept : goal.returns-then-count-eq0-clause-kept
 returns-then-count-eq0-clause-kept g c =
     let gave = c.in_ok-count.ensures.gave in
@@ -68,6 +72,9 @@ returns-then-count-eq0-clause-unfailing c = search rules
 
 pub returns-then-count-eq0-clause-turns : goal.returns-then-count-eq0-clause-turns
 returns-then-count-eq0-clause-turns c = search rules
+
+pub returns-then-count-eq0-clause-few : goal.returns-then-count-eq0-clause-few
+returns-then-count-eq0-clause-few c = search rules
 
 pub returns-clause-bytes : goal.returns-clause-bytes
 returns-clause-bytes c = grind (arith, common_steps)
@@ -86,3 +93,6 @@ returns-clause-unfailing c = search rules
 
 pub returns-clause-turns : goal.returns-clause-turns
 returns-clause-turns c = search rules
+
+pub returns-clause-few : goal.returns-clause-few
+returns-clause-few c = search rules

@@ -1,5 +1,5 @@
-use Rattle.std.proofs.Common.{◌≡◌, ◌+◌, ◌++◌, length, drop}
-use Rattle.counted_io.specs.Counted.{failures_of}
+use Rattle.std.proofs.Common.{◌≡◌, ◌+◌, ◌++◌, ◌≤◌, max, length, drop}
+use Rattle.counted_io.specs.Counted.{calls_of, failures_of}
 use Rattle.counted_io.specs.Effects.{Gave}
 use Rattle.message_bytes.proofs.body.fill.Given as goal
 
@@ -12,6 +12,7 @@ invariant-loop-left g l =
       kept : l.body.items ≡ l.fn.body.items ++ got;
       counted : length got + l.left ≡ l.size;
       failures : failures_of l.reader ≡ failures_of l.fn.reader;
+      few : calls_of l.reader ≤ max l.limit (calls_of l.fn.reader);
     }
 
 abbrev pub decreases-loop-left : goal.decreases-loop-left

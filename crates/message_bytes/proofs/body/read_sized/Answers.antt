@@ -13,6 +13,9 @@ returns-in_err-fill-clause-unfailing c = search rules
 pub returns-in_err-fill-clause-turns : goal.returns-in_err-fill-clause-turns
 returns-in_err-fill-clause-turns c = search rules
 
+pub returns-in_err-fill-clause-few : goal.returns-in_err-fill-clause-few
+returns-in_err-fill-clause-few c = search rules
+
 pub returns-clause-body : goal.returns-clause-body
 returns-clause-body c = search rules
 
@@ -24,3 +27,6 @@ returns-clause-unfailing c = search rules
 
 pub returns-clause-turns : goal.returns-clause-turns
 returns-clause-turns c = search rules
+
+pub returns-clause-few : goal.returns-clause-few
+returns-clause-few c = search rules

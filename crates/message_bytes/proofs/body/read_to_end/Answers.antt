@@ -13,6 +13,7 @@ loop-body-preserved g c =
       consumed = rw gave.2 (Consumes-trans _ _ _ _ gave.0 invariant.consumed gave.3);
       fits = rw gave.2 (grind (arith, common_steps, size, gave.1, invariant.fits));
       failures = c.in_ok-count.ensures.unfailing ∙ invariant.failures;
+      few = omega (arith, c.in_ok-count.ensures.few, invariant.few);
     }
 
 pub returns-then-count-eq0-clause-body : goal.returns-then-count-eq0-clause-body
@@ -42,6 +43,9 @@ returns-in_err-count-clause-unfailing c = search rules
 pub returns-in_err-count-clause-turns : goal.returns-in_err-count-clause-turns
 returns-in_err-count-clause-turns c = search rules
 
+pub returns-in_err-count-clause-few : goal.returns-in_err-count-clause-few
+returns-in_err-count-clause-few c = search rules
+
 pub returns-then-count-eq0-clause-read : goal.returns-then-count-eq0-clause-read
 returns-then-count-eq0-clause-read c = search rules
 
@@ -51,6 +55,9 @@ returns-then-count-eq0-clause-unfailing c = search rules
 pub returns-then-count-eq0-clause-turns : goal.returns-then-count-eq0-clause-turns
 returns-then-count-eq0-clause-turns c = search rules
 
+pub returns-then-count-eq0-clause-few : goal.returns-then-count-eq0-clause-few
+returns-then-count-eq0-clause-few c = search rules
+
 pub returns-then-count-room-clause-read : goal.returns-then-count-room-clause-read
 returns-then-count-room-clause-read c = search rules
 
@@ -59,3 +66,6 @@ returns-then-count-room-clause-unfailing c = search rules
 
 pub returns-then-count-room-clause-turns : goal.returns-then-count-room-clause-turns
 returns-then-count-room-clause-turns c = search rules
+
+pub returns-then-count-room-clause-few : goal.returns-then-count-room-clause-few
+returns-then-count-room-clause-few c = search rules

@@ -1,5 +1,5 @@
-use Rattle.std.proofs.Common.{◌≡◌, ◌≤◌, ◌-◌, length}
-use Rattle.counted_io.specs.Counted.{failures_of}
+use Rattle.std.proofs.Common.{◌≡◌, ◌≤◌, ◌-◌, max, length}
+use Rattle.counted_io.specs.Counted.{calls_of, failures_of}
 use Rattle.counted_io.specs.Effects.{Gave}
 use Rattle.message_bytes.proofs.body.read_to_end.Given as goal
 
@@ -9,6 +9,7 @@ invariant-loop-body g l = record {
   consumed : Gave g.R.Read.remaining l.fn.reader l.reader l.body.items;
   fits : length l.body.items ≤ 8388608;
   failures : failures_of l.reader ≡ failures_of l.fn.reader;
+  few : calls_of l.reader ≤ max l.limit (calls_of l.fn.reader);
 }
 
 abbrev pub decreases-loop-body : goal.decreases-loop-body

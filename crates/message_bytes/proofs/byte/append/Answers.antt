@@ -25,6 +25,9 @@ returns-then-calls-limit-clause-unfailing g c = search rules
 pub returns-then-calls-limit-clause-turns : goal.returns-then-calls-limit-clause-turns
 returns-then-calls-limit-clause-turns g c = search rules
 
+pub returns-then-calls-limit-clause-few : goal.returns-then-calls-limit-clause-few
+returns-then-calls-limit-clause-few g c = search rules
+
 pub returns-in-Ok-clause-gave : goal.returns-in-Ok-clause-gave
 returns-in-Ok-clause-gave g c = search rules
 
@@ -48,6 +51,9 @@ returns-in-Ok-clause-unfailing g c = search rules
 
 pub returns-in-Ok-clause-turns : goal.returns-in-Ok-clause-turns
 returns-in-Ok-clause-turns g c = search rules
+
+pub returns-in-Ok-clause-few : goal.returns-in-Ok-clause-few
+returns-in-Ok-clause-few g c = search rules
 
 pub returns-in-Err-Read-clause-gave : goal.returns-in-Err-Read-clause-gave
 returns-in-Err-Read-clause-gave g c = search rules
@@ -73,6 +79,9 @@ returns-in-Err-Read-clause-unfailing g c = search rules
 pub returns-in-Err-Read-clause-turns : goal.returns-in-Err-Read-clause-turns
 returns-in-Err-Read-clause-turns g c = search rules
 
+pub returns-in-Err-Read-clause-few : goal.returns-in-Err-Read-clause-few
+returns-in-Err-Read-clause-few g c = search rules
+
 pub returns-in-Err-Memory-clause-gave : goal.returns-in-Err-Memory-clause-gave
 returns-in-Err-Memory-clause-gave g c = search rules
 
@@ -96,3 +105,6 @@ returns-in-Err-Memory-clause-unfailing g c = search rules
 
 pub returns-in-Err-Memory-clause-turns : goal.returns-in-Err-Memory-clause-turns
 returns-in-Err-Memory-clause-turns g c = search rules
+
+pub returns-in-Err-Memory-clause-few : goal.returns-in-Err-Memory-clause-few
+returns-in-Err-Memory-clause-few g c = search rules

@@ -13,6 +13,9 @@ returns-then-calls-limit-clause-unfailing c = search rules
 pub returns-then-calls-limit-clause-turns : goal.returns-then-calls-limit-clause-turns
 returns-then-calls-limit-clause-turns c = search rules
 
+pub returns-then-calls-limit-clause-few : goal.returns-then-calls-limit-clause-few
+returns-then-calls-limit-clause-few c = search rules
+
 pub returns-in-Err-clause-byte : goal.returns-in-Err-clause-byte
 returns-in-Err-clause-byte c = search rules
 
@@ -24,6 +27,9 @@ returns-in-Err-clause-unfailing c = search rules
 
 pub returns-in-Err-clause-turns : goal.returns-in-Err-clause-turns
 returns-in-Err-clause-turns c = search rules
+
+pub returns-in-Err-clause-few : goal.returns-in-Err-clause-few
+returns-in-Err-clause-few c = search rules
 
 pub returns-in-Ok-eq0-clause-byte : goal.returns-in-Ok-eq0-clause-byte
 returns-in-Ok-eq0-clause-byte c = search rules
@@ -37,6 +43,9 @@ returns-in-Ok-eq0-clause-unfailing c = search rules
 pub returns-in-Ok-eq0-clause-turns : goal.returns-in-Ok-eq0-clause-turns
 returns-in-Ok-eq0-clause-turns c = search rules
 
+pub returns-in-Ok-eq0-clause-few : goal.returns-in-Ok-eq0-clause-few
+returns-in-Ok-eq0-clause-few c = search rules
+
 pub returns-in-Ok-clause-byte : goal.returns-in-Ok-clause-byte
 returns-in-Ok-clause-byte c = search rules
 
@@ -48,3 +57,6 @@ returns-in-Ok-clause-unfailing c = search rules
 
 pub returns-in-Ok-clause-turns : goal.returns-in-Ok-clause-turns
 returns-in-Ok-clause-turns c = search rules
+
+pub returns-in-Ok-clause-few : goal.returns-in-Ok-clause-few
+returns-in-Ok-clause-few c = search rules

@@ -13,6 +13,9 @@ returns-in_err-read_this-clause-unfailing c = search rules
 pub returns-in_err-read_this-clause-turns : goal.returns-in_err-read_this-clause-turns
 returns-in_err-read_this-clause-turns c = search rules
 
+pub returns-in_err-read_this-clause-few : goal.returns-in_err-read_this-clause-few
+returns-in_err-read_this-clause-few c = search rules
+
 pub returns-clause-bytes : goal.returns-clause-bytes
 returns-clause-bytes c = search rules
 
@@ -24,3 +27,6 @@ returns-clause-unfailing c = search rules
 
 pub returns-clause-turns : goal.returns-clause-turns
 returns-clause-turns c = search rules
+
+pub returns-clause-few : goal.returns-clause-few
+returns-clause-few c = search rules

@@ -13,6 +13,9 @@ returns-in_err-found-clause-unfailing g c = search rules
 pub returns-in_err-found-clause-turns : goal.returns-in_err-found-clause-turns
 returns-in_err-found-clause-turns g c = search rules
 
+pub returns-in_err-found-clause-few : goal.returns-in_err-found-clause-few
+returns-in_err-found-clause-few g c = search rules
+
 pub returns-then-found-byte-clause-byte : goal.returns-then-found-byte-clause-byte
 returns-then-found-byte-clause-byte g c = search rules
 
@@ -25,6 +28,9 @@ returns-then-found-byte-clause-unfailing g c = search rules
 pub returns-then-found-byte-clause-turns : goal.returns-then-found-byte-clause-turns
 returns-then-found-byte-clause-turns g c = search rules
 
+pub returns-then-found-byte-clause-few : goal.returns-then-found-byte-clause-few
+returns-then-found-byte-clause-few g c = search rules
+
 pub returns-else-found-byte-clause-byte : goal.returns-else-found-byte-clause-byte
 returns-else-found-byte-clause-byte g c = search rules
 
@@ -36,3 +42,6 @@ returns-else-found-byte-clause-unfailing g c = search rules
 
 pub returns-else-found-byte-clause-turns : goal.returns-else-found-byte-clause-turns
 returns-else-found-byte-clause-turns g c = search rules
+
+pub returns-else-found-byte-clause-few : goal.returns-else-found-byte-clause-few
+returns-else-found-byte-clause-few g c = search rules

@@ -24,6 +24,7 @@ loop-seen-preserved g c =
       on = rw gave.3 on;
       fits = rw gave.3 (rw length-append room);
       failures = c.in_ok-read_on.ensures.unfailing ∙ invariant.failures;
+      few = omega (arith, c.in_ok-read_on.ensures.few, invariant.few);
     }
 
 pub returns-then-branch-clause-head : goal.returns-then-branch-clause-head
@@ -66,6 +67,9 @@ returns-in_err-read_on-clause-unfailing g c = search rules
 pub returns-in_err-read_on-clause-turns : goal.returns-in_err-read_on-clause-turns
 returns-in_err-read_on-clause-turns g c = search rules
 
+pub returns-in_err-read_on-clause-few : goal.returns-in_err-read_on-clause-few
+returns-in_err-read_on-clause-few g c = search rules
+
 pub returns-then-branch-clause-lines : goal.returns-then-branch-clause-lines
 returns-then-branch-clause-lines g c = search rules
 
@@ -78,6 +82,9 @@ returns-then-branch-clause-unfailing g c = search rules
 pub returns-then-branch-clause-turns : goal.returns-then-branch-clause-turns
 returns-then-branch-clause-turns g c = search rules
 
+pub returns-then-branch-clause-few : goal.returns-then-branch-clause-few
+returns-then-branch-clause-few g c = search rules
+
 pub returns-clause-lines : goal.returns-clause-lines
 returns-clause-lines g c = search rules
 
@@ -89,3 +96,6 @@ returns-clause-unfailing g c = search rules
 
 pub returns-clause-turns : goal.returns-clause-turns
 returns-clause-turns g c = search rules
+
+pub returns-clause-few : goal.returns-clause-few
+returns-clause-few g c = search rules

@@ -1,5 +1,5 @@
-use Rattle.std.proofs.Common.{◌≡◌, ◌≤◌, ◌-◌, length}
-use Rattle.counted_io.specs.Counted.{inner_of, failures_of}
+use Rattle.std.proofs.Common.{◌≡◌, ◌≤◌, ◌-◌, max, length}
+use Rattle.counted_io.specs.Counted.{inner_of, calls_of, failures_of}
 use Rattle.message_bytes.specs.declared.fault.Fault.TheVariants.{HeadTooLarge}
 use Rattle.message_bytes.specs.Gather.{GoesOn}
 use Rattle.message_bytes.specs.Head.{ends_head}
@@ -13,6 +13,7 @@ invariant-loop-seen g l =
           (left (inner_of l.reader)) l.seen;
       fits : length l.seen ≤ 65536;
       failures : failures_of l.reader ≡ failures_of l.fn.reader;
+      few : calls_of l.reader ≤ max l.limit (calls_of l.fn.reader);
     }
 
 abbrev pub decreases-loop-seen : goal.decreases-loop-seen

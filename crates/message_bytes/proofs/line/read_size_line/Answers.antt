@@ -1,4 +1,4 @@
-use Rattle.std.proofs.Common.{rules, refl, ◌≡◌, ◌∙◌, ◌==◌, ◌≤◌, ◌++◌, [], ◌∷◌, length, Vec, Global, ℕ, true, false}
+use Rattle.std.proofs.Common.{rules, arith, refl, ◌≡◌, ◌∙◌, ◌==◌, ◌≤◌, ◌++◌, [], ◌∷◌, length, Vec, Global, ℕ, true, false}
 use Rattle.counted_io.specs.Counted.{inner_of}
 use Rattle.message_bytes.specs.declared.fault.Fault.TheVariants.{Malformed}
 use Rattle.message_bytes.specs.Lines.{ends_line}
@@ -29,7 +29,12 @@ loop-preserved g c =
     (left (inner_of c.args.reader.now)) (left (inner_of c.loop.reader))
     (left (inner_of c.read_byte.new.reader)) c.loop.line.items c.in_ok-byte.byte
     c.loop.invariant.on c.in_ok-byte.ensures.byte (search rules) ends in
-    record { on = rw items on; counted = search rules; failures = search rules }
+    record {
+      on = rw items on;
+      counted = search rules;
+      failures = search rules;
+      few = omega (arith, c.in_ok-byte.ensures.few, c.loop.invariant.few);
+    }
 
 pub returns-clause-line : goal.returns-clause-line
 returns-clause-line g c =
@@ -54,6 +59,9 @@ returns-in_err-byte-clause-unfailing g c = search rules
 pub returns-in_err-byte-clause-turns : goal.returns-in_err-byte-clause-turns
 returns-in_err-byte-clause-turns g c = search rules
 
+pub returns-in_err-byte-clause-few : goal.returns-in_err-byte-clause-few
+returns-in_err-byte-clause-few g c = search rules
+
 pub returns-then-is_err-clause-line : goal.returns-then-is_err-clause-line
 returns-then-is_err-clause-line g c = search rules
 
@@ -66,6 +74,9 @@ returns-then-is_err-clause-unfailing g c = search rules
 pub returns-then-is_err-clause-turns : goal.returns-then-is_err-clause-turns
 returns-then-is_err-clause-turns g c = search rules
 
+pub returns-then-is_err-clause-few : goal.returns-then-is_err-clause-few
+returns-then-is_err-clause-few g c = search rules
+
 pub returns-then-byte-eq10-clause-read : goal.returns-then-byte-eq10-clause-read
 returns-then-byte-eq10-clause-read g c = search rules
 
@@ -74,6 +85,9 @@ returns-then-byte-eq10-clause-unfailing g c = search rules
 
 pub returns-then-byte-eq10-clause-turns : goal.returns-then-byte-eq10-clause-turns
 returns-then-byte-eq10-clause-turns g c = search rules
+
+pub returns-then-byte-eq10-clause-few : goal.returns-then-byte-eq10-clause-few
+returns-then-byte-eq10-clause-few g c = search rules
 
 pub loop-smaller : goal.loop-smaller
 loop-smaller g c = search rules
@@ -86,3 +100,6 @@ returns-clause-unfailing g c = search rules
 
 pub returns-clause-turns : goal.returns-clause-turns
 returns-clause-turns g c = search rules
+
+pub returns-clause-few : goal.returns-clause-few
+returns-clause-few g c = search rules

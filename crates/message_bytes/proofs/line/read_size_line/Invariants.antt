@@ -1,5 +1,5 @@
-use Rattle.std.proofs.Common.{◌≡◌, length}
-use Rattle.counted_io.specs.Counted.{inner_of, failures_of}
+use Rattle.std.proofs.Common.{◌≡◌, ◌≤◌, max, length}
+use Rattle.counted_io.specs.Counted.{inner_of, calls_of, failures_of}
 use Rattle.message_bytes.specs.declared.fault.Fault.TheVariants.{Malformed}
 use Rattle.message_bytes.specs.Gather.{GoesOn}
 use Rattle.message_bytes.specs.Lines.{ends_line}
@@ -13,4 +13,5 @@ invariant-loop g l =
           (left (inner_of l.reader)) l.line.items;
       counted : length l.line.items ≡ l.counter;
       failures : failures_of l.reader ≡ failures_of l.fn.reader;
+      few : calls_of l.reader ≤ max l.limit (calls_of l.fn.reader);
     }

@@ -1,4 +1,4 @@
-use Rattle.std.proofs.Common.{rules, ◌≡◌, true, false}
+use Rattle.std.proofs.Common.{rules, arith, ◌≡◌, true, false}
 use Rattle.counted_io.specs.Counted.{inner_of}
 use Rattle.message_bytes.specs.Lines.{is_empty_end}
 use Rattle.message_bytes.proofs.TrailerLines.{trailers_done, trailers_more, trailers_over}
@@ -21,7 +21,11 @@ loop-preserved g c =
     let on = trailers_more (left (inner_of c.args.reader.now)) (left (inner_of c.loop.reader))
     (left (inner_of c.read_byte.new.reader)) c.loop.before c.loop.last c.loop.counter
     c.in_ok-byte.byte c.loop.invariant.on c.in_ok-byte.ensures.byte (search rules) more in
-    record { on = on; failures = search rules }
+    record {
+      on = on;
+      failures = search rules;
+      few = omega (arith, c.in_ok-byte.ensures.few, c.loop.invariant.few);
+    }
 
 pub returns-clause-bytes : goal.returns-clause-bytes
 returns-clause-bytes g c =

@@ -1,5 +1,5 @@
-use Rattle.std.proofs.Common.{◌≡◌}
-use Rattle.counted_io.specs.Counted.{inner_of, failures_of}
+use Rattle.std.proofs.Common.{◌≡◌, ◌≤◌, max}
+use Rattle.counted_io.specs.Counted.{inner_of, calls_of, failures_of}
 use Rattle.message_bytes.specs.Lines.{TrailersGoOn}
 use Rattle.message_bytes.proofs.trailers.read_trailers.Given as goal
 
@@ -10,4 +10,5 @@ invariant-loop g l =
       on : TrailersGoOn (left (inner_of l.fn.reader)) (left (inner_of l.reader))
           l.before l.last l.counter;
       failures : failures_of l.reader ≡ failures_of l.fn.reader;
+      few : calls_of l.reader ≤ max l.limit (calls_of l.fn.reader);
     }
