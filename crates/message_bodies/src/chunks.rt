@@ -1,5 +1,5 @@
 // Chunked bodies.
-ghost use Rattle.std.specs.Prelude.{◌≡◌, ◌≤◌, ◌+◌, ◌++◌, drop, length, IfOk, IsErrOf, OnOk};
+ghost use Rattle.std.specs.Prelude.{◌≡◌, ◌≤◌, ◌+◌, ◌++◌, max, drop, length, IfOk, IsErrOf, OnOk};
 ghost use Rattle.counted_io.specs.Counted.{calls_of, failures_of};
 ghost use Rattle.message_bytes.specs.Reading.{By, HasFailed, Reads};
 ghost use Rattle.message_bodies.specs.Chunks.{IsChunks, piece_of};
@@ -28,6 +28,7 @@ fn read_piece<R: BufRead>(
     ensures read { IsErrOf result ReadFault.Read → HasFailed reader.old reader.new }
     ensures unfailing { OnOk result (failures_of reader.new ≡ failures_of reader.old) }
     ensures turns { IsErrOf result ReadFault.TurnLimit → limit ≤ calls_of reader.new }
+    ensures few { calls_of reader.new ≤ max limit (calls_of reader.old) }
 {
     fill(reader, limit, &mut body, size)?;
     read_crlf(reader, limit)?;
@@ -50,6 +51,7 @@ pub fn read_chunked<R: BufRead>(
     ensures read { IsErrOf result ReadFault.Read → HasFailed reader.old reader.new }
     ensures unfailing { OnOk result (failures_of reader.new ≡ failures_of reader.old) }
     ensures turns { IsErrOf result ReadFault.TurnLimit → limit ≤ calls_of reader.new }
+    ensures few { calls_of reader.new ≤ max limit (calls_of reader.old) }
 {
     let mut body = Vec::new(alloc);
     loop {

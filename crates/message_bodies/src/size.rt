@@ -1,5 +1,5 @@
 // The size of a chunk.
-ghost use Rattle.std.specs.Prelude.{◌≡◌, ◌≤◌, IfSome, IsNone, IsErrOf, OnOk};
+ghost use Rattle.std.specs.Prelude.{◌≡◌, ◌≤◌, max, IfSome, IsNone, IsErrOf, OnOk};
 ghost use Rattle.counted_io.specs.Counted.{calls_of, failures_of};
 ghost use Rattle.message_bytes.specs.Reading.{HasFailed, Reads};
 ghost use Rattle.message_bodies.specs.Size.{HasNoWholeSize, IsSize, IsWholeSize};
@@ -33,6 +33,7 @@ pub(crate) fn read_size<R: Read>(
     ensures read { IsErrOf result ReadFault.Read → HasFailed reader.old reader.new }
     ensures unfailing { OnOk result (failures_of reader.new ≡ failures_of reader.old) }
     ensures turns { IsErrOf result ReadFault.TurnLimit → limit ≤ calls_of reader.new }
+    ensures few { calls_of reader.new ≤ max limit (calls_of reader.old) }
 {
     let line = read_size_line(reader, limit, Vec::new(alloc))?;
     match whole_size(&line) {

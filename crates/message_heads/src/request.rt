@@ -64,7 +64,7 @@ pub fn parse_request(alloc: Global, text: Vec<u8>) -> Result<RequestHead, ReadFa
     let Some(found) = whole_request(&text, &mut spans) else {
         return Err(ReadFault::Bytes(Fault::Malformed));
     };
-    // A method is a token, so nothing but memory can be wanting.
+    // A method is a token, so this fails only when out of memory.
     let Ok(method) = Method::from_bytes(alloc, found.method.of(&text)) else {
         return Err(ReadFault::Memory);
     };

@@ -1,5 +1,5 @@
 // Bodies.
-ghost use Rattle.std.specs.Prelude.{◌≡◌, ◌≤◌, IsErrOf, OnOk};
+ghost use Rattle.std.specs.Prelude.{◌≡◌, ◌≤◌, max, IsErrOf, OnOk};
 ghost use Rattle.counted_io.specs.Counted.{calls_of, failures_of};
 ghost use Rattle.message_bytes.specs.Reading.{HasFailed, Reads};
 ghost use Rattle.message_reading.specs.Body.{IsBody};
@@ -24,6 +24,7 @@ pub fn read_body<R: BufRead>(
     ensures read { IsErrOf result ReadFault.Read → HasFailed reader.old reader.new }
     ensures unfailing { OnOk result (failures_of reader.new ≡ failures_of reader.old) }
     ensures turns { IsErrOf result ReadFault.TurnLimit → limit ≤ calls_of reader.new }
+    ensures few { calls_of reader.new ≤ max limit (calls_of reader.old) }
 {
     let body = match framing {
         Framing::Bodiless => return Ok(None),

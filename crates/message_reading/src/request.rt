@@ -1,5 +1,5 @@
 // The head of a request.
-ghost use Rattle.std.specs.Prelude.{◌≡◌, ◌≤◌, IsErrOf, OnOk};
+ghost use Rattle.std.specs.Prelude.{◌≡◌, ◌≤◌, max, IsErrOf, OnOk};
 ghost use Rattle.counted_io.specs.Counted.{calls_of, failures_of};
 ghost use Rattle.message_bytes.specs.Reading.{HasFailed, Reads};
 ghost use Rattle.message_reading.specs.Heads.{IsCheckedHead, IsRequestHead};
@@ -22,6 +22,7 @@ fn read_request_head<R: BufRead>(
     ensures read { IsErrOf result ReadFault.Read → HasFailed reader.old reader.new }
     ensures unfailing { OnOk result (failures_of reader.new ≡ failures_of reader.old) }
     ensures turns { IsErrOf result ReadFault.TurnLimit → limit ≤ calls_of reader.new }
+    ensures few { calls_of reader.new ≤ max limit (calls_of reader.old) }
 {
     let text = read_head(alloc, reader, limit)?;
     parse_request(alloc, text)
@@ -38,6 +39,7 @@ pub fn read_checked_head<R: BufRead>(
     ensures read { IsErrOf result ReadFault.Read → HasFailed reader.old reader.new }
     ensures unfailing { OnOk result (failures_of reader.new ≡ failures_of reader.old) }
     ensures turns { IsErrOf result ReadFault.TurnLimit → limit ≤ calls_of reader.new }
+    ensures few { calls_of reader.new ≤ max limit (calls_of reader.old) }
 {
     let head = read_request_head(alloc, reader, limit)?;
     match frame_request(&head) {

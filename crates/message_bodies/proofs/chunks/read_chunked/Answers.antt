@@ -1,4 +1,4 @@
-use Rattle.std.proofs.Common.{rules, subst, ◌≡◌, ◌<◌, ◌≤◌, ◌+◌, length, drop, ℕ, Vec, Global, Ok, Err}
+use Rattle.std.proofs.Common.{rules, arith, subst, ◌≡◌, ◌<◌, ◌≤◌, ◌+◌, length, drop, ℕ, Vec, Global, Ok, Err}
 use Rattle.counted_io.specs.Counted.{inner_of}
 use Rattle.message_bytes.specs.Reading.{Gives}
 use Rattle.message_bodies.specs.Size.{IsSize}
@@ -33,7 +33,17 @@ loop-body-preserved g c =
     c.loop-body.body.items c.in_ok-body.body.items c.in_ok-size.size c.in_ok-body.body
     c.loop-body.invariant.on c.in_ok-size.ensures.size some fits c.in_ok-body.ensures.piece
     c.in_ok-body.ensures.kept c.in_ok-body.ensures.length in
-    record { on = on; fits = search rules; failures = search rules }
+    record {
+      on = on;
+      fits = search rules;
+      failures = search rules;
+      few = omega (
+        arith,
+        c.in_ok-size.ensures.few,
+        c.in_ok-body.ensures.few,
+        c.loop-body.invariant.few,
+      );
+    }
 
 pub returns-then-size-len-clause-body : goal.returns-then-size-len-clause-body
 returns-then-size-len-clause-body g c =

@@ -1,5 +1,5 @@
-use Rattle.std.proofs.Common.{◌≡◌, ◌≤◌, ◌-◌, length}
-use Rattle.counted_io.specs.Counted.{inner_of, failures_of}
+use Rattle.std.proofs.Common.{◌≡◌, ◌≤◌, ◌-◌, max, length}
+use Rattle.counted_io.specs.Counted.{inner_of, calls_of, failures_of}
 use Rattle.message_bodies.specs.Chunks.{GoOn}
 use Rattle.message_bodies.proofs.chunks.read_chunked.Given as goal
 
@@ -10,6 +10,7 @@ invariant-loop-body g l =
       on : GoOn (left (inner_of l.fn.reader)) (left (inner_of l.reader)) l.body.items;
       fits : length l.body.items ≤ 8388608;
       failures : failures_of l.reader ≡ failures_of l.fn.reader;
+      few : calls_of l.reader ≤ max l.limit (calls_of l.fn.reader);
     }
 
 abbrev pub decreases-loop-body : goal.decreases-loop-body

@@ -1,5 +1,5 @@
-use Rattle.std.proofs.Common.{◌≡◌}
-use Rattle.counted_io.specs.Counted.{inner_of, failures_of}
+use Rattle.std.proofs.Common.{◌≡◌, ◌≤◌, max}
+use Rattle.counted_io.specs.Counted.{inner_of, calls_of, failures_of}
 use Rattle.message_reading.proofs.Finals.{GoOn}
 use Rattle.message_reading.proofs.response.read_final_head.Given as goal
 
@@ -9,6 +9,7 @@ invariant-loop-head g l =
     record {
       on : GoOn (remaining (inner_of l.fn.reader)) (remaining (inner_of l.reader)) l.left;
       failures : failures_of l.reader ≡ failures_of l.fn.reader;
+      few : calls_of l.reader ≤ max l.limit (calls_of l.fn.reader);
     }
 
 abbrev pub decreases-loop-head : goal.decreases-loop-head
