@@ -55,6 +55,10 @@ abbrev pub Reads : {R X V : Type 0} → (R → Option (List ℕ)) → Counted R 
 Reads remaining old new view Is result =
     Gives view Is (remaining (inner_of old)) (remaining (inner_of new)) result
 
--- 100,000,000 reads were made in the call, or their count stands at its end
+-- the most reads for one message
+abbrev pub most_reads : ℕ
+most_reads = 100000000
+
+-- so many were made in the call, or their count stands at its end
 abbrev pub IsUsedUp : {R : Type 0} → Counted R → Counted R → Type 0
-IsUsedUp old new = (calls_of old + 100000000 ≤ calls_of new) ⊎ (count_end ≤ calls_of new)
+IsUsedUp old new = (calls_of old + most_reads ≤ calls_of new) ⊎ (count_end ≤ calls_of new)

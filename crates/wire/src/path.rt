@@ -39,7 +39,7 @@ fn local_path(target: &str) -> &str
 }
 
 /// The path of a target: what stands before its query, and of an absolute URI behind its authority,
-/// with a `/` before it where it begins with none. Fails where memory is wanting.
+/// with a `/` before it where it begins with none. Fails when out of memory.
 #[tactic(auto, using(crate::proofs::Paths::path_slash, crate::proofs::Paths::path_bare))]
 pub(crate) fn copy_path(alloc: Global, target: &Text) -> Result<Text, AllocError>
     ensures { IfOk result (λ path. path ≡ path_of target.now) }

@@ -1,11 +1,11 @@
 // Requests that are read.
-ghost use Rattle.std.specs.Prelude.{◌≡◌, IsErrOf};
+ghost use Rattle.std.specs.Prelude.{◌≡◌, ◌≤◌, ◌+◌, IsErrOf};
 ghost use Rattle.counted_io.specs.Causes.{IsWriteCause};
-ghost use Rattle.counted_io.specs.Counted.{failures_of, inner_of};
+ghost use Rattle.counted_io.specs.Counted.{calls_of, failures_of, inner_of};
 ghost use Rattle.message_bytes.specs.Reading.{HasFailed};
 ghost use Rattle.message_fields.specs.Target.{path_of};
 ghost use Rattle.message_reading.specs.Continue.{IsSeen};
-ghost use Rattle.wire.specs.Fault.{IsUsedUp, Reads};
+ghost use Rattle.wire.specs.Fault.{IsUsedUp, Reads, most_reads};
 ghost use Rattle.wire.specs.Messages.{IsRequest, Said, request_of, version_of};
 
 use crate::fault::WireFault;
@@ -76,6 +76,7 @@ pub fn read_request<R: BufRead, W: Write>(
     ensures read { IsErrOf result WireFault.Read → HasFailed reader.old reader.new }
     ensures write { IsErrOf result WireFault.Write → IsWriteCause writer.old writer.new }
     ensures turns { IsErrOf result WireFault.TurnLimit → IsUsedUp reader.old reader.new }
+    ensures few { calls_of reader.new ≤ calls_of reader.old + most_reads }
 {
     let limit = reader.calls().saturating_add(MOST_READS);
     let (head, framing) = read_checked_head(alloc, reader, limit)?;

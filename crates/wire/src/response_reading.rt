@@ -1,7 +1,8 @@
 // Responses that are read.
-ghost use Rattle.std.specs.Prelude.{◌≡◌, IsErrOf};
+ghost use Rattle.std.specs.Prelude.{◌≡◌, ◌≤◌, ◌+◌, IsErrOf};
+ghost use Rattle.counted_io.specs.Counted.{calls_of};
 ghost use Rattle.message_bytes.specs.Reading.{HasFailed};
-ghost use Rattle.wire.specs.Fault.{IsUsedUp, Reads};
+ghost use Rattle.wire.specs.Fault.{IsUsedUp, Reads, most_reads};
 ghost use Rattle.wire.specs.Messages.{IsResponse};
 
 use crate::fault::WireFault;
@@ -29,6 +30,7 @@ pub fn read_response<R: BufRead>(
     ensures read { IsErrOf result WireFault.Read → HasFailed reader.old reader.new }
     ensures write { ¬ (IsErrOf result WireFault.Write) }
     ensures turns { IsErrOf result WireFault.TurnLimit → IsUsedUp reader.old reader.new }
+    ensures few { calls_of reader.new ≤ calls_of reader.old + most_reads }
 {
     let limit = reader.calls().saturating_add(MOST_READS);
     let head = read_final_head(alloc, reader, limit)?;

@@ -47,6 +47,9 @@ returns-in_err-head-clause-read g c = search rules
 pub returns-in_err-head-clause-turns : goal.returns-in_err-head-clause-turns
 returns-in_err-head-clause-turns g c = search rules
 
+pub returns-in_err-head-clause-few : goal.returns-in_err-head-clause-few
+returns-in_err-head-clause-few g c = search rules
+
 pub returns-in_err-path-clause-request : goal.returns-in_err-path-clause-request
 returns-in_err-path-clause-request g c = search rules
 
@@ -55,6 +58,9 @@ returns-in_err-path-clause-read g c = search rules
 
 pub returns-in_err-path-clause-turns : goal.returns-in_err-path-clause-turns
 returns-in_err-path-clause-turns g c = search rules
+
+pub returns-in_err-path-clause-few : goal.returns-in_err-path-clause-few
+returns-in_err-path-clause-few g c = search rules
 
 pub returns-in_err-say_continue-clause-request : goal.returns-in_err-say_continue-clause-request
 returns-in_err-say_continue-clause-request g c = search rules
@@ -65,17 +71,26 @@ returns-in_err-say_continue-clause-read g c = search rules
 pub returns-in_err-say_continue-clause-turns : goal.returns-in_err-say_continue-clause-turns
 returns-in_err-say_continue-clause-turns g c = search rules
 
+pub returns-in_err-say_continue-clause-few : goal.returns-in_err-say_continue-clause-few
+returns-in_err-say_continue-clause-few g c = search rules
+
 pub returns-in_err-body-clause-read : goal.returns-in_err-body-clause-read
 returns-in_err-body-clause-read g c = search rules
 
 pub returns-in_err-body-clause-turns : goal.returns-in_err-body-clause-turns
 returns-in_err-body-clause-turns g c = search rules
 
+pub returns-in_err-body-clause-few : goal.returns-in_err-body-clause-few
+returns-in_err-body-clause-few g c = search rules
+
 pub returns-clause-read : goal.returns-clause-read
 returns-clause-read g c = search rules
 
 pub returns-clause-turns : goal.returns-clause-turns
 returns-clause-turns g c = search rules
+
+pub returns-clause-few : goal.returns-clause-few
+returns-clause-few g c = search rules
 
 pub returns-in_err-head-clause-unfailing : goal.returns-in_err-head-clause-unfailing
 returns-in_err-head-clause-unfailing g c = search rules

@@ -54,6 +54,9 @@ returns-in_err-head-clause-write g c = search rules
 pub returns-in_err-head-clause-turns : goal.returns-in_err-head-clause-turns
 returns-in_err-head-clause-turns g c = search rules
 
+pub returns-in_err-head-clause-few : goal.returns-in_err-head-clause-few
+returns-in_err-head-clause-few g c = search rules
+
 pub returns-in_err-framing-clause-read : goal.returns-in_err-framing-clause-read
 returns-in_err-framing-clause-read g c = search rules
 
@@ -62,6 +65,9 @@ returns-in_err-framing-clause-write g c = search rules
 
 pub returns-in_err-framing-clause-turns : goal.returns-in_err-framing-clause-turns
 returns-in_err-framing-clause-turns g c = search rules
+
+pub returns-in_err-framing-clause-few : goal.returns-in_err-framing-clause-few
+returns-in_err-framing-clause-few g c = search rules
 
 pub returns-in_err-body-clause-read : goal.returns-in_err-body-clause-read
 returns-in_err-body-clause-read g c = search rules
@@ -72,6 +78,9 @@ returns-in_err-body-clause-write g c = search rules
 pub returns-in_err-body-clause-turns : goal.returns-in_err-body-clause-turns
 returns-in_err-body-clause-turns g c = search rules
 
+pub returns-in_err-body-clause-few : goal.returns-in_err-body-clause-few
+returns-in_err-body-clause-few g c = search rules
+
 pub returns-clause-read : goal.returns-clause-read
 returns-clause-read g c = search rules
 
@@ -80,3 +89,6 @@ returns-clause-write g c = search rules
 
 pub returns-clause-turns : goal.returns-clause-turns
 returns-clause-turns g c = search rules
+
+pub returns-clause-few : goal.returns-clause-few
+returns-clause-few g c = search rules
