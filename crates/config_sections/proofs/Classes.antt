@@ -1,18 +1,17 @@
 -- A class of either version, by its name and its share.
-use Rattle.std.proofs.Common.{◌≡◌, refl, ℕ, ◌*◌, ◌/◌, ◌≤◌, List, [], ◌∷◌, ◌++◌, Option, None, Some, Result, Ok, Err, codes, ℤ, pos, negsuc, Bool, true, false, ◌&&◌, nat_le, cond}
-use Rattle.toml.specs.Data.{Data, Members, get_member, integer}
+use Rattle.std.proofs.Common.{◌≡◌, refl, ℕ, ◌*◌, ◌/◌, List, [], ◌∷◌, ◌++◌, None, Result, Ok, Err, codes}
+use Rattle.toml.specs.Data.{Members, get_member}
 use Rattle.partitions.specs.Table.{Row}
 use Rattle.config_values.specs.declared.fault.ConfigFault.{ConfigFault}
-use Rattle.config_values.specs.declared.fault.ConfigFault.TheVariants as Fault
 use Rattle.config_values.specs.declared.key.Key.{Key}
-use Rattle.config_values.specs.Number.{in_range, number_from}
+use Rattle.config_values.specs.Number.{number_from}
 use Rattle.config_values.specs.Outcomes.{result_map, ◌>>=◌}
 use Rattle.config_values.specs.Text.{text_from}
 use Rattle.config_sections.specs.declared.version.Version.{Version}
 use Rattle.config_sections.specs.declared.version.Version.TheVariants.{One, Two}
 use Rattle.config_sections.specs.Class.{class_after, row_from, thousandths_from}
 use Rattle.config_sections.specs.ClassRows.{is_new_name, left_by}
-use Rattle.config_sections.specs.Section.{Given, Values, number_is, text_is}
+use Rattle.config_sections.specs.Section.{number_is, text_is}
 
 -- a name, and a number at a key that comes second
 abbrev read_two : Version → List ℕ → Result (List ℕ) ConfigFault → Result ℕ ConfigFault →

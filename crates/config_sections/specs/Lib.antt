@@ -2,6 +2,7 @@ pub mod Rows
 pub mod ClassRows
 pub mod Routes
 pub mod Section
+pub mod Promote
 pub mod Top
 pub mod Limit
 pub mod Window

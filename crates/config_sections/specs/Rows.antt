@@ -20,6 +20,8 @@ pub data Holds : Type 0 where
   number : Bound → Bound → Option ℕ → Holds
   -- a boolean with its default
   flag : Bool → Holds
+  -- one of some words, with its default
+  choice : List (List ℕ) → List ℕ → Holds
   -- a required text: an address, one of some words, a partition's name that no class has yet, a
   -- class's name, a token, a path's beginning, or any text
   address : Holds
@@ -64,6 +66,16 @@ limit_kinds = fixed ∷ settable ∷ aimd ∷ vegas ∷ []
 abbrev pub moving : List (List ℕ)
 moving = settable ∷ aimd ∷ vegas ∷ []
 
+abbrev pub newest : List ℕ
+newest = codes "newest"
+
+abbrev pub all : List ℕ
+all = codes "all"
+
+-- the rules of promotion
+abbrev pub promote_rules : List (List ℕ)
+promote_rules = newest ∷ all ∷ []
+
 abbrev pub top_rows : List Row
 top_rows =
     row Key.Listen address
@@ -72,6 +84,7 @@ top_rows =
     ∷ row Key.Wait (flag true)
     ∷ row Key.TimeoutMs (number (at 1) (at 3600000) (Some 1000))
     ∷ row Key.Keep (number (at 1) (at 1000000) (Some 4096))
+    ∷ row Key.Promote (choice promote_rules newest)
     ∷ []
 
 abbrev pub limit_rows : List Row

@@ -8,10 +8,10 @@ use Rattle.config_values.specs.Address.{is_address}
 use Rattle.config_values.specs.Key.{name_of}
 use Rattle.config_values.specs.Number.{flag_from, number_from}
 use Rattle.config_values.specs.Outcomes.{result_map, ◌>>=◌}
-use Rattle.config_values.specs.Text.{begins_path, is_among, is_token, text_from}
+use Rattle.config_values.specs.Text.{begins_path, choice_from, is_among, is_token, text_from}
 use Rattle.config_sections.specs.ClassRows.{is_class, is_new_name, left_by}
 use Rattle.config_sections.specs.Routes.{routes_from}
-use Rattle.config_sections.specs.Rows.{Bound, Holds, Row, address, at, class_name, flag, left_of_hundred, left_of_thousand, new_name, number, of, prefix, routes, text, token, word}
+use Rattle.config_sections.specs.Rows.{Bound, Holds, Row, address, at, choice, class_name, flag, left_of_hundred, left_of_thousand, new_name, number, of, prefix, routes, text, token, word}
 
 -- what was read at a key
 pub data Given : Type 0 where
@@ -69,6 +69,8 @@ read_key classes values key (number low high default) d =
     result_map number_is (number_from key
     (bound_of classes values low) (bound_of classes values high) default d)
 read_key classes values key (flag default) d = result_map flag_is (flag_from key default d)
+read_key classes values key (choice words default) d =
+    result_map text_is (choice_from key words default d)
 read_key classes values key address d = result_map text_is (text_from key is_address d)
 read_key classes values key (word words) d = result_map text_is (text_from key (is_among words) d)
 read_key classes values key new_name d =

@@ -1,13 +1,15 @@
 -- The keys outside all tables, as values, and their ranges.
 use Rattle.std.specs.Prelude.{◌≤◌, [], ◌∷◌, codes}
 use Rattle.config_sections.specs.declared.top.TopKeys.{TopKeys}
+use Rattle.config_sections.specs.Promote.{rule_word}
 use Rattle.config_sections.specs.Section.{Values, flag_is, number_is, text_is}
 
 abbrev pub top_values : TopKeys → Values
 top_values k =
     (codes "listen", text_is k.listen) ∷ (codes "backend", text_is k.backend)
     ∷ (codes "backlog", number_is k.backlog) ∷ (codes "wait", flag_is k.wait)
-    ∷ (codes "timeout_ms", number_is k.timeout_ms) ∷ (codes "keep", number_is k.keep) ∷ []
+    ∷ (codes "timeout_ms", number_is k.timeout_ms) ∷ (codes "keep", number_is k.keep)
+    ∷ (codes "promote", text_is (rule_word k.promote)) ∷ []
 
 -- the numbers are in their ranges
 pub record IsTop (k : TopKeys) : Type 0 where

@@ -8,6 +8,7 @@
 mod bypass;
 mod class;
 mod limit;
+mod promote;
 mod resolver;
 mod top;
 mod version;
@@ -16,6 +17,7 @@ mod window;
 pub use bypass::{BypassKeys, check_bypasses, read_bypasses};
 pub use class::{ClassKeys, class_keys, read_classes};
 pub use limit::{LimitKeys, Moving, read_limit};
+pub use promote::PromoteRule;
 pub use resolver::{ResolverKeys, check_resolvers, read_resolvers};
 pub use top::{TOP_KEYS, TopKeys, read_top};
 pub use version::Version;

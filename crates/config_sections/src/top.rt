@@ -6,11 +6,12 @@ ghost use Rattle.config_sections.specs.Rows.{top_rows};
 ghost use Rattle.config_sections.specs.Section.{section_values};
 ghost use Rattle.config_sections.specs.Top.{IsTop, top_values};
 
+use crate::promote::{PromoteRule, read_promote};
 use config_values::{Address, ConfigFault, Key, Range, read_address, read_flag, read_number};
 use toml::Table;
 
 /// The keys outside all tables.
-pub const TOP_KEYS: [Key; 12] = [
+pub const TOP_KEYS: [Key; 13] = [
     Key::Version,
     Key::Listen,
     Key::Backend,
@@ -18,6 +19,7 @@ pub const TOP_KEYS: [Key; 12] = [
     Key::Wait,
     Key::TimeoutMs,
     Key::Keep,
+    Key::Promote,
     Key::Limit,
     Key::Window,
     Key::Class,
@@ -38,6 +40,8 @@ pub struct TopKeys {
     pub timeout_ms: u32,
     /// How many entries of the history are kept.
     pub keep: u32,
+    /// Which waiters get the room that falls free.
+    pub promote: PromoteRule,
 }
 
 /// The keys outside all tables.
@@ -52,6 +56,7 @@ pub fn read_top(table: &Table) -> Result<TopKeys, ConfigFault>
     let wait = read_flag(table, Key::Wait, true)?;
     let timeout_ms = read_number(table, Key::TimeoutMs, Range::new(1, 3_600_000, 1_000))?;
     let keep = read_number(table, Key::Keep, Range::new(1, 1_000_000, 4_096))?;
+    let promote = read_promote(table)?;
     Ok(TopKeys {
         listen,
         backend,
@@ -59,5 +64,6 @@ pub fn read_top(table: &Table) -> Result<TopKeys, ConfigFault>
         wait,
         timeout_ms,
         keep,
+        promote,
     })
 }

@@ -17,6 +17,11 @@ text_from key fits (Some _) = Err (Fault.Kind key)
 abbrev pub is_among : List (List ℕ) → List ℕ → Bool
 is_among words s = list_any (λ w. bytes_eq s w) words
 
+-- one of the words, or the default
+abbrev pub choice_from : Key → List (List ℕ) → List ℕ → Option Data → Result (List ℕ) ConfigFault
+choice_from key words default None = Ok default
+choice_from key words default (Some d) = text_from key (is_among words) (Some d)
+
 -- one or more of the bytes of tokens (RFC 9110, section 5.6.2)
 abbrev pub is_token : List ℕ → Bool
 is_token s = nat_le 1 (length s) && list_all is_token_byte s

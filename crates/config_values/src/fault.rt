@@ -16,7 +16,7 @@ use std::fmt;
 /// Its text is one line of the fault's word and the key's dotted path.
 #[derive(Drop)]
 pub enum ConfigFault {
-    /// Memory was wanting.
+    /// Out of memory.
     Memory,
     /// The text isn't TOML, or isn't UTF-8.
     Toml,

@@ -41,6 +41,7 @@ pub enum Key {
     Wait,
     TimeoutMs,
     Keep,
+    Promote,
     Limit,
     LimitKind,
     LimitMin,
@@ -87,6 +88,7 @@ impl Key {
             | Key::Wait
             | Key::TimeoutMs
             | Key::Keep
+            | Key::Promote
             | Key::Limit
             | Key::Window
             | Key::Class
@@ -130,6 +132,7 @@ impl Key {
             Key::Wait => "wait",
             Key::TimeoutMs => "timeout_ms",
             Key::Keep => "keep",
+            Key::Promote => "promote",
             Key::Limit => "limit",
             Key::LimitKind | Key::ResolverKind | Key::BypassKind => "kind",
             Key::LimitMin => "min",

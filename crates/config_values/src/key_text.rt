@@ -7,7 +7,7 @@ ghost use Rattle.config_values.specs.KeyText.{control_text, escaped, is_bare, is
 
 use std::alloc::{AllocError, Global};
 
-/// The key's name as a text has it, quoted unless it is bare. Fails where memory is wanting.
+/// The key's name as a text has it, quoted unless it is bare. Fails where it is out of memory.
 pub fn key_text(alloc: Global, name: &str) -> Result<String, AllocError>
     ensures { IfOk result (λ text. string_bytes text ≡ key_text name.now) }
 {

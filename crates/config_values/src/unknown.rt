@@ -22,7 +22,7 @@ pub struct Stranger<'a> {
 }
 
 impl Stranger<'_> {
-    /// The key's dotted path as a fault tells it. Fails where memory is wanting.
+    /// The key's dotted path as a fault tells it. Fails where it is out of memory.
     pub fn path(&self, alloc: Global) -> Result<Text, AllocError>
         ensures { IfOk result (λ path. path ≡ stranger_text (stranger_of self.now)) }
     {

@@ -1,7 +1,9 @@
 -- The settings that a text holds.
-use Rattle.std.specs.Prelude.{◌≡◌, ◌≤◌, ℕ, ◌*◌, ℤ, pos, ◌==◌, List, [], map, Option, Some, None, option_map, ok_or, Result, Err, codes, IsUtf8, if◌then◌else◌}
+use Rattle.std.specs.Prelude.{◌≡◌, ◌≤◌, ℕ, ◌*◌, ℤ, pos, ◌==◌, List, [], map, Option, Some, None, option_map, ok_or, Result, Err, bytes_eq, codes, IsUtf8, if◌then◌else◌}
 use Rattle.toml.specs.Data.{Data, Members, get_member, integer}
 use Rattle.toml.specs.Parse.{parse_document}
+use Rattle.limiter_core.specs.declared.promote.Promote.{Promote}
+use Rattle.limiter_core.specs.declared.promote.Promote.TheVariants.{Newest, All}
 use Rattle.classifier.specs.declared.resolver.Resolver.{Resolver}
 use Rattle.config_values.specs.declared.fault.ConfigFault.{ConfigFault}
 use Rattle.config_values.specs.declared.fault.ConfigFault.TheVariants as Fault
@@ -9,6 +11,7 @@ use Rattle.config_values.specs.Outcomes.{◌>>=◌}
 use Rattle.config_values.specs.Unknown.{Stranger, least, stranger_text}
 use Rattle.config_sections.specs.declared.version.Version.{Version}
 use Rattle.config_sections.specs.declared.version.Version.TheVariants.{One, Two}
+use Rattle.config_sections.specs.Rows.{all}
 use Rattle.config_sections.specs.Section.{flag_at, number_at, text_at}
 use Rattle.gate_config.specs.declared.settings.Settings.{Settings}
 use Rattle.gate_config.specs.Document.{DocumentValues, document_of}
@@ -30,6 +33,10 @@ abbrev pub version_of : Option Data → Option Version
 version_of (Some (integer z)) = version_from z
 version_of _ = None
 
+-- the rule of promotion of a word
+abbrev pub promote_named : List ℕ → Promote
+promote_named word = if bytes_eq word all then All else Newest
+
 -- the settings that keys make with these resolvers: times are in nanoseconds
 abbrev pub settings_with : DocumentValues → List Resolver → Settings
 settings_with d resolvers = record {
@@ -39,6 +46,7 @@ settings_with d resolvers = record {
   wait = flag_at (codes "wait") d.top;
   timeout = number_at (codes "timeout_ms") d.top * 1000000;
   keep = number_at (codes "keep") d.top;
+  promote = promote_named (text_at (codes "promote") d.top);
   limit = any_of (limit_from d.limit.1) (option_map (λ window. window_from window.1) d.window);
   table = d.classes.1;
   rules = record { resolvers = resolvers; bypass = map (λ rule. bypass_from rule.1) d.bypasses };

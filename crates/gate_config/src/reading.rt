@@ -16,6 +16,7 @@ ghost use Rattle.gate_config.specs.Rules.{Makes, bypass_from, resolvers_after};
 ghost use Rattle.gate_config.specs.Settings.{AreSound, IsOfKey, Reads, made_of, settings_of, version_of};
 
 use crate::build::limit::any_limit;
+use crate::build::promote::promote_of;
 use crate::build::rules::{add, make_bypass, make_resolver, partitions_of};
 use crate::document::{Document, RuleKeys, read_document};
 use crate::settings::Settings;
@@ -37,8 +38,8 @@ const MILLI: u64 = 1_000_000;
 /// keys, an array's members one after the other, [`ConfigFault::Missing`], [`ConfigFault::Kind`]
 /// and [`ConfigFault::Value`]; [`ConfigFault::Unknown`] for the least path that isn't allowed;
 /// [`ConfigFault::Route`] for patterns that can't stand together. [`ConfigFault::Memory`] comes
-/// where memory is wanting for the table of the text, and otherwise as [`settings_in`] says; a text
-/// of white space and comments alone never asks for any.
+/// where it is out of memory for the table of the text, and otherwise as [`settings_in`] says; a
+/// text of white space and comments alone never asks for any.
 pub fn read(alloc: Global, bytes: &[u8]) -> Result<Settings, ConfigFault>
     ensures settings { (t : Members) → Reads bytes.now t →
         Answers (λ settings. settings) (settings_of t) result }
@@ -124,6 +125,7 @@ fn made_of(alloc: Global, document: Document) -> Result<Settings, ConfigFault>
         wait: top.wait,
         timeout: u64::from(top.timeout_ms) * MILLI,
         keep: top.keep,
+        promote: promote_of(top.promote),
         limit,
         table,
         rules,
@@ -161,7 +163,7 @@ fn resolvers_made(
     Ok(resolvers)
 }
 
-/// The bypass rules of all their keys. Fails where memory is wanting.
+/// The bypass rules of all their keys. Fails where it is out of memory.
 fn bypasses_made(alloc: Global, members: &[(&Table, BypassKeys)]) -> Result<Vec<Bypass>, AllocError>
     ensures { IfOk result (λ rules. rules.items
         ≡ map (λ rule. bypass_from rule.1) (map bypass_member members.now)) }

@@ -2,6 +2,7 @@
 use classifier::Rules;
 use config_values::Address;
 use limit_kinds::AnyLimit;
+use limiter_core::Promote;
 use partitions::PartitionTable;
 
 /// Everything that a gateway is told by its configuration.
@@ -19,6 +20,8 @@ pub struct Settings {
     pub timeout: u64,
     /// How many entries of the history are kept, from 1 to 1,000,000.
     pub keep: u32,
+    /// Which waiters get the room that falls free.
+    pub promote: Promote,
     /// The limit in its first state, over windows where the configuration has some.
     pub limit: AnyLimit,
     /// The classes of callers and their shares.

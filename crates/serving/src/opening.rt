@@ -2,7 +2,6 @@
 ghost use Rattle.std.specs.Prelude.{◌≡◌, true, false, IfOk, vec_len};
 ghost use Rattle.limit_kinds.specs.AnyKinds.{any_rules};
 ghost use Rattle.limiter_core.specs.Limiter.{unasked};
-ghost use Rattle.limiter_core.specs.declared.promote.Promote.TheVariants.{Newest};
 ghost use Rattle.gate_journal.specs.Journal.{opened};
 ghost use Rattle.gate_ledgers.specs.Names.{AreNamed, AreWhole};
 ghost use Rattle.gate_ledgers.specs.Places.{no_places};
@@ -13,7 +12,6 @@ use crate::fault::ServeFault;
 use gate_config::{AnyLimit, Settings};
 use gate_history::{Blanks, Book, Naming};
 use limit_laws::Limit;
-use limiter_core::Promote;
 use shared_gate::{Pass, SharedGate};
 use std::alloc::Global;
 
@@ -28,14 +26,14 @@ fn open_book<M: Naming>(
     requires parts { AreWhole blanks }
     requires rows { M.rows ≡ settings.now.table }
     requires room { M.room ≡ settings.now.backlog }
-    requires promote { M.promote ≡ Newest }
+    requires promote { M.promote ≡ settings.now.promote }
     requires kept { M.kept ≡ settings.now.keep }
     requires rolling { M.is_rolling ≡ true }
     requires limit { M.limit ≡ any_rules.limit settings.now.limit }
     requires sound { AreSound settings.now }
     ensures { IfOk result (λ book. book ≡ book_in
-        (opened (unasked settings.now.table settings.now.backlog Newest settings.now.limit)
-        settings.now.keep true)
+        (opened (unasked settings.now.table settings.now.backlog settings.now.promote
+        settings.now.limit) settings.now.keep true)
         (record { calls = 0; passes = 0 }) no_places false) }
 {
     let Ok(table) = settings.table.copy() else {
@@ -48,7 +46,7 @@ fn open_book<M: Naming>(
         limit,
         table,
         settings.backlog,
-        Promote::Newest,
+        settings.promote,
         keep,
         true,
         blanks,
@@ -67,7 +65,7 @@ pub(crate) fn open_gate<M: Naming>(
     requires parts { AreWhole blanks }
     requires rows { M.rows ≡ settings.now.table }
     requires room { M.room ≡ settings.now.backlog }
-    requires promote { M.promote ≡ Newest }
+    requires promote { M.promote ≡ settings.now.promote }
     requires kept { M.kept ≡ settings.now.keep }
     requires rolling { M.is_rolling ≡ true }
     requires limit { M.limit ≡ any_rules.limit settings.now.limit }

@@ -1,7 +1,6 @@
 // Workers that serve through one gate.
 ghost use Rattle.std.specs.Prelude.{◌≡◌, ◌≤◌, true, IfOk, vec_len};
 ghost use Rattle.limit_kinds.specs.AnyKinds.{any_rules};
-ghost use Rattle.limiter_core.specs.declared.promote.Promote.TheVariants.{Newest};
 ghost use Rattle.gate_ledgers.specs.Names.{AreNamed, AreWhole};
 ghost use Rattle.gate_config.specs.Settings.{AreSound};
 
@@ -109,7 +108,7 @@ where
     requires parts { AreWhole blanks }
     requires rows { M.rows ≡ settings.now.table }
     requires room { M.room ≡ settings.now.backlog }
-    requires promote { M.promote ≡ Newest }
+    requires promote { M.promote ≡ settings.now.promote }
     requires kept { M.kept ≡ settings.now.keep }
     requires rolling { M.is_rolling ≡ true }
     requires limit { M.limit ≡ any_rules.limit settings.now.limit }

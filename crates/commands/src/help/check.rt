@@ -27,6 +27,7 @@ Before the tables:
   wait          whether refused callers wait at all, true or false; true
   timeout_ms    the longest wait in milliseconds, 1 to 3600000; 1000
   keep          entries of the history that are kept, 1 to 1000000; 4096
+  promote       which waiters get room that falls free, \"newest\" or \"all\" who fit; \"newest\"
 [limit], required:
   kind          \"fixed\", \"settable\", \"aimd\" or \"vegas\"; required
   min           permits, 1 to 10000; 1. Not of fixed

@@ -45,7 +45,7 @@ closes:
   admission: line L: words   no such line: a word too many, too few or misspelt, a number with a
                              sign, a point or a unit, a line of a script
   admission: line L: late    a setting after another line
-  admission: line L: twice   a second limit, window, backlog, keep or timeout
+  admission: line L: twice   a second limit, window, backlog, keep, timeout or promote
   admission: line L: value   a number out of its range, N outside LO to HI, MIN above MAX, a class
                              given twice, a fifth class, or shares above the whole together
   admission: line L: class   no class or share line has this name

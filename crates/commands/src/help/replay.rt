@@ -77,7 +77,7 @@ one line on standard error, which comes after the answers to the lines before it
   admission: line L: words   no such line: a word too many, too few or misspelt, a number with a
                              sign, a point or a unit
   admission: line L: late    a setting after another line
-  admission: line L: twice   a second limit, window, backlog, keep or timeout
+  admission: line L: twice   a second limit, window, backlog, keep, timeout or promote
   admission: line L: value   a number out of its range, N outside LO to HI, MIN above MAX, a class
                              given twice, a fifth class, or shares above the whole together
   admission: line L: class   no class or share line has this name

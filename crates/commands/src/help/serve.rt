@@ -33,6 +33,9 @@ For example, with this file as gate.toml
 for half a second each; `python3 -m http.server 9000` is a backend to try it with, and
 `curl http://127.0.0.1:8080/` a client.
 
+An answer of the backend lets the newest of those who wait in, where it has room; with
+`promote = \"all\"` all of them who have room, so that nobody waits below a limit that has risen.
+
 A request that is let through is forwarded once and never tried again. What the client gets, and
 what the limit learns from it:
 

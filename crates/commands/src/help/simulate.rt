@@ -27,7 +27,7 @@ Then the arrivals, in any order of their moments:
 
 What comes first by moment is done first; of one moment, endings come before givings up, these
 before arrivals, and of one kind what stands earlier in the trace. Who was promoted by an ending
-gets its permit right after it.
+gets its permit right after it, and of several the first promoted first.
 
 For example, `admission simulate < trace` answers the trace
 
@@ -58,7 +58,7 @@ one line on standard error, which comes after what became of the lines before it
   admission: line L: words   no such line: a word too many, too few or misspelt, a number with a
                              sign, a point or a unit, a line of a script
   admission: line L: late    a setting after another line
-  admission: line L: twice   a second limit, window, backlog, keep or timeout
+  admission: line L: twice   a second limit, window, backlog, keep, timeout or promote
   admission: line L: value   a number out of its range, N outside LO to HI, MIN above MAX, a class
                              given twice, a fifth class, or shares above the whole together
   admission: line L: class   no class or share line has this name

@@ -19,7 +19,7 @@ use partitions::{Part, PartitionTable};
 use std::alloc::{AllocError, Global};
 use toml::Table;
 
-/// The partitions that the classes name. Fails where memory is wanting.
+/// The partitions that the classes name. Fails where it is out of memory.
 pub fn partitions_of(alloc: Global, classes: &[ClassKeys]) -> Result<PartitionTable, AllocError>
     ensures { IfOk result (λ table. table ≡ map class_row classes.now) }
 {
@@ -94,7 +94,7 @@ fn bytes_of(alloc: Global, text: &str) -> Result<Bytes, AllocError>
     Bytes::from_slice(alloc, text.as_bytes())
 }
 
-/// The method of this token. Fails where memory is wanting, and never for one of up to 15 bytes.
+/// The method of this token. Fails where it is out of memory, and never for one of up to 15 bytes.
 fn method_of(alloc: Global, text: &str) -> Result<Method, AllocError>
     ensures method { IfOk result (λ method. method ≡ text.now) }
     ensures short { IsToken text.now → length text.now ≤ 15 → IsOk result }

@@ -13,6 +13,9 @@ returns-in_err-timeout_ms-clause-value c = search rules
 pub returns-in_err-keep-clause-value : goal.returns-in_err-keep-clause-value
 returns-in_err-keep-clause-value c = search rules
 
+pub returns-in_err-promote-clause-value : goal.returns-in_err-promote-clause-value
+returns-in_err-promote-clause-value c = search rules
+
 pub returns-clause-within : goal.returns-clause-within
 returns-clause-within c = search rules
 

@@ -1,5 +1,4 @@
 use Rattle.std.specs.Prelude.{true}
-use Rattle.limiter_core.specs.declared.promote.Promote.TheVariants.{Newest}
 use Rattle.limit_kinds.specs.AnyKinds.{any_rules}
 use Rattle.gate_ledgers.specs.Names.{places_of}
 use Rattle.serving.proofs.workers.serve_with.Given as goal
@@ -13,7 +12,7 @@ ghosts-serve_named g a =
       place = places_of a.blanks;
       rows = settings.table;
       room = settings.backlog;
-      promote = Newest;
+      promote = settings.promote;
       kept = settings.keep;
       is_rolling = true;
       limit = any_rules.limit settings.limit;

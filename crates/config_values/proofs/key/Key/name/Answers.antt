@@ -22,6 +22,9 @@ returns-in-TimeoutMs c = search rules
 pub returns-in-Keep : goal.returns-in-Keep
 returns-in-Keep c = search rules
 
+pub returns-in-Promote : goal.returns-in-Promote
+returns-in-Promote c = search rules
+
 pub returns-in-Limit : goal.returns-in-Limit
 returns-in-Limit c = search rules
 
