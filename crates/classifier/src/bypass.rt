@@ -3,8 +3,7 @@ ghost use Rattle.std.specs.Prelude.{◌≡◌};
 ghost use Rattle.classifier.specs.Class.{is_bypassed_by};
 
 use crate::header::has_value;
-use http::Method;
-use message_parts::Bytes;
+use message_parts::{Bytes, Method};
 use wire::Request;
 
 /// Which requests bypass the limit.
@@ -24,7 +23,7 @@ impl Bypass {
         ensures { result ≡ is_bypassed_by request.now self.now }
     {
         match self {
-            Bypass::Method(method) => request.method.as_str() == method.as_str(),
+            Bypass::Method(method) => request.method.as_slice() == method.as_slice(),
             Bypass::Prefix(prefix) => request
                 .path
                 .as_str()

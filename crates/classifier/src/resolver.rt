@@ -3,9 +3,8 @@ ghost use Rattle.std.specs.Prelude.{◌≡◌, option_map};
 ghost use Rattle.classifier.specs.Class.{held_part, resolved_part};
 
 use crate::header::first_value;
-use http::Method;
 use matchit::Router;
-use message_parts::Bytes;
+use message_parts::{Bytes, Method};
 use partitions::{Part, PartitionTable};
 use wire::Request;
 
@@ -32,7 +31,7 @@ impl Resolver {
                 None => None,
             },
             Resolver::Method(method, part) => {
-                if request.method.as_str() == method.as_str() {
+                if request.method.as_slice() == method.as_slice() {
                     held(table, *part)
                 } else {
                     None

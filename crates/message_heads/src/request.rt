@@ -7,11 +7,10 @@ ghost use Rattle.message_bytes.specs.declared.fault.Fault.TheVariants.{Malformed
 ghost use Rattle.message_heads.specs.Whole.{HasNoWholeRequest, IsWholeRequest, request_head};
 
 use crate::lines::{MOST_LINES, lines_at};
-use http::Method;
 use httparse::Status;
 use httparse::spans::{EMPTY_HEADER_SPAN, HeaderSpan, RequestSpans, parse_request as find_request};
 use message_bytes::{Fault, ReadFault};
-use message_parts::{HeadText, Headers, Text};
+use message_parts::{HeadText, Headers, Method, Text};
 use std::alloc::{AllocError, Global};
 
 /// The head of a request: its first line and the lines behind it.
@@ -64,12 +63,9 @@ pub fn parse_request(alloc: Global, text: Vec<u8>) -> Result<RequestHead, ReadFa
     let Some(found) = whole_request(&text, &mut spans) else {
         return Err(ReadFault::Bytes(Fault::Malformed));
     };
-    // A method is a token, so this fails only when out of memory.
-    let Ok(method) = Method::from_bytes(alloc, found.method.of(&text)) else {
-        return Err(ReadFault::Memory);
-    };
     let target = copy_text(alloc, found.path.of(&text))?;
     let kept = HeadText::new(alloc, text)?;
+    let method = Method::new(kept.piece(found.method.start, found.method.end)?);
     let lines = lines_at(alloc, &kept, &spans[..found.headers])?;
     Ok(RequestHead {
         method,

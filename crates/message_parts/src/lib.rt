@@ -1,4 +1,4 @@
-//! The parts of HTTP messages: bytes, text and header lines.
+//! The parts of HTTP messages: bytes, text, methods and header lines.
 //!
 //! They are plain values. A contract sees each text and each run of bytes as its list of bytes, and
 //! the header lines as a list in their order.
@@ -6,10 +6,12 @@
 
 mod bytes;
 mod headers;
+mod method;
 mod piece;
 mod text;
 
 pub use bytes::Bytes;
 pub use headers::{Header, Headers};
+pub use method::Method;
 pub use piece::{HeadText, Piece};
 pub use text::Text;

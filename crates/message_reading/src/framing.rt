@@ -2,11 +2,10 @@
 ghost use Rattle.std.specs.Prelude.{◌≡◌};
 ghost use Rattle.message_reading.specs.Framing.{coded, hosts_fit, lengths_of, is_refused, request_framing, response_framing, sized};
 
-use http::Method;
 use message_bytes::Fault;
 use message_fields::{LengthFault, count_named, is_chunked_alone, is_target, length_of};
 use message_heads::{RequestHead, ResponseHead};
-use message_parts::Header;
+use message_parts::{Header, Method};
 
 /// How the body of a message is delimited.
 #[derive(Clone, Copy, Drop)]
@@ -85,7 +84,7 @@ fn hosts_fit(minor: u8, hosts: usize) -> bool
 pub fn frame_request(head: &RequestHead) -> Result<Framing, Fault>
     ensures { result ≡ request_framing head.now }
 {
-    let method = head.method.as_str().as_bytes();
+    let method = head.method.as_slice();
     let lines = head.lines.as_slice();
     if is_refused(method) {
         return Err(Fault::Method);
@@ -105,7 +104,7 @@ pub fn frame_request(head: &RequestHead) -> Result<Framing, Fault>
 pub fn frame_response(method: &Method, head: &ResponseHead) -> Result<Framing, Fault>
     ensures { result ≡ response_framing method.now head.now }
 {
-    let is_head = method.as_str().as_bytes() == b"HEAD".as_slice();
+    let is_head = method.as_slice() == b"HEAD".as_slice();
     if is_head || head.status == 204 || head.status == 304 {
         return Ok(Framing::Bodiless);
     }

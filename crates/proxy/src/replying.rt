@@ -7,7 +7,7 @@ ghost use Rattle.proxy.specs.Table.{fault_status, reply_status, reply_text};
 
 use backend::Answer;
 use counted_io::{Counted, WriteFault};
-use http::Method;
+use message_parts::Method;
 use message_text::write_local_answer;
 use std::io::Write;
 use wire::{WireFault, write_response};

@@ -8,7 +8,7 @@ ghost use Rattle.wire.specs.Written.{response_text};
 
 use crate::response::Response;
 use counted_io::{Counted, WriteFault};
-use http::Method;
+use message_parts::Method;
 use message_text::Answer;
 use std::io::Write;
 
@@ -40,7 +40,7 @@ pub fn write_response<W: Write>(
     ensures failed { OnErr result (IsWriteCause writer.old writer.new) }
 {
     let answer = Answer {
-        method: method.as_str().as_bytes(),
+        method: method.as_slice(),
         status: response.status(),
         headers: response.headers().as_slice(),
         body: body_of(response),

@@ -49,7 +49,7 @@ pub fn write_request<W: Write>(
     ensures failed { OnErr result (IsWriteCause writer.old writer.new) }
 {
     let forwarded = Forwarded {
-        method: request.method.as_str().as_bytes(),
+        method: request.method.as_slice(),
         target: request.target.as_str().as_bytes(),
         is_old: is_old(request.version),
         headers: request.headers.as_slice(),

@@ -1,6 +1,5 @@
 // A request.
-use http::Method;
-use message_parts::{Bytes, Headers, Text};
+use message_parts::{Bytes, Headers, Method, Text};
 
 /// The version of HTTP that a request is in.
 #[derive(Clone, Copy)]

@@ -9,7 +9,7 @@ use crate::fault::WireFault;
 use crate::request_reading::MOST_READS;
 use crate::response::Response;
 use counted_io::Counted;
-use http::Method;
+use message_parts::Method;
 use message_reading::{frame_response, read_body, read_final_head};
 use std::alloc::Global;
 use std::io::BufRead;

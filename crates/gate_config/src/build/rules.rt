@@ -1,6 +1,5 @@
 // From keys to partitions, resolvers and bypass rules.
-ghost use Rattle.std.specs.Prelude.{◌≡◌, ◌≢◌, ◌≤◌, ◌++◌, [], ◌∷◌, length, map, Some, None, IfOk, IsOk, OnOk, IfErr};
-ghost use Rattle.http_header.specs.Token.{IsToken};
+ghost use Rattle.std.specs.Prelude.{◌≡◌, ◌≢◌, ◌≤◌, ◌++◌, [], ◌∷◌, length, map, Some, None, IfOk, OnOk, IfErr};
 ghost use Rattle.toml.specs.View.{table_view};
 ghost use Rattle.partitions.specs.Faults.{given};
 ghost use Rattle.config_sections.specs.Bypass.{bypass_values};
@@ -12,9 +11,8 @@ ghost use Rattle.gate_config.specs.Rules.{Makes, bypass_from, part_named, resolv
 use classifier::{Bypass, Resolver};
 use config_sections::{BypassKeys, ClassKeys, ResolverKeys};
 use config_values::{ConfigFault, string_of};
-use http::Method;
 use matchit::Router;
-use message_parts::Bytes;
+use message_parts::{Bytes, Method};
 use partitions::{Part, PartitionTable};
 use std::alloc::{AllocError, Global};
 use toml::Table;
@@ -94,15 +92,11 @@ fn bytes_of(alloc: Global, text: &str) -> Result<Bytes, AllocError>
     Bytes::from_slice(alloc, text.as_bytes())
 }
 
-/// The method of this token. Fails where it is out of memory, and never for one of up to 15 bytes.
+/// The method of this name. Fails when out of memory.
 fn method_of(alloc: Global, text: &str) -> Result<Method, AllocError>
-    ensures method { IfOk result (λ method. method ≡ text.now) }
-    ensures short { IsToken text.now → length text.now ≤ 15 → IsOk result }
+    ensures { IfOk result (λ method. method ≡ text.now) }
 {
-    match Method::from_bytes(alloc, text.as_bytes()) {
-        Ok(method) => Ok(method),
-        Err(_) => Err(AllocError),
-    }
+    Method::from_slice(alloc, text.as_bytes())
 }
 
 /// The partition of this name, or unknown.
