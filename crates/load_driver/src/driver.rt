@@ -1,6 +1,6 @@
 // The drivers: a whole input in, a whole text out.
-ghost use Rattle.std.specs.Prelude.{◌≡◌, ◌<◌, ◌≤◌, length, true, None, Some, OnOk, IfErr, IsErrOf};
-ghost use Rattle.counted_io.specs.Counted.{failures_of, is_flushed};
+ghost use Rattle.std.specs.Prelude.{◌≡◌, ◌<◌, ◌≤◌, ◌+◌, length, true, None, Some, OnOk, IfErr, IsErrOf};
+ghost use Rattle.counted_io.specs.Counted.{calls_of, failures_of, is_flushed};
 ghost use Rattle.counted_io.specs.Effects.{IfLeft, Wrote};
 ghost use Rattle.counted_io.specs.Causes.{IsReadCause, IsWriteCause, ReadWithin};
 ghost use Rattle.limit_laws.specs.Algorithm.{greatest_limit};
@@ -26,7 +26,7 @@ pub const KEPT: usize = 100_000;
 /// Why a driver stops.
 #[derive(Clone, Copy)]
 pub enum DriverFault {
-    /// Memory is wanting.
+    /// Out of memory.
     Memory,
     /// The reader failed, or wasn't at its end after 2^25 reads.
     Read,
@@ -74,8 +74,9 @@ impl From<WriteFault> for DriverFault {
 
 /// Answers the script that the reader gives, line by line, and writes the text of the answers.
 ///
-/// `n` is the limit, in permits, where the script has no `limit` line. The script is read whole and
-/// the text written at once and flushed, so `Memory`, `Read` and `TooLarge` write nothing.
+/// `n` is the limit, in permits, where the script has no `limit` line. The script is read whole, in
+/// at most 2^25 reads, and the text written at once and flushed, so `Memory`, `Read` and `TooLarge`
+/// write nothing.
 pub fn replay<R: Read, W: Write>(
     alloc: Global,
     reader: &mut Counted<R>,
@@ -104,6 +105,7 @@ pub fn replay<R: Read, W: Write>(
         failures_of reader.new ≡ failures_of reader.old }
     ensures only_write_fails { ¬ IsErrOf result DriverFault.Write →
         failures_of writer.new ≡ failures_of writer.old }
+    ensures few { calls_of reader.new ≤ calls_of reader.old + most_reads }
 
     // Then nothing is written.
     ensures memory_writes_nothing { IsErrOf result DriverFault.Memory → writer.new ≡ writer.old }

@@ -1,7 +1,7 @@
 // The driver of traces: a whole trace in, a whole text out.
-ghost use Rattle.std.specs.Prelude.{◌≡◌, ◌<◌, ◌≤◌, length, string_bytes, true, None, Some, IfOk};
+ghost use Rattle.std.specs.Prelude.{◌≡◌, ◌<◌, ◌≤◌, ◌+◌, length, string_bytes, true, None, Some, IfOk};
 ghost use Rattle.std.specs.Prelude.{OnOk, IfErr, IsErrOf};
-ghost use Rattle.counted_io.specs.Counted.{failures_of, is_flushed};
+ghost use Rattle.counted_io.specs.Counted.{calls_of, failures_of, is_flushed};
 ghost use Rattle.counted_io.specs.Effects.{IfLeft, Wrote};
 ghost use Rattle.counted_io.specs.Causes.{IsReadCause, IsWriteCause, ReadWithin};
 ghost use Rattle.limit_laws.specs.Algorithm.{greatest_limit};
@@ -56,8 +56,8 @@ fn run_trace(
 ///
 /// `n` is the limit, in permits, where the trace has no `limit` line. A line at fault ends the
 /// trace: the calls before it are carried out to their end, and then the fault is answered. The
-/// trace is read whole and the text written at once and flushed, so `Memory`, `Read` and `TooLarge`
-/// write nothing.
+/// trace is read whole, in at most 2^25 reads, and the text written at once and flushed, so
+/// `Memory`, `Read` and `TooLarge` write nothing.
 pub fn simulate<R: Read, W: Write>(
     alloc: Global,
     reader: &mut Counted<R>,
@@ -86,6 +86,7 @@ pub fn simulate<R: Read, W: Write>(
         failures_of reader.new ≡ failures_of reader.old }
     ensures only_write_fails { ¬ IsErrOf result DriverFault.Write →
         failures_of writer.new ≡ failures_of writer.old }
+    ensures few { calls_of reader.new ≤ calls_of reader.old + most_reads }
 
     // Then nothing is written.
     ensures memory_writes_nothing { IsErrOf result DriverFault.Memory → writer.new ≡ writer.old }

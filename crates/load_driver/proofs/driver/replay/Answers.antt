@@ -52,6 +52,9 @@ returns-in-None-clause-only_read_fails g c = search rules
 pub returns-in-None-clause-only_write_fails : goal.returns-in-None-clause-only_write_fails
 returns-in-None-clause-only_write_fails g c = search rules
 
+pub returns-in-None-clause-few : goal.returns-in-None-clause-few
+returns-in-None-clause-few g c = search rules
+
 pub returns-in-None-clause-memory_writes_nothing : goal.returns-in-None-clause-memory_writes_nothing
 returns-in-None-clause-memory_writes_nothing g c = search rules
 
@@ -80,6 +83,9 @@ returns-clause-only_read_fails g c = search rules
 pub returns-clause-only_write_fails : goal.returns-clause-only_write_fails
 returns-clause-only_write_fails g c = search rules
 
+pub returns-clause-few : goal.returns-clause-few
+returns-clause-few g c = search rules
+
 pub returns-clause-memory_writes_nothing : goal.returns-clause-memory_writes_nothing
 returns-clause-memory_writes_nothing g c = search rules
 
@@ -107,6 +113,9 @@ returns-in_err-script-clause-only_read_fails g c = search rules
 pub returns-in_err-script-clause-only_write_fails :
     goal.returns-in_err-script-clause-only_write_fails
 returns-in_err-script-clause-only_write_fails g c = search rules
+
+pub returns-in_err-script-clause-few : goal.returns-in_err-script-clause-few
+returns-in_err-script-clause-few g c = search rules
 
 pub returns-in_err-script-clause-memory_writes_nothing :
     goal.returns-in_err-script-clause-memory_writes_nothing
@@ -143,6 +152,9 @@ returns-in_err-text-clause-only_read_fails g c = search rules
 
 pub returns-in_err-text-clause-only_write_fails : goal.returns-in_err-text-clause-only_write_fails
 returns-in_err-text-clause-only_write_fails g c = search rules
+
+pub returns-in_err-text-clause-few : goal.returns-in_err-text-clause-few
+returns-in_err-text-clause-few g c = search rules
 
 pub returns-in_err-text-clause-memory_writes_nothing :
     goal.returns-in_err-text-clause-memory_writes_nothing
@@ -186,6 +198,9 @@ returns-in_err-write_and_flush-clause-only_read_fails g c = search rules
 pub returns-in_err-write_and_flush-clause-only_write_fails :
     goal.returns-in_err-write_and_flush-clause-only_write_fails
 returns-in_err-write_and_flush-clause-only_write_fails g c = search rules
+
+pub returns-in_err-write_and_flush-clause-few : goal.returns-in_err-write_and_flush-clause-few
+returns-in_err-write_and_flush-clause-few g c = search rules
 
 pub returns-in_err-write_and_flush-clause-memory_writes_nothing :
     goal.returns-in_err-write_and_flush-clause-memory_writes_nothing
