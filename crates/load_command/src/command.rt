@@ -1,10 +1,11 @@
 // A load as a command.
-ghost use Rattle.std.specs.Prelude.{◌≡◌, ◌≤◌, ◌⊎◌, true, IfErr, OnOk};
-ghost use Rattle.counted_io.specs.Counted.{failures_of, is_flushed};
+ghost use Rattle.std.specs.Prelude.{◌≡◌, ◌≤◌, ◌+◌, ◌⊎◌, true, IfErr, OnOk};
+ghost use Rattle.counted_io.specs.Counted.{calls_of, failures_of, is_flushed};
 ghost use Rattle.counted_io.specs.Effects.{IfLeft, Wrote};
 ghost use Rattle.limit_laws.specs.Algorithm.{greatest_limit};
 ghost use Rattle.audit.specs.Text.{cause_text};
 ghost use Rattle.script.specs.Faults.{line_fault_text};
+ghost use Rattle.load_driver.specs.Limits.{most_reads};
 ghost use Rattle.fault_lines.specs.FaultLine.{IsTold, fault_line};
 ghost use Rattle.load_run.specs.Driver.{IsLoaded};
 ghost use Rattle.load_command.specs.Command.{IsLoadStop, load_fault_text};
@@ -55,6 +56,9 @@ where
     ensures stopped { result ≡ 1 → (fault : LoadFault)
         × IsLoadStop R.remaining workers limit reader.old reader.new writer.old writer.new fault
         × IsTold E.contents errors.old errors.new (fault_line (load_fault_text fault)) }
+
+    // Whatever it answers.
+    ensures few_reads { calls_of reader.new ≤ calls_of reader.old + most_reads }
 {
     match carry_out(rt, alloc, limit, workers, reader, writer) {
         Ok(()) => DONE,
@@ -87,6 +91,7 @@ where
     ensures unfailing { OnOk result (failures_of writer.new ≡ failures_of writer.old) }
     ensures stopped { IfErr result (IsLoadStop R.remaining workers limit
         reader.old reader.new writer.old writer.new) }
+    ensures few_reads { calls_of reader.new ≤ calls_of reader.old + most_reads }
 {
     load(rt, alloc, reader, writer, limit, workers)
 }

@@ -1,7 +1,7 @@
 // The driver of loads: a whole trace in, the two lines of its audited run out.
-ghost use Rattle.std.specs.Prelude.{◌≡◌, ◌<◌, ◌≤◌, length, string_bytes, true, None};
+ghost use Rattle.std.specs.Prelude.{◌≡◌, ◌<◌, ◌≤◌, ◌+◌, length, string_bytes, true, None};
 ghost use Rattle.std.specs.Prelude.{IfErr, IfOk, IsErrOf, OnErr, OnOk};
-ghost use Rattle.counted_io.specs.Counted.{failures_of, is_flushed};
+ghost use Rattle.counted_io.specs.Counted.{calls_of, failures_of, is_flushed};
 ghost use Rattle.counted_io.specs.Effects.{IfLeft, Wrote};
 ghost use Rattle.counted_io.specs.Causes.{IsReadCause, IsWriteCause, ReadWithin};
 ghost use Rattle.limit_laws.specs.Algorithm.{greatest_limit};
@@ -117,6 +117,7 @@ where
         failures_of reader.new ≡ failures_of reader.old }
     ensures only_write_fails { ¬ IsErrOf result LoadFault.Write →
         failures_of writer.new ≡ failures_of writer.old }
+    ensures few_reads { calls_of reader.new ≤ calls_of reader.old + most_reads }
 
     // Nothing is written on any other fault.
     ensures writes_nothing { OnErr result (¬ IsErrOf result LoadFault.Write →
@@ -168,6 +169,7 @@ where
         failures_of reader.new ≡ failures_of reader.old }
     ensures only_write_fails { ¬ IsErrOf result LoadFault.Write →
         failures_of writer.new ≡ failures_of writer.old }
+    ensures few_reads { calls_of reader.new ≤ calls_of reader.old + most_reads }
 
     // Nothing is written on any other fault.
     ensures writes_nothing { OnErr result (¬ IsErrOf result LoadFault.Write →

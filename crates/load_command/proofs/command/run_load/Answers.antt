@@ -42,3 +42,9 @@ returns-in-Err-clause-quiet g c = search rules
 
 pub returns-in-Err-clause-stopped : goal.returns-in-Err-clause-stopped
 returns-in-Err-clause-stopped g c = search rules
+
+pub returns-in-Ok-clause-few_reads : goal.returns-in-Ok-clause-few_reads
+returns-in-Ok-clause-few_reads g c = search rules
+
+pub returns-in-Err-clause-few_reads : goal.returns-in-Err-clause-few_reads
+returns-in-Err-clause-few_reads g c = search rules

@@ -33,5 +33,8 @@ returns-clause-only_read_fails g c = c.load_with.ensures.only_read_fails
 pub returns-clause-only_write_fails : goal.returns-clause-only_write_fails
 returns-clause-only_write_fails g c = c.load_with.ensures.only_write_fails
 
+pub returns-clause-few_reads : goal.returns-clause-few_reads
+returns-clause-few_reads g c = c.load_with.ensures.few_reads
+
 pub returns-clause-writes_nothing : goal.returns-clause-writes_nothing
 returns-clause-writes_nothing g c = c.load_with.ensures.writes_nothing
