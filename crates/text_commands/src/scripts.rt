@@ -1,9 +1,10 @@
 // A command over a text.
-ghost use Rattle.std.specs.Prelude.{◌≡◌, ◌≤◌, ◌⊎◌, true, None, OnOk, IfErr};
-ghost use Rattle.counted_io.specs.Counted.{failures_of, is_flushed};
+ghost use Rattle.std.specs.Prelude.{◌≡◌, ◌≤◌, ◌+◌, ◌⊎◌, true, None, OnOk, IfErr};
+ghost use Rattle.counted_io.specs.Counted.{calls_of, failures_of, is_flushed};
 ghost use Rattle.counted_io.specs.Effects.{IfLeft, Wrote};
 ghost use Rattle.limit_laws.specs.Algorithm.{greatest_limit};
 ghost use Rattle.load_driver.specs.Driver.{fault_text};
+ghost use Rattle.load_driver.specs.Limits.{most_reads};
 ghost use Rattle.commands.specs.CommandLine.{limit_of};
 ghost use Rattle.fault_lines.specs.FaultLine.{IsTold, fault_line};
 ghost use Rattle.text_commands.specs.Scripts.{IsAnswerOf, IsStop};
@@ -45,6 +46,9 @@ pub fn run_text<R: Read, W: Write, E: Write>(
         × IsStop R.remaining W.contents task
         reader.old reader.new writer.old writer.new fault
         × IsTold E.contents errors.old errors.new (fault_line (fault_text fault)) }
+
+    // Whatever it answers.
+    ensures few { calls_of reader.new ≤ calls_of reader.old + most_reads }
 {
     match carry_out(alloc, task, reader, writer) {
         Ok(()) => DONE,
@@ -71,6 +75,7 @@ fn carry_out<R: Read, W: Write>(
     ensures unfailing { OnOk result (failures_of writer.new ≡ failures_of writer.old) }
     ensures stopped { IfErr result (IsStop R.remaining W.contents task
         reader.old reader.new writer.old writer.new) }
+    ensures few { calls_of reader.new ≤ calls_of reader.old + most_reads }
 {
     match task {
         TextTask::Replay { limit } => replay(alloc, reader, writer, limit),
