@@ -39,12 +39,16 @@ IsWhy old new bytes (Check.Config fault) =
     (new ≡ old) × (fault ≢ Config.Memory → Says bytes (Err fault))
 IsWhy old new bytes Check.Write = IsWriteCause old new × (s : Settings) × Says bytes (Ok s)
 
--- the fault of a reader whose bytes were not had: it failed, wasn't at its end after 2^25 reads, or
--- had more than 1 MiB; or memory was wanting for what it gave
+-- the most reads that a configuration may take: 2^25
+abbrev pub most_reads : ℕ
+most_reads = 33554432
+
+-- the fault of a reader whose bytes were not had: it failed, wasn't at its end after so many reads,
+-- or had more than 1 MiB; or what it gave ran out of memory
 abbrev pub IsUnread : {R : Type 0} → (R → Option (List ℕ)) → Counted R → Counted R → CheckFault
     → Type 0
 IsUnread remaining old new Check.Read =
-    IsReadCause 33554432 old new ⊎ IfLeft remaining old (λ all. 1048576 < length all)
+    IsReadCause most_reads old new ⊎ IfLeft remaining old (λ all. 1048576 < length all)
 IsUnread remaining old new (Check.Config fault) =
     (fault ≡ Config.Memory) × IsMemoryCause remaining 1048576 old new
 IsUnread remaining old new Check.Write = ⊥

@@ -1,8 +1,8 @@
 // A configuration, checked.
-ghost use Rattle.std.specs.Prelude.{◌≡◌, ◌⊎◌, ℕ, List, IfErr, OnOk};
+ghost use Rattle.std.specs.Prelude.{◌≡◌, ◌≤◌, ◌+◌, ◌⊎◌, ℕ, List, IfErr, OnOk};
 ghost use Rattle.counted_io.specs.declared.counted.Counted.{Counted as CountedValue};
-ghost use Rattle.counted_io.specs.Counted.{failures_of};
-ghost use Rattle.config_check.specs.Check.{Held, IsAccepted, IsWhy, IsWhyOfReader};
+ghost use Rattle.counted_io.specs.Counted.{calls_of, failures_of};
+ghost use Rattle.config_check.specs.Check.{Held, IsAccepted, IsWhy, IsWhyOfReader, most_reads};
 ghost use Rattle.config_check.specs.CheckFault.{check_fault_text};
 ghost use Rattle.fault_lines.specs.FaultLine.{IsTold, fault_line};
 
@@ -69,6 +69,9 @@ pub fn check_reader<R: Read, W: Write, E: Write>(
     ensures refused { result ≡ 1 → (fault : CheckFault)
         × IsTold E.contents errors.old errors.new (fault_line (check_fault_text fault))
         × IsWhyOfReader R.remaining reader.old reader.new writer.old writer.new fault }
+
+    // Whatever it answers.
+    ensures few { calls_of reader.new ≤ calls_of reader.old + most_reads }
 {
     match check_read(alloc, reader, writer) {
         Ok(()) => DONE,
@@ -115,6 +118,7 @@ fn check_read<R: Read, W: Write>(
     ensures unfailing { OnOk result (failures_of reader.new ≡ failures_of reader.old) }
     ensures refused { IfErr result (λ fault.
         IsWhyOfReader R.remaining reader.old reader.new writer.old writer.new fault) }
+    ensures few { calls_of reader.new ≤ calls_of reader.old + most_reads }
 {
     let settings = read_settings(alloc, reader)?;
     Ok(write_accepted(writer, &settings)?)

@@ -12,7 +12,7 @@ use std::io::Write;
 pub enum CheckFault {
     /// The file can't be opened or read, isn't at its end after 2^25 reads, or has more than 1 MiB.
     Read,
-    /// The file's bytes aren't those of a configuration, or memory is wanting.
+    /// The file's bytes aren't those of a configuration, or out of memory.
     Config(ConfigFault),
     /// The line on standard output can't be written.
     Write,

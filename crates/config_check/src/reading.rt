@@ -1,9 +1,9 @@
 // A configuration, read.
-ghost use Rattle.std.specs.Prelude.{◌≡◌, ◌⊎◌, ℕ, List, Ok, IfErr, IfOk, OnOk};
+ghost use Rattle.std.specs.Prelude.{◌≡◌, ◌≤◌, ◌+◌, ◌⊎◌, ℕ, List, Ok, IfErr, IfOk, OnOk};
 ghost use Rattle.counted_io.specs.declared.counted.Counted.{Counted as CountedValue};
-ghost use Rattle.counted_io.specs.Counted.{failures_of};
+ghost use Rattle.counted_io.specs.Counted.{calls_of, failures_of};
 ghost use Rattle.gate_config.specs.Settings.{AreSound};
-ghost use Rattle.config_check.specs.Check.{Held, IsFaultOf, IsUnread, IsUnset, Says};
+ghost use Rattle.config_check.specs.Check.{Held, IsFaultOf, IsUnread, IsUnset, Says, most_reads};
 
 use super::check_fault::CheckFault;
 use counted_io::{Counted, read_all};
@@ -21,7 +21,7 @@ const MOST_READS: u64 = 33_554_432;
 /// The text of the configuration in the file of a path: at most 1 MiB, in at most 2^25 reads.
 ///
 /// A file that can't be opened or read, isn't at its end after so many reads, or has more is told
-/// as one that can't be read; else memory was wanting.
+/// as one that can't be read; else the fault is that of running out of memory.
 pub fn read_file_text<F: Files>(files: &F, alloc: Global, path: &str) -> Result<Vec<u8>, CheckFault>
     ensures text { IfOk result (λ text. (before : CountedValue F.File)
         × (after : CountedValue F.File) × Held F.File.remaining before text.items
@@ -41,6 +41,7 @@ fn read_text<R: Read>(alloc: Global, reader: &mut Counted<R>) -> Result<Vec<u8>,
     ensures text { IfOk result (λ text. Held R.remaining reader.old text.items) }
     ensures unfailing { OnOk result (failures_of reader.new ≡ failures_of reader.old) }
     ensures refused { IfErr result (IsUnread R.remaining reader.old reader.new) }
+    ensures few { calls_of reader.new ≤ calls_of reader.old + most_reads }
 {
     Ok(read_all(alloc, reader, MOST_CONFIG, MOST_READS)?)
 }
@@ -59,6 +60,7 @@ pub fn read_settings<R: Read>(
     ensures sound { IfOk result AreSound }
     ensures unfailing { OnOk result (failures_of reader.new ≡ failures_of reader.old) }
     ensures refused { IfErr result (IsUnset R.remaining reader.old reader.new) }
+    ensures few { calls_of reader.new ≤ calls_of reader.old + most_reads }
 {
     let bytes = read_all(alloc, reader, MOST_CONFIG, MOST_READS)?;
     read_bytes(alloc, &bytes)
