@@ -10,7 +10,7 @@ use std::io::{ErrorKind, Write};
 /// Tells why the list of words can't be had, in one line of clap's style, and answers the exit
 /// status.
 ///
-/// `kind` is that of the error: `OutOfMemory` where memory is wanting, and any other where a word
+/// `kind` is that of the error: `OutOfMemory` when out of memory, and any other where a word
 /// isn't UTF-8. Where the line can't be written itself, it is dropped.
 pub fn tell_unread_words<E: Write>(kind: ErrorKind, errors: &mut Counted<E>) -> u8
     ensures status { result ≡ 2 }
