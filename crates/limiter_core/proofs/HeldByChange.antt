@@ -1,14 +1,12 @@
 -- What is kept stays held by each change.
-use Rattle.std.proofs.Common.{◌≡◌, ℕ, ◌+◌, ◌*◌, ◌^◌, ◌<◌, ◌≤◌, List, [], ◌∷◌, Bool, true, false, cond, if◌then◌else◌, filter, option_to_list, Option, None, Some, refl, sym, ap, ◌∙◌, subst, arith}
-use Rattle.std.specs.List.{last_or}
+use Rattle.std.proofs.Common.{◌≡◌, ℕ, ◌+◌, ◌*◌, ◌^◌, ◌<◌, ◌≤◌, List, [], ◌∷◌, Bool, true, false, if◌then◌else◌, Some, refl, sym, ap, ◌∙◌, subst, arith}
 use Rattle.limit_laws.specs.Algorithm.{Algorithm, IsLawful}
-use Rattle.partitions.specs.Table.{Row, place_of, bound}
+use Rattle.partitions.specs.Table.{Row, bound}
 use Rattle.lifo_backlog.specs.declared.waiter.Waiter.{Waiter}
-use Rattle.lifo_backlog.specs.Waiters.{newest_of}
 use Rattle.limiter_core.specs.Events.{Event, Reply, Entry, Call, Promotion}
 use Rattle.limiter_core.specs.declared.state.State.{State}
 use Rattle.limiter_core.specs.History.{Gate, Image, image_after, total}
-use Rattle.limiter_core.specs.Answer.{reply_to, has_room, next_waiter, promotion}
+use Rattle.limiter_core.specs.Answer.{reply_to, next_waiter, promotion}
 use Rattle.limiter_core.specs.Legal.{MayCome}
 use Rattle.limiter_core.specs.Bound.{IsSound, IsNumbered, owed, most_owed, is_always_served}
 use Rattle.limiter_core.specs.Standing.{gate_in, stands_in, numbered, IsHeld, KeepsRooms}
@@ -53,6 +51,7 @@ module _ {S : Type 0} (rules : Algorithm S) where
           modest = omega (arith, same, held.modest);
           small_room = omega (arith, kept.waiters, held.small_room);
           counted = omega (arith, same, kept.waiters, counted);
+          queued = kept.queued held.queued;
         }
 
     -- what is owed after a call, by whether the event is always served
@@ -90,6 +89,7 @@ module _ {S : Type 0} (rules : Algorithm S) where
           waiters = kept.waiters;
           permits = kept.permits;
           granted = kept.granted;
+          queued = kept.queued;
         }) right
         (sound-call Gated lawful Now held.sound e may)
         (omega (arith, next, ap owed right, call-counted e (is_always_served Now e) refl may below))

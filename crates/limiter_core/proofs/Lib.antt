@@ -15,6 +15,7 @@ pub mod EventWithPromotion
 pub mod CountersAfterCall
 pub mod WalkDown
 pub mod RoomTaken
+pub mod QueuedAtPlaces
 pub mod PromotingAll
 pub mod NobodyLeft
 pub mod FoundAndKept

@@ -1,25 +1,23 @@
 -- Under all, nobody is left waiting for whom there is room.
-use Rattle.std.proofs.Common.{◌≡◌, ℕ, zero, suc, ◌+◌, ◌<◌, ◌≤◌, ◌==◌, List, [], ◌∷◌, ◌++◌, Bool, true, false, not, cond, length, filter, Option, None, Some, is_some, Result, Ok, Err, All, refl, sym, ap, ◌∙◌, subst, arith, nat_lt, true≢false}
+use Rattle.std.proofs.Common.{◌≡◌, ℕ, zero, suc, ◌+◌, ◌≤◌, ◌==◌, List, [], ◌∷◌, Bool, true, false, not, cond, length, filter, Option, None, Some, is_some, Result, Ok, Err, All, refl, sym, ap, ◌∙◌, subst, arith, nat_lt, true≢false}
 use Rattle.std.specs.List.{last_or}
 use Rattle.std.proofs.lemmas.List.Elements.{All-nil, All-cons, All-filter, All-push}
-use Rattle.limit_laws.specs.Facts.{moment}
 use Rattle.limit_laws.specs.declared.limit.SetFault.{SetFault}
 use Rattle.partitions.specs.declared.part.Part.{Part}
 use Rattle.partitions.specs.Table.{place_of}
 use Rattle.lifo_backlog.specs.declared.waiter.Waiter.{Waiter}
-use Rattle.limiter_core.specs.Events.{PermitFacts, Event, Acquire, End, Claim, GiveUp, SetLimit, Reset, Look, Reply, Admitted, Bypassed, Full, BacklogFull, Waiting, Ended, StillWaiting, TimedOut, Lost, ResetDone, Promote, Entry, Call}
+use Rattle.limiter_core.specs.Events.{PermitFacts, Event, Acquire, End, Claim, GiveUp, SetLimit, Reset, Look, Reply, Admitted, BacklogFull, Waiting, StillWaiting, TimedOut, Lost, Entry, Call}
 use Rattle.limiter_core.specs.declared.promote.Promote.TheVariants as rule
 use Rattle.limiter_core.specs.History.{Gate, Image, image_after, total, accepted_or}
-use Rattle.limiter_core.specs.Answer.{answer, reply_to, has_room, queued, granted_of, granted_or, waits, set_reply, counting, promoted, promotions_at, promotions, promotion_then, promotion, with_room, moment_of, next_waiter}
-use Rattle.limiter_core.specs.Legal.{IsLegal, nothing, more, MayCome}
+use Rattle.limiter_core.specs.Answer.{answer, reply_to, has_room, queued, granted_of, granted_or, waits, set_reply, counting, promotions_at, promotions, promotion_then, promotion, moment_of, next_waiter}
+use Rattle.limiter_core.specs.Legal.{nothing, more, MayCome}
 use Rattle.limiter_core.specs.Settled.{NobodyHasRoom}
 use Rattle.limiter_core.specs.Laws.{LeavesNobodyWithRoom}
 use Rattle.limiter_core.proofs.ImageJoins.{image_nil}
 use Rattle.limiter_core.proofs.ImageAfterEntry.{after_bypassed, after_full, after_backlog_full, after_waiting, after_admitted, after_claim_waits, after_claim_lost, after_claim_granted, after_give_up_granted, after_give_up_lost, after_timed_out, after_set, after_look, after_promotion}
 use Rattle.limiter_core.proofs.LegalJoins.{backed_legal, image_answer, image-counting, promotion-joins}
-use Rattle.limiter_core.proofs.LegalStaysSound.{next_counted}
 use Rattle.limiter_core.proofs.OwedPlaces.{fewer_by_next}
-use Rattle.limiter_core.proofs.EventWithPromotion.{stands_with, stays}
+use Rattle.limiter_core.proofs.EventWithPromotion.{stands_with}
 use Rattle.limiter_core.proofs.PromotingAll.{next_of_all, promotions_of_all}
 use Rattle.limiter_core.proofs.RoomTaken.{none-before, room-before}
 

@@ -1,5 +1,5 @@
 -- Open permits, one answer after another.
-use Rattle.std.proofs.Common.{◌≡◌, ℕ, zero, suc, ◌+◌, ◌<◌, ◌==◌, List, [], ◌∷◌, ◌++◌, Bool, true, false, not, cond, length, map, Option, None, Some, option_to_list, filter, count_by, refl, sym, ap, ◌∙◌, subst, arith, zero-le, append_assoc, append-nil, eq-eqb, nat_lt}
+use Rattle.std.proofs.Common.{◌≡◌, ℕ, zero, suc, ◌+◌, ◌<◌, ◌==◌, List, [], ◌∷◌, ◌++◌, Bool, true, false, not, cond, length, Option, None, Some, option_to_list, filter, count_by, refl, sym, ap, ◌∙◌, subst, arith, zero-le, append_assoc, append-nil, eq-eqb, nat_lt}
 use Rattle.partitions.specs.declared.part.Part.{Part}
 use Rattle.partitions.specs.Table.{place_of}
 use Rattle.limit_laws.specs.Facts.{moment}

@@ -1,5 +1,5 @@
 -- Promotions under all, one after another, as the walk from the newest waiter down makes them.
-use Rattle.std.proofs.Common.{◌≡◌, ℕ, zero, suc, ◌+◌, ◌<◌, ◌≤◌, List, [], ◌∷◌, ◌++◌, Bool, cond, length, map, count_by, Option, None, Some, refl, sym, ap, ◌∙◌, subst, arith, append_assoc, append-nil, length-append}
+use Rattle.std.proofs.Common.{◌≡◌, ℕ, zero, suc, ◌+◌, ◌≤◌, List, [], ◌∷◌, ◌++◌, length, map, None, Some, refl, sym, ap, ◌∙◌, subst, arith, append_assoc, append-nil, length-append}
 use Rattle.std.specs.List.{last_or}
 use Rattle.std.proofs.lemmas.List.{map-append}
 use Rattle.limit_laws.specs.Algorithm.{Algorithm}
@@ -65,6 +65,7 @@ keeps-both s t u one two = record {
   waiters = two.waiters ∙ one.waiters;
   permits = two.permits ∙ one.permits;
   granted = two.granted ∙ one.granted;
+  queued = λ counted. two.queued (one.queued counted);
 }
 
 module _ {S : Type 0} (rules : Algorithm S) (start : ℕ) (s : State S) where
@@ -78,6 +79,7 @@ module _ {S : Type 0} (rules : Algorithm S) (start : ℕ) (s : State S) where
       waiters = refl;
       permits = refl;
       granted = refl;
+      queued = λ counted. counted;
     };
     leads = sym (image_nil (gate_in rules s) (stands_in s));
     rest = refl;

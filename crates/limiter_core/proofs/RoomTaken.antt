@@ -1,13 +1,11 @@
 -- A promotion takes room: whoever had none has none after it.
-use Rattle.std.proofs.Common.{◌≡◌, ℕ, ◌+◌, ◌<◌, ◌≤◌, ◌==◌, List, [], ◌∷◌, Bool, true, false, not, ◌||◌, cond, filter, All, refl, sym, ap, ◌∙◌, subst, arith, ltb, ltb-true, true≢false, ⊎_elim}
+use Rattle.std.proofs.Common.{◌≡◌, ℕ, ◌+◌, ◌<◌, ◌≤◌, ◌==◌, [], ◌∷◌, Bool, true, false, not, ◌||◌, cond, All, refl, sym, ◌∙◌, subst, arith, ltb, ltb-true, true≢false, ⊎_elim}
 use Rattle.std.proofs.lemmas.Bool.{or_cases}
 use Rattle.std.proofs.lemmas.List.Elements.{All-filter, filter_passes}
 use Rattle.lifo_backlog.specs.declared.waiter.Waiter.{Waiter}
-use Rattle.partitions.specs.Table.{place_of, share, places}
-use Rattle.limiter_core.specs.Events.{Entry}
+use Rattle.partitions.specs.Table.{place_of, share}
 use Rattle.limiter_core.specs.History.{Gate, Image, image_after, total, limit}
 use Rattle.limiter_core.specs.Answer.{has_room, promotion}
-use Rattle.limiter_core.specs.Settled.{NobodyHasRoom}
 use Rattle.limiter_core.proofs.ImageAfterEntry.{after_promotion}
 
 more-room : (a b l x y s : ℕ) → a ≤ b → x ≤ y → (ltb b l || ltb y s) ≡ true

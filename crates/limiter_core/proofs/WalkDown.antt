@@ -1,10 +1,8 @@
 -- The walk from the newest waiter down to one that has room.
-use Rattle.std.proofs.Common.{◌≡◌, ℕ, suc, ◌+◌, ◌-◌, ◌<◌, ◌≤◌, List, [], ◌∷◌, Bool, true, false, not, ◌||◌, cond, length, filter, get_or, slice_get, Option, None, Some, unwrap_or, is_some, All, AllPairs, refl, sym, ap, ◌∙◌, subst, arith, ltb, ltb-true, ltb-false, true≢false, nat_lt, inl, inr, ⊎_elim}
+use Rattle.std.proofs.Common.{◌≡◌, ℕ, suc, ◌+◌, ◌-◌, ◌<◌, List, [], ◌∷◌, Bool, true, false, cond, length, filter, get_or, slice_get, Option, None, Some, unwrap_or, is_some, All, refl, sym, ap, ◌∙◌, subst, arith, ltb-false, true≢false, nat_lt}
 use Rattle.std.specs.List.{last_or}
-use Rattle.std.proofs.lemmas.Bool.{or_cases}
 use Rattle.std.proofs.lemmas.Option.{slice_get-get_or, get_or_from_slice_get}
 use Rattle.std.proofs.lemmas.List.Elements.{All-nil, All-cons, All-head, All-tail}
-use Rattle.std.proofs.lemmas.List.Kept.{AllPairs-filter}
 use Rattle.lifo_backlog.specs.declared.waiter.Waiter.{Waiter}
 use Rattle.lifo_backlog.specs.Waiters.{newest_of, below, IsRising}
 

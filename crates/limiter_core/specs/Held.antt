@@ -1,5 +1,8 @@
 -- What the parts of a limiter show: permits by place, and granted permits, each with reserved room.
-use Rattle.std.specs.Prelude.{◌≡◌, ◌≢◌, ℕ, ◌<◌, ◌≤◌, List, All, length, slice_index_or}
+use Rattle.std.specs.Prelude.{◌≡◌, ◌≢◌, ℕ, ◌<◌, ◌≤◌, ◌==◌, List, All, length, count_by}
+use Rattle.std.specs.Prelude.{slice_index, slice_index_or}
+use Rattle.partitions.specs.Table.{Row, place_of}
+use Rattle.lifo_backlog.specs.declared.waiter.Waiter.{Waiter}
 use Rattle.limiter_core.specs.Events.{PermitFacts}
 
 -- how many permits are of each of the five places, and for how many there is room
@@ -27,3 +30,8 @@ pub record IsFirstFrom (permits : List PermitFacts) (number at : ℕ) : Type 0 w
 pub record IsPermitAt (permits : List PermitFacts) (at number : ℕ) : Type 0 where
   pub within : at < length permits
   pub numbered : (d : PermitFacts) → (slice_index_or permits at d).number ≡ number
+
+-- how many of those who wait are of each place
+abbrev pub AreCounted : List Row → List ℕ → List Waiter → Type 0
+AreCounted rows counts ws =
+    (p : ℕ) → slice_index counts p ≡ count_by (λ (w : Waiter). place_of rows w.part == p) ws

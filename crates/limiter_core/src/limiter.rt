@@ -17,6 +17,7 @@ use super::fault::CoreFault;
 use super::granted::GrantedPermits;
 use super::permits::Permits;
 use super::promote::Promote;
+use super::queued::Queued;
 use super::state::State;
 use lifo_backlog::{Backlog, Waiter};
 use limit_laws::Limit;
@@ -66,8 +67,8 @@ impl<L: Limit> Model for Core<L> {
 impl<L: Limit> Core<L> {
     /// A limiter over these partitions, in which nothing is in flight and up to `room` may wait.
     ///
-    /// [`CoreFault::Room`] where `room` is above 10,000, else [`CoreFault::Memory`] where memory is
-    /// wanting: all that a core ever needs is taken here.
+    /// [`CoreFault::Room`] where `room` is above 10,000, else [`CoreFault::Memory`] where it runs
+    /// out of memory: all that a core ever needs is taken here.
     pub fn new(
         alloc: Global,
         limit: L,
@@ -89,6 +90,7 @@ impl<L: Limit> Core<L> {
                 promote,
                 permits,
                 backlog,
+                queued: Queued::new(),
                 granted,
                 next: 0,
             },

@@ -1,9 +1,13 @@
 // Who is promoted, and how.
-ghost use Rattle.std.specs.Prelude.{◌≡◌, ◌+◌, ◌≤◌, ◌∷◌, [], None, Some, map, length};
-ghost use Rattle.std.specs.Prelude.{vec_capacity, IfSome};
-ghost use Rattle.std.specs.List.{last_or};
+ghost use Rattle.std.specs.Prelude.{◌≡◌, ◌+◌, ◌≤◌, ◌∷◌, [], None, Some, map, length, nat_lt};
+ghost use Rattle.std.specs.Prelude.{◌&&◌, slice_index, vec_capacity, IfSome};
+ghost use Rattle.std.specs.List.{last_or, list_any};
+ghost use Rattle.partitions.specs.declared.part.Part.TheVariants.{Known};
+ghost use Rattle.partitions.specs.Table.{place_of};
+ghost use Rattle.lifo_backlog.specs.declared.waiter.Waiter.{Waiter};
 ghost use Rattle.limiter_core.specs.Events.{Newest, All};
-ghost use Rattle.limiter_core.specs.Answer.{with_room, next_waiter, promotion, promotions_at};
+ghost use Rattle.limiter_core.specs.Answer.{has_room, with_room, next_waiter};
+ghost use Rattle.limiter_core.specs.Answer.{promotion, promotions_at};
 ghost use Rattle.limiter_core.specs.Limiter.{entry_of};
 ghost use Rattle.limiter_core.specs.Standing.{gate_in, stands_in, Leads, IsHeld, KeepsRooms};
 ghost use Rattle.limiter_core.specs.Standing.{HaveRoomBelow};
@@ -13,8 +17,37 @@ use super::promote::Promote;
 use super::state::State;
 use lifo_backlog::Waiter;
 use limit_laws::Limit;
+use partitions::Part;
 
 impl<L: Limit> State<L> {
+    /// Somebody waits at a place that has room.
+    fn waits_with_room(&self, place: u8) -> bool
+        ensures { result ≡ (nat_lt 0 (slice_index self.now.queued place)
+            && has_room (gate_in L.rules self.now) (stands_in self.now)
+            (place_of self.now.table (Known place))) }
+    {
+        self.queued.waits_at(usize::from(place)) && self.has_room(Part::Known(place))
+    }
+
+    /// Somebody waits at one of these places that has room.
+    fn one_waits_with_room(&self, places: &[u8]) -> bool
+        ensures { result ≡ list_any (λ place. nat_lt 0 (slice_index self.now.queued place)
+            && has_room (gate_in L.rules self.now) (stands_in self.now)
+            (place_of self.now.table (Known place))) places.now }
+    {
+        places.iter().any(|place| self.waits_with_room(*place))
+    }
+
+    /// Somebody who waits has room. This looks at the places alone, however many wait.
+    fn somebody_has_room(&self) -> bool
+        requires { IsHeld L.rules self.now }
+        ensures { result ≡ list_any (λ (w : Waiter).
+            has_room (gate_in L.rules self.now) (stands_in self.now)
+            (place_of self.now.table w.part)) self.now.backlog.waiting }
+    {
+        self.one_waits_with_room(&[0, 1, 2, 3, 4])
+    }
+
     /// The newest waiter that has room, where none from a number on has.
     fn newest_with_room(&self, from: u64) -> Option<Waiter>
         requires held { IsHeld L.rules self.now }
@@ -24,6 +57,9 @@ impl<L: Limit> State<L> {
         ensures below { IfSome result
             (λ found. HaveRoomBelow L.rules self.now (found.number + 1)) }
     {
+        if !self.somebody_has_room() {
+            return None;
+        }
         let mut number = from;
         while let Some(waiter) = self.backlog.below(number) {
             if self.has_room(waiter.part) {
@@ -49,7 +85,8 @@ impl<L: Limit> State<L> {
     {
         let inflight = self.permits.total() + 1;
         self.permits.enter(self.table.place(waiter.part));
-        self.backlog.take(waiter.number);
+        self.queued
+            .take(&mut self.backlog, &self.table, waiter.number);
         self.granted.push(PermitFacts {
             number: waiter.number,
             part: waiter.part,

@@ -1,4 +1,4 @@
-use Rattle.std.proofs.Common.{ℕ, ◌+◌, ◌<◌, nat_lt, Bool, List, None, ap, sym, ◌∙◌, filter}
+use Rattle.std.proofs.Common.{◌+◌, ◌<◌, nat_lt, Bool, List, None, ap, sym, ◌∙◌, filter}
 use Rattle.std.specs.List.{last_or}
 use Rattle.std.proofs.lemmas.List.Kept.{AllPairs-filter}
 use Rattle.partitions.specs.Table.{place_of}
@@ -6,8 +6,19 @@ use Rattle.lifo_backlog.specs.declared.waiter.Waiter.{Waiter}
 use Rattle.lifo_backlog.specs.Waiters.{below}
 use Rattle.limiter_core.specs.Answer.{has_room}
 use Rattle.limiter_core.specs.Standing.{gate_in, stands_in}
+use Rattle.limiter_core.proofs.QueuedAtPlaces.{nobody_kept}
 use Rattle.limiter_core.proofs.WalkDown.{newest-none, newest-greatest, last-newest, newest-fails, pass-below, from-below, none-of}
 use Rattle.limiter_core.proofs.state.State.newest_with_room.Goals as goal
+
+pub returns-then-not-somebody_has_room-clause-last :
+    goal.returns-then-not-somebody_has_room-clause-last
+returns-then-not-somebody_has_room-clause-last g c =
+    let s = c.args.self.now in
+    let fits : Waiter → Bool =
+    λ w. has_room (gate_in g.L.Limit.rules s) (stands_in s) (place_of s.table w.part) in
+    let nobody = nobody_kept fits s.backlog.waiting
+    (sym c.somebody_has_room.ensures ∙ c.if-not-somebody_has_room.true) in
+    sym (ap (λ (xs : List Waiter). last_or None xs) nobody)
 
 pub returns-then-has_room-clause-last : goal.returns-then-has_room-clause-last
 returns-then-has_room-clause-last g c =

@@ -1,4 +1,3 @@
-use Rattle.std.proofs.Common.{ℕ}
 use Rattle.limiter_core.specs.Standing.{HaveRoomBelow}
 use Rattle.limiter_core.proofs.state.State.newest_with_room.Given as goal
 

@@ -1,4 +1,4 @@
-use Rattle.std.proofs.Common.{arith, ℕ, ◌+◌, ◌∙◌, ◌<◌, ◌∷◌, [], refl, sym, ap, subst, length}
+use Rattle.std.proofs.Common.{arith, ℕ, ◌+◌, ◌∙◌, ◌<◌, ◌∷◌, [], refl, ap, subst, length}
 use Rattle.partitions.specs.Table.{place_of}
 use Rattle.lifo_backlog.specs.Waiters.{Waiters}
 use Rattle.limiter_core.specs.Events.{Promotion}
@@ -41,11 +41,25 @@ returns-clause-stands g c =
     let s = c.args.self.now in
     let w = c.args.waiter in
     stands_promoted g.L.Limit.rules s w c.args.start _ c.place.result
-    c.enter.new.self c.take.new.self c.push.new.self c.place.ensures.place c.enter.ensures.counts
+    c.enter.new.self c.take.new.backlog c.push.new.self c.place.ensures.place c.enter.ensures.counts
     (ap (λ (s : Waiters). s.waiting) c.take.ensures.others)
     (ap (λ (k : Kept). k.permits) c.push.ensures)
     ∙ ap (λ (n : ℕ). image_after (gate_in g.L.Limit.rules s) (stands_in s)
     (Promotion w.number w.part c.args.start (n + 1) ∷ [])) c.total-inflight.ensures.value
+
+pub take-requires-clause-distinct : goal.take-requires-clause-distinct
+take-requires-clause-distinct g c =
+    omega (arith, c.requires.held.sound.distinct c.args.waiter.number)
+
+pub returns-clause-kept : goal.returns-clause-kept
+returns-clause-kept g c = record {
+  table = refl;
+  promote = refl;
+  waiters = ap (λ (s : Waiters). s.room) c.take.ensures.others;
+  permits = c.enter.ensures.room;
+  granted = ap (λ (k : Kept). k.room) c.push.ensures;
+  queued = λ _. c.take.ensures.counted;
+}
 
 pub returns-clause-fewer : goal.returns-clause-fewer
 returns-clause-fewer g c =
@@ -60,7 +74,7 @@ returns-clause-held g c =
     c.args.waiter c.args.start c.total-inflight.result c.requires.next
     c.total-inflight.ensures.value
     (stands_promoted g.L.Limit.rules c.args.self.now c.args.waiter c.args.start _ c.place.result
-    c.enter.new.self c.take.new.self c.push.new.self c.place.ensures.place
+    c.enter.new.self c.take.new.backlog c.push.new.self c.place.ensures.place
     c.enter.ensures.counts
     (ap (λ (s : Waiters). s.waiting) c.take.ensures.others)
     (ap (λ (k : Kept). k.permits) c.push.ensures))
@@ -70,4 +84,5 @@ returns-clause-held g c =
       waiters = ap (λ (s : Waiters). s.room) c.take.ensures.others;
       permits = c.enter.ensures.room;
       granted = ap (λ (k : Kept). k.room) c.push.ensures;
+      queued = λ _. c.take.ensures.counted;
     })

@@ -1,4 +1,4 @@
-use Rattle.std.proofs.Common.{List, arith, ap, sym, ◌∙◌, subst}
+use Rattle.std.proofs.Common.{List, arith, sym, ◌∙◌, subst}
 use Rattle.limiter_core.specs.declared.event.Promotion.{Promotion}
 use Rattle.limiter_core.specs.Standing.{gate_in, stands_in}
 use Rattle.limiter_core.proofs.SoundSteps.{waiter-below}
