@@ -72,7 +72,7 @@ impl<L: Limit> Journal<L> {
     /// or doesn't.
     ///
     /// [`JournalFault::Places`] where `kept` isn't 1 to 1,000,000, else [`JournalFault::Memory`]
-    /// where memory is wanting: all that a journal ever needs is taken here.
+    /// where it runs out of memory: all that a journal ever needs is taken here.
     pub fn new(
         alloc: Global,
         core: Core<L>,
