@@ -5,7 +5,7 @@ ghost use Rattle.gate_journal.specs.Journal.{most_kept};
 ghost use Rattle.gate_ledgers.specs.Names.{AreNamed, AreWhole};
 
 use gate_history::{Blanks, Book, Naming};
-use limit_laws::Fixed;
+use limit_laws::{Fixed, Limit};
 use limiter_core::Promote;
 use partitions::PartitionTable;
 use std::alloc::Global;
@@ -33,16 +33,31 @@ pub(crate) fn book_over<N: Naming, R: Abort>(
     requires few_kept { kept ≤ most_kept }
 {
     let limit = Fixed::new(permits).expect(rt, "a limit");
+    book_with(rt, alloc, limit, Promote::Newest, kept, is_rolling, blanks)
+}
+
+/// A book over a limit, without classes, whose backlog has room for 100, which promotes by a rule
+/// and keeps so many entries.
+pub(crate) fn book_with<L: Limit, N: Naming, R: Abort>(
+    rt: &R,
+    alloc: Global,
+    limit: L,
+    promote: Promote,
+    kept: usize,
+    is_rolling: bool,
+    blanks: Blanks,
+) -> Book<L, N>
+    requires names { AreNamed N.calls N.place blanks }
+    requires parts { AreWhole blanks }
+    requires rows { N.rows ≡ [] }
+    requires room { N.room ≡ 100 }
+    requires promote { N.promote ≡ promote }
+    requires kept { N.kept ≡ kept }
+    requires rolling { N.is_rolling ≡ is_rolling }
+    requires limit { N.limit ≡ L.rules.limit limit }
+    requires some_kept { 1 ≤ kept }
+    requires few_kept { kept ≤ most_kept }
+{
     let table = PartitionTable::unknown_only();
-    Book::begin(
-        alloc,
-        limit,
-        table,
-        100,
-        Promote::Newest,
-        kept,
-        is_rolling,
-        blanks,
-    )
-    .expect(rt, "memory")
+    Book::begin(alloc, limit, table, 100, promote, kept, is_rolling, blanks).expect(rt, "memory")
 }

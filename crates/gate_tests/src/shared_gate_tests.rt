@@ -6,7 +6,7 @@ ghost use Rattle.gate_ledgers.specs.Names.{AreNamed, AreWhole};
 
 use crate::books::book_over;
 use gate_history::{Blanks, Book, Naming, Permit, Receipt, Spent, Ticket};
-use limit_laws::Fixed;
+use limit_laws::{Fixed, Limit};
 use limiter_core::{Outcome, Reply};
 use partitions::Part;
 use shared_gate::{Claimed, Clock, GaveUp, Got, Pass, SharedGate, Waited};
@@ -194,13 +194,22 @@ fn holds<M: Naming, R: Wait + Abort>(
         rt,
         gate.acquire(rt, &mut pass, Part::Unknown, false, false, 0),
     );
+    until_one_waits(rt, gate, &mut pass);
+    let _receipt = gate.end(rt, &mut pass, permit, Outcome::Success, 1);
+    pass
+}
+
+/// Looks until one waits.
+pub(crate) fn until_one_waits<L: Limit, M: Naming, R: Wait + Abort>(
+    rt: &R,
+    gate: &SharedGate<L, M>,
+    pass: &mut Pass<M>,
+) {
     for _ in 0..900_000 {
-        if shows_waiter(gate.look(rt, &mut pass, Part::Unknown)) {
+        if shows_waiter(gate.look(rt, pass, Part::Unknown)) {
             break;
         }
     }
-    let _receipt = gate.end(rt, &mut pass, permit, Outcome::Success, 1);
-    pass
 }
 
 /// A look was answered, and shows that one waits.
@@ -211,10 +220,10 @@ fn shows_waiter<M: Naming>(looked: Result<Receipt<M>, Spent<M>>) -> bool {
     }
 }
 
-/// Waits for the permit, once it is held, by a clock that stands still.
-fn waits<M: Naming, R: Wait + SystemClock + Abort>(
+/// Waits for a permit, once the only one is held, by a clock that stands still.
+pub(crate) fn waits<L: Limit, M: Naming, R: Wait + SystemClock + Abort>(
     rt: &R,
-    gate: &SharedGate<Fixed, M>,
+    gate: &SharedGate<L, M>,
     mut pass: Pass<M>,
 ) -> Pass<M> {
     for _ in rt.forever() {

@@ -29,11 +29,11 @@ const SECOND: u64 = 1_000_000_000;
 /// How often somebody waits while another one holds the permit.
 const TURNS: u64 = 10;
 
-/// The most nanoseconds of real time from an ending to where who waited goes on: 50 ms.
-const SOON: u64 = 50_000_000;
+/// The most nanoseconds of real time from a promotion to where who waited goes on: 50 ms.
+pub(crate) const SOON: u64 = 50_000_000;
 
 /// The nanoseconds that the system's clock tells.
-fn real<R: SystemClock>(rt: &R) -> u64 {
+pub(crate) fn real<R: SystemClock>(rt: &R) -> u64 {
     match rt.monotonic() {
         Ok(now) => u64::try_from(now.as_nanos()).unwrap_or(u64::MAX),
         Err(_) => 0,

@@ -3,7 +3,6 @@ ghost use Rattle.std.specs.Prelude.{◌≡◌, ◌≤◌};
 ghost use Rattle.aimd.specs.AimdRules.{aimd_rules};
 ghost use Rattle.limiter_core.specs.Answer.{granted_at};
 ghost use Rattle.limiter_core.specs.Limiter.{gate_of, stands};
-ghost use Rattle.limiter_core.specs.declared.promote.Promote.TheVariants.{Newest};
 ghost use Rattle.gate_journal.specs.Journal.{most_kept};
 ghost use Rattle.gate_ledgers.specs.Names.{AreNamed, AreWhole};
 
@@ -38,20 +37,50 @@ fn limit<R: Abort>(rt: &R) -> Aimd
 }
 
 /// A limiter that is asked by one thread.
-fn limiter<R: Abort>(rt: &R, alloc: Global) -> Core<Aimd> {
-    Core::new(alloc, limit(rt), classes(rt, alloc), ROOM, Promote::Newest).expect(rt, "a limiter")
+fn limiter<R: Abort>(rt: &R, alloc: Global, promote: Promote) -> Core<Aimd> {
+    Core::new(alloc, limit(rt), classes(rt, alloc), ROOM, promote).expect(rt, "a limiter")
 }
 
 #[test]
 fn four_threads_are_told_what_one_is(rt: HostRuntime) {
     let table = classes(&rt, rt.alloc());
-    told_by_four::<Brand, _>(&rt, rt.alloc(), table, Blanks::new(), 1_000_000, false);
+    told_by_four::<Brand, _>(
+        &rt,
+        rt.alloc(),
+        table,
+        Blanks::new(),
+        Promote::Newest,
+        1_000_000,
+        false,
+    );
 }
 
 #[test]
 fn four_threads_over_a_rolling_gate_are_told_what_one_is(rt: HostRuntime) {
     let table = classes(&rt, rt.alloc());
-    told_by_four::<Brand, _>(&rt, rt.alloc(), table, Blanks::new(), 100, true);
+    told_by_four::<Brand, _>(
+        &rt,
+        rt.alloc(),
+        table,
+        Blanks::new(),
+        Promote::Newest,
+        100,
+        true,
+    );
+}
+
+#[test]
+fn four_threads_over_a_rolling_gate_of_all_are_told_what_one_is(rt: HostRuntime) {
+    let table = classes(&rt, rt.alloc());
+    told_by_four::<Brand, _>(
+        &rt,
+        rt.alloc(),
+        table,
+        Blanks::new(),
+        Promote::All,
+        100,
+        true,
+    );
 }
 
 fn told_by_four<M: Naming + Send + Sync, R: Threads + Wait + Abort + Sync>(
@@ -59,6 +88,7 @@ fn told_by_four<M: Naming + Send + Sync, R: Threads + Wait + Abort + Sync>(
     alloc: Global,
     table: PartitionTable,
     blanks: Blanks,
+    promote: Promote,
     kept: usize,
     is_rolling: bool,
 )
@@ -66,15 +96,15 @@ fn told_by_four<M: Naming + Send + Sync, R: Threads + Wait + Abort + Sync>(
     requires parts { AreWhole blanks }
     requires rows { M.rows ≡ table }
     requires room { M.room ≡ 2 }
-    requires promote { M.promote ≡ Newest }
+    requires promote { M.promote ≡ promote }
     requires kept { M.kept ≡ kept }
     requires rolling { M.is_rolling ≡ is_rolling }
     requires limit { M.limit ≡ 3 }
     requires some_kept { 1 ≤ kept }
     requires few_kept { kept ≤ most_kept }
 {
-    let book = a_book::<M, R>(rt, alloc, table, blanks, kept, is_rolling);
-    told_of_book(rt, alloc, book);
+    let book = a_book::<M, R>(rt, alloc, table, blanks, promote, kept, is_rolling);
+    told_of_book(rt, alloc, promote, book);
 }
 
 fn a_book<M: Naming, R: Abort>(
@@ -82,6 +112,7 @@ fn a_book<M: Naming, R: Abort>(
     alloc: Global,
     table: PartitionTable,
     blanks: Blanks,
+    promote: Promote,
     kept: usize,
     is_rolling: bool,
 ) -> Book<Aimd, M>
@@ -89,7 +120,7 @@ fn a_book<M: Naming, R: Abort>(
     requires parts { AreWhole blanks }
     requires rows { M.rows ≡ table }
     requires room { M.room ≡ 2 }
-    requires promote { M.promote ≡ Newest }
+    requires promote { M.promote ≡ promote }
     requires kept { M.kept ≡ kept }
     requires rolling { M.is_rolling ≡ is_rolling }
     requires limit { M.limit ≡ 3 }
@@ -97,39 +128,31 @@ fn a_book<M: Naming, R: Abort>(
     requires few_kept { kept ≤ most_kept }
 {
     let limit = limit(rt);
-    Book::begin(
-        alloc,
-        limit,
-        table,
-        ROOM,
-        Promote::Newest,
-        kept,
-        is_rolling,
-        blanks,
-    )
-    .expect(rt, "memory")
+    Book::begin(alloc, limit, table, ROOM, promote, kept, is_rolling, blanks).expect(rt, "memory")
 }
 
 fn told_of_book<M: Naming + Send + Sync, R: Threads + Wait + Abort + Sync>(
     rt: &R,
     alloc: Global,
+    promote: Promote,
     mut book: Book<Aimd, M>,
 ) {
     let callers = four_callers(rt, alloc, &mut book);
     book.seal();
     let gate = SharedGate::new(book);
-    told_of_gate(rt, alloc, &gate, callers);
+    told_of_gate(rt, alloc, promote, &gate, callers);
 }
 
 fn told_of_gate<M: Naming + Send + Sync, R: Threads + Wait + Abort + Sync>(
     rt: &R,
     alloc: Global,
+    promote: Promote,
     gate: &SharedGate<Aimd, M>,
     callers: Four<M>,
 ) {
     let callers = by_four_threads(rt, gate, callers);
     let told = all_told(rt, alloc, &callers);
-    is_told_to_one(rt, alloc, &told, gate.counters(rt));
+    is_told_to_one(rt, limiter(rt, alloc, promote), &told, gate.counters(rt));
 }
 
 /// Four callers.
@@ -223,9 +246,8 @@ fn all_told<M: Naming, R: Abort>(rt: &R, alloc: Global, callers: &Four<M>) -> Ve
 }
 
 /// One limiter, which is asked the same in order of number, answers the same and counts the same.
-fn is_told_to_one<R: Abort>(rt: &R, alloc: Global, told: &[Told], counters: Counters) {
-    assert!(rt; told.len() >= 40_000);
-    let mut core = limiter(rt, alloc);
+fn is_told_to_one<R: Abort>(rt: &R, mut core: Core<Aimd>, told: &[Told], counters: Counters) {
+    assert!(rt; told.len() >= 20_000);
     replay_all(rt, &mut core, told);
     has_ended(rt, &core, counters);
 }

@@ -10,7 +10,7 @@ use std::process::Abort;
 use std::sync::Wait;
 
 /// How many calls a caller makes, before it gives back what it holds.
-const CALLS: u64 = 10_000;
+const CALLS: u64 = 5_000;
 
 /// What a receipt tells.
 #[derive(Clone, Copy)]

@@ -1,7 +1,7 @@
 use Rattle.std.specs.Prelude.{[], false}
 use Rattle.limiter_core.specs.declared.promote.Promote.TheVariants.{All}
 use Rattle.gate_ledgers.specs.Names.{places_of}
-use Rattle.gate_tests.proofs.raised_limit_tests.who_waits_gets_the_permit_of_a_raised_limit.Given as goal
+use Rattle.gate_tests.proofs.raised_limit_tests.a_reset_wakes_whoever_it_promotes.Given as goal
 
 -- the ledgers that were just made, over a table without classes
 abbrev pub ghosts-by_two_threads : goal.ghosts-by_two_threads
@@ -14,5 +14,5 @@ ghosts-by_two_threads g a =
       promote = All;
       kept = 1000000;
       is_rolling = false;
-      limit = 1;
+      limit = 2;
     }

@@ -1,0 +1,18 @@
+use Rattle.std.specs.Prelude.{[], false}
+use Rattle.limiter_core.specs.declared.promote.Promote.TheVariants.{All}
+use Rattle.gate_ledgers.specs.Names.{places_of}
+use Rattle.gate_tests.proofs.raised_limit_tests.a_setting_wakes_whoever_it_promotes.Given as goal
+
+-- the ledgers that were just made, over a table without classes
+abbrev pub ghosts-by_two_threads : goal.ghosts-by_two_threads
+ghosts-by_two_threads g a =
+    record {
+      calls = a.blanks.calls.name;
+      place = places_of a.blanks;
+      rows = [];
+      room = 100;
+      promote = All;
+      kept = 1000000;
+      is_rolling = false;
+      limit = 2;
+    }

@@ -1,0 +1,18 @@
+use Rattle.std.specs.Prelude.{true}
+use Rattle.limiter_core.specs.declared.promote.Promote.TheVariants.{All}
+use Rattle.gate_ledgers.specs.Names.{places_of}
+use Rattle.gate_tests.proofs.random.four_threads_tests.four_threads_over_a_rolling_gate_of_all_are_told_what_one_is.Given as goal
+
+-- the ledgers that were just made, over the table of the gate
+abbrev pub ghosts-told_by_four : goal.ghosts-told_by_four
+ghosts-told_by_four g a =
+    record {
+      calls = a.blanks.calls.name;
+      place = places_of a.blanks;
+      rows = a.table;
+      room = 2;
+      promote = All;
+      kept = 100;
+      is_rolling = true;
+      limit = 3;
+    }
