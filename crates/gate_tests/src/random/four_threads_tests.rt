@@ -272,7 +272,7 @@ fn replay<L: Limit, R: Abort>(rt: &R, core: &mut Core<L>, told: Told) {
 }
 
 /// Asks an event that may come: an ending where more of its place are in flight than lie granted.
-fn reply_of<L: Limit, R: Abort>(rt: &R, core: &mut Core<L>, event: Event) -> Reply {
+pub(super) fn reply_of<L: Limit, R: Abort>(rt: &R, core: &mut Core<L>, event: Event) -> Reply {
     assert!(rt; core.next_number() < 1_000_000);
     let Event::End { permit, .. } = event else {
         return core.apply(event);
