@@ -11,7 +11,7 @@ import re
 
 TOP = pathlib.Path(__file__).resolve().parent.parent
 # A second of the table on slow cores (2.5 GHz), as docs/GATE.md has it.
-SLOW = 2.2
+SLOW = 2.4
 # The bytes of memory that a check takes, in the mean.
 CHECK = 2_500_000_000
 
