@@ -10,7 +10,7 @@ import pathlib
 import re
 
 TOP = pathlib.Path(__file__).resolve().parent.parent
-# A second of the table on slow cores (2.5 GHz), as docs/GATE.md has it.
+# A second of the table on slow cores (2.5 GHz), with the waits of crates for one another.
 SLOW = 2.4
 # The bytes of memory that a check takes, in the mean.
 CHECK = 2_500_000_000
