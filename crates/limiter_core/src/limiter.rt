@@ -82,6 +82,7 @@ impl<L: Limit> Core<L> {
         prove!(table.len() <= 4);
         let most = table.most(limit.hi()) as u32;
         let (backlog, granted, promoted) = take_rooms(alloc, room, most)?;
+        let queued = Queued::new(alloc, room, promote)?;
         let permits = Permits::new(most);
         Ok(Core {
             state: State {
@@ -90,7 +91,7 @@ impl<L: Limit> Core<L> {
                 promote,
                 permits,
                 backlog,
-                queued: Queued::new(),
+                queued,
                 granted,
                 next: 0,
             },
