@@ -1,6 +1,6 @@
 -- What a backend was given, and what it answered.
 use Rattle.std.specs.Prelude.{◌≡◌, List, [], ◌∷◌, ◌++◌, Option, Some, None, ⊤}
-use Rattle.wire.specs.declared.request.Request.{Request}
+use Rattle.message_parts.specs.declared.request.Request.{Request}
 use Rattle.backend.specs.declared.answer.Answer.{Answer}
 
 -- one request and its answer

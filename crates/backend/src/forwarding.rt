@@ -4,7 +4,7 @@ ghost use Rattle.counted_io.specs.Count.{raised};
 ghost use Rattle.backend.specs.Forwards.{Logs};
 
 use crate::answer::Answer;
-use wire::Request;
+use message_parts::Request;
 
 /// A server behind the gateway. It counts the requests that it was given.
 pub trait Backend {

@@ -7,7 +7,7 @@ use Rattle.partitions.specs.declared.part.Part.{Part}
 use Rattle.partitions.specs.declared.part.Part.TheVariants.{Unknown}
 use Rattle.partitions.specs.Table.{Row, find_part, place_of}
 use Rattle.message_parts.specs.declared.headers.Header.{Header}
-use Rattle.wire.specs.declared.request.Request.{Request}
+use Rattle.message_parts.specs.declared.request.Request.{Request}
 use Rattle.classifier.specs.Rules.{RulesValue}
 use Rattle.classifier.specs.declared.bypass.Bypass.{Bypass}
 use Rattle.classifier.specs.declared.bypass.Bypass.TheVariants as Rule

@@ -3,8 +3,7 @@ ghost use Rattle.std.specs.Prelude.{◌≡◌};
 ghost use Rattle.classifier.specs.Class.{is_bypassed_by};
 
 use crate::header::has_value;
-use message_parts::{Bytes, Method};
-use wire::Request;
+use message_parts::{Bytes, Method, Request};
 
 /// Which requests bypass the limit.
 #[derive(Drop)]

@@ -4,8 +4,8 @@ ghost use Rattle.std.specs.List.{list_any};
 ghost use Rattle.classifier.specs.Class.{class_of, first_part, is_bypassed_by};
 
 use crate::rules::Rules;
+use message_parts::Request;
 use partitions::{Part, PartitionTable};
-use wire::Request;
 
 /// What the limiter is told of a request.
 #[derive(Clone, Copy)]

@@ -4,9 +4,8 @@ ghost use Rattle.classifier.specs.Class.{held_part, resolved_part};
 
 use crate::header::first_value;
 use matchit::Router;
-use message_parts::{Bytes, Method};
+use message_parts::{Bytes, Method, Request};
 use partitions::{Part, PartitionTable};
-use wire::Request;
 
 /// Where a request's partition is read from.
 #[derive(Drop)]

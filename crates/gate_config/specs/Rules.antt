@@ -21,7 +21,7 @@ use Rattle.config_sections.specs.Section.{Values, routes_at, text_at}
 abbrev pub part_named : List Row → List ℕ → Part
 part_named rows name = unwrap_or (find_part rows name) Unknown
 
--- what the making of rules answers: what is said, or want of memory, or where nothing is said,
+-- what the making of rules answers: what is said, or out of memory, or where nothing is said,
 -- patterns that can't stand together
 abbrev pub Makes : {A V : Type 0} → (A → V) → Option V → Result A ConfigFault → Type 0
 Makes shown said (Ok a) = said ≡ Some (shown a)

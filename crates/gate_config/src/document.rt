@@ -103,7 +103,7 @@ fn rules_in<'a>(
     let classes = classes_in(version, table)?;
     let resolvers = resolvers_in(&classes.1, table)?;
     let bypasses = bypasses_in(table)?;
-    // No key is at fault: from here on the only fault is want of memory.
+    // No key is at fault: from here on it fails only out of memory.
     let resolvers = read_resolvers(alloc, &classes.1, resolvers)?;
     let bypasses = read_bypasses(alloc, bypasses)?;
     Ok(RuleKeys {

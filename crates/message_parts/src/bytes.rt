@@ -26,7 +26,7 @@ impl Bytes {
         Bytes { items }
     }
 
-    /// A copy of these bytes. Fails where memory is wanting.
+    /// A copy of these bytes. Fails out of memory.
     pub fn from_slice(alloc: Global, items: &[u8]) -> Result<Bytes, AllocError>
         ensures { IfOk result (λ bytes. bytes ≡ items.now) }
     {

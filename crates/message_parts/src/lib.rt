@@ -1,4 +1,4 @@
-//! The parts of HTTP messages: bytes, text, methods and header lines.
+//! The parts of HTTP messages: bytes, text, methods, header lines, and requests made of them.
 //!
 //! They are plain values. A contract sees each text and each run of bytes as its list of bytes, and
 //! the header lines as a list in their order.
@@ -8,10 +8,12 @@ mod bytes;
 mod headers;
 mod method;
 mod piece;
+mod request;
 mod text;
 
 pub use bytes::Bytes;
 pub use headers::{Header, Headers};
 pub use method::Method;
 pub use piece::{HeadText, Piece};
+pub use request::{Request, Version};
 pub use text::Text;

@@ -21,8 +21,7 @@ impl Model for HeadText {
 }
 
 impl HeadText {
-    /// These bytes, which stay where they are. Fails where memory for their owners' count is
-    /// wanting.
+    /// These bytes, which stay where they are. Fails out of memory for their owners' count.
     pub fn new(alloc: Global, bytes: Vec<u8>) -> Result<HeadText, AllocError>
         ensures { IfOk result (λ text. text ≡ bytes.items) }
     {

@@ -26,7 +26,7 @@ impl Text {
         Text { string }
     }
 
-    /// A copy of this text. Fails where memory is wanting.
+    /// A copy of this text. Fails out of memory.
     pub fn copy_of(alloc: Global, text: &str) -> Result<Text, AllocError>
         ensures { IfOk result (λ copy. copy ≡ text.now) }
     {

@@ -15,7 +15,7 @@ use Rattle.message_reading.specs.Heads.{IsCheckedHead, IsFinalHead}
 use Rattle.message_reading.specs.Body.{IsBody, IsWithBody}
 use Rattle.wire.specs.declared.fault.WireFault.{WireFault}
 use Rattle.wire.specs.declared.fault.WireFault.TheVariants as fault
-use Rattle.wire.specs.declared.request.Request.{Request}
+use Rattle.message_parts.specs.declared.request.Request.{Request}
 use Rattle.wire.specs.Fault.{Gives, bytes_fault, of_bytes, of_read}
 use Rattle.wire.specs.Messages.{IsRequest, IsResponse, IsResponseRest, request_of, response_of}
 use Rattle.wire.specs.Response.{ResponseValue}
@@ -44,7 +44,7 @@ module _ {X A : Type 0} (view : X → A) (First : List ℕ → Reading A → Typ
     then_next (Some xs) (Some ys) new x (Err (Bytes f)) one two =
         Then.goes_on xs ys (view x) _ one two
 
--- a fault of the bytes is told as it is
+-- a fault of the bytes is reported as it is
 told_bytes : {V : Type 0} (Is : List ℕ → Reading V → Type 0) (xs : List ℕ) (f : Fault)
     → Is xs (Err f) → IfSome (bytes_fault (of_bytes f)) (λ o. Is xs (Err o))
 told_bytes Is xs own.Early is = is

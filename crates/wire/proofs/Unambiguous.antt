@@ -20,7 +20,7 @@ use Rattle.message_reading.specs.Framing.{coded, hosts_fit, is_refused, lengths_
 use Rattle.message_fields.specs.Target.{is_target}
 use Rattle.message_reading.specs.Heads.{IsCheckedHead, framed}
 use Rattle.message_text.specs.Answer.{is_bodiless}
-use Rattle.wire.specs.declared.request.Request.{Request}
+use Rattle.message_parts.specs.declared.request.Request.{Request}
 use Rattle.wire.specs.Messages.{IsRequest, IsResponse, IsResponseRest, request_of, response_of}
 use Rattle.wire.specs.Response.{ResponseValue}
 use Rattle.wire.specs.Laws.{IsUnambiguous}

@@ -5,7 +5,7 @@ use Rattle.message_parts.specs.declared.headers.Header.{Header}
 use Rattle.message_fields.specs.Lines.{count_named, is_chunked_alone}
 use Rattle.message_fields.specs.Parts.{parts_named}
 use Rattle.message_text.specs.Answer.{is_bodiless}
-use Rattle.wire.specs.declared.request.Request.{Request}
+use Rattle.message_parts.specs.declared.request.Request.{Request}
 use Rattle.wire.specs.Messages.{IsRequest, IsResponse}
 use Rattle.wire.specs.Response.{ResponseValue}
 

@@ -10,9 +10,9 @@ use Rattle.message_reading.specs.Heads.{IsCheckedHead, IsFinalHead}
 use Rattle.message_reading.specs.Body.{IsWithBody}
 use Rattle.message_reading.specs.Continue.{Says}
 use Rattle.wire.specs.declared.fault.WireFault.{WireFault}
-use Rattle.wire.specs.declared.request.Request.{Request}
-use Rattle.wire.specs.declared.request.Version.{Version}
-use Rattle.wire.specs.declared.request.Version.TheVariants.{Http10, Http11}
+use Rattle.message_parts.specs.declared.request.Request.{Request}
+use Rattle.message_parts.specs.declared.request.Version.{Version}
+use Rattle.message_parts.specs.declared.request.Version.TheVariants.{Http10, Http11}
 use Rattle.wire.specs.Fault.{bytes_fault}
 use Rattle.wire.specs.Response.{ResponseValue}
 

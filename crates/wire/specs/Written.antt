@@ -1,8 +1,8 @@
 -- The texts of messages that are written.
 use Rattle.std.specs.Prelude.{ℕ, Bool, true, false, List}
-use Rattle.wire.specs.declared.request.Request.{Request}
-use Rattle.wire.specs.declared.request.Version.{Version}
-use Rattle.wire.specs.declared.request.Version.TheVariants.{Http10}
+use Rattle.message_parts.specs.declared.request.Request.{Request}
+use Rattle.message_parts.specs.declared.request.Version.{Version}
+use Rattle.message_parts.specs.declared.request.Version.TheVariants.{Http10}
 use Rattle.wire.specs.Response.{ResponseValue}
 use Rattle.message_text.specs.Forwarded.{ForwardedValue, forwarded_text}
 use Rattle.message_text.specs.Answer.{AnswerValue, answer_text}

@@ -6,9 +6,8 @@ ghost use Rattle.counted_io.specs.Effects.{Wrote};
 ghost use Rattle.counted_io.specs.Causes.{IsWriteCause};
 ghost use Rattle.wire.specs.Written.{is_old, request_text};
 
-use crate::request::{Request, Version};
 use counted_io::{Counted, WriteFault};
-use message_parts::Bytes;
+use message_parts::{Bytes, Request, Version};
 use message_text::Forwarded;
 use std::io::Write;
 

@@ -10,10 +10,9 @@ ghost use Rattle.wire.specs.Messages.{IsRequest, Said, request_of, version_of};
 
 use crate::fault::WireFault;
 use crate::path::copy_path;
-use crate::request::{Request, Version};
 use counted_io::Counted;
 use message_heads::RequestHead;
-use message_parts::{Bytes, Text};
+use message_parts::{Bytes, Request, Text, Version};
 use message_reading::{read_body, read_checked_head, say_continue};
 use std::alloc::Global;
 use std::io::{BufRead, Write};

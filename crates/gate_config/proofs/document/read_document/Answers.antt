@@ -19,7 +19,8 @@ returns-in_err-rules-clause-fault c = λ fault said.
     } in
     let whole = document_read c.args.version (table_view c.args.table.now) read in
     let key : rules_of c.args.version (table_view c.args.table.now) ≡ Err fault =
-    same_fault (rules_of c.args.version (table_view c.args.table.now)) (with_rules read) fault (rw whole at said) in
+    same_fault (rules_of c.args.version (table_view c.args.table.now)) (with_rules read) fault
+    (rw whole at said) in
     let told : IsErrOf c.rules_in.result fault = c.rules_in.ensures.fault fault key in
     search rules
 

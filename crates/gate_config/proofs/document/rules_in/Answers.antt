@@ -33,7 +33,8 @@ returns-in_err-resolvers-clause-fault c = λ fault said.
     ≡ Err c.in_err-resolvers.field-0.0 = rw c.deref.ensures.0 at c.in_err-resolvers.ensures.fault in
     let told = no_resolvers c.args.version (table_view c.args.table.now)
     (tables_and_rows c.in_ok-classes.classes) c.in_err-resolvers.field-0.0 classes resolvers in
-    one_fault (rules_of c.args.version (table_view c.args.table.now)) c.from_residual-in_err-resolvers.result
+    one_fault (rules_of c.args.version (table_view c.args.table.now))
+    c.from_residual-in_err-resolvers.result
     c.in_err-resolvers.field-0.0 fault (search rules) told said
 
 pub returns-in_err-bypasses-clause-said : goal.returns-in_err-bypasses-clause-said
@@ -48,8 +49,10 @@ returns-in_err-bypasses-clause-fault c = λ fault said.
     (resolvers_of (tables_and_rows c.in_ok-classes.classes).1 (table_view c.args.table.now))
     = search rules in
     let told = no_bypasses c.args.version (table_view c.args.table.now)
-    (tables_and_rows c.in_ok-classes.classes) c.in_err-bypasses.field-0.0 classes fine c.in_err-bypasses.ensures.fault in
-    one_fault (rules_of c.args.version (table_view c.args.table.now)) c.from_residual-in_err-bypasses.result
+    (tables_and_rows c.in_ok-classes.classes) c.in_err-bypasses.field-0.0 classes fine
+    c.in_err-bypasses.ensures.fault in
+    one_fault (rules_of c.args.version (table_view c.args.table.now))
+    c.from_residual-in_err-bypasses.result
     c.in_err-bypasses.field-0.0 fault (search rules) told said
 
 pub returns-in_err-resolvers-2-clause-said : goal.returns-in_err-resolvers-2-clause-said

@@ -1,6 +1,6 @@
 use Rattle.std.proofs.Common.{rules, refl, ◌≡◌, Err}
 use Rattle.counted_io.specs.Counted.{inner_of}
-use Rattle.wire.specs.declared.request.Request.{Request}
+use Rattle.message_parts.specs.declared.request.Request.{Request}
 use Rattle.wire.specs.Fault.{of_read}
 use Rattle.wire.proofs.Told.{request_body_cut, request_cut, request_whole}
 use Rattle.wire.proofs.SaidTexts.{request_told, silent_head}

@@ -1,5 +1,8 @@
 // A request.
-use message_parts::{Bytes, Headers, Method, Text};
+use crate::bytes::Bytes;
+use crate::headers::Headers;
+use crate::method::Method;
+use crate::text::Text;
 
 /// The version of HTTP that a request is in.
 #[derive(Clone, Copy)]
