@@ -75,7 +75,7 @@ abbrev pub is_memory : Cause → Bool
 is_memory Memory = true
 is_memory _ = false
 
--- want of memory aside, an audit has one verdict at most
+-- out of memory aside, an audit has one verdict at most
 pub record HasOneVerdict (a : Audit) : Type 0 where
   pub cause : (one other : Cause) → is_memory one ≡ false → is_memory other ≡ false
       → IsFirstCause a one → IsFirstCause a other → one ≡ other

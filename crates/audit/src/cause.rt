@@ -6,7 +6,7 @@ use std::fmt;
 /// list, place or number. Lists, places and numbers are counted from 0.
 #[derive(Clone, Copy, Debug, PartialEq, Eq)]
 pub enum Cause {
-    /// Memory is wanting.
+    /// Out of memory.
     Memory,
     /// The passes that were handed in count `sum` calls, and the book of all passes has `book`.
     PassesMissing { book: u64, sum: u64 },

@@ -36,7 +36,7 @@ struct Marks {
 ///
 /// `base` is the number of the first entry of `entries`. It takes memory for three marks an entry,
 /// before it looks at anything else, and goes over the receipts twice and over the entries three
-/// times. [`Cause::Memory`] where that memory is wanting.
+/// times. [`Cause::Memory`] where that memory runs out.
 pub fn verdict<N: Naming>(
     alloc: Global,
     calls: Calls,

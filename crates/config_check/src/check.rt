@@ -18,9 +18,9 @@ use std::io::{Read, Write};
 /// Checks the configuration in the file of a path, as [`check_reader`] does, and answers the exit
 /// status.
 ///
-/// A file that can't be opened is told as one that can't be read. Of opening no contract speaks, so
-/// which path was opened, and why that failed, is left open; what is said is said of a file's
-/// bytes.
+/// A file that can't be opened is reported as one that can't be read. Of opening no contract
+/// speaks, so which path was opened, and why that failed, is left open; what is said is said of a
+/// file's bytes.
 pub fn check_file<F: Files, W: Write, E: Write>(
     files: &F,
     alloc: Global,
@@ -49,8 +49,8 @@ pub fn check_file<F: Files, W: Write, E: Write>(
 /// Checks the configuration that a reader gives up to its end, at most 1 MiB in at most 2^25 reads,
 /// as [`check_text`] does, and answers the exit status.
 ///
-/// A reader that fails, isn't at its end after so many reads, or has more is told as one that can't
-/// be read.
+/// A reader that fails, isn't at its end after so many reads, or has more is reported as one that
+/// can't be read.
 pub fn check_reader<R: Read, W: Write, E: Write>(
     alloc: Global,
     reader: &mut Counted<R>,

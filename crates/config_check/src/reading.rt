@@ -49,8 +49,8 @@ fn read_text<R: Read>(alloc: Global, reader: &mut Counted<R>) -> Result<Vec<u8>,
 /// The settings of the configuration that a reader gives up to its end, at most 1 MiB in at most
 /// 2^25 reads.
 ///
-/// A reader that fails, isn't at its end after so many reads, or has more is told as one that can't
-/// be read; else the fault is the first of its bytes.
+/// A reader that fails, isn't at its end after so many reads, or has more is reported as one that
+/// can't be read; else the fault is the first of its bytes.
 pub fn read_settings<R: Read>(
     alloc: Global,
     reader: &mut Counted<R>,
@@ -66,7 +66,7 @@ pub fn read_settings<R: Read>(
     read_bytes(alloc, &bytes)
 }
 
-/// The settings that bytes hold, or the first fault of the bytes; want of memory may hide it.
+/// The settings that bytes hold, or the first fault of the bytes; out of memory may hide it.
 pub fn read_bytes(alloc: Global, bytes: &[u8]) -> Result<Settings, CheckFault>
     ensures settings { IfOk result (λ settings. Says bytes.now (Ok settings)) }
     ensures sound { IfOk result AreSound }

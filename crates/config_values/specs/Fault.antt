@@ -6,7 +6,7 @@ use Rattle.config_values.specs.declared.fault.ConfigFault.{ConfigFault}
 use Rattle.config_values.specs.declared.fault.ConfigFault.TheVariants as Fault
 use Rattle.config_values.specs.Key.{path_of}
 
--- the fault of a pattern that a router refuses: want of memory, or else a pattern that can't stand
+-- the fault of a pattern that a router refuses: out of memory, or else a pattern that can't stand
 -- with the others
 abbrev pub insert_fault : InsertError → ConfigFault
 insert_fault Insert.OutOfMemory = Fault.Memory

@@ -15,7 +15,7 @@ abbrev pub result_map : {A B : Type 0} → (A → B) → Result A ConfigFault �
 result_map f (Ok a) = Ok (f a)
 result_map f (Err fault) = Err fault
 
--- the answer is the one that is said, want of memory aside
+-- the answer is the one that is said, out of memory aside
 abbrev pub Answers : {A V : Type 0} → (A → V) → Result V ConfigFault → Result A ConfigFault → Type 0
 Answers shown said (Ok a) = said ≡ Ok (shown a)
 Answers shown said (Err fault) = fault ≢ Fault.Memory → said ≡ Err fault

@@ -1,4 +1,5 @@
--- Bytes behind the empty lines in front: an LF stands at their end at most, and the last three decide.
+-- Bytes behind the empty lines in front: an LF stands at their end at most, and the last three
+-- decide.
 use Rattle.std.proofs.Common.{rules, arith, ◌≡◌, ◌≢◌, ◌≤◌, ◌+◌, ◌-◌, suc, zero, ◌∙◌, ◌++◌, All, ne_eqb, sym, ap, ap₂, subst, refl, ℕ, false, List, [], ◌∷◌, length, take, drop, get_or, append_assoc, take_all}
 use Rattle.std.specs.Io.{StopsAt}
 use Rattle.std.proofs.lemmas.List.{append-nil, length-append, take_more}

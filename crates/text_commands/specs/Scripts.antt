@@ -21,7 +21,7 @@ IsAnswerOf (Simulate limit) = IsSimulated limit
 
 -- why a command over a text stops: a line at fault is the text's, and what was told before it is
 -- written and flushed; each other fault has its cause, and no other call failed; and nothing is
--- written after want of memory, of a text that can't be read or is too large
+-- written out of memory, of a text that can't be read or is too large
 pub record IsStop {R W : Type 0} (remaining : R → Option (List ℕ)) (contents : W → Option (List ℕ))
     (task : TextTask) (before after : Counted R) (old new : Counted W) (fault : DriverFault)
     : Type 0 where

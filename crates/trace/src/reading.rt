@@ -69,7 +69,7 @@ fn read_settings<'a>(alloc: Global, text: &'a [u8]) -> Result<Opening<'a>, Alloc
 /// Reads a trace: the settings at its head, and then its calls, up to its end or to the first line
 /// at fault. The classes of the calls are those of the settings.
 ///
-/// `AllocError` where memory is wanting.
+/// `AllocError` where memory runs out.
 pub fn read_trace<'a>(alloc: Global, text: &'a [u8]) -> Result<Trace<'a>, AllocError>
     requires { length text.now < 2 ^ 63 }
     ensures settings { IfOk result (λ trace. trace.settings ≡ (trace_of text.now).settings) }

@@ -23,7 +23,8 @@ returns c =
     let opens : c.in_ok-session.session.journal ≡ journal_of c.args.n c.args.kept read.settings =
     ap (λ (s : Session AnyLimit). s.journal) c.in_ok-session.ensures.begun
     ∙ (λ k. opened (unasked (c.into_table-table.ensures k) (c.room-room.ensures.value k)
-    (c.promote-promote.ensures k) (c.limit-limit.ensures k)) (c.kept-kept.ensures.value k) (c.is_rolling-is_rolling.ensures k)) in
+    (c.promote-promote.ensures k) (c.limit-limit.ensures k)) (c.kept-kept.ensures.value k)
+    (c.is_rolling-is_rolling.ensures k)) in
     c.in_ok-fault.ensures
     ∙ text_of_session c.args.n c.args.kept read.settings read.line read.rest.now read.fault
     c.in_ok-session.session.journal _ c.new-text.ensures.bytes opens

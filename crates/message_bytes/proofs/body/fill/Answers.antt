@@ -33,7 +33,8 @@ returns-then-count-eq0-clause-bytes g c =
     let invariant = c.loop-left.invariant in
     let short : length (drop (length c.args.body.now.items) c.loop-left.body.items) < c.args.size =
     grind (arith, common_steps, invariant.counted) in
-    not_filled _ c.args.size _ _ _ _ invariant.consumed short (c.in_ok-count.ensures.end (search rules))
+    not_filled _ c.args.size _ _ _ _ invariant.consumed short
+    (c.in_ok-count.ensures.end (search rules))
 
 pub returns-in_err-count-clause-bytes : goal.returns-in_err-count-clause-bytes
 returns-in_err-count-clause-bytes c = search rules

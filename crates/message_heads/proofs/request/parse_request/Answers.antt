@@ -11,5 +11,9 @@ returns-clause-head c =
     let lines : c.in_ok-lines.lines ≡ map line_of head.0.fields =
     c.in_ok-lines.ensures
     ∙ ap (λ text. map (line_at text) (take c.in-Some.found.headers c.whole_request.new.spans)) same
-    ∙ same_lines _ _ _ _ head.1.fields in
-    (head.0, subst (λ text. IsWholeRequest text head.0) bytes head.2, same_request head.0 _ _ _ _ (search rules) (search rules) head.1.version lines)
+    ∙ same_lines _ _ _ _ head.1.fields in (
+      head.0,
+      subst (λ text. IsWholeRequest text head.0) bytes head.2,
+      same_request head.0 _ _ _ _
+          (search rules) (search rules) head.1.version lines,
+    )

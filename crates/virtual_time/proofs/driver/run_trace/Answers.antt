@@ -29,7 +29,8 @@ returns-clause-run c =
     ≡ journal_of c.args.n c.args.kept (trace_of c.args.text.now).settings =
     ap (λ (s : Session AnyLimit). s.journal) c.in_ok-session.ensures.begun
     ∙ (λ k. opened (unasked (c.into_table-table.ensures k) (c.room-room.ensures.value k)
-    (c.promote-promote.ensures k) (c.limit-limit.ensures k)) (c.kept-kept.ensures.value k) (c.is_rolling-is_rolling.ensures k))
+    (c.promote-promote.ensures k) (c.limit-limit.ensures k)) (c.kept-kept.ensures.value k)
+    (c.is_rolling-is_rolling.ensures k))
     ∙ ap (journal_of c.args.n c.args.kept) c.in_ok-settings.ensures.settings in
     same_run _ _ _ _ _ _ _ (ap (limiter_of any_rules) opens)
     (c.deref.ensures.value ∙ c.in_ok-settings.ensures.arrivals)

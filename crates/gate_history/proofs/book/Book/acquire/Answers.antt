@@ -42,7 +42,8 @@ at_last g c =
     (acquire_at _ _ _
     (at_first g.L.Limit.rules c.answers_by_image.ensures.answers
     c.answers_by_image.ensures.leads _ _ _ _ _ _ _ _ c.in-Ok.ensures.answered
-    c.check.ensures.legal c.check.ensures.anew c.check.ensures.ready c.check.ensures.some _ _ _ c.self.invariant)
+    c.check.ensures.legal c.check.ensures.anew c.check.ensures.ready c.check.ensures.some _ _ _
+    c.self.invariant)
     c.check.ensures.sound.four c.args.part c.args.bypass c.args.wait c.args.now
     c.in-Ok.receipt.reply)
 
@@ -50,7 +51,8 @@ pub invariant_of-self-2 : goal.invariant_of-self-2
 invariant_of-self-2 g c =
     kept_then g.L.Limit.rules c.answers_by_image.ensures.answers
     c.answers_by_image.ensures.leads _ _ _ _ _ _ _ _ c.in-Ok.ensures.answered
-    c.check.ensures.legal c.check.ensures.anew c.check.ensures.ready c.check.ensures.some _ _ _ c.self.invariant
+    c.check.ensures.legal c.check.ensures.anew c.check.ensures.ready c.check.ensures.some _ _ _
+    c.self.invariant
     c.hand_acquired-handed.new.places (at_last g c)
 
 pub returns : goal.returns

@@ -71,13 +71,15 @@ at_last g c =
     (named_once _ _ c.check.ensures.sound c.args.number) c.args.event c.requires
     c.in-Ok.receipt.reply
     (said g.L.Limit.rules answers leads _ _ _ _ _ _ _ _ asked c.check.ensures.legal
-    c.check.ensures.anew c.check.ensures.ready c.check.ensures.some _ _ _ c.self.invariant alone)).1)
+    c.check.ensures.anew c.check.ensures.ready c.check.ensures.some _ _ _ c.self.invariant
+    alone)).1)
 
 pub invariant_of-self-2 : goal.invariant_of-self-2
 invariant_of-self-2 g c =
     kept_then g.L.Limit.rules c.answers_by_image.ensures.answers
     c.answers_by_image.ensures.leads _ _ _ _ _ _ _ _ c.in-Ok.ensures.answered
-    c.check.ensures.legal c.check.ensures.anew c.check.ensures.ready c.check.ensures.some _ _ _ c.self.invariant
+    c.check.ensures.legal c.check.ensures.anew c.check.ensures.ready c.check.ensures.some _ _ _
+    c.self.invariant
     c.hand_granted-handed.new.places (at_last g c)
 
 pub returns : goal.returns
