@@ -1,6 +1,6 @@
 //! Tests of a gate by its public calls: its book, calls through the lock by worked rows and by four
-//! threads at random, when who waits is woken, how it is closed, and loads of it over devices that
-//! fail.
+//! threads at random, what a pass has seen, when who waits is woken, how it is closed, and loads of
+//! it over devices that fail.
 #![tactic(auto)]
 
 #[cfg(test)]
@@ -8,7 +8,11 @@ mod book_tests;
 #[cfg(test)]
 mod books;
 #[cfg(test)]
+mod callers;
+#[cfg(test)]
 mod closing;
+#[cfg(test)]
+mod gates;
 #[cfg(test)]
 mod load;
 #[cfg(test)]
@@ -17,6 +21,8 @@ mod raised_limit_tests;
 mod random;
 #[cfg(test)]
 mod rolling_tests;
+#[cfg(test)]
+mod seen_tests;
 #[cfg(test)]
 mod shared_gate_tests;
 #[cfg(test)]

@@ -5,13 +5,14 @@ ghost use Rattle.limiter_core.specs.declared.promote.Promote.TheVariants.{All};
 ghost use Rattle.gate_ledgers.specs.Names.{AreNamed, AreWhole};
 
 use crate::books::book_with;
+use crate::gates::{gate_by_two, new_word};
 use crate::shared_gate_tests::{admitted, until_one_waits, waits};
 use crate::waking_tests::{SOON, real};
-use gate_history::{Blanks, Naming};
+use gate_history::Blanks;
 use limit_laws::Settable;
 use limiter_core::{Outcome, Promote};
 use partitions::Part;
-use shared_gate::{Pass, SharedGate};
+use shared_gate::{GateNaming, Pass, SharedGate, Word};
 use std::alloc::Global;
 use std::marker::Brand;
 use std::process::Abort;
@@ -21,22 +22,36 @@ use std::time::{Clock as SystemClock, Duration};
 
 #[test]
 fn a_setting_wakes_whoever_it_promotes(rt: HostRuntime) {
-    by_two_threads::<Brand, _>(&rt, rt.alloc(), Blanks::new(), false);
+    by_two_threads::<Brand, _>(
+        &rt,
+        rt.alloc(),
+        Blanks::new(),
+        new_word(&rt, rt.alloc()),
+        false,
+    );
 }
 
 #[test]
 fn a_reset_wakes_whoever_it_promotes(rt: HostRuntime) {
-    by_two_threads::<Brand, _>(&rt, rt.alloc(), Blanks::new(), true);
+    by_two_threads::<Brand, _>(
+        &rt,
+        rt.alloc(),
+        Blanks::new(),
+        new_word(&rt, rt.alloc()),
+        true,
+    );
 }
 
-fn by_two_threads<M: Naming + Send + Sync, R: Threads + Wait + SystemClock + Abort + Sync>(
+fn by_two_threads<M: GateNaming + Send + Sync, R: Threads + Wait + SystemClock + Abort + Sync>(
     rt: &R,
     alloc: Global,
     blanks: Blanks,
+    word: Word,
     is_reset: bool,
 )
     requires names { AreNamed M.calls M.place blanks }
     requires parts { AreWhole blanks }
+    requires word { word ≡ M.word }
     requires rows { M.rows ≡ [] }
     requires room { M.room ≡ 100 }
     requires promote { M.promote ≡ All }
@@ -45,11 +60,8 @@ fn by_two_threads<M: Naming + Send + Sync, R: Threads + Wait + SystemClock + Abo
     requires limit { M.limit ≡ 2 }
 {
     let limit = Settable::new(1, 2, 10).expect(rt, "a limit");
-    let mut book = book_with::<_, M, R>(rt, alloc, limit, Promote::All, 1_000_000, false, blanks);
-    let one = Pass::of(book.pass().expect(rt, "a pass"));
-    let two = Pass::of(book.pass().expect(rt, "a pass"));
-    book.seal();
-    let gate = SharedGate::new(book);
+    let book = book_with::<_, M, R>(rt, alloc, limit, Promote::All, 1_000_000, false, blanks);
+    let (gate, (one, two)) = gate_by_two(rt, alloc, book, word);
     let (one, two) = join(
         rt,
         || raises(rt, &gate, one, is_reset),
@@ -60,7 +72,7 @@ fn by_two_threads<M: Naming + Send + Sync, R: Threads + Wait + SystemClock + Abo
 
 /// Holds the only permit, and once somebody waits, and a moment longer, makes the limit 2: who
 /// waits gets the other permit then, and ends it soon.
-fn raises<M: Naming, R: Wait + SystemClock + Abort>(
+fn raises<M: GateNaming, R: Wait + SystemClock + Abort>(
     rt: &R,
     gate: &SharedGate<Settable, M>,
     mut pass: Pass<M>,
@@ -84,7 +96,7 @@ fn raises<M: Naming, R: Wait + SystemClock + Abort>(
 }
 
 /// A limit of 2, by a reset or by hand, and whether that was answered.
-fn makes_it_two<M: Naming, R: Wait>(
+fn makes_it_two<M: GateNaming, R: Wait>(
     rt: &R,
     gate: &SharedGate<Settable, M>,
     pass: &mut Pass<M>,
@@ -98,7 +110,7 @@ fn makes_it_two<M: Naming, R: Wait>(
 }
 
 /// Goes on once a permit was ended in success.
-fn until_one_succeeds<M: Naming, R: Wait>(rt: &R, gate: &SharedGate<Settable, M>) {
+fn until_one_succeeds<M: GateNaming, R: Wait>(rt: &R, gate: &SharedGate<Settable, M>) {
     for _ in rt.forever() {
         if gate.counters(rt).success == 1 {
             break;

@@ -3,12 +3,13 @@ ghost use Rattle.std.specs.Prelude.{◌≡◌, [], true};
 ghost use Rattle.limiter_core.specs.declared.promote.Promote.TheVariants.{Newest};
 ghost use Rattle.gate_ledgers.specs.Names.{AreNamed, AreWhole};
 
+use crate::gates::{gate_by_one, new_word};
 use crate::shared_gate_tests::admitted;
 use gate_history::{Blanks, Book, Naming, Receipt, Spent};
 use limit_laws::{SetFault, Settable};
 use limiter_core::{Outcome, Promote, Reply};
 use partitions::{Part, PartitionTable};
-use shared_gate::{Pass, SharedGate};
+use shared_gate::{GateNaming, Pass, SharedGate, Word};
 use std::alloc::Global;
 use std::marker::Brand;
 use std::process::Abort;
@@ -16,12 +17,13 @@ use std::sync::Wait;
 
 #[test]
 fn a_roll_keeps_the_algorithms_state(rt: HostRuntime) {
-    set_and_seen::<Brand, _>(&rt, rt.alloc(), Blanks::new());
+    set_and_seen::<Brand, _>(&rt, rt.alloc(), Blanks::new(), new_word(&rt, rt.alloc()));
 }
 
-fn set_and_seen<M: Naming, R: Wait + Abort>(rt: &R, alloc: Global, blanks: Blanks)
+fn set_and_seen<M: GateNaming, R: Wait + Abort>(rt: &R, alloc: Global, blanks: Blanks, word: Word)
     requires names { AreNamed M.calls M.place blanks }
     requires parts { AreWhole blanks }
+    requires word { word ≡ M.word }
     requires rows { M.rows ≡ [] }
     requires room { M.room ≡ 100 }
     requires promote { M.promote ≡ Newest }
@@ -30,14 +32,16 @@ fn set_and_seen<M: Naming, R: Wait + Abort>(rt: &R, alloc: Global, blanks: Blank
     requires limit { M.limit ≡ 20 }
 {
     let book = settable::<M, R>(rt, alloc, 1, 20, 100, blanks);
-    is_seen(rt, book);
+    let (gate, pass) = gate_by_one(rt, alloc, book, word);
+    is_seen(rt, &gate, pass);
 }
 
 /// The limit that was set is seen by all looks behind it.
-fn is_seen<M: Naming, R: Wait + Abort>(rt: &R, mut book: Book<Settable, M>) {
-    let mut pass = Pass::of(book.pass().expect(rt, "a pass"));
-    book.seal();
-    let gate = SharedGate::new(book);
+fn is_seen<M: GateNaming, R: Wait + Abort>(
+    rt: &R,
+    gate: &SharedGate<Settable, M>,
+    mut pass: Pass<M>,
+) {
     tells(rt, gate.set_limit(rt, &mut pass, 30, 0), 0, Reply::LimitSet);
     for number in 1..4 {
         let looked = gate.look(rt, &mut pass, Part::Unknown);
@@ -47,12 +51,13 @@ fn is_seen<M: Naming, R: Wait + Abort>(rt: &R, mut book: Book<Settable, M>) {
 
 #[test]
 fn a_limit_that_is_reset_is_the_first_after_rolls(rt: HostRuntime) {
-    set_and_reset::<Brand, _>(&rt, rt.alloc(), Blanks::new());
+    set_and_reset::<Brand, _>(&rt, rt.alloc(), Blanks::new(), new_word(&rt, rt.alloc()));
 }
 
-fn set_and_reset<M: Naming, R: Wait + Abort>(rt: &R, alloc: Global, blanks: Blanks)
+fn set_and_reset<M: GateNaming, R: Wait + Abort>(rt: &R, alloc: Global, blanks: Blanks, word: Word)
     requires names { AreNamed M.calls M.place blanks }
     requires parts { AreWhole blanks }
+    requires word { word ≡ M.word }
     requires rows { M.rows ≡ [] }
     requires room { M.room ≡ 100 }
     requires promote { M.promote ≡ Newest }
@@ -61,14 +66,16 @@ fn set_and_reset<M: Naming, R: Wait + Abort>(rt: &R, alloc: Global, blanks: Blan
     requires limit { M.limit ≡ 10 }
 {
     let book = settable::<M, R>(rt, alloc, 5, 10, 20, blanks);
-    is_reset(rt, book);
+    let (gate, pass) = gate_by_one(rt, alloc, book, word);
+    is_reset(rt, &gate, pass);
 }
 
 /// The limit that is reset while a permit is out is the first one.
-fn is_reset<M: Naming, R: Wait + Abort>(rt: &R, mut book: Book<Settable, M>) {
-    let mut pass = Pass::of(book.pass().expect(rt, "a pass"));
-    book.seal();
-    let gate = SharedGate::new(book);
+fn is_reset<M: GateNaming, R: Wait + Abort>(
+    rt: &R,
+    gate: &SharedGate<Settable, M>,
+    mut pass: Pass<M>,
+) {
     let refused = Reply::Refused(SetFault::OutOfRange);
     tells(rt, gate.set_limit(rt, &mut pass, 4, 0), 0, refused);
     tells(rt, gate.set_limit(rt, &mut pass, 20, 0), 1, Reply::LimitSet);

@@ -5,11 +5,12 @@ ghost use Rattle.gate_journal.specs.Journal.{most_kept};
 ghost use Rattle.gate_ledgers.specs.Names.{AreNamed, AreWhole};
 
 use crate::books::book_over;
-use gate_history::{Blanks, Book, Naming, Permit, Receipt, Spent, Ticket};
+use crate::gates::{gate_by_one, gate_by_two, new_word};
+use gate_history::{Blanks, Naming, Permit, Receipt, Spent, Ticket};
 use limit_laws::{Fixed, Limit};
 use limiter_core::{Outcome, Reply};
 use partitions::Part;
-use shared_gate::{Claimed, Clock, GaveUp, Got, Pass, SharedGate, Waited};
+use shared_gate::{Claimed, Clock, GateNaming, GaveUp, Got, Pass, SharedGate, Waited, Word};
 use std::alloc::Global;
 use std::marker::Brand;
 use std::process::Abort;
@@ -52,23 +53,39 @@ pub(crate) fn queued<M: Naming, R: Abort>(rt: &R, got: Got<M>) -> Ticket<M> {
 
 #[test]
 fn one_waits_and_one_is_promoted(rt: HostRuntime) {
-    by_one_pass::<Brand, _>(&rt, rt.alloc(), Blanks::new(), 1_000_000, false);
+    by_one_pass::<Brand, _>(
+        &rt,
+        rt.alloc(),
+        Blanks::new(),
+        new_word(&rt, rt.alloc()),
+        1_000_000,
+        false,
+    );
 }
 
 #[test]
 fn a_roll_keeps_who_waits_and_what_lies_granted(rt: HostRuntime) {
-    by_one_pass::<Brand, _>(&rt, rt.alloc(), Blanks::new(), 1, true);
+    by_one_pass::<Brand, _>(
+        &rt,
+        rt.alloc(),
+        Blanks::new(),
+        new_word(&rt, rt.alloc()),
+        1,
+        true,
+    );
 }
 
-fn by_one_pass<M: Naming, R: Wait + Abort>(
+fn by_one_pass<M: GateNaming, R: Wait + Abort>(
     rt: &R,
     alloc: Global,
     blanks: Blanks,
+    word: Word,
     kept: usize,
     is_rolling: bool,
 )
     requires names { AreNamed M.calls M.place blanks }
     requires parts { AreWhole blanks }
+    requires word { word ≡ M.word }
     requires rows { M.rows ≡ [] }
     requires room { M.room ≡ 100 }
     requires promote { M.promote ≡ Newest }
@@ -79,17 +96,19 @@ fn by_one_pass<M: Naming, R: Wait + Abort>(
     requires few_kept { kept ≤ most_kept }
 {
     let book = book_over::<M, R>(rt, alloc, 1, kept, is_rolling, blanks);
-    promotes_the_newest(rt, book);
+    let (gate, pass) = gate_by_one(rt, alloc, book, word);
+    promotes_the_newest(rt, &gate, pass);
 }
 
-fn promotes_the_newest<M: Naming, R: Wait + Abort>(rt: &R, mut book: Book<Fixed, M>) {
-    let mut pass = Pass::of(book.pass().expect(rt, "a pass"));
-    book.seal();
-    let gate = SharedGate::new(book);
-    let (first, second) = two_wait(rt, &gate, &mut pass);
-    let first = still_waits(rt, &gate, &mut pass, first);
-    let permit = promoted(rt, &gate, &mut pass, second);
-    let timed_out = times_out(rt, &gate, &mut pass, first);
+fn promotes_the_newest<M: GateNaming, R: Wait + Abort>(
+    rt: &R,
+    gate: &SharedGate<Fixed, M>,
+    mut pass: Pass<M>,
+) {
+    let (first, second) = two_wait(rt, gate, &mut pass);
+    let first = still_waits(rt, gate, &mut pass, first);
+    let permit = promoted(rt, gate, &mut pass, second);
+    let timed_out = times_out(rt, gate, &mut pass, first);
     assert!(rt; timed_out == 7);
     let ended = gate.end(rt, &mut pass, permit, Outcome::Ignored, 9);
     assert!(rt; (ended.number(), pass.count()) == (8, 8));
@@ -98,7 +117,7 @@ fn promotes_the_newest<M: Naming, R: Wait + Abort>(rt: &R, mut book: Book<Fixed,
 }
 
 /// Numbers 1 and 2 wait, and the ending of number 0 promotes one of them.
-fn two_wait<M: Naming, R: Wait + Abort>(
+fn two_wait<M: GateNaming, R: Wait + Abort>(
     rt: &R,
     gate: &SharedGate<Fixed, M>,
     pass: &mut Pass<M>,
@@ -112,7 +131,7 @@ fn two_wait<M: Naming, R: Wait + Abort>(
 }
 
 /// A claim hands the ticket back.
-fn still_waits<M: Naming, R: Wait + Abort>(
+fn still_waits<M: GateNaming, R: Wait + Abort>(
     rt: &R,
     gate: &SharedGate<Fixed, M>,
     pass: &mut Pass<M>,
@@ -127,7 +146,7 @@ fn still_waits<M: Naming, R: Wait + Abort>(
 }
 
 /// A giving up gets the permit that the waiter was given.
-fn promoted<M: Naming, R: Wait + Abort>(
+fn promoted<M: GateNaming, R: Wait + Abort>(
     rt: &R,
     gate: &SharedGate<Fixed, M>,
     pass: &mut Pass<M>,
@@ -142,7 +161,7 @@ fn promoted<M: Naming, R: Wait + Abort>(
 }
 
 /// A giving up without a permit, and its receipt's number.
-pub(crate) fn times_out<M: Naming, R: Wait + Abort>(
+pub(crate) fn times_out<M: GateNaming, R: Wait + Abort>(
     rt: &R,
     gate: &SharedGate<Fixed, M>,
     pass: &mut Pass<M>,
@@ -158,16 +177,18 @@ pub(crate) fn times_out<M: Naming, R: Wait + Abort>(
 
 #[test]
 fn who_waits_gets_the_permit_that_another_ends(rt: HostRuntime) {
-    by_two_threads::<Brand, _>(&rt, rt.alloc(), Blanks::new());
+    by_two_threads::<Brand, _>(&rt, rt.alloc(), Blanks::new(), new_word(&rt, rt.alloc()));
 }
 
-fn by_two_threads<M: Naming + Send + Sync, R: Threads + Wait + SystemClock + Abort + Sync>(
+fn by_two_threads<M: GateNaming + Send + Sync, R: Threads + Wait + SystemClock + Abort + Sync>(
     rt: &R,
     alloc: Global,
     blanks: Blanks,
+    word: Word,
 )
     requires names { AreNamed M.calls M.place blanks }
     requires parts { AreWhole blanks }
+    requires word { word ≡ M.word }
     requires rows { M.rows ≡ [] }
     requires room { M.room ≡ 100 }
     requires promote { M.promote ≡ Newest }
@@ -175,17 +196,14 @@ fn by_two_threads<M: Naming + Send + Sync, R: Threads + Wait + SystemClock + Abo
     requires rolling { M.is_rolling ≡ false }
     requires limit { M.limit ≡ 1 }
 {
-    let mut book = book_over::<M, R>(rt, alloc, 1, 1_000_000, false, blanks);
-    let one = Pass::of(book.pass().expect(rt, "a pass"));
-    let two = Pass::of(book.pass().expect(rt, "a pass"));
-    book.seal();
-    let gate = SharedGate::new(book);
+    let book = book_over::<M, R>(rt, alloc, 1, 1_000_000, false, blanks);
+    let (gate, (one, two)) = gate_by_two(rt, alloc, book, word);
     let (one, two) = join(rt, || holds(rt, &gate, one), || waits(rt, &gate, two));
     assert!(rt; one.count() >= 2 && two.count() == 3);
 }
 
 /// Holds the only permit until somebody waits for it.
-fn holds<M: Naming, R: Wait + Abort>(
+fn holds<M: GateNaming, R: Wait + Abort>(
     rt: &R,
     gate: &SharedGate<Fixed, M>,
     mut pass: Pass<M>,
@@ -200,7 +218,7 @@ fn holds<M: Naming, R: Wait + Abort>(
 }
 
 /// Looks until one waits.
-pub(crate) fn until_one_waits<L: Limit, M: Naming, R: Wait + Abort>(
+pub(crate) fn until_one_waits<L: Limit, M: GateNaming, R: Wait + Abort>(
     rt: &R,
     gate: &SharedGate<L, M>,
     pass: &mut Pass<M>,
@@ -221,7 +239,7 @@ fn shows_waiter<M: Naming>(looked: Result<Receipt<M>, Spent<M>>) -> bool {
 }
 
 /// Waits for a permit, once the only one is held, by a clock that stands still.
-pub(crate) fn waits<L: Limit, M: Naming, R: Wait + SystemClock + Abort>(
+pub(crate) fn waits<L: Limit, M: GateNaming, R: Wait + SystemClock + Abort>(
     rt: &R,
     gate: &SharedGate<L, M>,
     mut pass: Pass<M>,

@@ -4,12 +4,13 @@ ghost use Rattle.limiter_core.specs.declared.promote.Promote.TheVariants.{Newest
 ghost use Rattle.gate_ledgers.specs.Names.{AreNamed, AreWhole};
 
 use crate::books::book_over;
+use crate::gates::{gate_by_one, new_word};
 use crate::shared_gate_tests::{Still, admitted, queued, times_out};
-use gate_history::{Blanks, Book, Naming, Receipt, Spent, Ticket};
+use gate_history::{Blanks, Naming, Receipt, Spent, Ticket};
 use limit_laws::Fixed;
 use limiter_core::{Counters, Event, Outcome, Reply};
 use partitions::Part;
-use shared_gate::{Claimed, Clock, Got, Pass, SharedGate, Waited};
+use shared_gate::{Claimed, Clock, GateNaming, Got, Pass, SharedGate, Waited, Word};
 use std::alloc::Global;
 use std::marker::Brand;
 use std::process::Abort;
@@ -53,7 +54,15 @@ fn told_after<R: Wait + SystemClock + Abort>(
         nanos: AtomicU64::new(first),
         step,
     };
-    in_vain::<Brand, R, GoesOn>(rt, alloc, Blanks::new(), 0, &clock, deadline);
+    in_vain::<Brand, R, GoesOn>(
+        rt,
+        alloc,
+        Blanks::new(),
+        new_word(rt, alloc),
+        0,
+        &clock,
+        deadline,
+    );
     clock.now()
 }
 
@@ -87,25 +96,43 @@ fn a_near_deadline_is_waited_for_in_short_pauses(rt: HostRuntime) {
 
 #[test]
 fn a_clock_may_stand_still_at_the_deadline(rt: HostRuntime) {
-    in_vain::<Brand, _, _>(&rt, rt.alloc(), Blanks::new(), 0, &Still {}, 0);
+    in_vain::<Brand, _, _>(
+        &rt,
+        rt.alloc(),
+        Blanks::new(),
+        new_word(&rt, rt.alloc()),
+        0,
+        &Still {},
+        0,
+    );
 }
 
 #[test]
 fn a_clock_may_tell_more_than_the_last_moment(rt: HostRuntime) {
-    in_vain::<Brand, _, _>(&rt, rt.alloc(), Blanks::new(), u64::MAX, &Late {}, u64::MAX);
+    in_vain::<Brand, _, _>(
+        &rt,
+        rt.alloc(),
+        Blanks::new(),
+        new_word(&rt, rt.alloc()),
+        u64::MAX,
+        &Late {},
+        u64::MAX,
+    );
 }
 
 /// A caller holds the only permit and waits for another, until its clock has reached the deadline.
-pub(crate) fn in_vain<M: Naming, R: Wait + SystemClock + Abort, C: Clock>(
+pub(crate) fn in_vain<M: GateNaming, R: Wait + SystemClock + Abort, C: Clock>(
     rt: &R,
     alloc: Global,
     blanks: Blanks,
+    word: Word,
     now: u64,
     clock: &C,
     deadline: u64,
 )
     requires names { AreNamed M.calls M.place blanks }
     requires parts { AreWhole blanks }
+    requires word { word ≡ M.word }
     requires rows { M.rows ≡ [] }
     requires room { M.room ≡ 100 }
     requires promote { M.promote ≡ Newest }
@@ -114,19 +141,18 @@ pub(crate) fn in_vain<M: Naming, R: Wait + SystemClock + Abort, C: Clock>(
     requires limit { M.limit ≡ 1 }
 {
     let book = book_over::<M, R>(rt, alloc, 1, 1_000, false, blanks);
-    waits_in_vain(rt, book, now, clock, deadline);
+    let (gate, pass) = gate_by_one(rt, alloc, book, word);
+    waits_in_vain(rt, &gate, pass, now, clock, deadline);
 }
 
-fn waits_in_vain<M: Naming, R: Wait + SystemClock + Abort, C: Clock>(
+fn waits_in_vain<M: GateNaming, R: Wait + SystemClock + Abort, C: Clock>(
     rt: &R,
-    mut book: Book<Fixed, M>,
+    gate: &SharedGate<Fixed, M>,
+    mut pass: Pass<M>,
     now: u64,
     clock: &C,
     deadline: u64,
 ) {
-    let mut pass = Pass::of(book.pass().expect(rt, "a pass"));
-    book.seal();
-    let gate = SharedGate::new(book);
     let permit = admitted(rt, gate.acquire(rt, &mut pass, UNKNOWN, false, false, now));
     assert!(rt; permit.facts().start == now.min(1 << 62));
     let waited = gate.acquire_wait(rt, &mut pass, UNKNOWN, now, clock, deadline);
@@ -152,12 +178,18 @@ fn is_timed_out<M: Naming, R: Abort>(rt: &R, waited: Waited<M>) {
 
 #[test]
 fn an_exhausted_gate_answers_what_is_owed(rt: HostRuntime) {
-    exhausted::<Brand, _>(&rt, rt.alloc(), Blanks::new());
+    exhausted::<Brand, _>(&rt, rt.alloc(), Blanks::new(), new_word(&rt, rt.alloc()));
 }
 
-fn exhausted<M: Naming, R: Wait + SystemClock + Abort>(rt: &R, alloc: Global, blanks: Blanks)
+fn exhausted<M: GateNaming, R: Wait + SystemClock + Abort>(
+    rt: &R,
+    alloc: Global,
+    blanks: Blanks,
+    word: Word,
+)
     requires names { AreNamed M.calls M.place blanks }
     requires parts { AreWhole blanks }
+    requires word { word ≡ M.word }
     requires rows { M.rows ≡ [] }
     requires room { M.room ≡ 100 }
     requires promote { M.promote ≡ Newest }
@@ -166,28 +198,27 @@ fn exhausted<M: Naming, R: Wait + SystemClock + Abort>(rt: &R, alloc: Global, bl
     requires limit { M.limit ≡ 1 }
 {
     let book = book_over::<M, R>(rt, alloc, 1, 2, false, blanks);
-    answers_what_is_owed(rt, book);
+    let (gate, pass) = gate_by_one(rt, alloc, book, word);
+    answers_what_is_owed(rt, &gate, pass);
 }
 
 /// One is admitted and one waits; then nothing but a giving up and an ending is answered.
-fn answers_what_is_owed<M: Naming, R: Wait + SystemClock + Abort>(
+fn answers_what_is_owed<M: GateNaming, R: Wait + SystemClock + Abort>(
     rt: &R,
-    mut book: Book<Fixed, M>,
+    gate: &SharedGate<Fixed, M>,
+    mut pass: Pass<M>,
 ) {
-    let mut pass = Pass::of(book.pass().expect(rt, "a pass"));
-    book.seal();
-    let gate = SharedGate::new(book);
     let permit = admitted(rt, gate.acquire(rt, &mut pass, UNKNOWN, false, false, 0));
     let ticket = queued(rt, gate.acquire(rt, &mut pass, UNKNOWN, false, true, 1));
-    let ticket = refuses_the_rest(rt, &gate, &mut pass, ticket);
-    let timed_out = times_out(rt, &gate, &mut pass, ticket);
+    let ticket = refuses_the_rest(rt, gate, &mut pass, ticket);
+    let timed_out = times_out(rt, gate, &mut pass, ticket);
     assert!(rt; timed_out == 2);
     let ended = gate.end(rt, &mut pass, permit, Outcome::Success, 3);
     assert!(rt; (ended.number(), pass.count()) == (3, 4));
 }
 
 /// No acquire, no change and no claim is answered, and the claim's ticket comes back.
-fn refuses_the_rest<M: Naming, R: Wait + SystemClock + Abort>(
+fn refuses_the_rest<M: GateNaming, R: Wait + SystemClock + Abort>(
     rt: &R,
     gate: &SharedGate<Fixed, M>,
     pass: &mut Pass<M>,
@@ -201,7 +232,7 @@ fn refuses_the_rest<M: Naming, R: Wait + SystemClock + Abort>(
 }
 
 /// No acquire is answered.
-fn refuses_acquires<M: Naming, R: Wait + SystemClock + Abort>(
+fn refuses_acquires<M: GateNaming, R: Wait + SystemClock + Abort>(
     rt: &R,
     gate: &SharedGate<Fixed, M>,
     pass: &mut Pass<M>,
@@ -234,7 +265,7 @@ const fn acquire(bypass: bool, wait: bool, now: u64) -> Event {
 }
 
 /// Neither settings nor a look are answered.
-fn refuses_changes<M: Naming, R: Wait + Abort>(
+fn refuses_changes<M: GateNaming, R: Wait + Abort>(
     rt: &R,
     gate: &SharedGate<Fixed, M>,
     pass: &mut Pass<M>,
@@ -248,7 +279,7 @@ fn refuses_changes<M: Naming, R: Wait + Abort>(
 }
 
 /// A claim isn't answered, and its ticket comes back.
-fn handed_back<M: Naming, R: Wait + Abort>(
+fn handed_back<M: GateNaming, R: Wait + Abort>(
     rt: &R,
     gate: &SharedGate<Fixed, M>,
     pass: &mut Pass<M>,
@@ -282,7 +313,11 @@ fn is_spent<M: Naming>(spent: &Spent<M>, event: Event) -> bool {
 }
 
 /// One was admitted and one waits, and the pass counts these two calls.
-fn is_as_before<M: Naming, R: Wait + Abort>(rt: &R, gate: &SharedGate<Fixed, M>, pass: &Pass<M>) {
+fn is_as_before<M: GateNaming, R: Wait + Abort>(
+    rt: &R,
+    gate: &SharedGate<Fixed, M>,
+    pass: &Pass<M>,
+) {
     let two = Counters {
         admitted: 1,
         waiting: 1,

@@ -5,15 +5,16 @@ ghost use Rattle.limiter_core.specs.declared.promote.Promote.TheVariants.{Newest
 ghost use Rattle.gate_ledgers.specs.Names.{AreNamed, AreWhole};
 
 use crate::books::book_over;
+use crate::gates::{gate_by, new_word};
 use crate::shared_gate_tests::{Still, admitted};
 use crate::waiting_tests::in_vain;
 use counted_io::Counted;
-use gate_history::{Blanks, Naming, Permit};
+use gate_history::{Blanks, Permit};
 use limit_laws::Fixed;
 use limiter_core::Outcome;
 use load_run::load_with;
 use partitions::Part;
-use shared_gate::{Clock, Pass, SharedGate, Waited};
+use shared_gate::{Clock, GateNaming, Pass, SharedGate, Waited, Word};
 use std::alloc::Global;
 use std::io::{Read, Result as IoResult};
 use std::marker::Brand;
@@ -42,13 +43,13 @@ pub(crate) fn real<R: SystemClock>(rt: &R) -> u64 {
 
 /// A gate, when its last ending began, and the longest time from one to where who waited went on.
 #[derive(Drop)]
-struct Watched<M: Naming> {
+struct Watched<M: GateNaming> {
     gate: SharedGate<Fixed, M>,
     ended: AtomicU64,
     longest: AtomicU64,
 }
 
-impl<M: Naming> Watched<M> {
+impl<M: GateNaming> Watched<M> {
     /// Ends a permit, once its moment is noted.
     fn end<R: Wait + SystemClock>(&self, rt: &R, pass: &mut Pass<M>, permit: Permit<M>) {
         self.ended.store(real(rt), Ordering::SeqCst);
@@ -68,7 +69,7 @@ impl<M: Naming> Watched<M> {
 }
 
 /// Holds the permit each time until two more wait, and a moment longer: they have looked then.
-fn holds<M: Naming, R: Wait + SystemClock + Abort>(
+fn holds<M: GateNaming, R: Wait + SystemClock + Abort>(
     rt: &R,
     watched: &Watched<M>,
     mut pass: Pass<M>,
@@ -86,7 +87,7 @@ fn holds<M: Naming, R: Wait + SystemClock + Abort>(
 }
 
 /// The permit, once nobody else has it.
-fn takes<M: Naming, R: Wait + SystemClock + Abort>(
+fn takes<M: GateNaming, R: Wait + SystemClock + Abort>(
     rt: &R,
     watched: &Watched<M>,
     pass: &mut Pass<M>,
@@ -106,7 +107,7 @@ fn takes<M: Naming, R: Wait + SystemClock + Abort>(
 }
 
 /// Waits each time that the permit is held, by a clock that stands still.
-fn waits<M: Naming, R: Wait + SystemClock + Abort>(
+fn waits<M: GateNaming, R: Wait + SystemClock + Abort>(
     rt: &R,
     watched: &Watched<M>,
     mut pass: Pass<M>,
@@ -124,7 +125,7 @@ fn waits<M: Naming, R: Wait + SystemClock + Abort>(
 }
 
 /// The permit that who waits is given.
-fn promoted<M: Naming, R: Wait + SystemClock + Abort>(
+fn promoted<M: GateNaming, R: Wait + SystemClock + Abort>(
     rt: &R,
     watched: &Watched<M>,
     pass: &mut Pass<M>,
@@ -145,16 +146,18 @@ fn promoted<M: Naming, R: Wait + SystemClock + Abort>(
 
 #[test]
 fn an_ending_wakes_whoever_it_promotes(rt: HostRuntime) {
-    three_threads::<Brand, _>(&rt, rt.alloc(), Blanks::new());
+    three_threads::<Brand, _>(&rt, rt.alloc(), Blanks::new(), new_word(&rt, rt.alloc()));
 }
 
-fn three_threads<M: Naming + Send + Sync, R: Threads + Wait + SystemClock + Abort + Sync>(
+fn three_threads<M: GateNaming + Send + Sync, R: Threads + Wait + SystemClock + Abort + Sync>(
     rt: &R,
     alloc: Global,
     blanks: Blanks,
+    word: Word,
 )
     requires names { AreNamed M.calls M.place blanks }
     requires parts { AreWhole blanks }
+    requires word { word ≡ M.word }
     requires rows { M.rows ≡ [] }
     requires room { M.room ≡ 100 }
     requires promote { M.promote ≡ Newest }
@@ -162,13 +165,13 @@ fn three_threads<M: Naming + Send + Sync, R: Threads + Wait + SystemClock + Abor
     requires rolling { M.is_rolling ≡ false }
     requires limit { M.limit ≡ 1 }
 {
-    let mut book = book_over::<M, R>(rt, alloc, 1, 1_000_000, false, blanks);
-    let one = Pass::of(book.pass().expect(rt, "a pass"));
-    let two = Pass::of(book.pass().expect(rt, "a pass"));
-    let three = Pass::of(book.pass().expect(rt, "a pass"));
-    book.seal();
+    let book = book_over::<M, R>(rt, alloc, 1, 1_000_000, false, blanks);
+    let (gate, mut passes) = gate_by(rt, alloc, book, word, 3);
+    let one = passes.pop().expect(rt, "a pass");
+    let two = passes.pop().expect(rt, "a pass");
+    let three = passes.pop().expect(rt, "a pass");
     let watched = Watched {
-        gate: SharedGate::new(book),
+        gate,
         ended: AtomicU64::new(0),
         longest: AtomicU64::new(0),
     };
@@ -223,7 +226,15 @@ fn looked<R: Wait + SystemClock + Abort>(
         first,
         then: deadline,
     };
-    in_vain::<Brand, R, Counts<'_, R>>(rt, alloc, Blanks::new(), 0, &clock, deadline);
+    in_vain::<Brand, R, Counts<'_, R>>(
+        rt,
+        alloc,
+        Blanks::new(),
+        new_word(rt, alloc),
+        0,
+        &clock,
+        deadline,
+    );
     let time = real(rt).saturating_sub(clock.start);
     (clock.looks.load(Ordering::SeqCst), time)
 }

@@ -13,7 +13,7 @@ use Rattle.limiter_core.specs.Open.{handed_out}
 use Rattle.limiter_core.specs.declared.event.Reply.TheVariants as reply
 use Rattle.gate_history.specs.Told.{IsSpent, Refusal, Told}
 use Rattle.shared_gate.specs.declared.answers.Waited.TheVariants.{Lost}
-use Rattle.shared_gate.specs.Calls.{Waits}
+use Rattle.shared_gate.specs.Calls.{Pass, Waits}
 use Rattle.trace.specs.declared.arrival.Arrival.{Arrival}
 use Rattle.load_run.specs.Worker.{asked, ending, handed, waits, Ends, Makes}
 use Rattle.load_run.specs.Worker.Makes.{at_once, exhausted, gave_up, stuck}
@@ -99,7 +99,7 @@ makes_two a t g r event waits gives reply none =
     (ends_nothing a (handed g) (handed_by g (GiveUp t.number) r gives reply ∙ none))
 
 -- waited, and then its number was lost, or the giving up exhausted
-module _ (M : Type 0) (before after : ℕ) (a : Arrival) (first : Told) (r : Result Told Refusal)
+module _ (M : Type 0) (before after : Pass) (a : Arrival) (first : Told) (r : Result Told Refusal)
     (waiting : waits a ≡ true) (told : Waits {M = M} before after a.part a.at (Lost first r)) where
   pub makes_lost : (second : Told) → r ≡ Ok second → Makes a (first ∷ second ∷ []) []
   makes_lost second is =

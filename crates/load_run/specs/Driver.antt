@@ -37,7 +37,7 @@ abbrev pub IfAudit : LoadFault → (Cause → Type 0) → Type 0
 IfAudit (Audit cause) P = P cause
 IfAudit _ P = Unit {0}
 
--- why a run stops: for want of memory or of a thread, or since its audit fails by this cause
+-- why a run stops: out of memory, for lack of a thread, or since its audit fails by this cause
 abbrev pub StopsRun : ℕ → ℕ → SettingFacts → List Arrival → LoadFault → Type 0
 StopsRun workers n settings arrivals Memory = Unit {0}
 StopsRun workers n settings arrivals Thread = Unit {0}

@@ -5,7 +5,7 @@ ghost use Rattle.load_run.specs.Made.{made_of, refused_of};
 
 use gate_history::{Naming, Permit, Receipt, Spent};
 use limit_laws::{LAST_MOMENT, Limit};
-use shared_gate::{Clock, Got, Pass, SharedGate, Waited};
+use shared_gate::{Clock, GateNaming, Got, Pass, SharedGate, Waited};
 use std::alloc::AllocError;
 use std::sync::Wait;
 use std::time::Clock as SystemClock;
@@ -56,7 +56,7 @@ impl<M: Naming> Made<M> {
 }
 
 /// Ends the permit of an arrival, at once.
-fn finish<L: Limit, M: Naming>(
+fn finish<L: Limit, M: GateNaming>(
     rt: &impl Wait,
     gate: &SharedGate<L, M>,
     pass: &mut Pass<M>,
@@ -71,7 +71,7 @@ fn finish<L: Limit, M: Naming>(
 }
 
 /// The calls of an arrival that doesn't wait.
-fn call_once<L: Limit, M: Naming>(
+fn call_once<L: Limit, M: GateNaming>(
     rt: &impl Wait,
     gate: &SharedGate<L, M>,
     pass: &mut Pass<M>,
@@ -103,7 +103,7 @@ fn call_once<L: Limit, M: Naming>(
 }
 
 /// The calls of an arrival that waits, up to the deadline of its own clock.
-fn call_and_wait<L: Limit, M: Naming, R: Wait + SystemClock, C: Clock>(
+fn call_and_wait<L: Limit, M: GateNaming, R: Wait + SystemClock, C: Clock>(
     rt: &R,
     gate: &SharedGate<L, M>,
     pass: &mut Pass<M>,
@@ -147,7 +147,7 @@ fn waits(arrival: Arrival) -> bool
 }
 
 /// The calls of an arrival, which ends at once what it gets.
-pub(crate) fn make_calls<L: Limit, M: Naming, R: Wait + SystemClock, C: Clock>(
+pub(crate) fn make_calls<L: Limit, M: GateNaming, R: Wait + SystemClock, C: Clock>(
     rt: &R,
     gate: &SharedGate<L, M>,
     pass: &mut Pass<M>,

@@ -17,7 +17,7 @@ use crate::summary::Summary;
 use counted_io::{Counted, read_all, write_and_flush};
 use gate_history::Blanks;
 use load_driver::{MOST_BYTES, MOST_READS};
-use shared_gate::{Clock, ProgramClock};
+use shared_gate::{Clock, ProgramClock, Word};
 use std::alloc::{AllocError, Global};
 use std::io::{Read, Write};
 use std::marker::Brand;
@@ -55,7 +55,17 @@ where
     if let Some(fault) = fault {
         return Err(LoadFault::Line(fault));
     }
-    run_named::<Brand, T, C>(rt, alloc, Blanks::new(), settings, arrivals, crew, clock)
+    let word = Word::new(alloc)?;
+    run_named::<Brand, T, C>(
+        rt,
+        alloc,
+        Blanks::new(),
+        word,
+        settings,
+        arrivals,
+        crew,
+        clock,
+    )
 }
 
 /// The two lines of an audited run.

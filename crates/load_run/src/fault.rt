@@ -10,7 +10,7 @@ use std::alloc::AllocError;
 /// Why a load stops.
 #[derive(Clone, Copy, PartialEq, Eq)]
 pub enum LoadFault {
-    /// Memory is wanting.
+    /// Out of memory.
     Memory,
     /// The reader failed, or wasn't at its end after 2^25 reads.
     Read,

@@ -1,14 +1,12 @@
 // The workers of a run.
-ghost use Rattle.std.specs.Prelude.{◌≡◌, ◌≤◌, false, IfOk, vec_len};
+ghost use Rattle.std.specs.Prelude.{◌≡◌, IfOk, vec_len};
 
 use crate::worker::Worker;
-use gate_history::{Book, Naming};
-use limit_kinds::AnyLimit;
-use shared_gate::Pass;
+use shared_gate::{GateNaming, Pass};
 use std::alloc::{AllocError, Global};
 
 /// A worker with a pass and room for so many turns: three receipts and one refusal each.
-fn a_worker<M: Naming>(
+fn a_worker<M: GateNaming>(
     alloc: Global,
     pass: Pass<M>,
     turns: usize,
@@ -22,24 +20,17 @@ fn a_worker<M: Naming>(
     })
 }
 
-/// So many workers of a new book, each with room for so many turns.
-pub(crate) fn hire<M: Naming>(
+/// A worker for each pass, each with room for so many turns.
+pub(crate) fn hire<M: GateNaming>(
     alloc: Global,
-    book: &mut Book<AnyLimit, M>,
-    workers: usize,
+    passes: Vec<Pass<M>>,
     turns: usize,
 ) -> Result<Vec<Worker<M>>, AllocError>
-    requires few { workers ≤ 64 }
-    requires none { book.old.tally.passes ≡ 0 }
-    requires unsealed { book.old.is_sealed ≡ false }
-    ensures { IfOk result (λ hired. vec_len hired ≡ workers) }
+    ensures { IfOk result (λ hired. vec_len hired ≡ vec_len passes) }
 {
-    let mut hired = Vec::with_capacity(alloc, workers)?;
-    for _ in 0..workers {
-        let Some(pass) = book.pass() else {
-            unreachable!()
-        };
-        hired.push(a_worker(alloc, Pass::of(pass), turns)?)?;
+    let mut hired = Vec::with_capacity(alloc, passes.len())?;
+    for pass in passes {
+        hired.push(a_worker(alloc, pass, turns)?)?;
     }
     Ok(hired)
 }

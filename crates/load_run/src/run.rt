@@ -1,5 +1,5 @@
 // A run of the calls of a trace, and its audit.
-ghost use Rattle.std.specs.Prelude.{◌≡◌, ◌≤◌, Ok, IfErr, IfOk, false, vec_len};
+ghost use Rattle.std.specs.Prelude.{◌≡◌, ◌≤◌, IfErr, IfOk, vec_len};
 ghost use Rattle.limit_laws.specs.Algorithm.{greatest_limit};
 ghost use Rattle.gate_ledgers.specs.Names.{AreNamed, AreWhole};
 ghost use Rattle.gate_history.specs.Book.{made_as};
@@ -15,9 +15,10 @@ use crate::worker::{Shop, Worker};
 use crate::workers::{Worked, run_all};
 use gate_history::{Blanks, Book, Naming};
 use limit_kinds::AnyLimit;
+use limit_laws::Limit;
 use load_driver::KEPT;
 use script::Settings;
-use shared_gate::{Cause, Clock, SharedGate};
+use shared_gate::{Cause, Clock, GateNaming, SharedGate, Word};
 use std::alloc::{AllocError, Global};
 use std::sync::Wait;
 use std::thread::Threads;
@@ -32,10 +33,11 @@ pub(crate) struct Crew {
 }
 
 /// Runs the calls by workers on threads of their own, and audits the run.
-pub(crate) fn run_named<M: Naming + Send + Sync, R, C>(
+pub(crate) fn run_named<M: GateNaming + Send + Sync, R, C>(
     rt: &R,
     alloc: Global,
     blanks: Blanks,
+    word: Word,
     settings: Settings,
     arrivals: Vec<Arrival>,
     crew: Crew,
@@ -52,13 +54,14 @@ where
         M.rows M.room M.promote M.kept M.is_rolling M.limit }
     requires names { AreNamed M.calls M.place blanks }
     requires parts { AreWhole blanks }
+    requires word { word ≡ M.word }
     ensures run { IfOk result (IsRun crew.workers crew.limit settings.entry arrivals.items) }
     ensures stops { IfErr result
         (StopsRun crew.workers crew.limit settings.entry arrivals.items) }
 {
     let timeout = settings.timeout();
     let turns = (arrivals.len() / crew.workers).saturating_add(1);
-    let (gate, hired) = open_gate::<M>(alloc, blanks, settings, crew, turns)?;
+    let (gate, hired) = open_gate::<M>(alloc, blanks, word, settings, crew, turns)?;
     let shop = Shop {
         rt,
         gate: &gate,
@@ -84,8 +87,6 @@ fn begin_book<M: Naming>(
         M.rows M.room M.promote M.kept M.is_rolling M.limit }
     requires names { AreNamed M.calls M.place blanks }
     requires parts { AreWhole blanks }
-    ensures passes { IfOk result (λ book. book.tally.passes ≡ 0) }
-    ensures unsealed { IfOk result (λ book. book.is_sealed ≡ false) }
 {
     let limit = settings.limit(limit);
     let room = settings.room();
@@ -97,40 +98,49 @@ fn begin_book<M: Naming>(
 }
 
 /// The gate of a run, and its workers, each with room for so many turns.
-fn open_gate<M: Naming>(
+fn open_gate<M: GateNaming>(
     alloc: Global,
     blanks: Blanks,
+    word: Word,
     settings: Settings,
     crew: Crew,
     turns: usize,
 ) -> Result<(SharedGate<AnyLimit, M>, Vec<Worker<M>>), AllocError>
     requires least { 1 ≤ crew.limit }
     requires most { crew.limit ≤ greatest_limit }
-    requires few { crew.workers ≤ 64 }
     requires making { AreOf (making_of crew.limit settings)
         M.rows M.room M.promote M.kept M.is_rolling M.limit }
     requires names { AreNamed M.calls M.place blanks }
     requires parts { AreWhole blanks }
+    requires word { word ≡ M.word }
     ensures { IfOk result (λ opened. vec_len opened.1 ≡ crew.workers) }
 {
-    let mut book = begin_book::<M>(alloc, blanks, settings, crew.limit)?;
-    let hired = hire(alloc, &mut book, crew.workers, turns);
-    book.seal();
-    beside(SharedGate::new(book), hired)
+    let book = begin_book::<M>(alloc, blanks, settings, crew.limit)?;
+    open_with_workers(alloc, word, book, crew.workers, turns)
 }
 
-/// One value beside another, where that was made: what they are made of isn't told apart here.
-fn beside<A: Drop, B: Drop>(one: A, other: Result<B, AllocError>) -> Result<(A, B), AllocError>
-    ensures { IfOk result (λ both. other ≡ Ok both.1) }
+/// A gate over a book, and so many workers, each with room for so many turns: which limit the book
+/// is of isn't told apart here.
+fn open_with_workers<L: Limit, M: GateNaming>(
+    alloc: Global,
+    word: Word,
+    book: Book<L, M>,
+    workers: usize,
+    turns: usize,
+) -> Result<(SharedGate<L, M>, Vec<Worker<M>>), AllocError>
+    requires word { word ≡ M.word }
+    ensures { IfOk result (λ opened. vec_len opened.1 ≡ workers) }
 {
-    Ok((one, other?))
+    let (gate, passes) = SharedGate::open(alloc, word, book, workers)?;
+    let hired = hire(alloc, passes, turns)?;
+    Ok((gate, hired))
 }
 
 /// What is counted of the history of a gate that is closed, where its audit accepts it and the
 /// refusals fit it. They do, since a history that doesn't roll never gets shorter; but a step tells
-/// nothing of what comes after it, so it is looked at, and a misfit told as an audit without the
-/// memory for it.
-fn close<M: Naming>(
+/// nothing of what comes after it, so it is looked at, and a misfit reported as an audit out of
+/// memory.
+fn close<M: GateNaming>(
     alloc: Global,
     gate: SharedGate<AnyLimit, M>,
     worked: Worked<M>,

@@ -3,9 +3,9 @@ ghost use Rattle.std.specs.Prelude.{◌<◌, ◌+◌, IfOk, OnOk, length, take};
 ghost use Rattle.load_run.specs.Worker.{IsWork};
 
 use crate::calls::make_calls;
-use gate_history::{Naming, Receipt, Spent};
+use gate_history::{Receipt, Spent};
 use limit_laws::Limit;
-use shared_gate::{Clock, Pass, SharedGate};
+use shared_gate::{Clock, GateNaming, Pass, SharedGate};
 use std::alloc::AllocError;
 use std::sync::Wait;
 use std::time::Clock as SystemClock;
@@ -13,7 +13,7 @@ use trace::Arrival;
 
 /// What a worker calls with: its pass, and lists with room for its receipts and its refusals.
 #[derive(Drop)]
-pub(crate) struct Worker<M: Naming> {
+pub(crate) struct Worker<M: GateNaming> {
     pub(crate) pass: Pass<M>,
     pub(crate) receipts: Vec<Receipt<M>>,
     pub(crate) refusals: Vec<Spent<M>>,
@@ -22,7 +22,7 @@ pub(crate) struct Worker<M: Naming> {
 /// The gate and the trace that all workers share, with how long a caller waits, and how many
 /// workers there are.
 #[derive(Drop)]
-pub(crate) struct Shop<'a, L: Limit, M: Naming, R, C> {
+pub(crate) struct Shop<'a, L: Limit, M: GateNaming, R, C> {
     pub(crate) rt: &'a R,
     pub(crate) gate: &'a SharedGate<L, M>,
     pub(crate) arrivals: &'a Vec<Arrival>,
@@ -33,7 +33,7 @@ pub(crate) struct Shop<'a, L: Limit, M: Naming, R, C> {
 
 /// Makes the calls of the arrival at a place, where it falls to the worker of this number, and
 /// keeps their receipts and refusals.
-fn take_turn<L: Limit, M: Naming, R: Wait + SystemClock, C: Clock>(
+fn take_turn<L: Limit, M: GateNaming, R: Wait + SystemClock, C: Clock>(
     shop: &Shop<L, M, R, C>,
     number: usize,
     place: usize,
@@ -58,7 +58,7 @@ fn take_turn<L: Limit, M: Naming, R: Wait + SystemClock, C: Clock>(
 }
 
 /// Makes the calls of the worker of this number, one arrival after the other.
-pub(crate) fn work<L: Limit, M: Naming, R: Wait + SystemClock, C: Clock>(
+pub(crate) fn work<L: Limit, M: GateNaming, R: Wait + SystemClock, C: Clock>(
     shop: &Shop<L, M, R, C>,
     number: usize,
     worker: Worker<M>,

@@ -4,9 +4,9 @@ ghost use Rattle.load_run.specs.Worker.{IsWork};
 ghost use Rattle.load_run.specs.Workers.{AreWork};
 
 use crate::worker::{Shop, Worker, work};
-use gate_history::{Naming, Receipt, Spent};
+use gate_history::{Receipt, Spent};
 use limit_laws::Limit;
-use shared_gate::{Clock, Pass};
+use shared_gate::{Clock, GateNaming, Pass};
 use std::alloc::{AllocError, Global};
 use std::snapshot::Snapshot;
 use std::sync::Wait;
@@ -18,7 +18,7 @@ use trace::Arrival;
 /// Why not all workers made their calls.
 #[derive(Clone, Copy, Drop)]
 pub(crate) enum WorkFault {
-    /// Memory is wanting.
+    /// Out of memory.
     Memory = 1,
     /// A worker can't be started; those that were have ended.
     Thread = 2,
@@ -36,7 +36,7 @@ impl From<AllocError> for WorkFault {
 
 /// The passes, the receipts and the refusals of the workers, in order of their numbers.
 #[derive(Drop)]
-pub(crate) struct Worked<M: Naming> {
+pub(crate) struct Worked<M: GateNaming> {
     pub(crate) passes: Vec<Pass<M>>,
     pub(crate) kept: Vec<Vec<Receipt<M>>>,
     pub(crate) spent: Vec<Vec<Spent<M>>>,
@@ -50,7 +50,7 @@ struct WorkOf {
     arrivals: Snapshot<Vec<Arrival>>,
 }
 
-impl<M: Naming> Promise<Result<Worker<M>, AllocError>> for WorkOf {
+impl<M: GateNaming> Promise<Result<Worker<M>, AllocError>> for WorkOf {
     ghost use Rattle.std.specs.Prelude.{IfOk};
     ghost use Rattle.load_run.specs.Worker.{IsWork};
 
@@ -61,7 +61,7 @@ impl<M: Naming> Promise<Result<Worker<M>, AllocError>> for WorkOf {
 
 /// Runs these workers, the last of them first: once all that were started have ended, their
 /// passes, receipts and refusals.
-fn run_from<'s, E, L: Limit + Send, M: Naming + Send + Sync, R, C>(
+fn run_from<'s, E, L: Limit + Send, M: GateNaming + Send + Sync, R, C>(
     scope: &Scope<'s, E>,
     alloc: Global,
     shop: &'s Shop<'s, L, M, R, C>,
@@ -106,7 +106,7 @@ where
 }
 
 /// Runs all workers: once they have ended, their passes, receipts and refusals.
-pub(crate) fn run_all<L: Limit + Send, M: Naming + Send + Sync, R, C>(
+pub(crate) fn run_all<L: Limit + Send, M: GateNaming + Send + Sync, R, C>(
     alloc: Global,
     shop: &Shop<L, M, R, C>,
     workers: Vec<Worker<M>>,
@@ -132,7 +132,7 @@ where
     )
 }
 
-impl<M: Naming> Worked<M> {
+impl<M: GateNaming> Worked<M> {
     /// With what one more worker brings back.
     fn add(self, worker: Worker<M>) -> Result<Worked<M>, AllocError>
         ensures kept { IfOk result (λ worked.

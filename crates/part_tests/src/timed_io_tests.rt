@@ -3,8 +3,8 @@
 ghost use Rattle.std.specs.Io.{ReadsAtMost, WritesAtMost};
 
 use crate::counted_io_tests::valve_of;
+use clocks::Clock;
 use lent_io::{BufferedWrite, WriteBuffer};
-use shared_gate::Clock;
 use std::alloc::Global;
 use std::cell::Cell;
 use std::io::{Error, ErrorKind, Read, Result, Write};

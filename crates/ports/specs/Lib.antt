@@ -1,5 +1,1 @@
-pub mod Asking
-pub mod Ending
-pub mod Shown
-pub mod Solo
 pub mod Told

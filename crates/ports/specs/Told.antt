@@ -1,31 +1,37 @@
--- What a port over a shared gate tells, by the calls of its pass.
-use Rattle.std.specs.Prelude.{◌≡◌, ◌⊎◌, ℕ, ◌+◌, ◌≤◌, true, false}
+-- What a port over a shared gate tells, by its pass.
+use Rattle.std.specs.Prelude.{◌≡◌, ◌⊎◌, ℕ, ◌+◌, ◌<◌, ◌≤◌, true, false}
 use Rattle.limit_laws.specs.Facts.{moment}
 use Rattle.limiter_core.specs.declared.event.PermitFacts.{PermitFacts}
 use Rattle.limiter_core.specs.History.{permit_of}
-use Rattle.ports.specs.declared.port.Why.TheVariants as why
-use Rattle.ports.specs.declared.port.Admission.{Admission}
-use Rattle.ports.specs.declared.port.Admission.TheVariants.{Admitted, Bypassed, Refused}
-use Rattle.ports.specs.Asking.{Ask}
+use Rattle.shared_gate.specs.Calls.{Pass}
+use Rattle.gate_port.specs.declared.port.Why.TheVariants as why
+use Rattle.gate_port.specs.declared.port.Admission.{Admission}
+use Rattle.gate_port.specs.declared.port.Admission.TheVariants.{Admitted, Bypassed, Refused}
+use Rattle.gate_port.specs.Asking.{Ask}
 
 -- a permit that was got at once is of the part that was asked for, from the moment on
 abbrev pub IsOwn : Ask → ℕ → PermitFacts → Type 0
 IsOwn ask now permit = permit ≡ permit_of permit.number ask.part (moment now) permit.inflight
 
--- WHAT IS TOLD of an asking, from a pass's calls before it to those after it: one call, or after
--- waiting a second one; none where the history is exhausted. A permit's number is no less than the
--- calls before
-abbrev pub IsTold : ℕ → ℕ → Ask → ℕ → Admission PermitFacts → Type 0
+-- so many calls were made by the pass, which has seen greater numbers since
+abbrev pub Makes : ℕ → Pass → Pass → Type 0
+Makes calls before after = (after.count ≡ before.count + calls) × (before.seen < after.seen)
+
+-- WHAT IS TOLD of an asking, from a pass before it to the pass after it: one call, or after waiting
+-- a second one; none where the history is exhausted. A permit's number is no less than the calls
+-- before and than what the pass had seen, and the pass has seen it now
+abbrev pub IsTold : Pass → Pass → Ask → ℕ → Admission PermitFacts → Type 0
 IsTold before after ask now (Admitted permit) =
-    (ask.bypass ≡ false) × (before ≤ permit.number)
-    × (((after ≡ before + 1) × IsOwn ask now permit)
-    ⊎ ((after ≡ before + 2) × (ask.wait ≡ true)))
-IsTold before after ask now Bypassed = (after ≡ before + 1) × (ask.bypass ≡ true)
+    (ask.bypass ≡ false) × (before.count ≤ permit.number)
+    × (before.seen ≤ permit.number) × (permit.number < after.seen)
+    × ((Makes 1 before after × IsOwn ask now permit)
+    ⊎ (Makes 2 before after × (ask.wait ≡ true)))
+IsTold before after ask now Bypassed = Makes 1 before after × (ask.bypass ≡ true)
 IsTold before after ask now (Refused why.Full) =
-    (after ≡ before + 1) × (ask.bypass ≡ false) × (ask.wait ≡ false)
+    Makes 1 before after × (ask.bypass ≡ false) × (ask.wait ≡ false)
 IsTold before after ask now (Refused why.BacklogFull) =
-    (after ≡ before + 1) × (ask.wait ≡ true)
-IsTold before after ask now (Refused why.TimedOut) = (after ≡ before + 2) × (ask.wait ≡ true)
+    Makes 1 before after × (ask.wait ≡ true)
+IsTold before after ask now (Refused why.TimedOut) = Makes 2 before after × (ask.wait ≡ true)
 IsTold before after ask now (Refused why.Lost) =
-    ((after ≡ before + 1) ⊎ (after ≡ before + 2)) × (ask.wait ≡ true)
+    (Makes 1 before after ⊎ Makes 2 before after) × (ask.wait ≡ true)
 IsTold before after ask now (Refused why.Exhausted) = after ≡ before

@@ -1,15 +1,11 @@
-//! Where permits are asked for and ended.
+//! A port of a gate that threads share.
 //!
-//! [`GatePort`] is all that an exchange knows of a gate: one call that asks and one that ends. A
-//! [`Port`] is over a gate that threads share, and shows no entries; a [`SoloPort`] is over a book
-//! of its own, on one thread, and shows them all. `specs/Asking.antt` and `specs/Ending.antt` say
-//! which entries a call adds where entries are shown, and what its caller is told by them.
+//! A [`Port`] asks the gate by a pass of its own, and keeps the promises of `gate_port`. It shows
+//! no entries, since other threads add theirs meanwhile; `specs/Told.antt` says what its calls
+//! tell.
 #![tactic(auto)]
 
-mod port;
 mod shared;
-mod solo;
 
-pub use port::{Admission, GatePort, Why};
+pub use gate_port::{Admission, GatePort, Why};
 pub use shared::Port;
-pub use solo::SoloPort;

@@ -1,30 +1,31 @@
 // A port over a gate that threads share.
 ghost use Rattle.std.specs.Prelude.{◌≡◌, ◌+◌, ◌≤◌, true, false, is_some, if◌then◌else◌};
 ghost use Rattle.shared_gate.specs.Calls.{Ends};
-ghost use Rattle.ports.specs.Asking.{ask_of};
+ghost use Rattle.gate_port.specs.Asking.{ask_of};
 ghost use Rattle.ports.specs.Told.{IsTold};
 
-use crate::port::{Admission, GatePort, Why};
-use gate_history::{Naming, Permit, Receipt};
+use clocks::Clock;
+use gate_history::{Permit, Receipt};
+use gate_port::{Admission, GatePort, Why};
 use limit_laws::Limit;
 use limiter_core::Outcome;
 use partitions::Part;
-use shared_gate::{Clock, Got, Pass, SharedGate, Waited};
+use shared_gate::{GateNaming, Got, Pass, SharedGate, Waited};
 use std::marker::Model;
 use std::sync::Wait;
 use std::time::Clock as SystemClock;
 
 /// A port over a gate that threads share, with a pass of its own. It shows no entries. Contracts
-/// see how many calls were made by its pass.
+/// see its pass.
 #[derive(Drop)]
-pub struct Port<'a, L: Limit, M: Naming, R, C> {
+pub struct Port<'a, L: Limit, M: GateNaming, R, C> {
     rt: &'a R,
     gate: &'a SharedGate<L, M>,
     pass: Pass<M>,
     clock: &'a C,
 }
 
-impl<'a, L: Limit, M: Naming, R, C> Model for Port<'a, L, M, R, C> {
+impl<'a, L: Limit, M: GateNaming, R, C> Model for Port<'a, L, M, R, C> {
     ghost use Rattle.shared_gate.specs.Calls.{Pass};
 
     ghost Value = { Pass };
@@ -34,7 +35,7 @@ impl<'a, L: Limit, M: Naming, R, C> Model for Port<'a, L, M, R, C> {
     ghost invariant = { λ p. Unit {0} };
 }
 
-impl<'a, L: Limit, M: Naming, R, C> Port<'a, L, M, R, C> {
+impl<'a, L: Limit, M: GateNaming, R, C> Port<'a, L, M, R, C> {
     /// A port that calls the gate by this pass; the clock says when a wait is over.
     pub fn new(
         rt: &'a R,
@@ -66,10 +67,10 @@ impl<'a, L: Limit, M: Naming, R, C> Port<'a, L, M, R, C> {
     }
 }
 
-impl<'a, L: Limit, M: Naming, R: Wait + SystemClock, C: Clock> Port<'a, L, M, R, C> {
+impl<'a, L: Limit, M: GateNaming, R: Wait + SystemClock, C: Clock> Port<'a, L, M, R, C> {
     /// Asks without waiting.
     fn ask(&mut self, part: Part, bypass: bool, now: u64) -> Admission<Permit<M>>
-        ensures { IsTold self.old.count self.new.count
+        ensures { IsTold self.old self.new
             (record { part = part; bypass = bypass; wait = false }) now result }
     {
         let pass = &mut self.pass;
@@ -85,7 +86,7 @@ impl<'a, L: Limit, M: Naming, R: Wait + SystemClock, C: Clock> Port<'a, L, M, R,
 
     /// Asks, and where there is no room waits until the deadline.
     fn ask_and_wait(&mut self, part: Part, now: u64, deadline: u64) -> Admission<Permit<M>>
-        ensures { IsTold self.old.count self.new.count
+        ensures { IsTold self.old self.new
             (record { part = part; bypass = false; wait = true }) now result }
     {
         let (rt, pass, clock) = (self.rt, &mut self.pass, self.clock);
@@ -100,7 +101,8 @@ impl<'a, L: Limit, M: Naming, R: Wait + SystemClock, C: Clock> Port<'a, L, M, R,
     }
 }
 
-impl<'a, L: Limit, M: Naming, R: Wait + SystemClock, C: Clock> GatePort for Port<'a, L, M, R, C> {
+impl<'a, L: Limit, M: GateNaming, R: Wait + SystemClock, C: Clock> GatePort
+    for Port<'a, L, M, R, C> {
     type Permit = Permit<M>;
 
     type Receipt = Receipt<M>;
@@ -120,7 +122,7 @@ impl<'a, L: Limit, M: Naming, R: Wait + SystemClock, C: Clock> GatePort for Port
         deadline: Option<u64>,
         now: u64,
     ) -> Admission<Permit<M>>
-        ensures told { IsTold self.old.count self.new.count (ask_of part bypass deadline) now
+        ensures told { IsTold self.old self.new (ask_of part bypass deadline) now
             result }
         ensures few { self.new.count ≤ self.old.count + (if is_some deadline then 2 else 1) }
     {
@@ -132,7 +134,7 @@ impl<'a, L: Limit, M: Naming, R: Wait + SystemClock, C: Clock> GatePort for Port
 
     /// Ends a permit, in one call by the pass.
     fn end(&mut self, permit: Permit<M>, outcome: Outcome, now: u64) -> Receipt<M>
-        ensures told { Ends self.old.count self.new.count permit outcome now result }
+        ensures told { Ends self.old self.new permit outcome now result }
         ensures few { self.new.count ≤ self.old.count + 1 }
     {
         self.gate.end(self.rt, &mut self.pass, permit, outcome, now)

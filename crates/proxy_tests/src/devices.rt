@@ -4,15 +4,15 @@ ghost use Rattle.std.specs.Prelude.{◌≡◌};
 ghost use Rattle.counted_io.specs.Count.{raised};
 
 use backend::{Answer, Backend};
+use clocks::Clock;
+use gate_port::{Admission, GatePort, Why};
 use limiter_core::{Outcome, PermitFacts};
-use message_parts::Headers;
+use message_parts::{Headers, Request};
 use partitions::Part;
-use ports::{Admission, GatePort, Why};
-use shared_gate::Clock;
 use std::alloc::Global;
 use std::cell::Cell;
 use std::io::{BufRead, Error, ErrorKind, Read, Result, Write};
-use wire::{Request, Response, WireFault};
+use wire::{Response, WireFault};
 
 /// Gives its bytes, or shows them, at most `most` in a call. One call alone fails.
 #[derive(Drop)]

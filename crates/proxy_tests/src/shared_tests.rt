@@ -9,7 +9,7 @@ use limit_laws::Fixed;
 use limiter_core::{Outcome, Promote};
 use partitions::{Part, PartitionTable};
 use ports::{Admission, GatePort, Port, Why};
-use shared_gate::{Pass, SharedGate};
+use shared_gate::{GateNaming, Pass, SharedGate, Word};
 use std::alloc::Global;
 use std::marker::Brand;
 use std::process::Abort;
@@ -18,7 +18,8 @@ use std::time::Clock as SystemClock;
 
 #[test]
 fn a_full_gate_refuses_at_once_or_at_the_deadline(rt: HostRuntime) {
-    over_one_permit::<Brand, _>(&rt, rt.alloc(), Blanks::new());
+    let word = Word::new(rt.alloc()).expect(&rt, "memory for a word");
+    over_one_permit::<Brand, _>(&rt, rt.alloc(), Blanks::new(), word);
 }
 
 /// A book with room for one permit.
@@ -47,9 +48,15 @@ fn open_book<N: Naming, R: Abort>(rt: &R, alloc: Global, blanks: Blanks) -> Book
     .expect(rt, "memory")
 }
 
-fn over_one_permit<N: Naming, R: Wait + SystemClock + Abort>(rt: &R, alloc: Global, blanks: Blanks)
+fn over_one_permit<N: GateNaming, R: Wait + SystemClock + Abort>(
+    rt: &R,
+    alloc: Global,
+    blanks: Blanks,
+    word: Word,
+)
     requires names { AreNamed N.calls N.place blanks }
     requires parts { AreWhole blanks }
+    requires word { word ≡ N.word }
     requires rows { N.rows ≡ [] }
     requires room { N.room ≡ 100 }
     requires promote { N.promote ≡ Newest }
@@ -58,13 +65,17 @@ fn over_one_permit<N: Naming, R: Wait + SystemClock + Abort>(rt: &R, alloc: Glob
     requires limit { N.limit ≡ 1 }
 {
     let mut book = open_book::<N, R>(rt, alloc, blanks);
+    let mut passes = Vec::new(alloc);
     let pass = book.pass().expect(rt, "a pass");
+    passes.push(pass).expect(rt, "memory for a pass");
     book.seal();
-    refuses(rt, &SharedGate::new(book), Pass::of(pass));
+    let made = SharedGate::new(alloc, word, book, passes);
+    let (gate, mut passes) = made.expect(rt, "memory for a gate");
+    refuses(rt, &gate, passes.pop().expect(rt, "a pass"));
 }
 
 /// Refused at once without a deadline, and else as timed out, once the clock has reached it.
-fn refuses<N: Naming, R: Wait + SystemClock + Abort>(
+fn refuses<N: GateNaming, R: Wait + SystemClock + Abort>(
     rt: &R,
     gate: &SharedGate<Fixed, N>,
     pass: Pass<N>,

@@ -77,7 +77,8 @@ pub is_kept : {S : Type 0} (rules : Algorithm S) (m : Making) (b : Book S)
     → (b.journal.opening.next ≡ 0 → IsUnasked rules m.limit b.journal.opening) → Agrees rules b
     → j ≡ b.journal → o ≡ j.opening → base ≡ j.opening.next → entries ≡ j.entries
     → IsKept rules m o base entries
-is_kept {S} rules m b j o base entries legal sound of_rows of_room rule rolling unasked agrees same opens
+is_kept {S} rules m b j o base entries legal sound of_rows of_room rule rolling unasked agrees
+    same opens
     first all =
     let g : Gate S = limiter_of rules m in
     let same_gate : gate rules b.journal ≡ g =

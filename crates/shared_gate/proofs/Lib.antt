@@ -1,3 +1,5 @@
-pub mod Telling
-mod Sequential
 mod Closings
+mod Reporting
+mod Rising
+mod Sequential
+pub mod Telling

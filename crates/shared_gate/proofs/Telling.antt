@@ -1,8 +1,8 @@
 -- What a step tells, without what it did under the lock.
-use Rattle.std.proofs.Common.{◌≡◌, ℕ, ◌+◌, ◌<◌, ◌==◌, ltb, ltb-true, nat_lt, Bool, true, false}
+use Rattle.std.proofs.Common.{◌≡◌, ℕ, ◌+◌, ◌<◌, ◌≤◌, ◌==◌, ltb, ltb-true, nat_lt, Bool, true, false}
 use Rattle.std.proofs.Common.{◌||◌, cond, List, [], ◌∷◌, length, Option, None, Some}
 use Rattle.std.proofs.Common.{Result, Ok, Err, is_some, find, count_by}
-use Rattle.std.proofs.Common.{refl, sym, ap, subst, arith, true≢false}
+use Rattle.std.proofs.Common.{refl, sym, ap, subst, arith, true≢false, length-append}
 use Rattle.std.specs.List.{list_any}
 use Rattle.std.proofs.lemmas.Bool.{ltb-false}
 use Rattle.std.proofs.lemmas.List.Sums.{sum_by-cons}
@@ -24,7 +24,9 @@ use Rattle.limiter_core.specs.History.{Gate, Image, permit_of, total}
 use Rattle.limiter_core.specs.Answer.{counting, granted_of, granted_or, has_room, promoted}
 use Rattle.limiter_core.specs.Answer.{queued, reply_to, set_reply, waits}
 use Rattle.limiter_core.specs.Bound.{IsSound}
-use Rattle.gate_journal.specs.Journal.{Journal, gate, image, is_over, opening}
+use Rattle.gate_journal.specs.Journal.{Journal, answered, gate, image, is_over, next_number}
+use Rattle.gate_journal.specs.Journal.{opening}
+use Rattle.gate_journal.specs.Rolling.{continued, ready, rolls, standing}
 use Rattle.gate_history.specs.declared.step.Handed.{Handed}
 use Rattle.gate_history.specs.declared.step.Handed.TheVariants as handed
 use Rattle.gate_history.specs.declared.step.Step.{Step}
@@ -32,9 +34,10 @@ use Rattle.gate_history.specs.declared.step.Step.TheVariants.{Done, Exhausted}
 use Rattle.gate_history.specs.Book.{Book}
 use Rattle.gate_history.specs.Handing.{Given, IsChange, given, given_back, given_by}
 use Rattle.gate_history.specs.Handing.{nothing, permit, ticket}
-use Rattle.gate_history.specs.Steps.{Steps}
+use Rattle.gate_history.specs.Steps.{IsDone, IsExhausted}
+use Rattle.gate_history.specs.Told.{Told, Refusal}
 use Rattle.shared_gate.specs.Answers.{Answers, HandsBack}
-use Rattle.shared_gate.specs.Calls.{Changes, HandsNothing, Tells, plainly}
+use Rattle.shared_gate.specs.Calls.{Changes, HandsNothing, Pass, Tells, plainly}
 
 abbrev kind : Given → ℕ
 kind nothing = 0
@@ -211,29 +214,65 @@ back rules j (SetLimit n now) spent = for_nothing (HandsBack (SetLimit n now)) t
 back rules j (Reset now) spent = for_nothing (HandsBack (Reset now)) tt
 back rules j (Look part) spent = for_nothing (HandsBack (Look part)) tt
 
--- WHAT A STEP TELLS
-pub tells : {S M : Type 0} (rules : Algorithm S) (old new : Book S) (before after : ℕ) (e : Event)
-    (step : Step M) → IsSound (gate rules old.journal) (image rules old.journal)
-    → Steps rules old new before after e step → Tells before after e step
-tells {S} {M} rules old new before after e (Done told got) sound did =
+-- the next number stays where the journal rolls, and rises by the answer to an event
+module _ {S : Type 0} (rules : Algorithm S) (j : Journal S) (e : Event) where
+  next_stays : (b : Bool)
+      → (cond b (standing rules j) j.opening).next + length (cond b [] j.entries) ≡ next_number j
+  next_stays true = omega arith
+  next_stays false = refl
+
+  pub rises : next_number j < next_number (continued rules j e)
+  rises = omega (
+    arith,
+    next_stays (rolls j),
+    length-append (ready rules j).entries (answered rules (ready rules j) e),
+  )
+
+-- WHAT A STEP TELLS that is done, where the pass had seen no more than the next number, and has
+-- seen the next number now
+pub tells : {S M : Type 0} (rules : Algorithm S) (old new : Book S) (before after : Pass)
+    (e : Event)
+    (told : Told) (got : Handed M) → IsSound (gate rules old.journal) (image rules old.journal)
+    → IsDone rules old new before.count after.count e told got
+    → before.seen ≤ next_number old.journal → next_number new.journal ≤ after.seen
+    → Tells before after e (Done told got)
+tells {S} {M} rules old new before after e told got sound did known now =
     let j : Journal S = old.journal in
     let follow : List Entry = promoted (gate rules j) (opening j) j.entries e in
     let own : Reply = counting (length follow) (reply_to (gate rules j) (image rules j) e) in
     let same : own ≡ told.reply =
-    ap (λ (o : Option Entry). reply_of told.reply (entry_or (Call e own) o)) (sym did.reply) in (
-      record { event = did.event; counted = did.counted; ahead = did.ahead },
+    ap (λ (o : Option Entry). reply_of told.reply (entry_or (Call e own) o)) (sym did.reply) in
+    let up : next_number j < next_number new.journal =
+    subst (λ (v : Journal S). next_number j < next_number v) (sym did.journal) (rises rules j e)
+    in (
+      record {
+        event = did.event;
+        counted = did.counted;
+        ahead = did.ahead;
+        unseen = omega (arith, did.number, known);
+        seen = omega (arith, did.number, up, now);
+      },
       subst (λ (r : Reply). given_by got ≡ given told.number e r → Answers told.number e r got) same
           (reply_fits (gate rules j) (image rules j) sound M told.number did.number (length follow)
           e got)
           did.gives,
     )
-tells rules old new before after e (Exhausted refusal got) sound did = (
-  record { event = did.event; uncounted = did.uncounted },
+
+-- what a step tells that is exhausted
+pub tells_spent : {S M : Type 0} (rules : Algorithm S) (old new : Book S) (before after : Pass)
+    (e : Event) (refusal : Refusal) (got : Handed M)
+    → IsExhausted rules old new before.count after.count e refusal got
+    → after.seen ≡ before.seen → Tells before after e (Exhausted refusal got)
+tells_spent rules old new before after e refusal got did same = (
+  record {
+    event = did.event;
+    same = λ i. record { count = did.uncounted i; seen = same i };
+  },
   back rules old.journal e did.exhausted got did.gives,
 )
 
 -- a setting, a reset and a look hand nothing out or back
-pub plain_step : {M : Type 0} (before after : ℕ) (e : Event) → IsChange e → (step : Step M)
+pub plain_step : {M : Type 0} (before after : Pass) (e : Event) → IsChange e → (step : Step M)
     → Tells before after e step → HandsNothing step × Changes before after e (plainly step)
 plain_step before after (SetLimit n now) is (Done told handed.Nothing) did = (tt, did)
 plain_step before after (SetLimit n now) is (Exhausted refusal handed.Nothing) did = (tt, did.0)

@@ -20,37 +20,56 @@ use Rattle.shared_gate.specs.declared.answers.GaveUp.{GaveUp}
 use Rattle.shared_gate.specs.declared.answers.GaveUp.TheVariants as gave_up
 use Rattle.shared_gate.specs.Answers.{Answers, HandsBack, IsOf, IsOwn, WasGranted}
 
--- a pass: how many calls were made by it
+-- a pass: how many calls were made by it, and a number that all entries so far that it knows of
+-- are below
 pub record Pass : Type 0 where
   pub count : ℕ
+  pub seen : ℕ
+
+-- a pass that made so many calls and has seen so much
+abbrev pub pass_at : ℕ → ℕ → Pass
+pass_at seen count = record { count = count; seen = seen }
 
 -- the receipt is of this event; the call is counted on the pass, and its number is no less than the
--- pass's calls before it
-pub record IsTold (before after : ℕ) (e : Event) (receipt : Told) : Type 0 where
+-- pass's calls before it. No number that the pass had seen is as great, and now it has seen it
+pub record IsTold (before after : Pass) (e : Event) (receipt : Told) : Type 0 where
   pub event : receipt.event ≡ e
-  pub counted : after ≡ before + 1
-  pub ahead : before ≤ receipt.number
+  pub counted : after.count ≡ before.count + 1
+  pub ahead : before.count ≤ receipt.number
+  pub unseen : before.seen ≤ receipt.number
+  pub seen : receipt.number < after.seen
 
--- the refusal is of this event, and nothing is counted
-pub record IsUntold (before after : ℕ) (e : Event) (refusal : Refusal) : Type 0 where
+-- the refusal is of this event, and the pass is as before
+pub record IsUntold (before after : Pass) (e : Event) (refusal : Refusal) : Type 0 where
   pub event : refusal.event ≡ e
-  pub uncounted : after ≡ before
+  pub same : after ≡ before
+
+-- a pass that has just got a receipt has seen this much at least
+abbrev pub since : Pass → Told → Pass
+since pass receipt = record { count = pass.count + 1; seen = receipt.number + 1 }
+
+-- the refusal is of this event, and behind the receipt nothing more is counted
+pub record IsMissed (before after : Pass) (first : Told) (e : Event) (refusal : Refusal)
+    : Type 0 where
+  pub event : refusal.event ≡ e
+  pub counted : after.count ≡ before.count + 1
+  pub seen : first.number < after.seen
 
 -- a step, without what it did under the lock
-abbrev pub Tells : {M : Type 0} → ℕ → ℕ → Event → Step M → Type 0
+abbrev pub Tells : {M : Type 0} → Pass → Pass → Event → Step M → Type 0
 Tells before after e (step.Done told handed) =
     IsTold before after e told × Answers told.number e told.reply handed
 Tells before after e (step.Exhausted refusal handed) =
     IsUntold before after e refusal × HandsBack e handed
 
 -- the receipt of an acquire that waits
-abbrev pub IsQueued : ℕ → Part → ℕ → Told → Type 0
+abbrev pub IsQueued : Pass → Part → ℕ → Told → Type 0
 IsQueued before part now receipt =
-    IsTold before (before + 1) (Acquire part false true now) receipt
+    IsTold before (since before receipt) (Acquire part false true now) receipt
     × (receipt.reply ≡ reply.Waiting)
 
 -- an acquire
-abbrev pub Gets : {M : Type 0} → ℕ → ℕ → Part → Bool → Bool → ℕ → Got M → Type 0
+abbrev pub Gets : {M : Type 0} → Pass → Pass → Part → Bool → Bool → ℕ → Got M → Type 0
 Gets before after part bypass wait now (got.Admitted receipt permit) =
     IsTold before after (Acquire part bypass wait now) receipt
     × IsOwn receipt.number (Acquire part bypass wait now) receipt.reply permit
@@ -71,7 +90,7 @@ Gets before after part bypass wait now (got.Exhausted spent) =
     IsUntold before after (Acquire part bypass wait now) spent
 
 -- an acquire that may wait: an acquire with `wait`, and where that waits a giving up of its number
-abbrev pub Waits : {M : Type 0} → ℕ → ℕ → Part → ℕ → Waited M → Type 0
+abbrev pub Waits : {M : Type 0} → Pass → Pass → Part → ℕ → Waited M → Type 0
 Waits {M} before after part now (waited.Admitted receipt permit) =
     Gets {M = M} before after part false true now (got.Admitted receipt permit)
 Waits {M} before after part now (waited.BacklogFull receipt) =
@@ -80,26 +99,26 @@ Waits before after part now (waited.Exhausted spent) =
     IsUntold before after (Acquire part false true now) spent
 Waits before after part now (waited.Promoted first second permit) =
     IsQueued before part now first
-    × IsTold (before + 1) after (GiveUp first.number) second
+    × IsTold (since before first) after (GiveUp first.number) second
     × WasGranted second.number first.number second.reply permit
 Waits before after part now (waited.TimedOut first second) =
     IsQueued before part now first
-    × IsTold (before + 1) after (GiveUp first.number) second
+    × IsTold (since before first) after (GiveUp first.number) second
     × (second.reply ≡ reply.TimedOut) × (first.number < second.number)
 Waits before after part now (waited.Lost first (Ok second)) =
     IsQueued before part now first
-    × IsTold (before + 1) after (GiveUp first.number) second × (second.reply ≡ reply.Lost)
+    × IsTold (since before first) after (GiveUp first.number) second × (second.reply ≡ reply.Lost)
 Waits before after part now (waited.Lost first (Err spent)) =
-    IsQueued before part now first × IsUntold (before + 1) after (GiveUp first.number) spent
+    IsQueued before part now first × IsMissed before after first (GiveUp first.number) spent
 
 -- an ending
-abbrev pub Ends : ℕ → ℕ → PermitFacts → Outcome → ℕ → Told → Type 0
+abbrev pub Ends : Pass → Pass → PermitFacts → Outcome → ℕ → Told → Type 0
 Ends before after permit outcome now receipt =
     IsTold before after (End permit outcome now) receipt
     × IsOf (End permit outcome now) receipt.reply
 
 -- a claim: its number is below the receipt's where it isn't lost
-abbrev pub Claims : {M : Type 0} → ℕ → ℕ → ℕ → Claimed M → Type 0
+abbrev pub Claims : {M : Type 0} → Pass → Pass → ℕ → Claimed M → Type 0
 Claims before after named (claimed.Granted receipt permit) =
     IsTold before after (Claim named) receipt
     × WasGranted receipt.number named receipt.reply permit
@@ -112,7 +131,7 @@ Claims before after named (claimed.Exhausted spent ticket) =
     IsUntold before after (Claim named) spent × (ticket ≡ named)
 
 -- a giving up
-abbrev pub GivesUp : {M : Type 0} → ℕ → ℕ → ℕ → GaveUp M → Type 0
+abbrev pub GivesUp : {M : Type 0} → Pass → Pass → ℕ → GaveUp M → Type 0
 GivesUp before after named (gave_up.Granted receipt permit) =
     IsTold before after (GiveUp named) receipt
     × WasGranted receipt.number named receipt.reply permit
@@ -125,7 +144,7 @@ GivesUp before after named (gave_up.Exhausted spent) =
     IsUntold before after (GiveUp named) spent
 
 -- a setting, a reset or a look
-abbrev pub Changes : ℕ → ℕ → Event → Result Told Refusal → Type 0
+abbrev pub Changes : Pass → Pass → Event → Result Told Refusal → Type 0
 Changes before after e (Ok receipt) = IsTold before after e receipt × IsOf e receipt.reply
 Changes before after e (Err refusal) = IsUntold before after e refusal
 

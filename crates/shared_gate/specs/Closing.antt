@@ -2,13 +2,12 @@
 use Rattle.std.specs.Prelude.{◌≡◌, ℕ, ◌+◌, ◌≤◌, false, List, Vec, length, sum_by}
 use Rattle.std.specs.declared.alloc.Global.{Global}
 use Rattle.limit_laws.specs.Algorithm.{Algorithm}
-use Rattle.partitions.specs.Table.{Row}
 use Rattle.limiter_core.specs.declared.event.Entry.{Entry}
 use Rattle.limiter_core.specs.History.{Gate}
 use Rattle.limiter_core.specs.Legal.{IsLegal}
 use Rattle.limiter_core.specs.Bound.{IsSound}
 use Rattle.gate_journal.specs.Image.{Standing, image_of}
-use Rattle.gate_history.specs.Book.{IsUnasked, Making, calls_of, made_as}
+use Rattle.gate_history.specs.Book.{IsUnasked, Making, calls_of}
 use Rattle.gate_history.specs.Told.{Told}
 use Rattle.audit.specs.declared.cause.Cause.{Cause}
 use Rattle.audit.specs.Verdict.{audited, IsFirstCause}

@@ -1,5 +1,6 @@
 pub mod Answers
 pub mod Calls
-pub mod Clock
 pub mod Closing
 pub mod Headline
+pub mod Report
+pub mod Seen

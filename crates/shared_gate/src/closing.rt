@@ -4,9 +4,11 @@ ghost use Rattle.audit.specs.Accepted.{IsHistoryOf};
 ghost use Rattle.gate_history.specs.Book.{calls_of, made_as};
 ghost use Rattle.shared_gate.specs.Closing.{FailsBy, IsKept, calls_by};
 
+use crate::naming::GateNaming;
 use crate::pass::Pass;
 use audit::{Calls, Cause, verdict};
 use gate_history::{Book, History, Naming, Receipt};
+use gate_word::{Keeper, SharedWord};
 use limit_laws::Limit;
 use std::alloc::Global;
 
@@ -21,8 +23,15 @@ pub struct AuditFault<L: Limit, M: Naming> {
     pub kept: Vec<Vec<Receipt<M>>>,
 }
 
-/// The calls by all passes of a book, and by these.
-pub(crate) fn count_calls<L: Limit, M: Naming>(book: &mut Book<L, M>, passes: Vec<Pass<M>>) -> Calls
+/// The calls by all passes of a book, and by these, whose readers are taken back.
+pub(crate) fn count_calls<L: Limit, M: GateNaming>(
+    book: &mut Book<L, M>,
+    word: &SharedWord,
+    keeper: &mut Keeper,
+    passes: Vec<Pass<M>>,
+) -> Calls
+    requires word { word.now ≡ M.word }
+    requires keeper { keeper.old.table ≡ M.word }
     ensures book { result.book ≡ book.old.tally.calls }
     ensures sum { result.sum ≡ calls_by passes.items }
     ensures enough { result.sum ≤ result.book }
@@ -30,7 +39,9 @@ pub(crate) fn count_calls<L: Limit, M: Naming>(book: &mut Book<L, M>, passes: Ve
 {
     let mut returned = book.none_returned();
     for pass in passes {
-        book.take_back(&mut returned, pass.into_inner());
+        let Pass { pass, reader } = pass;
+        word.take_back(keeper, reader);
+        book.take_back(&mut returned, pass);
     }
     Calls {
         book: book.calls(),

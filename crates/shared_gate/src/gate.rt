@@ -1,24 +1,29 @@
 // A gate that threads share.
-ghost use Rattle.std.specs.Prelude.{◌≡◌, true, IfOk, IfErr};
+ghost use Rattle.std.specs.Prelude.{◌≡◌, ◌≤◌, true, IfOk, IfErr, map};
 ghost use Rattle.limiter_core.specs.declared.event.Event.TheVariants.{SetLimit, Reset, Look};
 ghost use Rattle.audit.specs.Accepted.{IsHistoryOf};
+ghost use Rattle.gate_journal.specs.Journal.{next_number};
 ghost use Rattle.gate_history.specs.Book.{calls_of, made_as};
 ghost use Rattle.gate_history.specs.Handing.{IsChange};
 ghost use Rattle.gate_history.specs.Steps.{event_of};
 ghost use Rattle.shared_gate.specs.Calls.{Tells, Gets, Waits, Claims, GivesUp, Ends, Changes};
-ghost use Rattle.shared_gate.specs.Calls.{HandsNothing, plainly};
-ghost use Rattle.shared_gate.specs.Closing.{FailsBy, IsKept, calls_by};
+ghost use Rattle.shared_gate.specs.Calls.{HandsNothing, pass_at, plainly};
+ghost use Rattle.shared_gate.specs.Closing.{FailsBy, IsKept, calls_by, limiter_of};
+ghost use Rattle.shared_gate.specs.Report.{IsReportOf};
 
 use crate::answers::{Claimed, GaveUp, Got, Waited};
-use crate::clock::Clock;
 use crate::closing::{AuditFault, count_calls, judge};
-use crate::pass::Pass;
+use crate::naming::GateNaming;
+use crate::pass::{Pass, with_readers};
+use crate::report::Report;
 use crate::sealed::Sealed;
+use clocks::Clock;
 use gate_history::{Book, Call, Handed, History, Naming, Permit, Receipt, Spent, Step, Ticket};
+use gate_word::{SharedWord, Word};
 use limit_laws::Limit;
 use limiter_core::{Counters, Outcome, Reply};
 use partitions::Part;
-use std::alloc::Global;
+use std::alloc::{AllocError, Global};
 use std::sync::{Condvar, Mutex, Wait};
 use std::time::{Clock as SystemClock, Duration};
 
@@ -33,32 +38,58 @@ const SHORTEST_PAUSE: u64 = 1_000_000;
 /// A gate that threads share. A call that takes the lock keeps its promise if it returns. Every
 /// moment is in nanoseconds; one above 2^62 is taken as 2^62.
 #[derive(Drop)]
-pub struct SharedGate<L: Limit, M: Naming> {
+pub struct SharedGate<L: Limit, M: GateNaming> {
     book: Mutex<Sealed<L, M>>,
+    word: SharedWord,
     freed: Condvar,
+    ghost named: { word ≡ M.word },
 }
 
-impl<L: Limit, M: Naming> SharedGate<L, M> {
-    /// A gate over a sealed book, whose passes are all made.
-    pub fn new(book: Book<L, M>) -> SharedGate<L, M>
-        requires { book.is_sealed ≡ true }
+impl<L: Limit, M: GateNaming> SharedGate<L, M> {
+    /// A gate over a sealed book, with a word beside its lock. The passes of the book come back in
+    /// their places, with the calls that were made by them; each has seen the numbers so far. Fails
+    /// where memory for them can't be had, which drops the book and the passes.
+    pub fn new(
+        alloc: Global,
+        word: Word,
+        book: Book<L, M>,
+        passes: Vec<gate_history::Pass<M>>,
+    ) -> Result<(SharedGate<L, M>, Vec<Pass<M>>), AllocError>
+        requires word { word ≡ M.word }
+        requires sealed { book.is_sealed ≡ true }
+        ensures passes { IfOk result (λ made.
+            made.1.items ≡ map (pass_at (next_number book.journal)) passes.items) }
     {
-        SharedGate {
-            book: Mutex::new(Sealed { book }),
+        let (word, mut keeper) = word.share();
+        word.begin(&mut keeper, book.journal().number());
+        let passes = with_readers(alloc, &word, &mut keeper, passes)?;
+        let gate = SharedGate {
+            book: Mutex::new(Sealed { book, keeper }),
+            word,
             freed: Condvar::new(),
-        }
+        };
+        Ok((gate, passes))
     }
 
     /// One step of the book under the lock.
     fn step(&self, rt: &impl Wait, pass: &mut Pass<M>, call: Call<M>) -> Step<M>
-        ensures { Tells pass.old.count pass.new.count (event_of call) result }
+        ensures { Tells pass.old pass.new (event_of call) result }
     {
-        self.book.lock(rt).step(pass, call)
+        self.book.lock(rt).step(&self.word, pass, call)
     }
 
     /// How many replies, promotions and outcomes of each kind there were so far.
     pub fn counters(&self, rt: &impl Wait) -> Counters {
         self.book.lock(rt).book.journal().core().counters()
+    }
+
+    /// What stands at one moment, and the counters so far. It makes no step of the history, and
+    /// takes no memory.
+    pub fn report(&self, rt: &impl Wait) -> Report
+        ensures { IsReportOf (limiter_of L.rules
+            (made_as M.rows M.room M.promote M.kept M.is_rolling M.limit)) result }
+    {
+        self.book.lock(rt).report()
     }
 
     /// Asks for a permit, or with `wait` for a place in line.
@@ -71,7 +102,7 @@ impl<L: Limit, M: Naming> SharedGate<L, M> {
         wait: bool,
         now: u64,
     ) -> Got<M>
-        ensures { Gets pass.old.count pass.new.count part bypass wait now result }
+        ensures { Gets pass.old pass.new part bypass wait now result }
     {
         let call = Call::Acquire {
             part,
@@ -110,7 +141,7 @@ impl<L: Limit, M: Naming> SharedGate<L, M> {
         clock: &C,
         deadline: u64,
     ) -> Waited<M>
-        ensures { Waits pass.old.count pass.new.count part now result }
+        ensures { Waits pass.old pass.new part now result }
     {
         match self.acquire(rt, pass, part, false, true, now) {
             Got::Admitted(receipt, permit) => Waited::Admitted(receipt, permit),
@@ -162,7 +193,7 @@ impl<L: Limit, M: Naming> SharedGate<L, M> {
         outcome: Outcome,
         now: u64,
     ) -> Receipt<M>
-        ensures { Ends pass.old.count pass.new.count permit outcome now result }
+        ensures { Ends pass.old pass.new permit outcome now result }
     {
         let call = Call::End {
             permit,
@@ -188,7 +219,7 @@ impl<L: Limit, M: Naming> SharedGate<L, M> {
 
     /// Asks for the permit of a waiter.
     pub fn claim(&self, rt: &impl Wait, pass: &mut Pass<M>, ticket: Ticket<M>) -> Claimed<M>
-        ensures { Claims pass.old.count pass.new.count ticket result }
+        ensures { Claims pass.old pass.new ticket result }
     {
         match self.step(rt, pass, Call::Claim { ticket }) {
             Step::Done(receipt, handed) => match handed {
@@ -206,7 +237,7 @@ impl<L: Limit, M: Naming> SharedGate<L, M> {
 
     /// Ends the wait of a waiter; a permit that it was given meanwhile is the caller's.
     pub fn give_up(&self, rt: &impl Wait, pass: &mut Pass<M>, ticket: Ticket<M>) -> GaveUp<M>
-        ensures { GivesUp pass.old.count pass.new.count ticket result }
+        ensures { GivesUp pass.old pass.new ticket result }
     {
         match self.step(rt, pass, Call::GiveUp { ticket }) {
             Step::Done(receipt, handed) => match handed {
@@ -233,7 +264,7 @@ impl<L: Limit, M: Naming> SharedGate<L, M> {
         n: u32,
         now: u64,
     ) -> Result<Receipt<M>, Spent<M>>
-        ensures { Changes pass.old.count pass.new.count (SetLimit n now) result }
+        ensures { Changes pass.old pass.new (SetLimit n now) result }
     {
         let receipt = self.change(rt, pass, Call::SetLimit { n, now });
         self.freed.notify_all();
@@ -248,7 +279,7 @@ impl<L: Limit, M: Naming> SharedGate<L, M> {
         pass: &mut Pass<M>,
         now: u64,
     ) -> Result<Receipt<M>, Spent<M>>
-        ensures { Changes pass.old.count pass.new.count (Reset now) result }
+        ensures { Changes pass.old pass.new (Reset now) result }
     {
         let receipt = self.change(rt, pass, Call::Reset { now });
         self.freed.notify_all();
@@ -262,7 +293,7 @@ impl<L: Limit, M: Naming> SharedGate<L, M> {
         pass: &mut Pass<M>,
         part: Part,
     ) -> Result<Receipt<M>, Spent<M>>
-        ensures { Changes pass.old.count pass.new.count (Look part) result }
+        ensures { Changes pass.old pass.new (Look part) result }
     {
         self.change(rt, pass, Call::Look { part })
     }
@@ -294,9 +325,28 @@ impl<L: Limit, M: Naming> SharedGate<L, M> {
             fault.history.opening.standing fault.history.base fault.history.entries.items) }
         ensures kept { IfErr result (λ fault. fault.kept ≡ kept) }
     {
-        let Sealed { mut book } = self.book.into_inner();
-        let calls = count_calls(&mut book, passes);
+        let SharedGate {
+            book,
+            word,
+            freed: _,
+        } = self;
+        let Sealed {
+            mut book,
+            mut keeper,
+        } = book.into_inner();
+        let calls = count_calls(&mut book, &word, &mut keeper, passes);
         judge(alloc, book, calls, kept)
+    }
+
+    /// Lets a pass see what another has seen: its receipts from here on have greater numbers than
+    /// those that the other got before. It takes no lock.
+    pub fn told(&self, pass: &mut Pass<M>, other: &mut Pass<M>)
+        ensures told { other.old.seen ≤ pass.new.seen }
+        ensures kept { pass.old.seen ≤ pass.new.seen }
+        ensures count { pass.new.count ≡ pass.old.count }
+        ensures other { other.new ≡ other.old }
+    {
+        self.word.tell(&mut pass.reader, &mut other.reader);
     }
 
     /// A call that hands nothing out.
@@ -307,7 +357,7 @@ impl<L: Limit, M: Naming> SharedGate<L, M> {
         call: Call<M>,
     ) -> Result<Receipt<M>, Spent<M>>
         requires { IsChange (event_of call) }
-        ensures { Changes pass.old.count pass.new.count (event_of call) result }
+        ensures { Changes pass.old pass.new (event_of call) result }
     {
         plain(self.step(rt, pass, call))
     }

@@ -1,6 +1,8 @@
-// The headline. The function does nothing: it is there for its contract.
+// The headline, and what a pass promises. The functions do nothing: they are there for their
+// contracts.
 ghost use Rattle.limiter_core.specs.History.{Gate};
 ghost use Rattle.shared_gate.specs.Headline.{AcceptedIsOneThreads};
+ghost use Rattle.shared_gate.specs.Seen.{OrderIsNeverTheCause, ReceiptsOfAPassRise};
 
 use limiter_core::turned_away_only_when_full;
 
@@ -15,3 +17,14 @@ pub fn accepted_histories_are_one_threads<S>()
 {
     turned_away_only_when_full::<S>();
 }
+
+/// What a pass promises over a list of its calls: the numbers of its receipts rise strictly, also
+/// where the gate rolls and no audit can say so; and no audit ever fails for the order of lists
+/// that were kept in the order of one pass's calls. The function does nothing: it is there for its
+/// contract.
+///
+/// Each call of [`SharedGate`](crate::SharedGate) promises the premise of it for its receipts.
+pub fn receipts_of_a_pass_rise()
+    ensures rise { ReceiptsOfAPassRise }
+    ensures order { OrderIsNeverTheCause }
+{}

@@ -10,17 +10,22 @@
 #![tactic(auto)]
 
 mod answers;
-mod clock;
 mod closing;
 mod gate;
 mod laws;
+mod naming;
+mod opening;
 mod pass;
+mod report;
 mod sealed;
 
 pub use answers::{Claimed, GaveUp, Got, Waited};
 pub use audit::Cause;
-pub use clock::{Clock, ProgramClock};
+pub use clocks::{Clock, ProgramClock};
 pub use closing::AuditFault;
 pub use gate::SharedGate;
-pub use laws::accepted_histories_are_one_threads;
+pub use gate_word::Word;
+pub use laws::{accepted_histories_are_one_threads, receipts_of_a_pass_rise};
+pub use naming::GateNaming;
 pub use pass::Pass;
+pub use report::Report;

@@ -1,25 +1,54 @@
 // What lies under the lock.
 ghost use Rattle.std.specs.Prelude.{◌≡◌, true};
+ghost use Rattle.gate_journal.specs.Journal.{next_number};
 ghost use Rattle.gate_history.specs.Steps.{event_of};
+ghost use Rattle.gate_history.specs.Book.{made_as};
 ghost use Rattle.shared_gate.specs.Calls.{Tells};
+ghost use Rattle.shared_gate.specs.Closing.{limiter_of};
+ghost use Rattle.shared_gate.specs.Report.{IsReportOf};
 
+use crate::naming::GateNaming;
 use crate::pass::Pass;
-use gate_history::{Book, Call, Naming, Step};
+use crate::report::{Report, report_of};
+use gate_history::{Book, Call, Step};
+use gate_word::{Keeper, SharedWord};
 use limit_laws::Limit;
 
-/// A book that gives no more passes.
+/// A book that gives no more passes, and the keeper of the word, which is its next number.
 #[derive(Drop)]
-pub(crate) struct Sealed<L: Limit, M: Naming> {
+pub(crate) struct Sealed<L: Limit, M: GateNaming> {
     pub(crate) book: Book<L, M>,
+    pub(crate) keeper: Keeper,
     ghost is_sealed: { book.is_sealed ≡ true },
+    ghost named: { keeper.table ≡ M.word },
+    ghost word: { keeper.word ≡ next_number book.journal },
 }
 
-impl<L: Limit, M: Naming> Sealed<L, M> {
-    /// One step of the book.
-    pub(crate) fn step(&mut self, pass: &mut Pass<M>, call: Call<M>) -> Step<M>
-        ensures { Tells pass.old.count pass.new.count (event_of call) result }
+impl<L: Limit, M: GateNaming> Sealed<L, M> {
+    /// One step of the book, and where that is done the word is raised to the next number.
+    pub(crate) fn step(&mut self, word: &SharedWord, pass: &mut Pass<M>, call: Call<M>) -> Step<M>
+        requires { word.now ≡ M.word }
+        ensures { Tells pass.old pass.new (event_of call) result }
     {
         self.book.journal().check();
-        self.book.step(&mut pass.pass, call)
+        match self.book.step(&mut pass.pass, call) {
+            Step::Done(receipt, handed) => {
+                let next = self.book.journal().number();
+                word.raise(&mut self.keeper, &mut pass.reader, next);
+                Step::Done(receipt, handed)
+            }
+            Step::Exhausted(spent, handed) => Step::Exhausted(spent, handed),
+        }
+    }
+
+    /// What stands.
+    pub(crate) fn report(&self) -> Report
+        ensures { IsReportOf (limiter_of L.rules
+            (made_as M.rows M.room M.promote M.kept M.is_rolling M.limit)) result }
+    {
+        self.book.check();
+        let journal = self.book.journal();
+        journal.check();
+        report_of(journal.core())
     }
 }

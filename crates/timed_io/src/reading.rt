@@ -7,7 +7,7 @@ ghost use Rattle.timed_io.specs.Time.{HasBegun, deadline_of, left_of, most_of};
 ghost use Rattle.timed_io.specs.Timed.{HasPassed, reader_in, reader_time};
 
 use crate::countdown::Countdown;
-use shared_gate::Clock;
+use clocks::Clock;
 use std::io::{Read, Result};
 use std::time::Duration;
 

@@ -1,8 +1,8 @@
 // What is handed in of one caller as a gate is closed, and what is told of it.
-use super::callers::Caller;
+use crate::callers::Caller;
 use gate_history::{History, Naming, Receipt};
 use limit_laws::Fixed;
-use shared_gate::{AuditFault, Cause, Pass, SharedGate};
+use shared_gate::{AuditFault, Cause, GateNaming, Pass, SharedGate};
 use std::alloc::Global;
 use std::process::Abort;
 
@@ -33,21 +33,21 @@ impl Handing {
 }
 
 /// What the closing of a gate answers that is handed this of a caller, in the second of two lists.
-pub(crate) fn closed<M: Naming, R: Abort>(
+pub(crate) fn closed<M: GateNaming, R: Abort>(
     rt: &R,
     alloc: Global,
     gate: SharedGate<Fixed, M>,
     caller: Caller<M>,
     handing: Handing,
 ) -> Result<History<Fixed>, AuditFault<Fixed, M>> {
-    let Caller { pass, receipts } = caller;
+    let Caller { pass, receipts, .. } = caller;
     let passes = passes_of(rt, alloc, pass, handing);
     let kept = lists_of(rt, alloc, receipts, handing);
     gate.close(alloc, passes, kept)
 }
 
 /// The pass, or none.
-fn passes_of<M: Naming, R: Abort>(
+fn passes_of<M: GateNaming, R: Abort>(
     rt: &R,
     alloc: Global,
     pass: Pass<M>,

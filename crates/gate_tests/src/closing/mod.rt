@@ -1,5 +1,4 @@
 // How a gate is closed.
-mod callers;
 mod handing;
 mod rolled_tests;
 mod threads_tests;

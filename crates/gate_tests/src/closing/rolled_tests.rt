@@ -3,12 +3,13 @@ ghost use Rattle.std.specs.Prelude.{◌≡◌, [], true};
 ghost use Rattle.limiter_core.specs.declared.promote.Promote.TheVariants.{Newest};
 ghost use Rattle.gate_ledgers.specs.Names.{AreNamed, AreWhole};
 
-use super::callers::{Caller, look};
 use super::handing::{Handing, are_handed_back, closed};
 use crate::books::book_over;
-use gate_history::{Blanks, Book, Naming};
+use crate::callers::{Caller, look};
+use crate::gates::{gate_by_one, new_word};
+use gate_history::{Blanks, Naming};
 use limit_laws::Fixed;
-use shared_gate::{AuditFault, Cause, SharedGate};
+use shared_gate::{AuditFault, Cause, GateNaming, Pass, SharedGate, Word};
 use std::alloc::Global;
 use std::marker::Brand;
 use std::process::Abort;
@@ -28,18 +29,26 @@ fn handings() -> [Handing; 3] {
 #[test]
 fn a_gate_that_rolled_is_not_accepted(rt: HostRuntime) {
     for handing in &handings() {
-        closes_rolled::<Brand, _>(&rt, rt.alloc(), Blanks::new(), *handing);
+        closes_rolled::<Brand, _>(
+            &rt,
+            rt.alloc(),
+            Blanks::new(),
+            new_word(&rt, rt.alloc()),
+            *handing,
+        );
     }
 }
 
-fn closes_rolled<M: Naming, R: Wait + Abort>(
+fn closes_rolled<M: GateNaming, R: Wait + Abort>(
     rt: &R,
     alloc: Global,
     blanks: Blanks,
+    word: Word,
     handing: Handing,
 )
     requires names { AreNamed M.calls M.place blanks }
     requires parts { AreWhole blanks }
+    requires word { word ≡ M.word }
     requires rows { M.rows ≡ [] }
     requires room { M.room ≡ 100 }
     requires promote { M.promote ≡ Newest }
@@ -48,18 +57,18 @@ fn closes_rolled<M: Naming, R: Wait + Abort>(
     requires limit { M.limit ≡ 10 }
 {
     let book = book_over::<M, R>(rt, alloc, 10, 1, true, blanks);
-    closes_book(rt, alloc, book, handing);
+    let (gate, pass) = gate_by_one(rt, alloc, book, word);
+    closes_gate(rt, alloc, gate, pass, handing);
 }
 
-fn closes_book<M: Naming, R: Wait + Abort>(
+fn closes_gate<M: GateNaming, R: Wait + Abort>(
     rt: &R,
     alloc: Global,
-    mut book: Book<Fixed, M>,
+    gate: SharedGate<Fixed, M>,
+    pass: Pass<M>,
     handing: Handing,
 ) {
-    let mut caller = Caller::of(rt, alloc, &mut book, 2);
-    book.seal();
-    let gate = SharedGate::new(book);
+    let mut caller = Caller::of(rt, alloc, pass, 2);
     look(rt, &gate, &mut caller);
     look(rt, &gate, &mut caller);
     let fault = closed(rt, alloc, gate, caller, handing).err();

@@ -3,12 +3,12 @@ ghost use Rattle.std.specs.Prelude.{◌≡◌, [], false};
 ghost use Rattle.limiter_core.specs.declared.promote.Promote.TheVariants.{Newest};
 ghost use Rattle.gate_ledgers.specs.Names.{AreNamed, AreWhole};
 
-use super::callers::{Caller, acquire_and_end};
 use crate::books::book_over;
-use crate::threads::{Work, both_done};
-use gate_history::{Blanks, Book, Entry, History, Naming};
+use crate::callers::{Caller, by_two_threads};
+use crate::gates::{gate_by_two, new_word};
+use gate_history::{Blanks, Entry, History, Naming};
 use limit_laws::Fixed;
-use shared_gate::{AuditFault, SharedGate};
+use shared_gate::{AuditFault, GateNaming, Pass, SharedGate, Word};
 use std::alloc::Global;
 use std::marker::Brand;
 use std::process::Abort;
@@ -17,16 +17,18 @@ use std::thread::Threads;
 
 #[test]
 fn four_hundred_calls_of_two_threads_are_accepted(rt: HostRuntime) {
-    closes_two_threads::<Brand, _>(&rt, rt.alloc(), Blanks::new());
+    closes_two_threads::<Brand, _>(&rt, rt.alloc(), Blanks::new(), new_word(&rt, rt.alloc()));
 }
 
-fn closes_two_threads<M: Naming + Send + Sync, R: Threads + Wait + Abort + Sync>(
+fn closes_two_threads<M: GateNaming + Send + Sync, R: Threads + Wait + Abort + Sync>(
     rt: &R,
     alloc: Global,
     blanks: Blanks,
+    word: Word,
 )
     requires names { AreNamed M.calls M.place blanks }
     requires parts { AreWhole blanks }
+    requires word { word ≡ M.word }
     requires rows { M.rows ≡ [] }
     requires room { M.room ≡ 100 }
     requires promote { M.promote ≡ Newest }
@@ -35,52 +37,25 @@ fn closes_two_threads<M: Naming + Send + Sync, R: Threads + Wait + Abort + Sync>
     requires limit { M.limit ≡ 10 }
 {
     let book = book_over::<M, R>(rt, alloc, 10, 1_000, false, blanks);
-    closes_book(rt, alloc, book);
+    let (gate, (one, two)) = gate_by_two(rt, alloc, book, word);
+    closes_gate(rt, alloc, gate, one, two);
 }
 
-fn closes_book<M: Naming + Send + Sync, R: Threads + Wait + Abort + Sync>(
+fn closes_gate<M: GateNaming + Send + Sync, R: Threads + Wait + Abort + Sync>(
     rt: &R,
     alloc: Global,
-    mut book: Book<Fixed, M>,
+    gate: SharedGate<Fixed, M>,
+    one: Pass<M>,
+    two: Pass<M>,
 ) {
-    let one = Caller::of(rt, alloc, &mut book, 200);
-    let two = Caller::of(rt, alloc, &mut book, 200);
-    book.seal();
-    let gate = SharedGate::new(book);
+    let one = Caller::of(rt, alloc, one, 200);
+    let two = Caller::of(rt, alloc, two, 200);
     let (one, two) = by_two_threads(rt, &gate, one, two);
     is_whole(rt, closed(rt, alloc, gate, one, two));
 }
 
-fn by_two_threads<M: Naming + Send + Sync, R: Threads + Wait + Abort + Sync>(
-    rt: &R,
-    gate: &SharedGate<Fixed, M>,
-    one: Caller<M>,
-    two: Caller<M>,
-) -> (Caller<M>, Caller<M>) {
-    let one = Pairs { gate, caller: one };
-    let two = Pairs { gate, caller: two };
-    let (one, two) = both_done(rt, one, two);
-    (one.caller, two.caller)
-}
-
-/// 100 acquires with an ending each.
-#[derive(Drop)]
-struct Pairs<'a, M: Naming> {
-    gate: &'a SharedGate<Fixed, M>,
-    caller: Caller<M>,
-}
-
-impl<'a, M: Naming, R: Wait + Abort> Work<R> for Pairs<'a, M> {
-    fn done(mut self, rt: &R) -> Pairs<'a, M> {
-        for now in 0..100 {
-            acquire_and_end(rt, self.gate, &mut self.caller, now, now);
-        }
-        self
-    }
-}
-
 /// What the closing answers that is handed all of both callers.
-fn closed<M: Naming, R: Abort>(
+fn closed<M: GateNaming, R: Abort>(
     rt: &R,
     alloc: Global,
     gate: SharedGate<Fixed, M>,

@@ -4,14 +4,15 @@ ghost use Rattle.std.specs.Prelude.{◌≡◌, [], false};
 ghost use Rattle.limiter_core.specs.declared.promote.Promote.TheVariants.{Newest};
 ghost use Rattle.gate_ledgers.specs.Names.{AreNamed, AreWhole};
 
-use super::callers::{Caller, acquire_and_end};
 use super::handing::{Handing, are_handed_back, closed};
 use crate::books::book_over;
-use gate_history::{Blanks, Book, Entry, History, Naming};
+use crate::callers::{Caller, acquire_and_end};
+use crate::gates::{gate_by_one, new_word};
+use gate_history::{Blanks, Entry, History, Naming};
 use limit_laws::Fixed;
 use limiter_core::{Event, Outcome, PermitFacts, Reply};
 use partitions::Part;
-use shared_gate::{AuditFault, Cause, SharedGate};
+use shared_gate::{AuditFault, Cause, GateNaming, Pass, SharedGate, Word};
 use std::alloc::Global;
 use std::marker::Brand;
 use std::process::Abort;
@@ -37,18 +38,26 @@ fn handings() -> [Handing; 7] {
 #[test]
 fn each_fault_of_two_calls_is_told(rt: HostRuntime) {
     for handing in &handings() {
-        closes_two_calls::<Brand, _>(&rt, rt.alloc(), Blanks::new(), *handing);
+        closes_two_calls::<Brand, _>(
+            &rt,
+            rt.alloc(),
+            Blanks::new(),
+            new_word(&rt, rt.alloc()),
+            *handing,
+        );
     }
 }
 
-fn closes_two_calls<M: Naming, R: Wait + Abort>(
+fn closes_two_calls<M: GateNaming, R: Wait + Abort>(
     rt: &R,
     alloc: Global,
     blanks: Blanks,
+    word: Word,
     handing: Handing,
 )
     requires names { AreNamed M.calls M.place blanks }
     requires parts { AreWhole blanks }
+    requires word { word ≡ M.word }
     requires rows { M.rows ≡ [] }
     requires room { M.room ≡ 100 }
     requires promote { M.promote ≡ Newest }
@@ -57,18 +66,18 @@ fn closes_two_calls<M: Naming, R: Wait + Abort>(
     requires limit { M.limit ≡ 10 }
 {
     let book = book_over::<M, R>(rt, alloc, 10, 1_000, false, blanks);
-    closes_book(rt, alloc, book, handing);
+    let (gate, pass) = gate_by_one(rt, alloc, book, word);
+    closes_gate(rt, alloc, gate, pass, handing);
 }
 
-fn closes_book<M: Naming, R: Wait + Abort>(
+fn closes_gate<M: GateNaming, R: Wait + Abort>(
     rt: &R,
     alloc: Global,
-    mut book: Book<Fixed, M>,
+    gate: SharedGate<Fixed, M>,
+    pass: Pass<M>,
     handing: Handing,
 ) {
-    let mut caller = Caller::of(rt, alloc, &mut book, 2);
-    book.seal();
-    let gate = SharedGate::new(book);
+    let mut caller = Caller::of(rt, alloc, pass, 2);
     acquire_and_end(rt, &gate, &mut caller, 0, 5);
     is_told(rt, closed(rt, alloc, gate, caller, handing), handing);
 }

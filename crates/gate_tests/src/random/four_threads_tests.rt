@@ -7,17 +7,18 @@ ghost use Rattle.gate_journal.specs.Journal.{most_kept};
 ghost use Rattle.gate_ledgers.specs.Names.{AreNamed, AreWhole};
 
 use super::random_calls::{Caller, Told, call_at_random};
+use crate::gates::{gate_by, new_word};
 use crate::threads::{Work, four_done};
 use aimd::Aimd;
 use gate_history::{Blanks, Book, Naming};
 use limit_laws::Limit;
 use limiter_core::{Core, Counters, Event, Promote, Reply};
 use partitions::PartitionTable;
-use shared_gate::{Pass, SharedGate};
+use shared_gate::{GateNaming, Pass, SharedGate, Word};
 use std::alloc::Global;
 use std::marker::Brand;
 use std::process::Abort;
-use std::sync::Wait;
+use std::sync::{Mutex, Wait};
 use std::thread::Threads;
 
 /// How many may wait.
@@ -49,6 +50,7 @@ fn four_threads_are_told_what_one_is(rt: HostRuntime) {
         rt.alloc(),
         table,
         Blanks::new(),
+        new_word(&rt, rt.alloc()),
         Promote::Newest,
         1_000_000,
         false,
@@ -63,6 +65,7 @@ fn four_threads_over_a_rolling_gate_are_told_what_one_is(rt: HostRuntime) {
         rt.alloc(),
         table,
         Blanks::new(),
+        new_word(&rt, rt.alloc()),
         Promote::Newest,
         100,
         true,
@@ -77,23 +80,26 @@ fn four_threads_over_a_rolling_gate_of_all_are_told_what_one_is(rt: HostRuntime)
         rt.alloc(),
         table,
         Blanks::new(),
+        new_word(&rt, rt.alloc()),
         Promote::All,
         100,
         true,
     );
 }
 
-fn told_by_four<M: Naming + Send + Sync, R: Threads + Wait + Abort + Sync>(
+fn told_by_four<M: GateNaming + Send + Sync, R: Threads + Wait + Abort + Sync>(
     rt: &R,
     alloc: Global,
     table: PartitionTable,
     blanks: Blanks,
+    word: Word,
     promote: Promote,
     kept: usize,
     is_rolling: bool,
 )
     requires names { AreNamed M.calls M.place blanks }
     requires parts { AreWhole blanks }
+    requires word { word ≡ M.word }
     requires rows { M.rows ≡ table }
     requires room { M.room ≡ 2 }
     requires promote { M.promote ≡ promote }
@@ -104,7 +110,10 @@ fn told_by_four<M: Naming + Send + Sync, R: Threads + Wait + Abort + Sync>(
     requires few_kept { kept ≤ most_kept }
 {
     let book = a_book::<M, R>(rt, alloc, table, blanks, promote, kept, is_rolling);
-    told_of_book(rt, alloc, promote, book);
+    let (gate, mut passes) = gate_by(rt, alloc, book, word, 5);
+    let common = Mutex::new(passes.pop().expect(rt, "a pass"));
+    let callers = four_callers(rt, alloc, passes);
+    told_of_gate(rt, alloc, promote, &gate, &common, callers);
 }
 
 fn a_book<M: Naming, R: Abort>(
@@ -131,61 +140,55 @@ fn a_book<M: Naming, R: Abort>(
     Book::begin(alloc, limit, table, ROOM, promote, kept, is_rolling, blanks).expect(rt, "memory")
 }
 
-fn told_of_book<M: Naming + Send + Sync, R: Threads + Wait + Abort + Sync>(
-    rt: &R,
-    alloc: Global,
-    promote: Promote,
-    mut book: Book<Aimd, M>,
-) {
-    let callers = four_callers(rt, alloc, &mut book);
-    book.seal();
-    let gate = SharedGate::new(book);
-    told_of_gate(rt, alloc, promote, &gate, callers);
-}
-
-fn told_of_gate<M: Naming + Send + Sync, R: Threads + Wait + Abort + Sync>(
+fn told_of_gate<M: GateNaming + Send + Sync, R: Threads + Wait + Abort + Sync>(
     rt: &R,
     alloc: Global,
     promote: Promote,
     gate: &SharedGate<Aimd, M>,
+    common: &Mutex<Pass<M>>,
     callers: Four<M>,
 ) {
-    let callers = by_four_threads(rt, gate, callers);
+    let callers = by_four_threads(rt, gate, common, callers);
     let told = all_told(rt, alloc, &callers);
     is_told_to_one(rt, limiter(rt, alloc, promote), &told, gate.counters(rt));
 }
 
 /// Four callers.
 #[derive(Drop)]
-struct Four<M: Naming> {
+struct Four<M: GateNaming> {
     first: Caller<M>,
     second: Caller<M>,
     third: Caller<M>,
     fourth: Caller<M>,
 }
 
-fn four_callers<M: Naming, R: Abort>(rt: &R, alloc: Global, book: &mut Book<Aimd, M>) -> Four<M> {
+fn four_callers<M: GateNaming, R: Abort>(
+    rt: &R,
+    alloc: Global,
+    mut passes: Vec<Pass<M>>,
+) -> Four<M> {
     Four {
-        first: a_caller(rt, alloc, book, 1),
-        second: a_caller(rt, alloc, book, 2),
-        third: a_caller(rt, alloc, book, 3),
-        fourth: a_caller(rt, alloc, book, 4),
+        first: a_caller(rt, alloc, &mut passes, 1),
+        second: a_caller(rt, alloc, &mut passes, 2),
+        third: a_caller(rt, alloc, &mut passes, 3),
+        fourth: a_caller(rt, alloc, &mut passes, 4),
     }
 }
 
-fn a_caller<M: Naming, R: Abort>(
+fn a_caller<M: GateNaming, R: Abort>(
     rt: &R,
     alloc: Global,
-    book: &mut Book<Aimd, M>,
+    passes: &mut Vec<Pass<M>>,
     seed: u64,
 ) -> Caller<M> {
-    let pass = Pass::of(book.pass().expect(rt, "a pass"));
+    let pass = passes.pop().expect(rt, "a pass");
     Caller::new(rt, alloc, pass, seed)
 }
 
-fn by_four_threads<M: Naming + Send + Sync, R: Threads + Wait + Abort + Sync>(
+fn by_four_threads<M: GateNaming + Send + Sync, R: Threads + Wait + Abort + Sync>(
     rt: &R,
     gate: &SharedGate<Aimd, M>,
+    common: &Mutex<Pass<M>>,
     callers: Four<M>,
 ) -> Four<M> {
     let Four {
@@ -194,8 +197,8 @@ fn by_four_threads<M: Naming + Send + Sync, R: Threads + Wait + Abort + Sync>(
         third,
         fourth,
     } = callers;
-    let left = two_calls(gate, first, second);
-    let right = two_calls(gate, third, fourth);
+    let left = two_calls(gate, common, first, second);
+    let right = two_calls(gate, common, third, fourth);
     let (left, right) = four_done(rt, left, right);
     Four {
         first: left.0.caller,
@@ -207,30 +210,51 @@ fn by_four_threads<M: Naming + Send + Sync, R: Threads + Wait + Abort + Sync>(
 
 /// A caller's random calls.
 #[derive(Drop)]
-struct Calls<'a, M: Naming> {
+struct Calls<'a, M: GateNaming> {
     gate: &'a SharedGate<Aimd, M>,
+    /// A pass that nobody calls by, and by which callers tell one another.
+    common: &'a Mutex<Pass<M>>,
     caller: Caller<M>,
 }
 
-impl<'a, M: Naming, R: Wait + Abort> Work<R> for Calls<'a, M> {
+impl<'a, M: GateNaming, R: Wait + Abort> Work<R> for Calls<'a, M> {
     fn done(self, rt: &R) -> Calls<'a, M> {
-        let Calls { gate, caller } = self;
-        let caller = call_at_random(rt, gate, caller);
-        Calls { gate, caller }
+        let Calls {
+            gate,
+            common,
+            caller,
+        } = self;
+        let caller = call_at_random(rt, gate, common, caller);
+        Calls {
+            gate,
+            common,
+            caller,
+        }
     }
 }
 
 /// The calls of two callers.
-fn two_calls<'a, M: Naming>(
+fn two_calls<'a, M: GateNaming>(
     gate: &'a SharedGate<Aimd, M>,
+    common: &'a Mutex<Pass<M>>,
     one: Caller<M>,
     two: Caller<M>,
 ) -> (Calls<'a, M>, Calls<'a, M>) {
-    (Calls { gate, caller: one }, Calls { gate, caller: two })
+    let one = Calls {
+        gate,
+        common,
+        caller: one,
+    };
+    let two = Calls {
+        gate,
+        common,
+        caller: two,
+    };
+    (one, two)
 }
 
 /// What all four were told, in order of number.
-fn all_told<M: Naming, R: Abort>(rt: &R, alloc: Global, callers: &Four<M>) -> Vec<Told> {
+fn all_told<M: GateNaming, R: Abort>(rt: &R, alloc: Global, callers: &Four<M>) -> Vec<Told> {
     let mut told = Vec::new(alloc);
     for caller in [
         &callers.first,

@@ -1,13 +1,14 @@
-// A caller that makes random calls of a shared gate, and keeps what it is told.
+// A caller that makes random calls of a shared gate, keeps what it is told, and lets other callers
+// know what it has seen.
 use super::dice::Dice;
 use aimd::Aimd;
 use gate_history::{Naming, Permit, Receipt, Spent, Ticket};
 use limiter_core::{Event, Reply};
 use partitions::Part;
-use shared_gate::{Claimed, GaveUp, Got, Pass, SharedGate};
+use shared_gate::{Claimed, GateNaming, GaveUp, Got, Pass, SharedGate};
 use std::alloc::Global;
 use std::process::Abort;
-use std::sync::Wait;
+use std::sync::{Mutex, Wait};
 
 /// How many calls a caller makes, before it gives back what it holds.
 const CALLS: u64 = 5_000;
@@ -22,25 +23,32 @@ pub(crate) struct Told {
 
 /// Who calls: by its pass, by its dice.
 #[derive(Drop)]
-pub(crate) struct Caller<M: Naming> {
+pub(crate) struct Caller<M: GateNaming> {
     pass: Pass<M>,
     dice: Dice,
+    /// What the pass has seen so far.
+    seen: u64,
     /// What it was told, in the order of its calls.
     pub(crate) told: Vec<Told>,
 }
 
-impl<M: Naming> Caller<M> {
+impl<M: GateNaming> Caller<M> {
     pub(crate) fn new<R: Abort>(rt: &R, alloc: Global, pass: Pass<M>, seed: u64) -> Caller<M> {
         let told = Vec::with_capacity(alloc, CALLS as usize + 4);
+        let seen = pass.seen();
         Caller {
             pass,
             dice: Dice::new(seed),
+            seen,
             told: told.expect(rt, "memory for what is told"),
         }
     }
 
-    /// Keeps what a receipt tells.
+    /// Keeps what a receipt tells, whose number the pass hadn't seen before, and has seen now.
     fn keep<R: Abort>(&mut self, rt: &R, receipt: Receipt<M>) {
+        let seen = self.pass.seen();
+        assert!(rt; self.seen <= receipt.number() && receipt.number() < seen);
+        self.seen = seen;
         add(rt, &mut self.told, told_by(&receipt));
     }
 
@@ -75,10 +83,11 @@ struct Both<M: Naming> {
     two: Held<M>,
 }
 
-/// Makes random calls, and gives back what it holds in the end.
-pub(crate) fn call_at_random<M: Naming, R: Wait + Abort>(
+/// Makes random calls and tellings, and gives back what it holds in the end.
+pub(crate) fn call_at_random<M: GateNaming, R: Wait + Abort>(
     rt: &R,
     gate: &SharedGate<Aimd, M>,
+    common: &Mutex<Pass<M>>,
     mut caller: Caller<M>,
 ) -> Caller<M> {
     let mut both = Both {
@@ -87,6 +96,7 @@ pub(crate) fn call_at_random<M: Naming, R: Wait + Abort>(
     };
     for now in 0..CALLS {
         both = turn(rt, gate, &mut caller, both, now);
+        tell(rt, gate, common, &mut caller);
     }
     let Both { one, two } = both;
     leave(rt, gate, &mut caller, one);
@@ -94,8 +104,43 @@ pub(crate) fn call_at_random<M: Naming, R: Wait + Abort>(
     caller
 }
 
+/// Now and then the pass that all share is told what the caller has seen, or the caller what that
+/// has.
+fn tell<M: GateNaming, R: Wait + Abort>(
+    rt: &R,
+    gate: &SharedGate<Aimd, M>,
+    common: &Mutex<Pass<M>>,
+    caller: &mut Caller<M>,
+) {
+    match caller.dice.roll(16) {
+        0 => {
+            let mut common = common.lock(rt);
+            is_told(rt, gate, &mut *common, &mut caller.pass);
+        }
+        1 => {
+            let mut common = common.lock(rt);
+            is_told(rt, gate, &mut caller.pass, &mut *common);
+        }
+        _ => {}
+    }
+    caller.seen = caller.pass.seen();
+}
+
+/// A pass that was told has seen what the other had, and no less than before.
+fn is_told<M: GateNaming, R: Abort>(
+    rt: &R,
+    gate: &SharedGate<Aimd, M>,
+    pass: &mut Pass<M>,
+    other: &mut Pass<M>,
+) {
+    let (own, others) = (pass.seen(), other.seen());
+    gate.told(pass, other);
+    assert!(rt; pass.seen() >= own && pass.seen() >= others);
+    assert!(rt; other.seen() == others);
+}
+
 /// One call, for one of the two things.
-fn turn<M: Naming, R: Wait + Abort>(
+fn turn<M: GateNaming, R: Wait + Abort>(
     rt: &R,
     gate: &SharedGate<Aimd, M>,
     caller: &mut Caller<M>,
@@ -112,7 +157,7 @@ fn turn<M: Naming, R: Wait + Abort>(
 }
 
 /// One call: what is held before it, and after it.
-fn call<M: Naming, R: Wait + Abort>(
+fn call<M: GateNaming, R: Wait + Abort>(
     rt: &R,
     gate: &SharedGate<Aimd, M>,
     caller: &mut Caller<M>,
@@ -127,7 +172,7 @@ fn call<M: Naming, R: Wait + Abort>(
 }
 
 /// Most often an acquire, else a setting, a reset or a look.
-fn call_with_nothing<M: Naming, R: Wait + Abort>(
+fn call_with_nothing<M: GateNaming, R: Wait + Abort>(
     rt: &R,
     gate: &SharedGate<Aimd, M>,
     caller: &mut Caller<M>,
@@ -143,7 +188,7 @@ fn call_with_nothing<M: Naming, R: Wait + Abort>(
     Held::Nothing
 }
 
-fn acquire<M: Naming, R: Wait + Abort>(
+fn acquire<M: GateNaming, R: Wait + Abort>(
     rt: &R,
     gate: &SharedGate<Aimd, M>,
     caller: &mut Caller<M>,
@@ -165,7 +210,7 @@ fn acquire<M: Naming, R: Wait + Abort>(
 }
 
 /// An ending, or a look.
-fn call_with_permit<M: Naming, R: Wait + Abort>(
+fn call_with_permit<M: GateNaming, R: Wait + Abort>(
     rt: &R,
     gate: &SharedGate<Aimd, M>,
     caller: &mut Caller<M>,
@@ -181,7 +226,7 @@ fn call_with_permit<M: Naming, R: Wait + Abort>(
     Held::Nothing
 }
 
-fn end<M: Naming, R: Wait + Abort>(
+fn end<M: GateNaming, R: Wait + Abort>(
     rt: &R,
     gate: &SharedGate<Aimd, M>,
     caller: &mut Caller<M>,
@@ -194,7 +239,7 @@ fn end<M: Naming, R: Wait + Abort>(
 }
 
 /// A claim, or a giving up.
-fn call_with_ticket<M: Naming, R: Wait + Abort>(
+fn call_with_ticket<M: GateNaming, R: Wait + Abort>(
     rt: &R,
     gate: &SharedGate<Aimd, M>,
     caller: &mut Caller<M>,
@@ -213,7 +258,7 @@ fn call_with_ticket<M: Naming, R: Wait + Abort>(
     held
 }
 
-fn give_up<M: Naming, R: Wait + Abort>(
+fn give_up<M: GateNaming, R: Wait + Abort>(
     rt: &R,
     gate: &SharedGate<Aimd, M>,
     caller: &mut Caller<M>,
@@ -230,7 +275,7 @@ fn give_up<M: Naming, R: Wait + Abort>(
 }
 
 /// Ends the permit that is held, or that a giving up gets.
-fn leave<M: Naming, R: Wait + Abort>(
+fn leave<M: GateNaming, R: Wait + Abort>(
     rt: &R,
     gate: &SharedGate<Aimd, M>,
     caller: &mut Caller<M>,

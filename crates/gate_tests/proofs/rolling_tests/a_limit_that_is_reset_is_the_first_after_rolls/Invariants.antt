@@ -4,8 +4,8 @@ use Rattle.gate_ledgers.specs.Names.{places_of}
 use Rattle.gate_tests.proofs.rolling_tests.a_limit_that_is_reset_is_the_first_after_rolls.Given as goal
 
 -- the ledgers that were just made, over a table without classes
-abbrev pub ghosts-set_and_reset : goal.ghosts-set_and_reset
-ghosts-set_and_reset g a =
+abbrev pub ghosts-set_and_reset-M-Naming : goal.ghosts-set_and_reset-M-Naming
+ghosts-set_and_reset-M-Naming g a =
     record {
       calls = a.blanks.calls.name;
       place = places_of a.blanks;
@@ -16,3 +16,7 @@ ghosts-set_and_reset g a =
       is_rolling = true;
       limit = 10;
     }
+
+-- and the table of its word
+abbrev pub ghosts-set_and_reset-M-GateNaming : goal.ghosts-set_and_reset-M-GateNaming
+ghosts-set_and_reset-M-GateNaming g a = record { word = a.word }

@@ -4,8 +4,8 @@ use Rattle.gate_ledgers.specs.Names.{places_of}
 use Rattle.gate_tests.proofs.rolling_tests.a_roll_keeps_the_algorithms_state.Given as goal
 
 -- the ledgers that were just made, over a table without classes
-abbrev pub ghosts-set_and_seen : goal.ghosts-set_and_seen
-ghosts-set_and_seen g a =
+abbrev pub ghosts-set_and_seen-M-Naming : goal.ghosts-set_and_seen-M-Naming
+ghosts-set_and_seen-M-Naming g a =
     record {
       calls = a.blanks.calls.name;
       place = places_of a.blanks;
@@ -16,3 +16,7 @@ ghosts-set_and_seen g a =
       is_rolling = true;
       limit = 20;
     }
+
+-- and the table of its word
+abbrev pub ghosts-set_and_seen-M-GateNaming : goal.ghosts-set_and_seen-M-GateNaming
+ghosts-set_and_seen-M-GateNaming g a = record { word = a.word }

@@ -4,8 +4,8 @@ use Rattle.gate_ledgers.specs.Names.{places_of}
 use Rattle.gate_tests.proofs.shared_gate_tests.a_roll_keeps_who_waits_and_what_lies_granted.Given as goal
 
 -- the ledgers that were just made, over a table without classes
-abbrev pub ghosts-by_one_pass : goal.ghosts-by_one_pass
-ghosts-by_one_pass g a =
+abbrev pub ghosts-by_one_pass-M-Naming : goal.ghosts-by_one_pass-M-Naming
+ghosts-by_one_pass-M-Naming g a =
     record {
       calls = a.blanks.calls.name;
       place = places_of a.blanks;
@@ -16,3 +16,7 @@ ghosts-by_one_pass g a =
       is_rolling = true;
       limit = 1;
     }
+
+-- and the table of its word
+abbrev pub ghosts-by_one_pass-M-GateNaming : goal.ghosts-by_one_pass-M-GateNaming
+ghosts-by_one_pass-M-GateNaming g a = record { word = a.word }

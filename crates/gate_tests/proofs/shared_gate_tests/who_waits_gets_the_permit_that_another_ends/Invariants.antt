@@ -4,8 +4,8 @@ use Rattle.gate_ledgers.specs.Names.{places_of}
 use Rattle.gate_tests.proofs.shared_gate_tests.who_waits_gets_the_permit_that_another_ends.Given as goal
 
 -- the ledgers that were just made, over a table without classes
-abbrev pub ghosts-by_two_threads : goal.ghosts-by_two_threads
-ghosts-by_two_threads g a =
+abbrev pub ghosts-by_two_threads-M-Naming : goal.ghosts-by_two_threads-M-Naming
+ghosts-by_two_threads-M-Naming g a =
     record {
       calls = a.blanks.calls.name;
       place = places_of a.blanks;
@@ -16,3 +16,7 @@ ghosts-by_two_threads g a =
       is_rolling = false;
       limit = 1;
     }
+
+-- and the table of its word
+abbrev pub ghosts-by_two_threads-M-GateNaming : goal.ghosts-by_two_threads-M-GateNaming
+ghosts-by_two_threads-M-GateNaming g a = record { word = a.word }

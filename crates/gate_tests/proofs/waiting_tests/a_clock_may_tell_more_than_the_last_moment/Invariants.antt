@@ -4,8 +4,8 @@ use Rattle.gate_ledgers.specs.Names.{places_of}
 use Rattle.gate_tests.proofs.waiting_tests.a_clock_may_tell_more_than_the_last_moment.Given as goal
 
 -- the ledgers that were just made, over a table without classes
-abbrev pub ghosts-in_vain : goal.ghosts-in_vain
-ghosts-in_vain g a =
+abbrev pub ghosts-in_vain-M-Naming : goal.ghosts-in_vain-M-Naming
+ghosts-in_vain-M-Naming g a =
     record {
       calls = a.blanks.calls.name;
       place = places_of a.blanks;
@@ -16,3 +16,7 @@ ghosts-in_vain g a =
       is_rolling = false;
       limit = 1;
     }
+
+-- and the table of its word
+abbrev pub ghosts-in_vain-M-GateNaming : goal.ghosts-in_vain-M-GateNaming
+ghosts-in_vain-M-GateNaming g a = record { word = a.word }

@@ -4,8 +4,8 @@ use Rattle.gate_ledgers.specs.Names.{places_of}
 use Rattle.gate_tests.proofs.waiting_tests.an_exhausted_gate_answers_what_is_owed.Given as goal
 
 -- the ledgers that were just made, over a table without classes
-abbrev pub ghosts-exhausted : goal.ghosts-exhausted
-ghosts-exhausted g a =
+abbrev pub ghosts-exhausted-M-Naming : goal.ghosts-exhausted-M-Naming
+ghosts-exhausted-M-Naming g a =
     record {
       calls = a.blanks.calls.name;
       place = places_of a.blanks;
@@ -16,3 +16,7 @@ ghosts-exhausted g a =
       is_rolling = false;
       limit = 1;
     }
+
+-- and the table of its word
+abbrev pub ghosts-exhausted-M-GateNaming : goal.ghosts-exhausted-M-GateNaming
+ghosts-exhausted-M-GateNaming g a = record { word = a.word }

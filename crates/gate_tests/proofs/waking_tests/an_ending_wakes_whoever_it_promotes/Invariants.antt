@@ -4,8 +4,8 @@ use Rattle.gate_ledgers.specs.Names.{places_of}
 use Rattle.gate_tests.proofs.waking_tests.an_ending_wakes_whoever_it_promotes.Given as goal
 
 -- the ledgers that were just made, over a table without classes
-abbrev pub ghosts-three_threads : goal.ghosts-three_threads
-ghosts-three_threads g a =
+abbrev pub ghosts-three_threads-M-Naming : goal.ghosts-three_threads-M-Naming
+ghosts-three_threads-M-Naming g a =
     record {
       calls = a.blanks.calls.name;
       place = places_of a.blanks;
@@ -16,3 +16,7 @@ ghosts-three_threads g a =
       is_rolling = false;
       limit = 1;
     }
+
+-- and the table of its word
+abbrev pub ghosts-three_threads-M-GateNaming : goal.ghosts-three_threads-M-GateNaming
+ghosts-three_threads-M-GateNaming g a = record { word = a.word }

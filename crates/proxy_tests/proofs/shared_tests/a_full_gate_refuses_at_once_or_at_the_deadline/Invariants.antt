@@ -4,8 +4,8 @@ use Rattle.gate_ledgers.specs.Names.{places_of}
 use Rattle.proxy_tests.proofs.shared_tests.a_full_gate_refuses_at_once_or_at_the_deadline.Given as goal
 
 -- the ledgers that were just made, over a table without classes
-abbrev pub ghosts-over_one_permit : goal.ghosts-over_one_permit
-ghosts-over_one_permit g a =
+abbrev pub ghosts-over_one_permit-N-Naming : goal.ghosts-over_one_permit-N-Naming
+ghosts-over_one_permit-N-Naming g a =
     record {
       calls = a.blanks.calls.name;
       place = places_of a.blanks;
@@ -16,3 +16,7 @@ ghosts-over_one_permit g a =
       is_rolling = false;
       limit = 1;
     }
+
+-- and the table of its word
+abbrev pub ghosts-over_one_permit-N-GateNaming : goal.ghosts-over_one_permit-N-GateNaming
+ghosts-over_one_permit-N-GateNaming g a = record { word = a.word }

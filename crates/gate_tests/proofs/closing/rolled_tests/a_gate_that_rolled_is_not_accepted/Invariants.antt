@@ -4,8 +4,8 @@ use Rattle.gate_ledgers.specs.Names.{places_of}
 use Rattle.gate_tests.proofs.closing.rolled_tests.a_gate_that_rolled_is_not_accepted.Given as goal
 
 -- the ledgers that were just made, over a table without classes
-abbrev pub ghosts-closes_rolled : goal.ghosts-closes_rolled
-ghosts-closes_rolled g a =
+abbrev pub ghosts-closes_rolled-M-Naming : goal.ghosts-closes_rolled-M-Naming
+ghosts-closes_rolled-M-Naming g a =
     record {
       calls = a.blanks.calls.name;
       place = places_of a.blanks;
@@ -16,3 +16,7 @@ ghosts-closes_rolled g a =
       is_rolling = true;
       limit = 10;
     }
+
+-- and the table of its word
+abbrev pub ghosts-closes_rolled-M-GateNaming : goal.ghosts-closes_rolled-M-GateNaming
+ghosts-closes_rolled-M-GateNaming g a = record { word = a.word }

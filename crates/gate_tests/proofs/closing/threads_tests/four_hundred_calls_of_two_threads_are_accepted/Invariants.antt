@@ -4,8 +4,8 @@ use Rattle.gate_ledgers.specs.Names.{places_of}
 use Rattle.gate_tests.proofs.closing.threads_tests.four_hundred_calls_of_two_threads_are_accepted.Given as goal
 
 -- the ledgers that were just made, over a table without classes
-abbrev pub ghosts-closes_two_threads : goal.ghosts-closes_two_threads
-ghosts-closes_two_threads g a =
+abbrev pub ghosts-closes_two_threads-M-Naming : goal.ghosts-closes_two_threads-M-Naming
+ghosts-closes_two_threads-M-Naming g a =
     record {
       calls = a.blanks.calls.name;
       place = places_of a.blanks;
@@ -16,3 +16,7 @@ ghosts-closes_two_threads g a =
       is_rolling = false;
       limit = 10;
     }
+
+-- and the table of its word
+abbrev pub ghosts-closes_two_threads-M-GateNaming : goal.ghosts-closes_two_threads-M-GateNaming
+ghosts-closes_two_threads-M-GateNaming g a = record { word = a.word }

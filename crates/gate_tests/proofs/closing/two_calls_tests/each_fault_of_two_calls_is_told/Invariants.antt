@@ -4,8 +4,8 @@ use Rattle.gate_ledgers.specs.Names.{places_of}
 use Rattle.gate_tests.proofs.closing.two_calls_tests.each_fault_of_two_calls_is_told.Given as goal
 
 -- the ledgers that were just made, over a table without classes
-abbrev pub ghosts-closes_two_calls : goal.ghosts-closes_two_calls
-ghosts-closes_two_calls g a =
+abbrev pub ghosts-closes_two_calls-M-Naming : goal.ghosts-closes_two_calls-M-Naming
+ghosts-closes_two_calls-M-Naming g a =
     record {
       calls = a.blanks.calls.name;
       place = places_of a.blanks;
@@ -16,3 +16,7 @@ ghosts-closes_two_calls g a =
       is_rolling = false;
       limit = 10;
     }
+
+-- and the table of its word
+abbrev pub ghosts-closes_two_calls-M-GateNaming : goal.ghosts-closes_two_calls-M-GateNaming
+ghosts-closes_two_calls-M-GateNaming g a = record { word = a.word }

@@ -4,8 +4,8 @@ use Rattle.gate_ledgers.specs.Names.{places_of}
 use Rattle.gate_tests.proofs.random.four_threads_tests.four_threads_over_a_rolling_gate_are_told_what_one_is.Given as goal
 
 -- the ledgers that were just made, over the table of the gate
-abbrev pub ghosts-told_by_four : goal.ghosts-told_by_four
-ghosts-told_by_four g a =
+abbrev pub ghosts-told_by_four-M-Naming : goal.ghosts-told_by_four-M-Naming
+ghosts-told_by_four-M-Naming g a =
     record {
       calls = a.blanks.calls.name;
       place = places_of a.blanks;
@@ -16,3 +16,7 @@ ghosts-told_by_four g a =
       is_rolling = true;
       limit = 3;
     }
+
+-- and the table of its word
+abbrev pub ghosts-told_by_four-M-GateNaming : goal.ghosts-told_by_four-M-GateNaming
+ghosts-told_by_four-M-GateNaming g a = record { word = a.word }

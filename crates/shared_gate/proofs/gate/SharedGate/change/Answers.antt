@@ -9,6 +9,6 @@ plain-requires g c = (plain_step _ _ (event_of c.args.call) c.requires _ c.step.
 
 pub returns : goal.returns
 returns g c =
-    subst (Changes c.args.pass.now.count c.step.new.pass.count (event_of c.args.call))
+    subst (Changes c.args.pass.now c.step.new.pass (event_of c.args.call))
     (sym c.plain.ensures)
     (plain_step _ _ (event_of c.args.call) c.requires _ c.step.ensures).1

@@ -1,0 +1,67 @@
+// Where permits are asked for and ended.
+ghost use Rattle.gate_port.specs.Asking.{Admits};
+ghost use Rattle.gate_port.specs.Ending.{Ends};
+
+use limiter_core::Outcome;
+use partitions::Part;
+
+/// Why nobody was let through.
+#[derive(Clone, Copy, PartialEq, Eq)]
+pub enum Why {
+    /// There was no room, and it didn't wait.
+    Full,
+    /// There was no room, and as many waited as may.
+    BacklogFull,
+    /// It waited, and got no permit.
+    TimedOut,
+    /// It waited, and then its number neither waited nor lay granted.
+    Lost,
+    /// The history is exhausted.
+    Exhausted,
+}
+
+/// What a port answers.
+pub enum Admission<P> {
+    /// A permit was got. It must be ended.
+    Admitted(P),
+    /// It is neither limited nor counted.
+    Bypassed,
+    /// Nothing was got.
+    Refused(Why),
+}
+
+/// A place where permits are asked for and ended. It may show its history's entries. Every moment
+/// is in nanoseconds; one above 2^62 is taken as 2^62.
+pub trait GatePort {
+    /// The right to be in flight. It must be ended.
+    type Permit;
+
+    /// What is told of an ending.
+    type Receipt: Drop;
+
+    ghost use Rattle.std.specs.Prelude.{Option};
+    ghost use Rattle.limiter_core.specs.declared.event.PermitFacts.{PermitFacts};
+    ghost use Rattle.gate_port.specs.Shown.{Shown};
+
+    /// The entries, where they are shown.
+    ghost shown: { Self → Option Shown };
+
+    /// The facts of a permit.
+    ghost facts: { Self.Permit → PermitFacts };
+
+    /// Asks for a permit. With a deadline it waits for one where there is no room, until then;
+    /// with `bypass` it is let through without one, and never waits. A port that shows its entries
+    /// answers `Exhausted` just where they were exhausted before.
+    fn admit(
+        &mut self,
+        part: Part,
+        bypass: bool,
+        deadline: Option<u64>,
+        now: u64,
+    ) -> Admission<Self::Permit>
+        ensures { Admits part bypass deadline now (shown self.old) (shown self.new) facts result };
+
+    /// Ends a permit with an outcome.
+    fn end(&mut self, permit: Self::Permit, outcome: Outcome, now: u64) -> Self::Receipt
+        ensures { Ends (facts permit) outcome now (shown self.old) (shown self.new) };
+}

@@ -1,0 +1,22 @@
+use Rattle.std.specs.Prelude.{[], true}
+use Rattle.limiter_core.specs.declared.promote.Promote.TheVariants.{Newest}
+use Rattle.gate_ledgers.specs.Names.{places_of}
+use Rattle.gate_tests.proofs.seen_tests.a_telling_takes_no_lock.Given as goal
+
+-- the ledgers that were just made, over a table without classes
+abbrev pub ghosts-by_three_passes-M-Naming : goal.ghosts-by_three_passes-M-Naming
+ghosts-by_three_passes-M-Naming g a =
+    record {
+      calls = a.blanks.calls.name;
+      place = places_of a.blanks;
+      rows = [];
+      room = 100;
+      promote = Newest;
+      kept = 1;
+      is_rolling = true;
+      limit = 1;
+    }
+
+-- and the table of its word
+abbrev pub ghosts-by_three_passes-M-GateNaming : goal.ghosts-by_three_passes-M-GateNaming
+ghosts-by_three_passes-M-GateNaming g a = record { word = a.word }

@@ -1,7 +1,0 @@
-use Rattle.ports.proofs.Ended.{ends}
-use Rattle.ports.proofs.solo.SoloPortGatePort.end.Goals as goal
-
-pub returns : goal.returns
-returns g c =
-    ends c.args.permit c.args.outcome c.args.now c.in-Done.receipt.number _ _
-    c.in-Done.receipt.reply c.in-Done.ensures.adds

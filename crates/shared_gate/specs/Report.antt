@@ -1,0 +1,31 @@
+-- What is told of a gate at one moment.
+use Rattle.std.specs.Prelude.{◌≡◌, ℕ, List, [], ◌∷◌, length, map}
+use Rattle.partitions.specs.declared.part.Part.{Part}
+use Rattle.partitions.specs.declared.part.Part.TheVariants.{Known, Unknown}
+use Rattle.partitions.specs.Table.{place_of, share}
+use Rattle.limiter_core.specs.declared.counters.Counters.{Counters}
+use Rattle.limiter_core.specs.History.{Gate, Image, limit, total}
+use Rattle.limiter_core.specs.Bound.{IsSound}
+use Rattle.shared_gate.specs.declared.report.Report.{Report}
+
+-- the partitions that are told of, the unknown one last
+abbrev pub told_parts : List Part
+told_parts = Known 0 ∷ Known 1 ∷ Known 2 ∷ Known 3 ∷ Unknown ∷ []
+
+-- THE REPORT of what stands: the limit, all that is in flight, waits and lies granted, the
+-- in-flight counts and shares of the partitions, and the counters
+abbrev pub report_in : {S : Type 0} → Gate S → Image S → Counters → Report
+report_in g i counters = record {
+  limit = limit g i;
+  inflight = total i;
+  waiters = length i.waiters;
+  granted = length i.granted;
+  counts = map (λ part. i.inflight (place_of g.rows part)) told_parts;
+  shares = map (λ part. share g.rows (place_of g.rows part) (limit g i)) told_parts;
+  counters = counters;
+}
+
+-- it is the report of something sound that stands in this gate, with some counters
+abbrev pub IsReportOf : {S : Type 0} → Gate S → Report → Type 0
+IsReportOf g report = (i : Image _) × (counters : Counters)
+    × IsSound g i × (report ≡ report_in g i counters)
