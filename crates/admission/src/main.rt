@@ -5,6 +5,7 @@
 
 use commands::{Run, words};
 use config_check::check_file;
+use config_explain::explain_file;
 use counted_io::Counted;
 use fault_lines::tell_unread_words;
 use load_command::run_load;
@@ -34,7 +35,13 @@ fn main(rt: HostRuntime) -> ExitCode {
             let mut reader = Counted::new(rt.stdin());
             run_text(alloc, task, &mut reader, &mut writer, &mut errors)
         }
-        Run::Check { path } => check_file(&rt, alloc, path, &mut writer, &mut errors),
+        Run::Check { path, explain } => {
+            if explain {
+                explain_file(&rt, alloc, path, &mut writer, &mut errors)
+            } else {
+                check_file(&rt, alloc, path, &mut writer, &mut errors)
+            }
+        }
         Run::Load { limit, workers } => {
             let mut reader = Counted::new(rt.stdin());
             let workers = workers as usize;
@@ -53,12 +60,14 @@ fn main(rt: HostRuntime) -> ExitCode {
             workers,
             per_worker,
             client_timeout_ms,
+            report_seconds,
         } => {
             let service = Service {
                 path,
                 workers,
                 per_worker,
                 client_timeout_ms,
+                report_seconds,
             };
             serve_file(&rt, alloc, &service, &mut writer, &mut errors)
         }

@@ -1,7 +1,10 @@
 -- Subcommands that name no run, and what every run keeps to.
-use Rattle.std.proofs.Common.{rules, ◌≡◌, ◌≢◌, ◌∙◌, sym, codes, ℕ, List, Option, Some, None}
+use Rattle.std.proofs.Common.{rules, ap, Bool, false, ◌≡◌, ◌≢◌, ◌≤◌, ◌∙◌, sym, codes, ℕ, List, Option, Some, None, IfSome}
+use Rattle.std.specs.Option.{option_map_or}
+use Rattle.std.specs.Str.{bytes_eq}
 use Rattle.clap.specs.Words.{Row, Text, first_of}
-use Rattle.commands.specs.CommandLine.{HasNumber, IsCommandOf, IsRunOf, KeepsRanges}
+use Rattle.commands.specs.CommandLine.{HasNumber, HasOptional, IsCommandOf, IsRunOf, KeepsRanges}
+use Rattle.commands.specs.CommandLine.{is_set}
 use Rattle.commands.specs.declared.command_line.Run.{Run}
 use Rattle.commands.specs.declared.command_line.Run.TheVariants.{Text as OfText, Load, Check, Serve}
 use Rattle.commands.specs.declared.command_line.TextTask.TheVariants.{Replay, Simulate}
@@ -13,13 +16,40 @@ pub no_run : (name : Text) (rows : List Row) (run : Run) → name ≢ codes "rep
 no_run name rows (OfText (Replay limit)) replay simulate load check serve is = replay is.0
 no_run name rows (OfText (Simulate limit)) replay simulate load check serve is = simulate is.0
 no_run name rows (Load limit workers) replay simulate load check serve is = load is.0
-no_run name rows (Check path) replay simulate load check serve is = check is.0
-no_run name rows (Serve path workers per_worker timeout) replay simulate load check serve is =
+no_run name rows (Check path explain) replay simulate load check serve is = check is.0
+no_run name rows (Serve path workers per_worker timeout report) replay simulate load check serve is =
     serve is.0
 
 -- a path that isn't there
 pub no_path : {o : Option (List ℕ)} {path : List ℕ} → o ≡ None → o ≡ Some path → ⊥
 no_path none some = let same = sym none ∙ some in search rules
+
+-- a text that isn't a number in the range is no option's
+pub no_optional : (rows : List Row) (id : List ℕ) (low high : ℕ) (t : List ℕ)
+    → first_of id rows ≡ Some t → ((n : ℕ) → HasNumber rows id low high n → ⊥)
+    → (n : Option ℕ) → HasOptional rows id low high n → ⊥
+no_optional rows id low high t is none None absent = no_path absent is
+no_optional rows id low high t is none (Some n) has = none n has
+
+report_kept : (rows : List Row) (report : Option ℕ)
+    → HasOptional rows (codes "report-seconds") 1 3600 report
+    → IfSome report (λ seconds. (1 ≤ seconds) × (seconds ≤ 3600))
+report_kept rows None has = tt
+report_kept rows (Some seconds) has = (has.4, has.5)
+
+-- a flag is set where its first text is `true`
+pub set_by : (rows : List Row) (id t : List ℕ) (b : Bool) → first_of id rows ≡ Some t
+    → b ≡ bytes_eq t (codes "true") → b ≡ is_set id rows
+set_by rows id t b is same =
+    same ∙ sym (ap (λ (o : Option (List ℕ)).
+    option_map_or (λ text. bytes_eq text (codes "true")) o false) is)
+
+-- and isn't where it has none
+pub unset_by : (rows : List Row) (id : List ℕ) → first_of id rows ≡ None
+    → false ≡ is_set id rows
+unset_by rows id is =
+    sym (ap (λ (o : Option (List ℕ)).
+    option_map_or (λ text. bytes_eq text (codes "true")) o false) is)
 
 -- what every run of the words keeps to
 pub ranges_kept : (named : Option (Text × List Row)) (run : Run) → IsRunOf named run
@@ -28,9 +58,16 @@ ranges_kept None run is = absurd is
 ranges_kept (Some named) (OfText (Replay limit)) is = (is.1.4, is.1.5)
 ranges_kept (Some named) (OfText (Simulate limit)) is = (is.1.4, is.1.5)
 ranges_kept (Some named) (Load limit workers) is = (is.1.4, is.1.5, is.2.4, is.2.5)
-ranges_kept (Some named) (Check path) is = tt
-ranges_kept (Some named) (Serve path workers per_worker client_timeout) is =
-    (is.2.4, is.2.5, is.3.4, is.3.5, is.4.4, is.4.5)
+ranges_kept (Some named) (Check path explain) is = tt
+ranges_kept (Some named) (Serve path workers per_worker client_timeout report) is = (
+  is.2.4,
+  is.2.5,
+  is.3.4,
+  is.3.5,
+  is.4.4,
+  is.4.5,
+  report_kept named.1 report is.5,
+)
 
 pub no_replay : (rows : List Row) (run : Run)
     → ((n : ℕ) → HasNumber rows (codes "limit") 1 10000 n → ⊥)
@@ -38,8 +75,8 @@ pub no_replay : (rows : List Row) (run : Run)
 no_replay rows (OfText (Replay limit)) none is = none limit is.1
 no_replay rows (OfText (Simulate limit)) none is = let named = is.0 in search rules
 no_replay rows (Load limit workers) none is = let named = is.0 in search rules
-no_replay rows (Check path) none is = let named = is.0 in search rules
-no_replay rows (Serve path workers per_worker client_timeout) none is =
+no_replay rows (Check path explain) none is = let named = is.0 in search rules
+no_replay rows (Serve path workers per_worker client_timeout report) none is =
     let named = is.0 in search rules
 
 pub no_simulate : (rows : List Row) (run : Run)
@@ -48,8 +85,8 @@ pub no_simulate : (rows : List Row) (run : Run)
 no_simulate rows (OfText (Replay limit)) none is = let named = is.0 in search rules
 no_simulate rows (OfText (Simulate limit)) none is = none limit is.1
 no_simulate rows (Load limit workers) none is = let named = is.0 in search rules
-no_simulate rows (Check path) none is = let named = is.0 in search rules
-no_simulate rows (Serve path workers per_worker client_timeout) none is =
+no_simulate rows (Check path explain) none is = let named = is.0 in search rules
+no_simulate rows (Serve path workers per_worker client_timeout report) none is =
     let named = is.0 in search rules
 
 pub no_load : (rows : List Row) (run : Run)
@@ -59,8 +96,8 @@ pub no_load : (rows : List Row) (run : Run)
 no_load rows (OfText (Replay limit)) none is = let named = is.0 in search rules
 no_load rows (OfText (Simulate limit)) none is = let named = is.0 in search rules
 no_load rows (Load limit workers) none is = none limit workers is.1 is.2
-no_load rows (Check path) none is = let named = is.0 in search rules
-no_load rows (Serve path workers per_worker client_timeout) none is =
+no_load rows (Check path explain) none is = let named = is.0 in search rules
+no_load rows (Serve path workers per_worker client_timeout report) none is =
     let named = is.0 in search rules
 
 pub no_check : (rows : List Row) (run : Run) → first_of (codes "config") rows ≡ None
@@ -68,19 +105,20 @@ pub no_check : (rows : List Row) (run : Run) → first_of (codes "config") rows 
 no_check rows (OfText (Replay limit)) none is = let named = is.0 in search rules
 no_check rows (OfText (Simulate limit)) none is = let named = is.0 in search rules
 no_check rows (Load limit workers) none is = let named = is.0 in search rules
-no_check rows (Check path) none is = no_path none is.1
-no_check rows (Serve path workers per_worker client_timeout) none is =
+no_check rows (Check path explain) none is = no_path none is.1
+no_check rows (Serve path workers per_worker client_timeout report) none is =
     let named = is.0 in search rules
 
 pub no_serve : (rows : List Row) (run : Run)
-    → ((path : List ℕ) (workers per_worker client_timeout : ℕ)
+    → ((path : List ℕ) (workers per_worker client_timeout : ℕ) (report : Option ℕ)
     → first_of (codes "config") rows ≡ Some path → HasNumber rows (codes "workers") 1 64 workers
     → HasNumber rows (codes "per-worker") 1 1000000000 per_worker
-    → HasNumber rows (codes "client-timeout-ms") 1 3600000 client_timeout → ⊥)
+    → HasNumber rows (codes "client-timeout-ms") 1 3600000 client_timeout
+    → HasOptional rows (codes "report-seconds") 1 3600 report → ⊥)
     → IsCommandOf (codes "serve") rows run → ⊥
 no_serve rows (OfText (Replay limit)) none is = let named = is.0 in search rules
 no_serve rows (OfText (Simulate limit)) none is = let named = is.0 in search rules
 no_serve rows (Load limit workers) none is = let named = is.0 in search rules
-no_serve rows (Check path) none is = let named = is.0 in search rules
-no_serve rows (Serve path workers per_worker client_timeout) none is =
-    none path.now workers per_worker client_timeout is.1 is.2 is.3 is.4
+no_serve rows (Check path explain) none is = let named = is.0 in search rules
+no_serve rows (Serve path workers per_worker client_timeout report) none is =
+    none path.now workers per_worker client_timeout report is.1 is.2 is.3 is.4 is.5

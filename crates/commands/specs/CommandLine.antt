@@ -1,8 +1,11 @@
 -- The command line, and the run that its words name.
-use Rattle.std.specs.Prelude.{◌≡◌, ◌≤◌, ℕ, List, [], ◌∷◌, Option, Some, None, true, false, codes, pos}
+use Rattle.std.specs.Prelude.{◌≡◌, ◌≤◌, ℕ, List, [], ◌∷◌, Option, Some, None, IfSome, Bool, true, false, codes, pos}
+use Rattle.std.specs.Option.{option_map_or}
+use Rattle.std.specs.Str.{bytes_eq}
 use Rattle.std.specs.Str.Parse.{IsNumeral, digits_value, without_leading_plus}
 use Rattle.clap.specs.Words.{App, Row, Rule, Text, app_of, first_of, new_app, new_rule, one_of, with_rule, with_subcommand}
 use Rattle.limit_laws.specs.Algorithm.{greatest_limit}
+use Rattle.clap.specs.declared.builder.action.ArgAction.TheVariants.{SetTrue}
 use Rattle.clap.specs.declared.builder.command.Command.{Command}
 use Rattle.clap.specs.declared.builder.command.Command.TheViews.{out-Command}
 use Rattle.clap.specs.declared.builder.value_parser.ValueParser.{ValueParser}
@@ -42,6 +45,21 @@ per_worker_rule = number_rule (codes "per-worker") (codes "1000000000") 1 100000
 abbrev pub client_timeout_rule : Rule
 client_timeout_rule = number_rule (codes "client-timeout-ms") (codes "10000") 1 3600000
 
+-- `--report-seconds N`, none where it isn't given
+abbrev pub report_rule : Rule
+report_rule = record (new_rule (codes "report-seconds")) {
+  long = Some (codes "report-seconds");
+  value_names = 1;
+  parser = Some (Parser.Signed (pos 1) (pos 3600));
+}
+
+-- `--explain`
+abbrev pub explain_rule : Rule
+explain_rule = record (new_rule (codes "explain")) {
+  long = Some (codes "explain");
+  action = Some SetTrue;
+}
+
 -- `CONFIG`
 abbrev pub config_rule : Rule
 config_rule = record (new_rule (codes "config")) { value_names = 1; required = true }
@@ -56,12 +74,12 @@ abbrev pub load_app : App
 load_app = with_rule (with_rule (new_app (codes "load")) limit_rule) workers_rule
 
 abbrev pub check_app : App
-check_app = with_rule (new_app (codes "check")) config_rule
+check_app = with_rule (with_rule (new_app (codes "check")) config_rule) explain_rule
 
 abbrev pub serve_app : App
 serve_app =
-    with_rule (with_rule (with_rule (with_rule (new_app (codes "serve")) config_rule) workers_rule)
-    per_worker_rule) client_timeout_rule
+    with_rule (with_rule (with_rule (with_rule (with_rule (new_app (codes "serve")) config_rule)
+    workers_rule) per_worker_rule) client_timeout_rule) report_rule
 
 -- a command that has a version, and subcommands of which one is required
 abbrev pub asking : Text → App
@@ -93,6 +111,15 @@ HasNumber rows id low high n = (text : Text) × (one_of id rows ≡ Some text)
     × IsNumeral 10 (without_leading_plus text)
     × (digits_value 10 (without_leading_plus text) ≡ n) × (low ≤ n) × (n ≤ high)
 
+-- the rows have no text for an option, or the number in the range
+abbrev pub HasOptional : List Row → Text → ℕ → ℕ → Option ℕ → Type 0
+HasOptional rows id low high None = first_of id rows ≡ None
+HasOptional rows id low high (Some n) = HasNumber rows id low high n
+
+-- the rows have a flag
+abbrev pub is_set : Text → List Row → Bool
+is_set id rows = option_map_or (λ text. bytes_eq text (codes "true")) (first_of id rows) false
+
 -- the task is that of this subcommand, with the numbers that its rows have
 abbrev pub IsTaskOf : Text → List Row → TextTask → Type 0
 IsTaskOf name rows (Replay limit) =
@@ -106,13 +133,15 @@ IsCommandOf name rows (OfText task) = IsTaskOf name rows task
 IsCommandOf name rows (Load limit workers) =
     (name ≡ codes "load") × HasNumber rows (codes "limit") 1 greatest_limit limit
     × HasNumber rows (codes "workers") 1 64 workers
-IsCommandOf name rows (Check path) =
+IsCommandOf name rows (Check path explain) =
     (name ≡ codes "check") × (first_of (codes "config") rows ≡ Some path.now)
-IsCommandOf name rows (Serve path workers per_worker client_timeout) =
+    × (explain ≡ is_set (codes "explain") rows)
+IsCommandOf name rows (Serve path workers per_worker client_timeout report) =
     (name ≡ codes "serve") × (first_of (codes "config") rows ≡ Some path.now)
     × HasNumber rows (codes "workers") 1 64 workers
     × HasNumber rows (codes "per-worker") 1 1000000000 per_worker
     × HasNumber rows (codes "client-timeout-ms") 1 3600000 client_timeout
+    × HasOptional rows (codes "report-seconds") 1 3600 report
 
 -- the run is that of the subcommand which the words name
 abbrev pub IsRunOf : Option (Text × List Row) → Run → Type 0
@@ -133,7 +162,8 @@ abbrev pub KeepsRanges : Run → Type 0
 KeepsRanges (OfText task) = (1 ≤ limit_of task) × (limit_of task ≤ greatest_limit)
 KeepsRanges (Load limit workers) =
     (1 ≤ limit) × (limit ≤ greatest_limit) × (1 ≤ workers) × (workers ≤ 64)
-KeepsRanges (Check path) = Unit {0}
-KeepsRanges (Serve path workers per_worker client_timeout) =
+KeepsRanges (Check path explain) = Unit {0}
+KeepsRanges (Serve path workers per_worker client_timeout report) =
     (1 ≤ workers) × (workers ≤ 64) × (1 ≤ per_worker) × (per_worker ≤ 1000000000)
     × (1 ≤ client_timeout) × (client_timeout ≤ 3600000)
+    × IfSome report (λ seconds. (1 ≤ seconds) × (seconds ≤ 3600))

@@ -1,8 +1,9 @@
 // The words of a command line.
 ghost use Rattle.std.specs.Prelude.{◌≡◌, ◌⊎◌, ℕ, map, codes, string_bytes, [], IfErr, IfOk, IfSome};
-ghost use Rattle.std.specs.Prelude.{IsNone, OnOk};
+ghost use Rattle.std.specs.Prelude.{IsNone, OnOk, Option};
 ghost use Rattle.clap.specs.Words.{HasKind, fault_of, found_of, rows_of, subcommand_of, subcommand_rows_of};
-ghost use Rattle.commands.specs.CommandLine.{HasNumber, IsCommandOf, IsRunOf, KeepsRanges, NamesNoRun, admission_app};
+ghost use Rattle.commands.specs.CommandLine.{HasNumber, HasOptional, IsCommandOf, IsRunOf, KeepsRanges};
+ghost use Rattle.commands.specs.CommandLine.{NamesNoRun, admission_app, is_set};
 ghost use Rattle.commands.specs.declared.command_line.Run.{Run as RunValue};
 
 use super::interface::command;
@@ -22,18 +23,21 @@ pub enum Run<'a> {
         limit: u32,
         workers: u32,
     },
-    /// The configuration in the file of this path is checked.
+    /// The configuration in the file of this path is checked, and where `explain` is set explained.
     Check {
         path: &'a str,
+        explain: bool,
     },
     /// Clients are served by the configuration in the file of this path. There are 1 to 64 workers;
     /// each ends once it has served `per_worker` connections, 1 to 1,000,000,000. A client may take
-    /// 1 to 3,600,000 milliseconds for its request, and again for its answer.
+    /// 1 to 3,600,000 milliseconds for its request, and again for its answer. What stands is logged
+    /// every `report_seconds`, 1 to 3,600, where they are given.
     Serve {
         path: &'a str,
         workers: u32,
         per_worker: u32,
         client_timeout_ms: u32,
+        report_seconds: Option<u32>,
     },
 }
 
@@ -58,6 +62,29 @@ fn number(matches: &ArgMatches<'_>, id: &str, low: u32, high: u32) -> Option<u32
         Some(n) if n < low => None,
         Some(n) if high < n => None,
         found => found,
+    }
+}
+
+/// The number of an option that may be left out: where it is given, it lies in its range.
+fn optional_number(matches: &ArgMatches<'_>, id: &str, low: u32, high: u32) -> Option<Option<u32>>
+    ensures value { IfSome result
+        (HasOptional (rows_of (found_of matches.now)) id.now low high) }
+    ensures none { IsNone result → (n : Option ℕ)
+        → HasOptional (rows_of (found_of matches.now)) id.now low high n → ⊥ }
+{
+    match matches.get_str(id) {
+        None => Some(None),
+        Some(_) => Some(Some(number(matches, id, low, high)?)),
+    }
+}
+
+/// Whether a flag is given.
+fn is_set(matches: &ArgMatches<'_>, id: &str) -> bool
+    ensures { result ≡ is_set id.now (rows_of (found_of matches.now)) }
+{
+    match matches.get_str(id) {
+        Some(text) => text == "true",
+        None => false,
     }
 }
 
@@ -99,7 +126,8 @@ fn check_run<'a>(matches: &ArgMatches<'a>) -> Option<Run<'a>>
         → IsCommandOf (codes "check") (rows_of (found_of matches.now)) run → ⊥ }
 {
     let path = matches.get_str("config")?;
-    Some(Run::Check { path })
+    let explain = is_set(matches, "explain");
+    Some(Run::Check { path, explain })
 }
 
 /// The run of `serve`.
@@ -112,11 +140,13 @@ fn serve_run<'a>(matches: &ArgMatches<'a>) -> Option<Run<'a>>
     let workers = number(matches, "workers", 1, 64)?;
     let per_worker = number(matches, "per-worker", 1, 1_000_000_000)?;
     let client_timeout_ms = number(matches, "client-timeout-ms", 1, 3_600_000)?;
+    let report_seconds = optional_number(matches, "report-seconds", 1, 3_600)?;
     Some(Run::Serve {
         path,
         workers,
         per_worker,
         client_timeout_ms,
+        report_seconds,
     })
 }
 
@@ -178,7 +208,7 @@ pub fn words<'a>(alloc: Global, list: &'a [String]) -> Result<Run<'a>, Error>
     ensures faultless { OnOk result (fault_of admission_app (map string_bytes list.now) ≡ []) }
     ensures ranges { IfOk result KeepsRanges }
 
-    // An error is of a kind that the words are at fault by, or says that memory is wanting, unless
+    // An error is of a kind that the words are at fault by, or says out of memory, unless
     // they name no run.
     ensures refused { IfErr result (λ error.
         HasKind (fault_of admission_app (map string_bytes list.now)) error

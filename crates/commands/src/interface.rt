@@ -5,14 +5,14 @@ ghost use Rattle.commands.specs.CommandLine.{IsWithoutGlobals, admission_app, ch
 ghost use Rattle.commands.specs.CommandLine.{client_timeout_rule, config_rule, limit_rule};
 ghost use Rattle.commands.specs.CommandLine.{load_app, offline_app, option_rule, per_worker_rule};
 ghost use Rattle.commands.specs.CommandLine.{replay_app, serve_app, simulate_app, text_app};
-ghost use Rattle.commands.specs.CommandLine.{workers_rule};
+ghost use Rattle.commands.specs.CommandLine.{explain_rule, report_rule, workers_rule};
 
 use super::help::{
     ABOUT, CHECK_ABOUT, CHECK_HELP, LOAD_ABOUT, LOAD_HELP, REPLAY_ABOUT, REPLAY_HELP, SERVE_ABOUT,
     SERVE_HELP, SIMULATE_ABOUT, SIMULATE_HELP,
 };
 use clap::builder::ValueParser;
-use clap::{Arg, Command, value_parser};
+use clap::{Arg, ArgAction, Command, value_parser};
 use std::alloc::{AllocError, Global};
 
 /// An option of this name that takes a number, which help calls `shown`.
@@ -73,6 +73,29 @@ fn client_timeout_option<'a>(alloc: Global) -> Arg<'a>
     let help = "Milliseconds that a client may take, 1 to 3600000";
     let numbers = value_parser!(u32).range(1..=3_600_000);
     number_option(alloc, "client-timeout-ms", "T", help, numbers, "10000")
+}
+
+/// `--report-seconds N`.
+fn report_option<'a>(alloc: Global) -> Arg<'a>
+    ensures rule { rule_of result ≡ report_rule }
+    ensures local { result.global ≡ false }
+{
+    Arg::new(alloc, "report-seconds")
+        .long("report-seconds")
+        .value_name("N")
+        .help("Seconds between two lines of the report, 1 to 3600; without it none")
+        .value_parser(value_parser!(u32).range(1..=3_600))
+}
+
+/// `--explain`.
+fn explain_flag<'a>(alloc: Global) -> Arg<'a>
+    ensures rule { rule_of result ≡ explain_rule }
+    ensures local { result.global ≡ false }
+{
+    Arg::new(alloc, "explain")
+        .long("explain")
+        .help("Says more before: where the first fault is, and what is wanted there")
+        .action(ArgAction::SetTrue)
 }
 
 /// `CONFIG`.
@@ -163,21 +186,23 @@ fn load_command<'a>(alloc: Global) -> Result<Command<'a>, AllocError>
     with_argument(load, workers_option(alloc))
 }
 
-/// `check CONFIG`.
+/// `check CONFIG [--explain]`.
 fn check_command<'a>(alloc: Global) -> Result<Command<'a>, AllocError>
     ensures { IfOk result (IsWithoutGlobals check_app) }
 {
-    configured(alloc, "check", CHECK_ABOUT, CHECK_HELP)
+    let check = configured(alloc, "check", CHECK_ABOUT, CHECK_HELP);
+    with_argument(check, explain_flag(alloc))
 }
 
-/// `serve CONFIG [--workers W] [--per-worker M] [--client-timeout-ms T]`.
+/// `serve CONFIG [--workers W] [--per-worker M] [--client-timeout-ms T] [--report-seconds N]`.
 fn serve_command<'a>(alloc: Global) -> Result<Command<'a>, AllocError>
     ensures { IfOk result (IsWithoutGlobals serve_app) }
 {
     let serve = configured(alloc, "serve", SERVE_ABOUT, SERVE_HELP);
     let serve = with_argument(serve, workers_option(alloc));
     let serve = with_argument(serve, per_worker_option(alloc));
-    with_argument(serve, client_timeout_option(alloc))
+    let serve = with_argument(serve, client_timeout_option(alloc));
+    with_argument(serve, report_option(alloc))
 }
 
 /// The command, with a subcommand, where both were made.

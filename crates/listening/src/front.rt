@@ -25,8 +25,8 @@ impl Front {
 impl Listener for Front {
     type Stream = TcpStream;
 
-    fn accept(&self) -> Option<TcpStream> {
-        let (stream, _) = self.listener.accept().ok()?;
-        Some(stream)
+    fn accept(&self) -> Result<TcpStream> {
+        let (stream, _) = self.listener.accept()?;
+        Ok(stream)
     }
 }

@@ -1,4 +1,5 @@
 // Where connections come from.
+use std::io::Result;
 use timed_io::Connection;
 
 /// Where connections come from. Several threads may ask it at once.
@@ -6,6 +7,6 @@ pub trait Listener {
     /// A client's connection, which is closed where its value ends.
     type Stream: Connection + Drop;
 
-    /// Waits for the next connection; `None` where there was none to be had.
-    fn accept(&self) -> Option<Self::Stream>;
+    /// Waits for the next connection; the fault is the system's, where there was none to be had.
+    fn accept(&self) -> Result<Self::Stream>;
 }

@@ -7,12 +7,12 @@ use Rattle.limiter_core.specs.declared.event.Entry.{Entry}
 use Rattle.limiter_core.specs.declared.event.PermitFacts.{PermitFacts}
 use Rattle.classifier.specs.declared.class.Class.{Class}
 use Rattle.gate_config.specs.declared.settings.Settings.{Settings}
-use Rattle.ports.specs.declared.port.Admission.{Admission}
-use Rattle.ports.specs.declared.port.Admission.TheVariants as admission
-use Rattle.ports.specs.declared.port.Why.{Why}
-use Rattle.ports.specs.Asking.{Admits, Ask, IsAsked, told}
-use Rattle.ports.specs.Ending.{Ends, IsEnding}
-use Rattle.ports.specs.Shown.{Adds, Shown}
+use Rattle.gate_port.specs.declared.port.Admission.{Admission}
+use Rattle.gate_port.specs.declared.port.Admission.TheVariants as admission
+use Rattle.gate_port.specs.declared.port.Why.{Why}
+use Rattle.gate_port.specs.Asking.{Admits, Ask, IsAsked, told}
+use Rattle.gate_port.specs.Ending.{Ends, IsEnding}
+use Rattle.gate_port.specs.Shown.{Adds, Shown}
 use Rattle.backend.specs.declared.answer.Answer.{Answer}
 use Rattle.proxy.specs.declared.told.Verdict.TheVariants as verdict
 use Rattle.proxy.specs.Settling.{Serves, asked_for}

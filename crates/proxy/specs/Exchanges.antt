@@ -7,17 +7,17 @@ use Rattle.counted_io.specs.Effects.{Wrote}
 use Rattle.message_bytes.specs.Reading.{HasFailed}
 use Rattle.wire.specs.declared.fault.WireFault.{WireFault}
 use Rattle.wire.specs.declared.fault.WireFault.TheVariants as fault
-use Rattle.wire.specs.declared.request.Request.{Request}
+use Rattle.message_parts.specs.declared.request.Request.{Request}
 use Rattle.wire.specs.Fault.{IsUsedUp, Reads}
 use Rattle.wire.specs.Messages.{IsRequest, Said}
 use Rattle.gate_config.specs.declared.settings.Settings.{Settings}
-use Rattle.ports.specs.Shown.{Shown}
+use Rattle.gate_port.specs.Shown.{Shown}
 use Rattle.backend.specs.declared.answer.Answer.{Answer}
 use Rattle.backend.specs.Forwards.{Forwarded}
 use Rattle.proxy.specs.declared.told.Exchange.{Exchange}
 use Rattle.proxy.specs.declared.told.Verdict.TheVariants as verdict
 use Rattle.proxy.specs.Settling.{IsSettled, class_by}
-use Rattle.proxy.specs.Table.{outcome_at, sent_status, sent_text}
+use Rattle.proxy.specs.Table.{is_sent_own, outcome_at, sent_status, sent_text}
 
 -- what an exchange finds and leaves: the client's two ends, the gate's entries where they are
 -- shown, how many requests the backend was given, and which where it shows them
@@ -56,7 +56,7 @@ Deals s old new (Ok request) answer x =
 
 -- AN EXCHANGE: something is read, and dealt with; what is told of it, and without a fault of
 -- writing what is written to the client, is by the table of answers. A fault of writing as
--- something was read is told as such
+-- something was read is reported as such
 pub record IsExchange {R W : Type 0} (remaining : R → Option (List ℕ))
     (contents : W → Option (List ℕ)) (s : Settings) (old new : World R W) (x : Exchange)
     : Type 0 where
@@ -66,6 +66,7 @@ pub record IsExchange {R W : Type 0} (remaining : R → Option (List ℕ))
   pub reading : IsRead remaining contents old.reader new.reader old.writer asked read
   pub deals : Deals s old new read answer x
   pub status : x.answer ≡ sent_status read answer
+  pub own : x.is_own ≡ is_sent_own read answer
   pub outcome : x.outcome ≡ outcome_at answer
   pub text : x.written_fault ≡ None → Wrote contents asked new.writer (sent_text read answer)
   pub unasked : IsErrOf read fault.Write → x.written_fault ≡ Some fault.Write

@@ -4,15 +4,15 @@ use Rattle.std.specs.Prelude.{is_some, if◌then◌else◌}
 use Rattle.counted_io.specs.Count.{raised}
 use Rattle.limiter_core.specs.declared.event.Entry.{Entry}
 use Rattle.limiter_core.specs.declared.event.PermitFacts.{PermitFacts}
-use Rattle.wire.specs.declared.request.Request.{Request}
+use Rattle.message_parts.specs.declared.request.Request.{Request}
 use Rattle.classifier.specs.declared.class.Class.{Class}
 use Rattle.classifier.specs.Class.{class_of}
 use Rattle.gate_config.specs.declared.settings.Settings.{Settings}
-use Rattle.ports.specs.declared.port.Admission.{Admission}
-use Rattle.ports.specs.declared.port.Admission.TheVariants as admission
-use Rattle.ports.specs.Asking.{Ask, IsAsked}
-use Rattle.ports.specs.Ending.{IsEnding}
-use Rattle.ports.specs.Shown.{Adds, Shown}
+use Rattle.gate_port.specs.declared.port.Admission.{Admission}
+use Rattle.gate_port.specs.declared.port.Admission.TheVariants as admission
+use Rattle.gate_port.specs.Asking.{Ask, IsAsked}
+use Rattle.gate_port.specs.Ending.{IsEnding}
+use Rattle.gate_port.specs.Shown.{Adds, Shown}
 use Rattle.backend.specs.declared.answer.Answer.{Answer}
 use Rattle.backend.specs.Forwards.{Forwarded, Logs}
 use Rattle.proxy.specs.declared.told.Verdict.{Verdict}

@@ -1,12 +1,12 @@
 -- The table of answers: what a backend's answer tells the gate, and what the client gets.
 use Rattle.std.specs.Prelude.{ℕ, ◌||◌, List, [], Option, None, Some, Result, Ok, Err, nat_eq}
-use Rattle.std.specs.Prelude.{nat_lt, if◌then◌else◌}
+use Rattle.std.specs.Prelude.{nat_lt, if◌then◌else◌, Bool, true, is_some}
 use Rattle.limiter_core.specs.declared.event.Outcome.{Outcome}
 use Rattle.limiter_core.specs.declared.event.Outcome.TheVariants.{Success, Ignored, Dropped}
 use Rattle.message_text.specs.Answer.{local_text}
 use Rattle.wire.specs.declared.fault.WireFault.{WireFault}
 use Rattle.wire.specs.declared.fault.WireFault.TheVariants as fault
-use Rattle.wire.specs.declared.request.Request.{Request}
+use Rattle.message_parts.specs.declared.request.Request.{Request}
 use Rattle.wire.specs.Written.{response_text}
 use Rattle.backend.specs.declared.answer.Answer.{Answer}
 use Rattle.backend.specs.declared.answer.Answer.TheVariants.{Answered, NotConnected, Broken}
@@ -54,6 +54,14 @@ reply_status (Some (Broken f)) = 502
 reply_status (Some Memory) = 500
 reply_status None = 429
 
+-- whether that is the gateway's own answer
+abbrev pub is_own : Option Answer → Bool
+is_own (Some (Answered response)) = nat_lt response.status 200
+is_own (Some NotConnected) = true
+is_own (Some (Broken f)) = true
+is_own (Some Memory) = true
+is_own None = true
+
 -- THE REPLY to a request of this method: the response, or the gateway's own answer of the status
 abbrev pub reply_text : List ℕ → Option Answer → List ℕ
 reply_text method (Some (Answered response)) =
@@ -71,6 +79,11 @@ local_or_nothing (Some status) = local_text status
 abbrev pub sent_status : Result Request WireFault → Option Answer → Option ℕ
 sent_status (Err f) answer = fault_status f
 sent_status (Ok request) answer = Some (reply_status answer)
+
+-- whether it is the gateway's own answer
+abbrev pub is_sent_own : Result Request WireFault → Option Answer → Bool
+is_sent_own (Err f) answer = is_some (fault_status f)
+is_sent_own (Ok request) answer = is_own answer
 
 abbrev pub sent_text : Result Request WireFault → Option Answer → List ℕ
 sent_text (Err f) answer = local_or_nothing (fault_status f)

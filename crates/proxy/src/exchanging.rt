@@ -6,15 +6,15 @@ ghost use Rattle.counted_io.specs.Effects.{Wrote};
 ghost use Rattle.proxy.specs.Table.{fault_status, local_or_nothing};
 ghost use Rattle.proxy.specs.Exchanges.{IsExchange};
 
-use crate::replying::{fault_status, reply, reply_status};
+use crate::replying::{fault_status, is_own, reply, reply_status};
 use crate::settling::{outcome_at, settle};
 use crate::told::{Exchange, Verdict};
 use backend::Backend;
+use clocks::Clock;
 use counted_io::Counted;
 use gate_config::Settings;
+use gate_port::GatePort;
 use message_text::write_local_answer;
-use ports::GatePort;
-use shared_gate::Clock;
 use std::alloc::Global;
 use std::io::{BufRead, Write};
 use wire::{WireFault, read_request};
@@ -66,6 +66,7 @@ pub fn exchange<P: GatePort, B: Backend, C: Clock, R: BufRead, W: Write>(
         class: Some(settled.class),
         admission: settled.admission,
         answer: Some(reply_status(&settled.answer)),
+        is_own: is_own(&settled.answer),
         outcome: outcome_at(&settled.answer),
         written_fault,
     }
@@ -76,6 +77,7 @@ fn unread<W: Write>(fault: WireFault, writer: &mut Counted<W>) -> Exchange
     ensures class { result.class ≡ None }
     ensures admission { result.admission ≡ Verdict.NotAsked }
     ensures answer { result.answer ≡ fault_status fault }
+    ensures own { result.is_own ≡ is_some (fault_status fault) }
     ensures outcome { result.outcome ≡ None }
     ensures text { result.written_fault ≡ None → Wrote W.contents writer.old writer.new
         (local_or_nothing (fault_status fault)) }
@@ -98,6 +100,7 @@ fn unread<W: Write>(fault: WireFault, writer: &mut Counted<W>) -> Exchange
         class: None,
         admission: Verdict::NotAsked,
         answer,
+        is_own: answer.is_some(),
         outcome: None,
         written_fault,
     }

@@ -15,5 +15,5 @@ mod told;
 pub use backend::{Answer, Backend};
 pub use classifier::Class;
 pub use exchanging::exchange;
-pub use ports::{GatePort, Why};
+pub use gate_port::{GatePort, Why};
 pub use told::{Exchange, Verdict};

@@ -3,7 +3,7 @@ ghost use Rattle.std.specs.Prelude.{◌≡◌, ◌≤◌, None, OnOk, OnErr, IfS
 ghost use Rattle.counted_io.specs.Causes.{IsWriteCause};
 ghost use Rattle.counted_io.specs.Counted.{is_flushed};
 ghost use Rattle.counted_io.specs.Effects.{Wrote};
-ghost use Rattle.proxy.specs.Table.{fault_status, reply_status, reply_text};
+ghost use Rattle.proxy.specs.Table.{fault_status, is_own, reply_status, reply_text};
 
 use backend::Answer;
 use counted_io::{Counted, WriteFault};
@@ -28,6 +28,19 @@ pub(crate) fn reply_status(answer: &Option<Answer>) -> u16
         Some(Answer::Broken(_)) => 502,
         Some(Answer::Memory) => 500,
         None => 429,
+    }
+}
+
+/// Whether what the client gets is the gateway's own answer.
+pub(crate) fn is_own(answer: &Option<Answer>) -> bool
+    ensures { result ≡ is_own answer.now }
+{
+    match answer {
+        Some(Answer::Answered(response)) => response.status() < 200,
+        Some(Answer::NotConnected) => true,
+        Some(Answer::Broken(_)) => true,
+        Some(Answer::Memory) => true,
+        None => true,
     }
 }
 

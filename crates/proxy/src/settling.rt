@@ -6,12 +6,12 @@ ghost use Rattle.proxy.specs.Settling.{IsSettled};
 use crate::told::Verdict;
 use backend::{Answer, Backend};
 use classifier::{Class, classify};
+use clocks::Clock;
 use gate_config::Settings;
+use gate_port::{Admission, GatePort};
 use limit_laws::LAST_MOMENT;
 use limiter_core::Outcome;
-use ports::{Admission, GatePort};
-use shared_gate::Clock;
-use wire::Request;
+use message_parts::Request;
 
 /// What became of a request before its answer is written. No permit is out any more.
 #[derive(Drop)]

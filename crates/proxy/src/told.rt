@@ -1,7 +1,7 @@
 // What is told of an exchange.
 use classifier::Class;
+use gate_port::Why;
 use limiter_core::Outcome;
-use ports::Why;
 use wire::WireFault;
 
 /// What the gate said of a request.
@@ -26,6 +26,8 @@ pub struct Exchange {
     pub admission: Verdict,
     /// The status of the text meant for the client; none where nothing more is written.
     pub answer: Option<u16>,
+    /// Whether that text is an answer of the gateway's own, and not the backend's response.
+    pub is_own: bool,
     /// What the backend's answer told the gate, where the request was forwarded.
     pub outcome: Option<Outcome>,
     /// `Write` where the writer failed.

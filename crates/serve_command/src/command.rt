@@ -8,6 +8,8 @@ ghost use Rattle.serve_command.specs.ServiceFault.{service_fault_text};
 use crate::config_text::ConfigText;
 use crate::fault::{ServiceFault, tell_service_fault};
 use crate::logging::log_listening;
+use crate::watching::Watcher;
+use clocks::ProgramClock;
 use config_check::{read_bytes, read_file_text};
 use counted_io::Counted;
 use counters_line::write_counters;
@@ -17,7 +19,6 @@ use limiter_core::Counters;
 use listening::Front;
 use log::Log;
 use serving::{Shift, serve};
-use shared_gate::ProgramClock;
 use std::alloc::Global;
 use std::fs::Files;
 use std::io::Write;
@@ -28,6 +29,9 @@ use std::time::Clock as SystemClock;
 
 /// The nanoseconds of a millisecond.
 const MILLI: u64 = 1_000_000;
+
+/// The nanoseconds of a second.
+const SECOND: u64 = 1_000_000_000;
 
 /// What a gateway is asked to do.
 #[derive(Clone, Copy)]
@@ -41,6 +45,9 @@ pub struct Service<'a> {
     /// How long a client may take to send its request, and again to take its answer, in
     /// milliseconds: 1 to 3,600,000.
     pub client_timeout_ms: u32,
+    /// How many seconds there are from one line of the report to the next, 1 to 3,600; there is
+    /// none without it.
+    pub report_seconds: Option<u32>,
 }
 
 /// Serves clients by the configuration in a file, and at the end of all workers writes the line of
@@ -127,15 +134,26 @@ where
     };
     log_listening(rt, alloc, settings, service.workers);
     let clock = ProgramClock::start(rt);
+    let watch = Watcher::new(rt, alloc);
     let shift = Shift {
         listener: &front,
         source: text,
         clock: &clock,
         per_worker: u64::from(service.per_worker),
         client_time: u64::from(service.client_timeout_ms) * MILLI,
+        report_every: report_time(service.report_seconds),
+        watch: &watch,
         alloc,
     };
     Ok(serve(rt, &shift, settings, service.workers as usize)?)
+}
+
+/// So many seconds in nanoseconds.
+fn report_time(seconds: Option<u32>) -> Option<u64> {
+    match seconds {
+        Some(seconds) => Some(u64::from(seconds) * SECOND),
+        None => None,
+    }
 }
 
 /// Tells a fault, and answers the status after it.

@@ -10,6 +10,7 @@ mod config_text;
 mod descriptors;
 mod fault;
 mod logging;
+mod watching;
 
 pub use command::{Service, serve_file};
 pub use fault::ServiceFault;

@@ -2,7 +2,7 @@
 use Rattle.std.proofs.Common.{◌≡◌, ◌∙◌, ap, sym, ℕ, List, Option, Result, Ok, Err, if◌then◌else◌}
 use Rattle.counted_io.specs.Count.{raised}
 use Rattle.wire.specs.declared.fault.WireFault.{WireFault}
-use Rattle.wire.specs.declared.request.Request.{Request}
+use Rattle.message_parts.specs.declared.request.Request.{Request}
 use Rattle.gate_config.specs.declared.settings.Settings.{Settings}
 use Rattle.backend.specs.declared.answer.Answer.{Answer}
 use Rattle.proxy.specs.declared.told.Exchange.{Exchange}

@@ -9,10 +9,12 @@
 
 mod fault;
 mod lingering;
-mod opening;
+mod reporting;
+mod watch;
 mod workers;
 mod working;
 
 pub use fault::ServeFault;
+pub use watch::Watch;
 pub use workers::{serve, serve_with};
 pub use working::{Buffers, Shift, Source, serve_client, work};

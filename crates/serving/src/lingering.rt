@@ -1,7 +1,7 @@
 // What a client sends behind its answer.
+use clocks::Clock;
 use lent_io::ReadBuffer;
 use proxy::Exchange;
-use shared_gate::Clock;
 use std::io::Read;
 use timed_io::{Connection, Lent, TimedReader, Uninterrupted};
 

@@ -5,14 +5,15 @@ ghost use Rattle.gate_config.specs.declared.settings.Settings.{Settings as Setti
 ghost use Rattle.proxy.specs.Settling.{is_through};
 
 use crate::lingering::linger;
+use crate::watch::Watch;
 use backend::Backend;
+use clocks::Clock;
 use counted_io::Counted;
 use gate_config::Settings;
+use gate_port::GatePort;
 use lent_io::{BufferedRead, BufferedWrite, ReadBuffer, WriteBuffer};
 use listening::Listener;
-use ports::GatePort;
 use proxy::{Exchange, exchange};
-use shared_gate::Clock;
 use std::alloc::{AllocError, Global};
 use std::io::{BufRead, Write};
 use std::thread;
@@ -33,7 +34,7 @@ pub struct Buffers {
 }
 
 impl Buffers {
-    /// New buffers. The only fault is want of memory.
+    /// New buffers. It fails only out of memory.
     pub fn new(alloc: Global) -> Result<Buffers, AllocError> {
         Ok(Buffers {
             ahead: ReadBuffer::new(alloc, PIECE)?,
@@ -49,14 +50,14 @@ pub trait Source {
     // Settings that it gives.
     ghost gives: { Self → SettingsValue → Type 0 };
 
-    /// Settings of one's own. The only fault is want of memory.
+    /// Settings of one's own. It fails only out of memory.
     fn settings(&self, alloc: Global) -> Result<Settings, AllocError>
         ensures { IfOk result (gives self.now) };
 }
 
 /// What all workers of a gateway share, and what each of them is asked to do.
 #[derive(Drop)]
-pub struct Shift<'a, L, C, S> {
+pub struct Shift<'a, L, C, S, W> {
     /// Where clients come from.
     pub listener: &'a L,
     /// Where a worker has its settings from.
@@ -68,31 +69,47 @@ pub struct Shift<'a, L, C, S> {
     /// How long a client may take to send its request, and again to take its answer, in
     /// nanoseconds.
     pub client_time: u64,
+    /// How many nanoseconds there are from one report to the next; none is made without it.
+    pub report_every: Option<u64>,
+    /// What hears of what workers do.
+    pub watch: &'a W,
     /// What is read of a client is held here.
     pub alloc: Global,
 }
 
 /// Accepts as many connections as the shift says, one after the other, and serves each by one
 /// exchange. A connection that can't be had counts as one, and the next one is tried a while later:
-/// what was wanting, such as a free descriptor, isn't there at once. None is forwarded twice. The
-/// settings are some that the shift's source gives.
-pub fn work<R: SystemClock, P: GatePort, B: Backend, C: Clock, L: Listener, S: Source>(
+/// what was missing, such as a free descriptor, isn't there at once. None is forwarded twice. The
+/// settings are some that the shift's source gives; its watch hears of each.
+pub fn work<R, P, B, C, L, S, W>(
     rt: &R,
-    shift: &Shift<'_, L, C, S>,
+    shift: &Shift<'_, L, C, S, W>,
     settings: &Settings,
     port: &mut P,
     backend: &mut B,
     buffers: &mut Buffers,
 )
+where
+    R: SystemClock,
+    P: GatePort,
+    B: Backend,
+    C: Clock,
+    L: Listener,
+    S: Source,
+    W: Watch,
     requires settings { S.gives shift.now.source.now settings.now }
     ensures once { B.forwarded backend.new ≤ B.forwarded backend.old + shift.now.per_worker }
 {
     for _ in 0..shift.per_worker {
         match shift.listener.accept() {
-            Some(stream) => {
-                serve_client(shift, settings, &stream, port, backend, buffers);
+            Ok(stream) => {
+                let served = serve_client(shift, settings, &stream, port, backend, buffers);
+                shift.watch.ended(&served);
             }
-            None => thread::sleep(rt, Duration::from_millis(WITHOUT_A_CLIENT)),
+            Err(error) => {
+                shift.watch.unaccepted(&error);
+                thread::sleep(rt, Duration::from_millis(WITHOUT_A_CLIENT));
+            }
         }
     }
 }
@@ -102,8 +119,8 @@ pub fn work<R: SystemClock, P: GatePort, B: Backend, C: Clock, L: Listener, S: S
 /// answered before its whole request was read, or has sent more than that, what it still sends is
 /// dropped, so that it gets to read the answer. A signal that cuts a read or a write short changes
 /// nothing.
-pub fn serve_client<T: Connection, P: GatePort, B: Backend, C: Clock, L, S>(
-    shift: &Shift<'_, L, C, S>,
+pub fn serve_client<T: Connection, P: GatePort, B: Backend, C: Clock, L, S, W>(
+    shift: &Shift<'_, L, C, S, W>,
     settings: &Settings,
     stream: &T,
     port: &mut P,
@@ -124,14 +141,20 @@ pub fn serve_client<T: Connection, P: GatePort, B: Backend, C: Clock, L, S>(
 }
 
 /// One exchange over a reader and a writer, whatever they are.
-fn exchange_over<R: BufRead + Drop, W: Write + Drop, P: GatePort, B: Backend, C: Clock, L, S>(
-    shift: &Shift<'_, L, C, S>,
+fn exchange_over<R, O, P, B, C, L, S, W>(
+    shift: &Shift<'_, L, C, S, W>,
     settings: &Settings,
     port: &mut P,
     backend: &mut B,
     from: R,
-    to: W,
+    to: O,
 ) -> Exchange
+where
+    R: BufRead + Drop,
+    O: Write + Drop,
+    P: GatePort,
+    B: Backend,
+    C: Clock,
     ensures forwarded { B.forwarded backend.new ≡ (if is_through result.admission
         then raised (B.forwarded backend.old) else B.forwarded backend.old) }
 {

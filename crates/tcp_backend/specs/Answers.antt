@@ -6,7 +6,7 @@ use Rattle.wire.specs.Response.{ResponseValue}
 use Rattle.wire.specs.declared.fault.WireFault.{WireFault}
 use Rattle.wire.specs.declared.fault.WireFault.TheVariants as fault
 
--- a response was read; want of memory is the gateway's own; all else is the connection's fault
+-- a response was read; out of memory is the gateway's own; all else is the connection's fault
 abbrev pub answer_of : Result ResponseValue WireFault → Answer
 answer_of (Ok response) = answer.Answered response
 answer_of (Err fault.Memory) = answer.Memory

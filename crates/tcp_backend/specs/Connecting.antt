@@ -8,9 +8,9 @@ abbrev pub dialed_of : {R : Type 0} → Dialer R → ℕ
 dialed_of dialer = dialer.connects
 
 -- how many requests it was given: it connects once for each
-abbrev pub count_of : {R : Type 0} → TcpBackend R → ℕ
+abbrev pub count_of : {R W : Type 0} → TcpBackend R W → ℕ
 count_of backend = dialed_of backend.dialer
 
 -- the host of a request that names none
-abbrev pub host_of : {R : Type 0} → TcpBackend R → List ℕ
+abbrev pub host_of : {R W : Type 0} → TcpBackend R W → List ℕ
 host_of backend = backend.line.host.bytes

@@ -6,11 +6,12 @@ use crate::broken::BrokenRead;
 use backend::Answer;
 use counted_io::Counted;
 use lent_io::{BufferedRead, BufferedWrite, ReadBuffer, WriteBuffer};
+use message_parts::Request;
 use std::alloc::Global;
 use std::io::{Read, Write};
 use std::net::OpenStream;
 use std::time::Duration;
-use wire::{Request, Response, WireFault, read_response, write_request};
+use wire::{Response, WireFault, read_response, write_request};
 
 /// How many reads the end of a connection may take, behind an answer that was read whole.
 const LAST_READS: u32 = 16;

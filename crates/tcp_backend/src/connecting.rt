@@ -6,13 +6,14 @@ ghost use Rattle.tcp_backend.specs.Connecting.{count_of, host_of};
 
 use crate::asking::{answer_of, ask, read_on};
 use crate::dialing::{Connector, Dialer};
+use crate::watch::BackendWatch;
 use arrayvec::ArrayString;
 use backend::{Answer, Backend};
 use itoa::Buffer;
 use lent_io::{ReadBuffer, WriteBuffer};
+use message_parts::Request;
 use std::alloc::{AllocError, Global};
 use std::net::{Net, SocketAddrV4};
-use wire::Request;
 
 /// How many bytes are read or written at once.
 const PIECE: usize = 16_384;
@@ -30,10 +31,11 @@ impl From<AllocError> for BackendFault {
     }
 }
 
-/// A backend at an address, with one connection for each request.
+/// A backend at an address, with one connection for each request, and what hears of its troubles.
 #[derive(Drop)]
-pub struct TcpBackend<R> {
+pub struct TcpBackend<R, W> {
     dialer: Dialer<R>,
+    watch: W,
     line: Line,
 }
 
@@ -46,10 +48,15 @@ struct Line {
     behind: WriteBuffer,
 }
 
-impl<R: Net + Drop> TcpBackend<R> {
+impl<R: Net + Drop, W: Drop> TcpBackend<R, W> {
     /// The backend at this address. A request that names no host is sent with the address as its
-    /// host. Nothing is connected yet, and the only fault is want of memory for the buffers.
-    pub fn new(rt: R, alloc: Global, address: SocketAddrV4) -> Result<TcpBackend<R>, BackendFault>
+    /// host. Nothing is connected yet, and it fails only out of memory for the buffers.
+    pub fn new(
+        rt: R,
+        alloc: Global,
+        address: SocketAddrV4,
+        watch: W,
+    ) -> Result<TcpBackend<R, W>, BackendFault>
         ensures host { IfOk result (λ backend. host_of backend ≡ socket_v4_text address) }
         ensures unused { IfOk result (λ backend. count_of backend ≡ 0) }
     {
@@ -60,11 +67,15 @@ impl<R: Net + Drop> TcpBackend<R> {
             behind: WriteBuffer::new(alloc, PIECE)?,
         };
         let dialer = Dialer::new(rt, address);
-        Ok(TcpBackend { dialer, line })
+        Ok(TcpBackend {
+            dialer,
+            watch,
+            line,
+        })
     }
 }
 
-impl<R: Net> Backend for TcpBackend<R> {
+impl<R: Net, W: BackendWatch> Backend for TcpBackend<R, &W> {
     ghost use Rattle.std.specs.Prelude.{None};
     ghost use Rattle.tcp_backend.specs.Connecting.{count_of};
 
@@ -73,11 +84,11 @@ impl<R: Net> Backend for TcpBackend<R> {
     ghost shown = { λ _. None };
 
     /// Connects once, writes the request and reads one response. Where there is no connection, that
-    /// is `NotConnected`; each later fault is `Broken`, but want of memory, which is `Memory`. A
+    /// is `NotConnected`; each later fault is `Broken`, but out of memory is `Memory`. A
     /// response that says its own length is read behind a failed write too: the backend may have
-    /// answered before it read the whole request, and closed.
+    /// answered before it read the whole request, and closed. `NotConnected` and `Broken` are told.
     fn forward(&mut self, request: &Request) -> Answer {
-        forward_over(&mut self.dialer, &mut self.line, request)
+        forward_over(&mut self.dialer, &mut self.line, self.watch, request)
     }
 
     fn forwards(&self) -> u64 {
@@ -86,11 +97,20 @@ impl<R: Net> Backend for TcpBackend<R> {
 }
 
 // Forwards a request over one connection: whatever fails, there is no second one.
-fn forward_over<C: Connector>(connector: &mut C, line: &mut Line, request: &Request) -> Answer
+fn forward_over<C: Connector, W: BackendWatch>(
+    connector: &mut C,
+    line: &mut Line,
+    watch: &W,
+    request: &Request,
+) -> Answer
     ensures once { C.connects connector.new ≡ raised (C.connects connector.old) }
 {
-    let Some(mut stream) = connector.connect() else {
-        return Answer::NotConnected;
+    let mut stream = match connector.connect() {
+        Ok(stream) => stream,
+        Err(error) => {
+            watch.unreached(&error);
+            return Answer::NotConnected;
+        }
     };
     let asked = ask(
         line.alloc,
@@ -103,7 +123,11 @@ fn forward_over<C: Connector>(connector: &mut C, line: &mut Line, request: &Requ
     if asked.is_ok() {
         read_on(&mut stream);
     }
-    answer_of(asked)
+    let answer = answer_of(asked);
+    if let Answer::Broken(fault) = &answer {
+        watch.broken(*fault);
+    }
+    answer
 }
 
 // The address as it is printed.

@@ -3,7 +3,7 @@ ghost use Rattle.std.specs.Prelude.{◌≡◌};
 ghost use Rattle.counted_io.specs.Count.{raised};
 ghost use Rattle.tcp_backend.specs.Connecting.{dialed_of};
 
-use std::io::{Read, Write};
+use std::io::{Read, Result, Write};
 use std::net::{Net, OpenStream, SocketAddrV4, TcpStream};
 
 /// What makes connections, and counts how often it was asked to.
@@ -15,8 +15,8 @@ pub(crate) trait Connector {
     // How often it was asked to connect.
     ghost connects: { Self → ℕ };
 
-    // A new connection, where one can be had.
-    fn connect(&mut self) -> Option<Self::Stream>
+    // A new connection, or why none can be had.
+    fn connect(&mut self) -> Result<Self::Stream>
         ensures { connects self.new ≡ raised (connects self.old) };
 }
 
@@ -55,8 +55,8 @@ impl<R: Net> Connector for Dialer<R> {
 
     ghost connects = { dialed_of };
 
-    fn connect(&mut self) -> Option<R::Stream> {
+    fn connect(&mut self) -> Result<R::Stream> {
         self.connects = self.connects.saturating_add(1);
-        TcpStream::connect(&self.rt, self.address).ok()
+        TcpStream::connect(&self.rt, self.address)
     }
 }

@@ -11,5 +11,7 @@ mod asking;
 mod broken;
 mod connecting;
 mod dialing;
+mod watch;
 
 pub use connecting::{BackendFault, TcpBackend};
+pub use watch::BackendWatch;

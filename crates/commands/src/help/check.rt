@@ -5,7 +5,14 @@ pub(crate) const CHECK_ABOUT: &str =
 
 pub(crate) const CHECK_HELP: &str = "\
 Reads the file CONFIG, TOML text of at most 1 MiB, and serves nothing. /dev/stdin as CONFIG reads
-standard input. A small configuration, for 64 workers, is
+standard input.
+
+With --explain standard output first gets more, for a person. Of a fault: the line where it is, of
+a class, resolver or bypass which of them, and what the key holds, its range and its default. Of a
+configuration without fault: how many callers may be inside together, and so how many workers it
+wants, and what has no effect.
+
+A small configuration, for 64 workers, is
 
   version = 2
   listen = \"127.0.0.1:8080\"    # where requests come in

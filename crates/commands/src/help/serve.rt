@@ -16,6 +16,8 @@ whether a file is right before anything is served. A connection carries one requ
   --client-timeout-ms T  milliseconds that a client may take, 1 to 3600000; 10000: for its whole
                          request, and again to take its whole answer. A slower client is cut off,
                          and its permit is ended as always
+  --report-seconds N     seconds between two lines of the report in the log, 1 to 3600; without it
+                         there are none
 
 For example, with this file as gate.toml
 
@@ -62,6 +64,14 @@ the shares of it and the backlog exceed the workers: callers past the workers th
 the system's accept queue and are never refused, so raise the workers or lower the others. Another
 comes if the workers may need more descriptors than the system gives, and one if the backend is this
 gateway itself, so that each request would come back to it.
+
+While it serves the log says, at most once in ten seconds each and with the count since the last
+time, that the backend can't be reached, that it broke an answer, or that no descriptor was free.
+With --report-seconds N one line every N seconds says what stands: the limit, the requests in flight
+and those that wait, each class as in flight/share, the counters since the start, and how many
+exchanges ended in each status of the gateway's own:
+`report limit=L inflight=I waiters=V granted=G class.NAME=C/S class.unknown=C admitted=A ..
+dropped=D 400=N 413=N 429=N 431=N 500=N 501=N 502=N`. So a stop loses N seconds of counters at most.
 
 At its end `serve` writes its counters to standard output, in one line:
 `admitted A bypassed B full F backlog G waiting W promoted P timed-out T success S ignored I

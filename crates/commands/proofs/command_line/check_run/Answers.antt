@@ -15,6 +15,7 @@ returns-clause-run c = (
   refl,
   sym (first_value-rows (found_of c.args.matches.now) (codes "config")) ∙ sym c.get_str.ensures
       ∙ search rules,
+  search rules,
 )
 
 pub returns-clause-none : goal.returns-clause-none

@@ -2,7 +2,7 @@ use Rattle.std.proofs.Common.{◌≡◌, ℕ, ◌<◌, ◌⊎◌, IfSome, None, 
 use Rattle.std.proofs.Common.{subst, true≢false}
 use Rattle.counted_io.specs.Count.{count_end}
 use Rattle.counted_io.specs.Counted.{failures_of}
-use Rattle.wire.specs.declared.request.Request.{Request}
+use Rattle.message_parts.specs.declared.request.Request.{Request}
 use Rattle.wire.specs.declared.fault.WireFault.{WireFault}
 use Rattle.wire.specs.declared.fault.WireFault.TheVariants.{Write}
 use Rattle.proxy.proofs.exchanging.exchange.Goals as goal
@@ -26,6 +26,7 @@ returns-in-Err-clause-exchanged g c = record {
   };
   deals = (c.unread.ensures.class, c.unread.ensures.admission, refl, refl, refl, refl);
   status = c.unread.ensures.answer;
+  own = c.unread.ensures.own;
   outcome = c.unread.ensures.outcome;
   text = c.unread.ensures.text;
   unasked = λ same. c.unread.ensures.told (ap fault_in same);
@@ -55,6 +56,7 @@ returns-clause-exchanged g c = record {
     },
   );
   status = ap Some c.reply_status.ensures;
+  own = c.is_own.ensures;
   outcome = c.outcome_at.ensures;
   text = c.reply-written_fault.ensures.all;
   unasked = λ same. absurd (true≢false (ap is_ok same));

@@ -4,8 +4,8 @@ use Rattle.gate_ledgers.specs.Names.{places_of}
 use Rattle.serving.proofs.workers.serve_with.Given as goal
 
 -- the ledgers that were just made, of a gate of the settings, which rolls
-abbrev pub ghosts-serve_named : goal.ghosts-serve_named
-ghosts-serve_named g a =
+abbrev pub ghosts-serve_named-M-Naming : goal.ghosts-serve_named-M-Naming
+ghosts-serve_named-M-Naming g a =
     let settings = a.settings.now in
     record {
       calls = a.blanks.calls.name;
@@ -17,3 +17,7 @@ ghosts-serve_named g a =
       is_rolling = true;
       limit = any_rules.limit settings.limit;
     }
+
+-- and the table of its word
+abbrev pub ghosts-serve_named-M-GateNaming : goal.ghosts-serve_named-M-GateNaming
+ghosts-serve_named-M-GateNaming g a = record { word = a.word }

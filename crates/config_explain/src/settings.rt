@@ -1,0 +1,59 @@
+// What is worth knowing of a configuration without fault.
+use config_values::{Key, value_at};
+use gate_config::Settings;
+use limit_laws::Limit;
+use std::alloc::AllocError;
+use toml::Table;
+
+/// The most workers.
+const MOST_WORKERS: u64 = 64;
+
+/// Says how many workers it wants, and what has no effect.
+pub(crate) fn explain_settings(
+    out: &mut String,
+    table: &Table,
+    settings: &Settings,
+) -> Result<(), AllocError> {
+    explain_workers(out, settings)?;
+    if !settings.wait && settings.backlog > 0 && value_at(table, Key::Backlog).is_some() {
+        let backlog = settings.backlog;
+        write!(
+            out,
+            "wait = false: nobody waits, so backlog = {backlog} has no effect\n"
+        )?;
+    }
+    Ok(())
+}
+
+/// Says how many may be inside together, and so how many workers are wanted.
+fn explain_workers(out: &mut String, settings: &Settings) -> Result<(), AllocError> {
+    let limit = u64::from(settings.limit.hi());
+    let shares = settings
+        .table
+        .most(settings.limit.hi())
+        .saturating_sub(limit);
+    let waiting = if settings.wait {
+        u64::from(settings.backlog)
+    } else {
+        0
+    };
+    let inside = limit.saturating_add(shares).saturating_add(waiting);
+    write!(
+        out,
+        "greatest limit {limit}, shares of it {shares} and backlog {waiting} \
+         are {inside} together\n"
+    )?;
+    if inside < MOST_WORKERS {
+        let workers = inside.saturating_add(1);
+        write!(
+            out,
+            "serve it with --workers {workers} or more, at most {MOST_WORKERS}\n"
+        )
+    } else {
+        write!(
+            out,
+            "too few workers: there are at most {MOST_WORKERS}, and callers past them wait unseen; \
+             lower the limit or the backlog\n"
+        )
+    }
+}

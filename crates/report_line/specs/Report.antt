@@ -1,0 +1,64 @@
+-- The text of a report.
+use Rattle.std.specs.Prelude.{ℕ, List, [], ◌∷◌, ◌++◌, codes, decimal, length, nat_lt, slice_index, if◌then◌else◌}
+use Rattle.std.specs.List.{concat}
+use Rattle.partitions.specs.declared.part.Part.TheVariants.{Known}
+use Rattle.partitions.specs.Table.{Row, name_of}
+use Rattle.limiter_core.specs.declared.counters.Counters.{Counters}
+use Rattle.shared_gate.specs.declared.report.Report.{Report}
+use Rattle.answer_tally.specs.declared.tally.AnswerTally.{AnswerTally}
+
+-- the limit, and how many are in flight, wait and lie granted
+abbrev pub stands_text : Report → List ℕ
+stands_text r = concat (
+    codes "limit=" ∷ decimal r.limit ∷ codes " inflight=" ∷ decimal r.inflight
+    ∷ codes " waiters=" ∷ decimal r.waiters ∷ codes " granted=" ∷ decimal r.granted ∷ [])
+
+-- the class in a row, with how many of its permits are in flight and its share
+abbrev pub class_text : Report → List Row → ℕ → List ℕ
+class_text r rows row =
+    if nat_lt row (length rows) then concat (
+    codes " class." ∷ name_of rows (Known row) ∷ codes "=" ∷ decimal (slice_index r.counts row)
+    ∷ codes "/" ∷ decimal (slice_index r.shares row) ∷ []) else []
+
+abbrev pub unknown_text : Report → List ℕ
+unknown_text r = codes " class.unknown=" ++ decimal (slice_index r.counts 4)
+
+-- the classes in their order, and the callers of none
+abbrev pub classes_text : Report → List Row → List ℕ
+classes_text r rows =
+    class_text r rows 0 ++ class_text r rows 1 ++ class_text r rows 2 ++ class_text r rows 3
+    ++ unknown_text r
+
+-- how often an acquire was answered at once
+abbrev pub acquires_text : Counters → List ℕ
+acquires_text c = concat (
+    codes " admitted=" ∷ decimal c.admitted ∷ codes " bypassed=" ∷ decimal c.bypassed
+    ∷ codes " full=" ∷ decimal c.full ∷ codes " backlog=" ∷ decimal c.backlog_full ∷ [])
+
+-- how often a wait began, and how it ended
+abbrev pub waits_text : Counters → List ℕ
+waits_text c = concat (
+    codes " waiting=" ∷ decimal c.waiting ∷ codes " promoted=" ∷ decimal c.promoted
+    ∷ codes " timed-out=" ∷ decimal c.timed_out ∷ [])
+
+-- how often each outcome was
+abbrev pub outcomes_text : Counters → List ℕ
+outcomes_text c = concat (
+    codes " success=" ∷ decimal c.success ∷ codes " ignored=" ∷ decimal c.ignored
+    ∷ codes " dropped=" ∷ decimal c.dropped ∷ [])
+
+abbrev pub counters_text : Counters → List ℕ
+counters_text c = acquires_text c ++ waits_text c ++ outcomes_text c
+
+-- how many exchanges ended in each of the gateway's own answers
+abbrev pub answers_text : AnswerTally → List ℕ
+answers_text t = concat (
+    codes " 400=" ∷ decimal t.bad_request ∷ codes " 413=" ∷ decimal t.too_large
+    ∷ codes " 429=" ∷ decimal t.refused ∷ codes " 431=" ∷ decimal t.head_too_large
+    ∷ codes " 500=" ∷ decimal t.out_of_memory ∷ codes " 501=" ∷ decimal t.not_taken
+    ∷ codes " 502=" ∷ decimal t.bad_gateway ∷ [])
+
+-- THE TEXT OF A REPORT
+abbrev pub report_text : Report → List Row → AnswerTally → List ℕ
+report_text r rows t =
+    stands_text r ++ classes_text r rows ++ counters_text r.counters ++ answers_text t

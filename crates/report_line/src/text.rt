@@ -1,0 +1,143 @@
+// The text of a report.
+ghost use Rattle.std.specs.Prelude.{◌≡◌, ◌++◌, ◌<◌, IfOk, OnOk, string_bytes};
+ghost use Rattle.report_line.specs.Report.{acquires_text, answers_text, class_text, classes_text};
+ghost use Rattle.report_line.specs.Report.{counters_text, outcomes_text, report_text, stands_text};
+ghost use Rattle.report_line.specs.Report.{waits_text};
+
+use answer_tally::AnswerTally;
+use limiter_core::Counters;
+use partitions::{Part, PartitionTable};
+use shared_gate::Report;
+use std::alloc::{AllocError, Global};
+
+/// The text of what stands in a gate over these classes, and of how many exchanges ended in each of
+/// the gateway's own answers. It fails only out of memory.
+pub fn report_text(
+    alloc: Global,
+    report: &Report,
+    table: &PartitionTable,
+    answers: &AnswerTally,
+) -> Result<String, AllocError>
+    ensures { IfOk result (λ text.
+        string_bytes text ≡ report_text report.now table.now answers.now) }
+{
+    let mut text = String::new(alloc);
+    push_stands(&mut text, report)?;
+    push_classes(&mut text, report, table)?;
+    push_counters(&mut text, &report.counters)?;
+    push_answers(&mut text, answers)?;
+    Ok(text)
+}
+
+/// Adds the limit, and how many are in flight, wait and lie granted.
+fn push_stands(text: &mut String, report: &Report) -> Result<(), AllocError>
+    ensures { OnOk result (string_bytes text.new
+        ≡ string_bytes text.old ++ stands_text report.now) }
+{
+    let (limit, inflight) = (report.limit, report.inflight);
+    let (waiters, granted) = (report.waiters, report.granted);
+    write!(
+        text,
+        "limit={limit} inflight={inflight} waiters={waiters} granted={granted}"
+    )
+}
+
+/// Adds each class with its count and its share, and the callers of no class.
+fn push_classes(
+    text: &mut String,
+    report: &Report,
+    table: &PartitionTable,
+) -> Result<(), AllocError>
+    ensures { OnOk result (string_bytes text.new
+        ≡ string_bytes text.old ++ classes_text report.now table.now) }
+{
+    push_class(text, report, table, 0)?;
+    push_class(text, report, table, 1)?;
+    push_class(text, report, table, 2)?;
+    push_class(text, report, table, 3)?;
+    let unknown = report.counts[4];
+    write!(text, " class.unknown={unknown}")
+}
+
+/// Adds the class in a row of the table, where it has one.
+fn push_class(
+    text: &mut String,
+    report: &Report,
+    table: &PartitionTable,
+    row: u8,
+) -> Result<(), AllocError>
+    requires { row < 4 }
+    ensures { OnOk result (string_bytes text.new
+        ≡ string_bytes text.old ++ class_text report.now table.now row) }
+{
+    let place = usize::from(row);
+    if table.len() <= place {
+        return Ok(());
+    }
+    let name = table.name(Part::Known(row));
+    let (count, share) = (report.counts[place], report.shares[place]);
+    write!(text, " class.{name}={count}/{share}")
+}
+
+/// Adds how often each reply, promotion and outcome was.
+fn push_counters(text: &mut String, counters: &Counters) -> Result<(), AllocError>
+    ensures { OnOk result (string_bytes text.new
+        ≡ string_bytes text.old ++ counters_text counters.now) }
+{
+    push_acquires(text, counters)?;
+    push_waits(text, counters)?;
+    push_outcomes(text, counters)
+}
+
+/// Adds how often an acquire was answered at once.
+fn push_acquires(text: &mut String, counters: &Counters) -> Result<(), AllocError>
+    ensures { OnOk result (string_bytes text.new
+        ≡ string_bytes text.old ++ acquires_text counters.now) }
+{
+    let (admitted, bypassed) = (counters.admitted, counters.bypassed);
+    let (full, backlog) = (counters.full, counters.backlog_full);
+    write!(
+        text,
+        " admitted={admitted} bypassed={bypassed} full={full} backlog={backlog}"
+    )
+}
+
+/// Adds how often a wait began, and how it ended.
+fn push_waits(text: &mut String, counters: &Counters) -> Result<(), AllocError>
+    ensures { OnOk result (string_bytes text.new
+        ≡ string_bytes text.old ++ waits_text counters.now) }
+{
+    let (waiting, promoted) = (counters.waiting, counters.promoted);
+    let timed_out = counters.timed_out;
+    write!(
+        text,
+        " waiting={waiting} promoted={promoted} timed-out={timed_out}"
+    )
+}
+
+/// Adds how often each outcome was.
+fn push_outcomes(text: &mut String, counters: &Counters) -> Result<(), AllocError>
+    ensures { OnOk result (string_bytes text.new
+        ≡ string_bytes text.old ++ outcomes_text counters.now) }
+{
+    let (success, ignored, dropped) = (counters.success, counters.ignored, counters.dropped);
+    write!(
+        text,
+        " success={success} ignored={ignored} dropped={dropped}"
+    )
+}
+
+/// Adds how many exchanges ended in each of the gateway's own answers.
+fn push_answers(text: &mut String, answers: &AnswerTally) -> Result<(), AllocError>
+    ensures { OnOk result (string_bytes text.new
+        ≡ string_bytes text.old ++ answers_text answers.now) }
+{
+    let (bad, large, refused) = (answers.bad_request, answers.too_large, answers.refused);
+    write!(text, " 400={bad} 413={large} 429={refused}")?;
+    let (head, memory) = (answers.head_too_large, answers.out_of_memory);
+    let (not_taken, gateway) = (answers.not_taken, answers.bad_gateway);
+    write!(
+        text,
+        " 431={head} 500={memory} 501={not_taken} 502={gateway}"
+    )
+}

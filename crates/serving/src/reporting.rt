@@ -1,0 +1,96 @@
+// What is told of a gate while its workers serve.
+use crate::watch::Watch;
+use clocks::Clock;
+use limit_laws::{LAST_MOMENT, Limit};
+use partitions::PartitionTable;
+use shared_gate::{GateNaming, SharedGate};
+use std::sync::{Condvar, Mutex, Wait};
+use std::time::{Clock as SystemClock, Duration};
+
+/// The most nanoseconds from one look at the clock to the next: a second, since the clock that is
+/// looked at need not go as the system's does.
+const LONGEST_REST: u64 = 1_000_000_000;
+
+/// The fewest that are slept: 1 ms, so that a clock that stands still keeps no processor busy.
+const SHORTEST_REST: u64 = 1_000_000;
+
+/// How many workers haven't ended.
+#[derive(Drop)]
+pub(crate) struct Present {
+    count: Mutex<usize>,
+    left: Condvar,
+}
+
+impl Present {
+    /// So many workers.
+    pub(crate) fn new(count: usize) -> Present {
+        Present {
+            count: Mutex::new(count),
+            left: Condvar::new(),
+        }
+    }
+
+    /// One of them ends; with the last one whoever rests here wakes.
+    pub(crate) fn leave(&self, rt: &impl Wait) {
+        let mut count = self.count.lock(rt);
+        *count = count.saturating_sub(1);
+        if *count == 0 {
+            self.left.notify_all();
+        }
+    }
+
+    /// Rests until the clock has reached a moment, or all workers have ended; whether some haven't.
+    /// A clock that fails is answered as if all had.
+    fn rest<R: Wait + SystemClock, C: Clock>(&self, rt: &R, clock: &C, until: u64) -> bool {
+        let mut count = self.count.lock(rt);
+        for _ in rt.forever() {
+            let now = clock.now();
+            if *count == 0 || LAST_MOMENT <= now {
+                return false;
+            }
+            if until <= now {
+                return true;
+            }
+            let rest = Duration::from_nanos((until - now).clamp(SHORTEST_REST, LONGEST_REST));
+            count = self.left.wait_timeout(rt, count, rest).0;
+        }
+        true
+    }
+}
+
+/// Reports what stands in the gate every so many nanoseconds, until all workers have ended.
+pub(crate) fn report_all<M, R, C, W, L>(
+    rt: &R,
+    present: &Present,
+    gate: &SharedGate<L, M>,
+    table: &PartitionTable,
+    clock: &C,
+    watch: &W,
+    every: u64,
+)
+where
+    M: GateNaming,
+    R: Wait + SystemClock,
+    C: Clock,
+    W: Watch,
+    L: Limit,
+{
+    let mut next = clock.now().saturating_add(every);
+    for _ in rt.forever() {
+        if !present.rest(rt, clock, next) {
+            return;
+        }
+        watch.report(table, &gate.report(rt));
+        next = after(next, every, clock.now());
+    }
+}
+
+/// When the next report comes: so long behind the last one, or behind now where that has gone by.
+fn after(last: u64, every: u64, now: u64) -> u64 {
+    let next = last.saturating_add(every);
+    if next <= now {
+        now.saturating_add(every)
+    } else {
+        next
+    }
+}

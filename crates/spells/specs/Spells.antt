@@ -1,0 +1,26 @@
+-- What happens often, told seldom.
+use Rattle.std.specs.Prelude.{ℕ, ◌+◌, ◌-◌, ◌^◌, min, nat_le, Bool, true, Option, None, Some, if◌then◌else◌}
+use Rattle.spells.specs.declared.spell.Spell.{Spell}
+
+-- the least time from one telling to the next, in nanoseconds
+abbrev pub spell_length : ℕ
+spell_length = 10000000000
+
+-- it is told at this moment: it never was, or was so long ago
+abbrev pub is_due : Option ℕ → ℕ → Bool
+is_due None now = true
+is_due (Some last) now = nat_le spell_length (now - last)
+
+-- one more, up to the greatest count
+abbrev pub once_more : ℕ → ℕ
+once_more count = min (count + 1) (2 ^ 64 - 1)
+
+-- HOW OFTEN IS TOLD where it happens at this moment, if it is told
+abbrev pub told : Spell → ℕ → Option ℕ
+told spell now = if is_due spell.last now then Some (once_more spell.count) else None
+
+-- what is kept then
+abbrev pub noted : Spell → ℕ → Spell
+noted spell now =
+    if is_due spell.last now then record { last = Some now; count = 0 }
+    else record { last = spell.last; count = once_more spell.count }
