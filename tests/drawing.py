@@ -1,14 +1,14 @@
-"""Random scripts and traces without fault, the same from the same seed.
+"""Random scripts and traces without faults; the same seed gives the same text.
 
-A script is drawn line by line, by what the limiter of tests/reference.py has open, granted and waiting then, so that
-most of its numbers name something.
+A script is drawn line by line, from what the limiter of tests/reference.py then has open, granted and waiting, so most
+of its numbers name something.
 """
 import itertools
 import random
 
 from reference import HOUR, LAST_MOMENT, SHARES, Limiter
 
-# How often each event is drawn where many come, and where few do; which it is changes after so many lines.
+# How often each event is drawn while many come, and while few do; these alternate after PHASE lines.
 BUSY = {"acquire": 400, "wait": 500, "bypass": 50, "end": 450, "claim": 300, "giveup": 100, "set": 40, "reset": 4,
         "look": 100}
 SLACK = BUSY | {"acquire": 250, "wait": 50, "end": 600}

@@ -1,4 +1,4 @@
-"""Fronts, gateways and backends on loopback, and clients of theirs, for the test of examples/front/."""
+"""Fronts, gateways, backends and clients on loopback, for the test of examples/front/."""
 import contextlib
 import http.client
 import pathlib
@@ -17,7 +17,7 @@ FRONT = TOP / "examples/front"
 
 
 class Origin:
-    """A backend that keeps what it was given and answers by the path; it may hang, or answer as it is told."""
+    """A backend that records its requests and answers by the path; it may hang, or give an answer set before."""
 
     def __init__(self, port=0):
         self.given, self.release, self.held = [], threading.Event(), threading.Semaphore(0)

@@ -1,4 +1,4 @@
-"""What was wanted of the built program, compared with what was found, and its line of counters."""
+"""Compares what is expected of the built program with what was found; and its line of counters."""
 import re
 import sys
 
@@ -6,20 +6,20 @@ COUNTERS = ("admitted", "bypassed", "full", "backlog", "waiting", "promoted", "t
 
 
 def counters_line(**counts):
-    """The line of these counters, `timed_out` for `timed-out`; those that aren't named are 0."""
+    """The line of these counters, with `timed_out` for `timed-out`; all others are 0."""
     named = {name.replace("_", "-"): count for name, count in counts.items()}
     assert named.keys() <= {*COUNTERS}
     return " ".join(f"{name} {named.get(name, 0)}" for name in COUNTERS) + "\n"
 
 
 def counts_of(line):
-    """The counters of a line that aren't 0, by name, or nothing where it is no such line."""
+    """The counters of a line that aren't 0, by name, or None if it isn't such a line."""
     found = re.fullmatch(" ".join(rf"{it} (\d+)" for it in COUNTERS) + "\n", line)
     return found and {name: int(count) for name, count in zip(COUNTERS, found.groups()) if count != "0"}
 
 
 class Judge:
-    """A count of what went well and what didn't, which is told."""
+    """Counts the cases that passed and those that failed, and prints both."""
 
     def __init__(self):
         self.passed, self.failed = 0, 0

@@ -1,8 +1,8 @@
-"""A limiter over plain lists, by the words of docs/DEFINITIONS.md and docs/FORMATS.md: what `replay` and `simulate`
-should answer to lines without fault.
+"""A limiter over plain lists, written from docs/DEFINITIONS.md and docs/FORMATS.md: what `replay` and `simulate` should
+answer to lines without faults.
 
-It is written for reading: each quantity is counted where it is needed, and nothing is shared with the program. Permits
-and waiters stand by number in the order in which they came, the newest last.
+It is written to be read: each quantity is counted where it is needed, and nothing is shared with the program. Permits
+and waiters are ordered by number, the newest last.
 """
 import collections
 import math

@@ -1,5 +1,5 @@
-// Refuses the allocation of the number in REFUSED, and the thread of that in THREAD_REFUSED; with COUNTED
-// set, tells how many allocations there were.
+// Refuses the allocation whose number is in REFUSED, and the thread whose number is in THREAD_REFUSED; with
+// COUNTED set, prints the number of allocations.
 #define _GNU_SOURCE
 #include <dlfcn.h>
 #include <errno.h>

@@ -1,7 +1,7 @@
-"""Requests as clients send them, with what is forwarded of each, or the status that refuses it.
+"""Requests as clients send them, each with what is forwarded or the status that refuses it.
 
-`|` is CR LF, and `>` the two lines that end each head that is forwarded. The rows come from the profile of
-`docs/FORMATS.md` and from RFC 9110 and RFC 9112; most of them are known for being read in two ways.
+`|` is CR LF, and `>` is the two lines at the end of each forwarded head. The rows come from the profile of
+`docs/FORMATS.md` and from RFC 9110 and RFC 9112; most of them are known to be read in two ways by other programs.
 """
 
 # A request, and the one form that it is forwarded in.

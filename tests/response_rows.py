@@ -1,6 +1,6 @@
-"""Responses as a backend sends them, with what a client gets of each, or that it gets 502.
+"""Responses as a backend sends them, each with what the client gets; some give 502.
 
-`|` is CR LF, and `>` the line that ends each head that is passed on. The rows come from the profile of
+`|` is CR LF, and `>` is the line at the end of each head that is passed on. The rows come from the profile of
 `docs/FORMATS.md` and from RFC 9110 and RFC 9112.
 """
 

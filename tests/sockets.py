@@ -1,4 +1,4 @@
-"""Cases of `tests/serve` on what becomes of connections: of early answers, resets, signals, descriptors and slow ends."""
+"""Cases of `tests/serve` on connections: early answers, resets, signals, descriptors and slow ends."""
 import os
 import resource
 import signal

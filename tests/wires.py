@@ -1,4 +1,4 @@
-"""Raw bytes on both sides of a gateway: what a client sends, what the backend gets and says, and what comes back."""
+"""Raw bytes on both sides of a gateway: what a client sends, what the backend gets and answers, and what comes back."""
 import contextlib
 import dataclasses
 import itertools
