@@ -2,8 +2,8 @@
 """Counts the allocations of an exchange: bench/allocations.py PROGRAM
 
 One worker of `admission serve` (PROGRAM, built) runs under gdb, which counts its calls of malloc, realloc and free. A
-request and its answer have 5 header lines each, then 40, and the answer 13 bytes. Printed is what an exchange takes
-once the program runs: the difference of two runs, divided by the exchanges that the second has more. Needs gdb.
+request and its answer have 5 header lines each, then 40, and the answer 13 bytes. It prints the allocations of one
+exchange after the start: the difference of two runs, divided by the difference of their exchanges. Needs gdb.
 """
 import pathlib
 import re

@@ -1,9 +1,9 @@
 #!/usr/bin/env python3
 """Times `SharedGate::close`: the audit of a gate, by how many receipts its caller kept.
 
-Usage: bench/close.py. The program is close/, over `shared_gate`: one caller makes so many calls, pairs of
-acquire and end, keeps their receipts in one list, and closes the gate. Printed is the time of the closing
-alone, as nanoseconds a receipt: the median, the least and the greatest of nine runs. Needs rt.
+Usage: bench/close.py. The program is close/, over `shared_gate`: one caller makes pairs of acquire and end, keeps their
+receipts in one list, and closes the gate. It prints the time of closing alone, in nanoseconds a receipt: the median,
+the least and the greatest of nine runs. Needs rt.
 """
 import statistics
 import sys
@@ -25,7 +25,7 @@ def main():
     reader_of(__doc__).parse_args()
     bench = Bench("close", "shared_gate")
     with open(bench.tree / "build.log", "w") as log:
-        print(f"building, some minutes at most; {log.name} tells how far it is", file=sys.stderr)
+        print(f"building, some minutes at most; {log.name} shows the progress", file=sys.stderr)
         program = bench.product((10,), b"", log)
     print("| receipts | ns a receipt | least | greatest |")
     print("|---|---|---|---|")

@@ -1,9 +1,9 @@
 #!/usr/bin/env python3
 """Times `admission load` by 1, 2 and 4 workers on the same traces.
 
-Usage: bench/load.py PROGRAM. Each trace goes through by each number of workers in turn, nine times. Printed are the
-calls a second, by the calls that the history has and the median time of the whole run: reading the trace, the
-calls, the audit and the two lines.
+Usage: bench/load.py PROGRAM. Each trace is run with each number of workers in turn, nine times. It prints the calls a
+second, from the calls in the history and the median time of the whole run: reading the trace, the calls, the audit and
+the two lines.
 """
 import re
 import statistics

@@ -4,8 +4,8 @@
 Usage: bench/messages.py [FOLDER]. The product's side is messages/, a program over `wire`; the peer is
 plain_messages.rs over the crate `httparse`, whose sources are in FOLDER, or where Debian's
 `librust-httparse-dev` puts them. Both read the same request from memory over and over, and must find
-bodies of the same length. Printed are the median time of a reading on either side, the median ratio of
-the turns, and that of the processor time that the programs took. Needs rt and rustc.
+bodies of the same length. It prints the median time of a reading on both sides, the median ratio of the
+turns, and that of the processor time. Needs rt and rustc.
 """
 import argparse
 import pathlib
@@ -63,7 +63,7 @@ def main():
     folder = reader.parse_args().folder
     bench = Bench("messages", "wire", ["counted_io"])
     with open(bench.tree / "build.log", "w") as log:
-        print(f"building, some minutes at most; {log.name} tells how far it is", file=sys.stderr)
+        print(f"building, some minutes at most; {log.name} shows the progress", file=sys.stderr)
         library = httparse([folder] if folder else [], bench.tree, log)
         plain = bench.peer(log, "--extern", library)
         program = bench.product((10,), request(5, 0, False), log)

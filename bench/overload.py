@@ -1,10 +1,9 @@
 #!/usr/bin/env python3
 """Measures what overload costs, with and without the gateway: bench/overload.py PROGRAM [SECONDS]
 
-The origin answers 4 at a time in 20 ms, so 200 a second. Callers come four times as often, whether or not
-others are answered, and wait for a second. The gateway has a fixed limit of 4 and a backlog of 4, in which
-callers wait for up to 50 ms. Printed are the share of calls answered 200, the time of an answer of 200, and that
-of a refusal.
+The origin answers 4 requests at a time in 20 ms, so 200 a second. Callers arrive four times as often, at a fixed rate,
+and wait for up to a second. The gateway has a fixed limit of 4 and a backlog of 4, in which callers wait for up to 50
+ms. It prints the share of calls answered with 200, the time of such an answer, and the time of a refusal.
 """
 import asyncio
 

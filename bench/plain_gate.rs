@@ -2,13 +2,16 @@
 //! benchmark. It admits by the same rule as the product, keeps the same shares, limit, numbers and
 //! counters, and promotes the newest waiter at an ending, or all who have room.
 //!
-//! Its words are those of the product's side, `gate/src/main.rt.in`, and one more: above 0 it keeps a
-//! history of so many entries, and begins it anew where they are full: each call's event and reply go into a
-//! list whose room is reserved, and the caller gets a receipt of them. It writes the nanoseconds that the
-//! pairs, the givings up or the endings took, then what was done.
+//! Its words are those of the product's side, `gate/src/main.rt.in`, and two more: where the first is above 0
+//! it keeps a history of so many entries, and begins it anew where they are full: each call's event and reply
+//! go into a list whose room is reserved, and the caller gets a receipt of them. Where the second is 1 it has an
+//! atomic word beside its lock: each call raises it to the next number under the lock, and its caller reads it
+//! before that and after. It writes the nanoseconds that the pairs, the givings up or the endings took, then
+//! what was done.
 use std::collections::BTreeMap;
 use std::env;
 use std::hint::black_box;
+use std::sync::atomic::{AtomicU64, Ordering};
 use std::sync::{Condvar, Mutex};
 use std::thread;
 use std::time::{Duration, Instant};
@@ -268,12 +271,20 @@ impl Limiter {
 
 struct Gate {
     limiter: Mutex<Limiter>,
+    /// The next number, where callers see it.
+    word: Option<AtomicU64>,
     freed: Condvar,
 }
 
+/// Who calls: the last word that it read.
+#[derive(Default)]
+struct Pass {
+    seen: u64,
+}
+
 impl Gate {
-    /// A gate that keeps a history of so many entries, or none.
-    fn new(kept: usize, promotes_all: bool) -> Gate {
+    /// A gate that keeps a history of so many entries, or none, and where asked has a word.
+    fn new(kept: usize, promotes_all: bool, has_word: bool) -> Gate {
         let aimd = Aimd { lo: 1, limit: 10_000, hi: 10_000, ratio: 900, timeout: 3_600_000_000_000 };
         let limiter = Limiter {
             table: Table(vec![60, 30]),
@@ -289,10 +300,20 @@ impl Gate {
             history: (kept > 0).then(|| Vec::with_capacity(kept + 1)),
             kept,
         };
-        Gate { limiter: Mutex::new(limiter), freed: Condvar::new() }
+        let word = has_word.then(|| AtomicU64::new(0));
+        Gate { limiter: Mutex::new(limiter), word, freed: Condvar::new() }
     }
 
-    fn acquire(&self, part: Part, wait: bool, now: u64) -> (Reply, Option<Receipt>) {
+    /// Raises the word to the next number, under the lock.
+    fn raise(&self, pass: &mut Pass, next: u64) {
+        let Some(word) = &self.word else { return };
+        let seen = word.load(Ordering::SeqCst);
+        assert!(pass.seen <= seen);
+        word.store(next, Ordering::SeqCst);
+        pass.seen = word.load(Ordering::SeqCst);
+    }
+
+    fn acquire(&self, pass: &mut Pass, part: Part, wait: bool, now: u64) -> (Reply, Option<Receipt>) {
         let mut limiter = self.limiter.lock().unwrap();
         let number = limiter.next;
         let reply = limiter.acquire(part, wait, now);
@@ -303,16 +324,18 @@ impl Gate {
             Reply::Waiting(_) => Told::Waiting,
         };
         let receipt = limiter.keep(number, Event::Acquire { part, bypass: false, wait, now }, told);
+        self.raise(pass, limiter.next);
         (reply, receipt)
     }
 
     /// Wakes those who wait only where one was promoted: std's condition variable calls the system
     /// even where nobody waits.
-    fn end(&self, permit: Permit, outcome: Outcome, now: u64) -> Option<Receipt> {
+    fn end(&self, pass: &mut Pass, permit: Permit, outcome: Outcome, now: u64) -> Option<Receipt> {
         let mut limiter = self.limiter.lock().unwrap();
         let number = limiter.next;
         let promoted = limiter.end(permit, outcome, now);
         let receipt = limiter.keep(number, Event::End { permit, outcome, now }, Told::Ended { promoted });
+        self.raise(pass, limiter.next);
         drop(limiter);
         if promoted > 0 {
             self.freed.notify_all();
@@ -321,23 +344,25 @@ impl Gate {
     }
 
     /// Whether a waiter gave up that still waited.
-    fn give_up(&self, waiter: u64) -> (bool, Option<Receipt>) {
+    fn give_up(&self, pass: &mut Pass, waiter: u64) -> (bool, Option<Receipt>) {
         let mut limiter = self.limiter.lock().unwrap();
         let number = limiter.next;
         let waited = limiter.give_up(waiter);
         let told = if waited { Told::TimedOut } else { Told::Lost };
-        (waited, limiter.keep(number, Event::GiveUp { number: waiter }, told))
+        let receipt = limiter.keep(number, Event::GiveUp { number: waiter }, told);
+        self.raise(pass, limiter.next);
+        (waited, receipt)
     }
 }
 
 /// So many permits of a class.
-fn hold(gate: &Gate, part: Part, held: u32) -> Vec<Permit> {
-    (0..held).map(|_| admitted(gate.acquire(part, false, 0).0)).collect()
+fn hold(gate: &Gate, pass: &mut Pass, part: Part, held: u32) -> Vec<Permit> {
+    (0..held).map(|_| admitted(gate.acquire(pass, part, false, 0).0)).collect()
 }
 
 /// So many callers of a class that wait.
-fn queue(gate: &Gate, part: Part, at_a_time: u32) -> Vec<u64> {
-    (0..at_a_time).map(|_| waiting(gate.acquire(part, true, 0).0)).collect()
+fn queue(gate: &Gate, pass: &mut Pass, part: Part, at_a_time: u32) -> Vec<u64> {
+    (0..at_a_time).map(|_| waiting(gate.acquire(pass, part, true, 0).0)).collect()
 }
 
 /// The number of a caller that waits.
@@ -358,16 +383,16 @@ fn shuffle(items: &mut [u64]) {
 }
 
 /// How long so many givings up take, so many callers waiting at a time.
-fn givings_up(gate: &Gate, times: u32, at_a_time: u32, drawn: bool) -> Duration {
+fn givings_up(gate: &Gate, pass: &mut Pass, times: u32, at_a_time: u32, drawn: bool) -> Duration {
     let mut took = Duration::ZERO;
     for _ in 0..times / at_a_time {
-        let mut waiters = queue(gate, Part::Unknown, at_a_time);
+        let mut waiters = queue(gate, pass, Part::Unknown, at_a_time);
         if drawn {
             shuffle(&mut waiters);
         }
         let began = Instant::now();
         for waiter in waiters {
-            let (waited, receipt) = gate.give_up(waiter);
+            let (waited, receipt) = gate.give_up(pass, waiter);
             assert!(waited);
             black_box(receipt);
         }
@@ -387,11 +412,13 @@ fn admitted(reply: Reply) -> Permit {
 /// Pairs of acquire and end, by one thread; moments stand still where there is no clock.
 fn pairs(gate: &Gate, clock: Option<Instant>, part: Part, times: u32) {
     let now = || clock.map_or(0, |start| start.elapsed().as_nanos() as u64);
+    let mut pass = Pass::default();
     for _ in 0..times {
-        let (reply, receipt) = gate.acquire(part, false, now());
+        let (reply, receipt) = gate.acquire(&mut pass, part, false, now());
         black_box(receipt);
-        black_box(gate.end(admitted(reply), Outcome::Success, now()));
+        black_box(gate.end(&mut pass, admitted(reply), Outcome::Success, now()));
     }
+    black_box(pass.seen);
 }
 
 /// How long so many pairs of acquire and end take.
@@ -412,41 +439,42 @@ fn timed_pairs(gate: &Gate, threads: u32, times: u32, is_clocked: bool) -> Durat
 }
 
 /// How long so many endings take, each of which promotes a waiter past so many others.
-fn promotions(gate: &Gate, times: u32, others: u32) -> Duration {
+fn promotions(gate: &Gate, pass: &mut Pass, times: u32, others: u32) -> Duration {
     let batch = Part::Known(1);
-    let mut permits = hold(gate, batch, SHARE);
+    let mut permits = hold(gate, pass, batch, SHARE);
     let mut took = Duration::ZERO;
     for _ in 0..times / AT_A_TIME {
-        let mut first = queue(gate, batch, AT_A_TIME);
-        let late = queue(gate, Part::Unknown, others);
+        let mut first = queue(gate, pass, batch, AT_A_TIME);
+        let late = queue(gate, pass, Part::Unknown, others);
         let began = Instant::now();
         for permit in permits.drain(permits.len() - AT_A_TIME as usize..).rev() {
-            black_box(gate.end(permit, Outcome::Success, 0));
+            black_box(gate.end(pass, permit, Outcome::Success, 0));
         }
         took += began.elapsed();
         while let Some(waiter) = first.pop() {
             permits.push(gate.limiter.lock().unwrap().fetch(waiter).expect("a permit"));
         }
-        late.into_iter().for_each(|waiter| assert!(gate.give_up(waiter).0));
+        late.into_iter().for_each(|waiter| assert!(gate.give_up(pass, waiter).0));
     }
     for permit in permits.into_iter().rev() {
-        gate.end(permit, Outcome::Success, 0);
+        gate.end(pass, permit, Outcome::Success, 0);
     }
     took
 }
 
 fn main() {
     let words: Vec<u32> = env::args().skip(1).map(|word| word.parse().unwrap()).collect();
-    let [threads, held, times, fourth, fifth, waiting, promotes_all, kept] = words[..] else {
-        panic!("words: threads held times and five more")
+    let [threads, held, times, fourth, fifth, waiting, promotes_all, kept, has_word] = words[..] else {
+        panic!("words: threads held times and six more")
     };
-    let gate = Gate::new(kept as usize, threads == 3 || promotes_all == 1);
-    let out = hold(&gate, Part::Unknown, held);
+    let gate = Gate::new(kept as usize, threads == 3 || promotes_all == 1, has_word == 1);
+    let mut pass = Pass::default();
+    let out = hold(&gate, &mut pass, Part::Unknown, held);
     let took = match threads {
-        0 => givings_up(&gate, times, fourth, fifth == 1),
-        3 => promotions(&gate, times, fourth),
+        0 => givings_up(&gate, &mut pass, times, fourth, fifth == 1),
+        3 => promotions(&gate, &mut pass, times, fourth),
         _ => {
-            queue(&gate, Part::Unknown, waiting);
+            queue(&gate, &mut pass, Part::Unknown, waiting);
             timed_pairs(&gate, threads, times, fourth == 1)
         }
     };

@@ -3,19 +3,19 @@
 
     bench/proxy.py PROGRAM [--seconds S] [--rounds N] [--workers W,..] [--answer BYTES] [--upload BYTES] [--refused] [CLIENTS ..]
 
-An origin (nginx, which answers 13 bytes from memory), nginx and HAProxy as proxies, and PROGRAM (built), once for
-each number of workers W (64 unless some are given), stand on loopback ports below the ephemeral range; every request
-has a connection of its own on both sides. Everything runs on one processor, since on a shared machine a program with
-more threads takes more of it. For each number of clients every round visits each of them once, in turns, for some
-seconds of `wrk`; printed are the medians of requests a second, of the ratio to nginx round by round with its spread,
-of the times of an answer, of the user and the system time of an exchange, of voluntary switches in it, and of
-overflows of the accept queues, and the resident memory after the last round.
+It starts an origin (nginx, which answers 13 bytes from memory), nginx and HAProxy as proxies, and PROGRAM (built), once
+for each number of workers W (by default 64), on loopback ports below the ephemeral range. Every request has its own
+connection on both sides. Everything runs on one processor, since on a shared machine a program with more threads gets
+more of it. For each number of clients every round runs `wrk` against each proxy in turn, for S seconds. It prints the
+medians of requests a second, the ratio to nginx by round with its spread, the times of an answer, the user and system
+time of an exchange, its voluntary switches, and overflows of the accept queues, and the resident memory after the last
+round.
 
-With --answer the origin answers so many bytes, with --upload each request is a POST of so many, and a second nginx
-stands beside the first that buffers neither way. With --refused the limit is one, somebody holds it in an exchange
-that isn't answered, and what is timed are the answers 429 of `admission` and those of nginx's `limit_conn`.
+With --answer the origin answers with BYTES bytes; with --upload each request is a POST of BYTES bytes, and a second
+nginx runs without buffering. With --refused the limit is one and an exchange without an answer holds it; the refusals
+of `admission` with 429 and those of nginx's `limit_conn` are timed.
 
-All processes are ended. Needs Debian's nginx-light, haproxy and wrk.
+It ends all processes that it starts. Needs Debian's nginx-light, haproxy and wrk.
 """
 import argparse
 import contextlib
@@ -267,7 +267,7 @@ def targets_of(servers, program, port, given):
 
 
 def asking_of(servers, upload):
-    """What wrk is told, so that it sends bodies."""
+    """The script of wrk that sends bodies."""
     script = f'wrk.method = "POST"\nwrk.body = string.rep("x", {upload})\n'
     return ["-s", servers.written("upload.lua", script)] if upload else []
 

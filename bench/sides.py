@@ -1,8 +1,8 @@
 """The two sides of a benchmark: a program over the repository's crates, and a plain Rust peer.
 
-A benchmark's own program lies in a folder here, each file with `.in` behind its name, in no list of
-crates. It is put beside the repository's libraries in a folder that no check reads, proved and built as
-the product's program is. The peer is built by rustc -O.
+A benchmark's own program is in a folder here, with `.in` at the end of each file's name, and isn't in crates.txt. It is
+copied beside the repository's libraries, into a folder that no check reads, and proved and built as the product's
+program is. The peer is built by rustc -O.
 """
 import os
 import pathlib

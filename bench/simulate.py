@@ -1,9 +1,9 @@
 #!/usr/bin/env python3
 """Times `admission simulate` against a plain Rust program on the same traces, in one run.
 
-Usage: bench/simulate.py PROGRAM. Each trace of `traces.py` goes through both programs, which must write the same
-text, and then through both in turn, nine times. Printed are the median times, and the median of the turns'
-ratios. Needs rustc for the plain program, `plain_simulate.rs`.
+Usage: bench/simulate.py PROGRAM. Each trace of `traces.py` is run by both programs, which must write the same text, and
+then by both in turn, nine times. It prints the median times, and the median of the ratios. Needs rustc for the plain
+program, `plain_simulate.rs`.
 """
 import pathlib
 import statistics

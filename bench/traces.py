@@ -1,4 +1,4 @@
-"""Traces of 100,000 calls that come at random, for the benchmarks of `simulate` and `load`."""
+"""Traces of 100,000 random calls, for the benchmarks of `simulate` and `load`."""
 import random
 
 CALLS = 100_000

@@ -1,16 +1,18 @@
-"""Traffic for overload: an origin that serves few at a time, callers who come at their own rate, and a gateway
-between them. All of it stands on loopback, and everything that is started is ended.
+"""Traffic for overload: an origin that serves few requests at a time, callers that arrive at a fixed rate, and a
+gateway between them. All run on loopback, and everything that is started is ended.
 """
 import asyncio
 import contextlib
 import dataclasses
 import multiprocessing
 import pathlib
+import re
 import resource
 import signal
 import socket
 import subprocess
 import tempfile
+import threading
 import time
 
 ANSWER = b"HTTP/1.1 200 OK\r\nContent-Length: 13\r\nConnection: close\r\n\r\nhello, world\n"
@@ -78,20 +80,26 @@ class Origin:
 
 
 class Gateway:
-    """The program over a configuration of its own. `tables` is what stands below the addresses."""
+    """The program over a configuration of its own. `tables` is what stands below the addresses. If it reports every
+    `report_seconds`, `limits` gets pairs of a moment of time.perf_counter and the limit then."""
 
-    def __init__(self, program, origin, tables, workers=64):
+    def __init__(self, program, origin, tables, workers=64, report_seconds=None):
         self.port = free_port()
         self.room = tempfile.TemporaryDirectory(prefix="admission-")
         self.file = pathlib.Path(self.room.name) / "gateway.toml"
         self.file.write_text(f'version = 1\nlisten = "127.0.0.1:{self.port}"\nbackend = "127.0.0.1:{origin.port}"\n{tables}')
         self.words = [program, "serve", str(self.file), "--workers", str(workers)]
+        if report_seconds:
+            self.words += ["--report-seconds", str(report_seconds)]
+        self.limits = []
 
     def __enter__(self):
         self.process = subprocess.Popen(self.words, stdout=subprocess.DEVNULL, stderr=subprocess.PIPE, text=True)
         said = ""
         for line in self.process.stderr:
             if "listening" in line:
+                self.reader = threading.Thread(target=self.note)
+                self.reader.start()
                 return self
             said = f": {line.strip()}"
         status = self.process.wait()
@@ -99,9 +107,16 @@ class Gateway:
         self.room.cleanup()
         raise RuntimeError(f"the gateway ended with status {status}{said}")
 
+    def note(self):
+        """Notes the limit of each report, and reads the log to its end."""
+        for line in self.process.stderr:
+            if found := re.search(r"\breport limit=(\d+)", line):
+                self.limits.append((time.perf_counter(), int(found[1])))
+
     def __exit__(self, *_):
         self.process.terminate()
         self.process.wait()
+        self.reader.join()
         self.process.stderr.close()
         self.room.cleanup()
 

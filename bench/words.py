@@ -1,4 +1,4 @@
-"""The words of the benchmarks: `--help`, and the built program that they run."""
+"""The command lines of the benchmarks: `--help`, and the built program that they run."""
 import argparse
 import os
 import pathlib
