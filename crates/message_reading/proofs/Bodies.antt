@@ -1,17 +1,17 @@
 -- Bodies, as they are delimited.
 use Rattle.std.proofs.Common.{rules, ◌≡◌, ap, refl, ℕ, List}
 use Rattle.std.specs.Prelude.{Option, Some, None, Result, Ok, Err}
-use Rattle.message_bytes.specs.declared.fault.ReadFault.{ReadFault}
-use Rattle.message_bytes.specs.declared.fault.ReadFault.TheVariants.{Memory, Read, TurnLimit, Bytes}
-use Rattle.message_bytes.specs.Reading.{By, Gives, Reading}
-use Rattle.message_bytes.specs.Body.{all_of, sized_of}
-use Rattle.message_bodies.specs.Chunks.{IsChunks}
+use Rattle.message_reading.specs.declared.fault.MessageFault.{MessageFault}
+use Rattle.message_reading.specs.declared.fault.MessageFault.TheVariants.{Memory, Read, TurnLimit, Bytes}
+use Rattle.message_reading.specs.Reading.{By, Gives, Reading}
+use Rattle.message_reading.specs.PlainBody.{all_of, sized_of}
+use Rattle.message_reading.specs.Chunks.{IsChunks}
 use Rattle.message_reading.specs.declared.framing.Framing.{Framing}
 use Rattle.message_reading.specs.declared.framing.Framing.TheVariants.{Bodiless, Sized, Chunked, ToEnd}
 use Rattle.message_reading.specs.Body.{IsBody, some_body}
 
 abbrev pub GivesBody : Framing → Option (List ℕ) → Option (List ℕ)
-    → Result (Option (List ℕ)) ReadFault → Type 0
+    → Result (Option (List ℕ)) MessageFault → Type 0
 GivesBody framing = Gives {X = Option (List ℕ)} (λ body. body) (IsBody framing)
 
 pub no_body : (now : Option (List ℕ)) (framing : Framing) → framing ≡ Bodiless
@@ -30,7 +30,7 @@ module _ {X : Type 0} (view : X → List ℕ) where
     body_by (Some xs) None x b given same = absurd given
     body_by (Some xs) (Some ys) x b given same = is xs _ (rw same (ap some_body given))
 
-    fault_by : (old new : Option (List ℕ)) (e : ReadFault) → Gives view (By f) old new (Err e)
+    fault_by : (old new : Option (List ℕ)) (e : MessageFault) → Gives view (By f) old new (Err e)
         → GivesBody framing old new (Err e)
     fault_by None new e given = search rules
     fault_by (Some xs) new Memory given = search rules
@@ -44,7 +44,7 @@ module _ {X : Type 0} (view : X → List ℕ) where
   sized_body old new size framing x b is given same =
       body_by (sized_of size) framing (λ bytes r e. rw is e) old new x b given same
 
-  pub sized_fault : (old new : Option (List ℕ)) (size : ℕ) (framing : Framing) (e : ReadFault)
+  pub sized_fault : (old new : Option (List ℕ)) (size : ℕ) (framing : Framing) (e : MessageFault)
       → framing ≡ Sized size → Gives view (By (sized_of size)) old new (Err e)
       → GivesBody framing old new (Err e)
   sized_fault old new size framing e is given =
@@ -56,7 +56,7 @@ module _ {X : Type 0} (view : X → List ℕ) where
   whole_body old new framing x b is given same =
       body_by all_of framing (λ bytes r e. rw is e) old new x b given same
 
-  pub whole_fault : (old new : Option (List ℕ)) (framing : Framing) (e : ReadFault)
+  pub whole_fault : (old new : Option (List ℕ)) (framing : Framing) (e : MessageFault)
       → framing ≡ ToEnd → Gives view (By all_of) old new (Err e) → GivesBody framing old new (Err e)
   whole_fault old new framing e is given =
       fault_by all_of framing (λ bytes r e. rw is e) old new e given
@@ -69,7 +69,7 @@ module _ {X : Type 0} (view : X → List ℕ) where
   chunked_body (Some xs) (Some ys) framing x b is given same =
       rw (is, same) ((Ok (view x, ys), given, refl))
 
-  pub chunked_fault : (old new : Option (List ℕ)) (framing : Framing) (e : ReadFault)
+  pub chunked_fault : (old new : Option (List ℕ)) (framing : Framing) (e : MessageFault)
       → framing ≡ Chunked → Gives view (IsChunks 0) old new (Err e)
       → GivesBody framing old new (Err e)
   chunked_fault None new framing e is given = search rules

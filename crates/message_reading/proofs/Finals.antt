@@ -1,11 +1,11 @@
 -- Interim heads, one behind the other.
 use Rattle.std.proofs.Common.{rules, ◌≡◌, ◌+◌, ◌-◌, ◌⊎◌, ◌<◌, ℕ, true, false, List}
 use Rattle.std.specs.Prelude.{Option, Some, None, Result, Ok, Err, ⊤}
-use Rattle.message_bytes.specs.declared.fault.Fault.TheVariants.{Malformed}
-use Rattle.message_bytes.specs.declared.fault.ReadFault.{ReadFault}
-use Rattle.message_bytes.specs.declared.fault.ReadFault.TheVariants.{Memory, Read, TurnLimit, Bytes}
-use Rattle.message_bytes.specs.Reading.{Gives, Reading}
-use Rattle.message_heads.specs.declared.response.ResponseHead.{ResponseHead}
+use Rattle.message_reading.specs.declared.fault.Fault.TheVariants.{Malformed}
+use Rattle.message_reading.specs.declared.fault.MessageFault.{MessageFault}
+use Rattle.message_reading.specs.declared.fault.MessageFault.TheVariants.{Memory, Read, TurnLimit, Bytes}
+use Rattle.message_reading.specs.Reading.{Gives, Reading}
+use Rattle.message_reading.specs.declared.response_head.ResponseHead.{ResponseHead}
 use Rattle.message_reading.specs.Heads.{IsFinalHead, IsResponseHead, is_final, is_interim}
 
 -- what the heads that a reader has left give, all that it had gives
@@ -15,10 +15,10 @@ GoOn (Some xs) None left = ⊥
 GoOn (Some xs) (Some ys) left =
     (r : Reading ResponseHead) → IsFinalHead left ys r → IsFinalHead 16 xs r
 
-abbrev GivesHead : Option (List ℕ) → Option (List ℕ) → Result ResponseHead ReadFault → Type 0
+abbrev GivesHead : Option (List ℕ) → Option (List ℕ) → Result ResponseHead MessageFault → Type 0
 GivesHead = Gives {X = ResponseHead} (λ head. head) IsResponseHead
 
-abbrev GivesFinal : Option (List ℕ) → Option (List ℕ) → Result ResponseHead ReadFault → Type 0
+abbrev GivesFinal : Option (List ℕ) → Option (List ℕ) → Result ResponseHead MessageFault → Type 0
 GivesFinal = Gives {X = ResponseHead} (λ head. head) (IsFinalHead 16)
 
 pub finals_start : (old : Option (List ℕ)) → GoOn old old 16
@@ -54,7 +54,7 @@ final_refused (Some xs) (Some ys) None left head on given last why = absurd give
 final_refused (Some xs) (Some ys) (Some zs) left head on given last why =
     on _ (IsFinalHead.refused left ys zs head given last why)
 
-pub final_fault : (old mid new : Option (List ℕ)) (left : ℕ) (e : ReadFault)
+pub final_fault : (old mid new : Option (List ℕ)) (left : ℕ) (e : MessageFault)
     → GoOn old mid left → GivesHead mid new (Err e) → GivesFinal old new (Err e)
 final_fault None mid new left e on given = search rules
 final_fault (Some xs) None new left e on given = absurd on

@@ -1,9 +1,9 @@
 -- The body of a message.
 use Rattle.std.specs.Prelude.{◌≡◌, ℕ, List, Option, Some, None, Ok, Err}
-use Rattle.message_bytes.specs.declared.fault.Fault.{Fault}
-use Rattle.message_bytes.specs.Reading.{Reading, ◌>>=◌}
-use Rattle.message_bytes.specs.Body.{all_of, sized_of}
-use Rattle.message_bodies.specs.Chunks.{IsChunks}
+use Rattle.message_reading.specs.declared.fault.Fault.{Fault}
+use Rattle.message_reading.specs.Reading.{Reading, ◌>>=◌}
+use Rattle.message_reading.specs.PlainBody.{all_of, sized_of}
+use Rattle.message_reading.specs.Chunks.{IsChunks}
 use Rattle.message_reading.specs.declared.framing.Framing.{Framing}
 use Rattle.message_reading.specs.declared.framing.Framing.TheVariants.{Bodiless, Sized, Chunked, ToEnd}
 

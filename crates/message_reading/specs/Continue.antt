@@ -3,8 +3,8 @@ use Rattle.std.specs.Prelude.{◌≡◌, ◌⊎◌, ℕ, Bool, true, false, ◌&
 use Rattle.counted_io.specs.declared.counted.Counted.{Counted}
 use Rattle.counted_io.specs.Counted.{is_flushed}
 use Rattle.message_fields.specs.Lines.{asks_continue}
-use Rattle.message_bytes.specs.declared.fault.Fault.{Fault}
-use Rattle.message_heads.specs.declared.request.RequestHead.{RequestHead}
+use Rattle.message_reading.specs.declared.fault.Fault.{Fault}
+use Rattle.message_reading.specs.declared.request_head.RequestHead.{RequestHead}
 use Rattle.message_reading.specs.declared.framing.Framing.{Framing}
 use Rattle.message_reading.specs.declared.framing.Framing.TheVariants.{Sized, Chunked}
 use Rattle.message_reading.specs.Heads.{IsCheckedHead}

@@ -6,10 +6,10 @@ use Rattle.message_fields.specs.declared.length.LengthFault.TheVariants.{TooLarg
 use Rattle.message_fields.specs.Lines.{count_named, is_chunked_alone}
 use Rattle.message_fields.specs.Lengths.{length_of}
 use Rattle.message_fields.specs.Target.{is_target}
-use Rattle.message_bytes.specs.declared.fault.Fault.{Fault}
-use Rattle.message_bytes.specs.declared.fault.Fault.TheVariants as fault
-use Rattle.message_heads.specs.declared.request.RequestHead.{RequestHead}
-use Rattle.message_heads.specs.declared.response.ResponseHead.{ResponseHead}
+use Rattle.message_reading.specs.declared.fault.Fault.{Fault}
+use Rattle.message_reading.specs.declared.fault.Fault.TheVariants as fault
+use Rattle.message_reading.specs.declared.request_head.RequestHead.{RequestHead}
+use Rattle.message_reading.specs.declared.response_head.ResponseHead.{ResponseHead}
 use Rattle.message_reading.specs.declared.framing.Framing.{Framing}
 use Rattle.message_reading.specs.declared.framing.Framing.TheVariants.{Bodiless, Sized, Chunked, ToEnd}
 

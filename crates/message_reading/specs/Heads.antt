@@ -1,12 +1,12 @@
 -- The heads of messages.
 use Rattle.std.specs.Prelude.{◌≡◌, ◌⊎◌, ◌+◌, ℕ, Bool, true, false, ◌&&◌, ◌||◌, ◌==◌, nat_le, nat_lt, List, Result, Ok, Err}
-use Rattle.message_bytes.specs.declared.fault.Fault.{Fault}
-use Rattle.message_bytes.specs.declared.fault.Fault.TheVariants.{Malformed}
-use Rattle.message_bytes.specs.Reading.{By, Reading, Then, checked}
-use Rattle.message_bytes.specs.Head.{head_of}
-use Rattle.message_heads.specs.declared.request.RequestHead.{RequestHead}
-use Rattle.message_heads.specs.declared.response.ResponseHead.{ResponseHead}
-use Rattle.message_heads.specs.Whole.{IsRequestIn, IsResponseIn}
+use Rattle.message_reading.specs.declared.fault.Fault.{Fault}
+use Rattle.message_reading.specs.declared.fault.Fault.TheVariants.{Malformed}
+use Rattle.message_reading.specs.Reading.{By, Reading, Then, checked}
+use Rattle.message_reading.specs.HeadBytes.{head_of}
+use Rattle.message_reading.specs.declared.request_head.RequestHead.{RequestHead}
+use Rattle.message_reading.specs.declared.response_head.ResponseHead.{ResponseHead}
+use Rattle.message_reading.specs.WholeHeads.{IsRequestIn, IsResponseIn}
 use Rattle.message_reading.specs.declared.framing.Framing.{Framing}
 use Rattle.message_reading.specs.Framing.{request_framing}
 

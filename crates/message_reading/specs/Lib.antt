@@ -1,4 +1,14 @@
 pub mod Body
+pub mod ChunkLines
+pub mod ChunkSize
+pub mod Chunks
 pub mod Continue
 pub mod Framing
+pub mod Gather
+pub mod HeadBytes
 pub mod Heads
+pub mod Laws
+pub mod PlainBody
+pub mod Progress
+pub mod Reading
+pub mod WholeHeads

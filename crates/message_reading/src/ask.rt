@@ -6,9 +6,9 @@ ghost use Rattle.counted_io.specs.Effects.{Wrote};
 ghost use Rattle.message_reading.specs.Continue.{IsSeen, continue_of, is_awaited, wants_body};
 
 use crate::framing::Framing;
+use crate::request_head::RequestHead;
 use counted_io::{Counted, WriteFault, write_and_flush};
 use message_fields::asks_continue;
-use message_heads::RequestHead;
 use std::io::Write;
 
 // A body is to come.

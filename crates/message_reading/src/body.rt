@@ -1,13 +1,14 @@
-// Bodies.
+// Bodies, as they are delimited.
 ghost use Rattle.std.specs.Prelude.{◌≡◌, ◌≤◌, max, IsErrOf, OnOk};
 ghost use Rattle.counted_io.specs.Counted.{calls_of, failures_of};
-ghost use Rattle.message_bytes.specs.Reading.{HasFailed, Reads};
+ghost use Rattle.message_reading.specs.Reading.{HasFailed, Reads};
 ghost use Rattle.message_reading.specs.Body.{IsBody};
 
+use crate::chunks::read_chunked;
+use crate::fault::MessageFault;
 use crate::framing::Framing;
+use crate::plain_body::{read_sized, read_to_end};
 use counted_io::Counted;
-use message_bodies::read_chunked;
-use message_bytes::{ReadFault, read_sized, read_to_end};
 use message_parts::Bytes;
 use std::alloc::Global;
 use std::io::BufRead;
@@ -19,11 +20,11 @@ pub fn read_body<R: BufRead>(
     reader: &mut Counted<R>,
     limit: u64,
     framing: Framing,
-) -> Result<Option<Bytes>, ReadFault>
+) -> Result<Option<Bytes>, MessageFault>
     ensures body { Reads R.remaining reader.old reader.new (λ body. body) (IsBody framing) result }
-    ensures read { IsErrOf result ReadFault.Read → HasFailed reader.old reader.new }
+    ensures read { IsErrOf result MessageFault.Read → HasFailed reader.old reader.new }
     ensures unfailing { OnOk result (failures_of reader.new ≡ failures_of reader.old) }
-    ensures turns { IsErrOf result ReadFault.TurnLimit → limit ≤ calls_of reader.new }
+    ensures turns { IsErrOf result MessageFault.TurnLimit → limit ≤ calls_of reader.new }
     ensures few { calls_of reader.new ≤ max limit (calls_of reader.old) }
 {
     let body = match framing {

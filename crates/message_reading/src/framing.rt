@@ -2,9 +2,10 @@
 ghost use Rattle.std.specs.Prelude.{◌≡◌};
 ghost use Rattle.message_reading.specs.Framing.{coded, hosts_fit, lengths_of, is_refused, request_framing, response_framing, sized};
 
-use message_bytes::Fault;
+use crate::fault::Fault;
+use crate::request_head::RequestHead;
+use crate::response_head::ResponseHead;
 use message_fields::{LengthFault, count_named, is_chunked_alone, is_target, length_of};
-use message_heads::{RequestHead, ResponseHead};
 use message_parts::{Header, Method};
 
 /// How the body of a message is delimited.
@@ -81,7 +82,7 @@ fn hosts_fit(minor: u8, hosts: usize) -> bool
 ///
 /// `Method` for CONNECT and TRACE; then `Malformed` for a target that doesn't fit the method; then
 /// `Malformed` for another number of Host lines than the version wants; then the faults of lengths.
-pub fn frame_request(head: &RequestHead) -> Result<Framing, Fault>
+pub(crate) fn frame_request(head: &RequestHead) -> Result<Framing, Fault>
     ensures { result ≡ request_framing head.now }
 {
     let method = head.method.as_slice();

@@ -6,10 +6,10 @@ ghost use Rattle.counted_io.specs.Effects.{Wrote};
 ghost use Rattle.counted_io.specs.Causes.{IsWriteCause};
 ghost use Rattle.message_text.specs.Line.{lines_text};
 ghost use Rattle.message_fields.specs.Lengths.{length_digits};
-ghost use Rattle.message_text.specs.Forwarded.{lent, length_lines};
+ghost use Rattle.message_text.specs.Forwarded.{lent};
 ghost use Rattle.message_text.specs.Answer.{seen, is_bodiless, written_body, received_lines, told_lines, answer_lines, status_text, answer_text, local_text};
 
-use super::lines::{bytes_of, write_length, write_line, write_response_lines};
+use super::lines::{bytes_of, write_body_length, write_line, write_response_lines};
 use super::number::write_decimal;
 use super::phrase::phrase_of;
 use counted_io::{Counted, WriteFault, write_all, write_and_flush};
@@ -80,22 +80,6 @@ impl Answer<'_> {
         }
     }
 
-    /// Writes the length of the body, where there is one.
-    #[tactic(auto, using(crate::proofs::Kept::one_line), unfolding(crate::specs::Line::lines_text))]
-    fn write_own<W: Write>(&self, writer: &mut Counted<W>) -> Result<(), WriteFault>
-        ensures all { OnOk result
-            (Wrote W.contents writer.old writer.new
-            (lines_text (length_lines (lent self.now.body)))) }
-        ensures unfailing { OnOk result (failures_of writer.new ≡ failures_of writer.old) }
-        ensures failed { OnErr result (IsWriteCause writer.old writer.new) }
-        ensures flushes { flushes_of writer.new ≡ flushes_of writer.old }
-    {
-        match self.body {
-            Some(body) => write_length(writer, body),
-            None => Ok(()),
-        }
-    }
-
     /// Writes the length that is told.
     #[tactic(auto, using(crate::proofs::Kept::one_line), unfolding(crate::specs::Line::lines_text))]
     fn write_told<W: Write>(&self, writer: &mut Counted<W>) -> Result<(), WriteFault>
@@ -111,7 +95,7 @@ impl Answer<'_> {
         if is_bodiless(self.method, self.status) {
             self.write_received(writer)
         } else {
-            self.write_own(writer)
+            write_body_length(writer, self.body)
         }
     }
 

@@ -6,9 +6,9 @@ ghost use Rattle.counted_io.specs.Effects.{Wrote};
 ghost use Rattle.counted_io.specs.Causes.{IsWriteCause};
 ghost use Rattle.message_fields.specs.Target.{turned, forwarded_target};
 ghost use Rattle.message_text.specs.Line.{lines_text, line_text, close_line};
-ghost use Rattle.message_text.specs.Forwarded.{lent, seen, forwarded_lines, forwarded_text, host_lines, length_lines, via_line};
+ghost use Rattle.message_text.specs.Forwarded.{lent, seen, forwarded_lines, forwarded_text, host_lines, via_line};
 
-use super::lines::{bytes_of, write_length, write_line, write_request_lines};
+use super::lines::{bytes_of, write_body_length, write_line, write_request_lines};
 use counted_io::{Counted, WriteFault, write_all, write_and_flush};
 use message_fields::{authority, count_named, is_whole_server, local_part, wants_slash};
 use message_parts::Header;
@@ -82,22 +82,6 @@ impl Forwarded<'_> {
         )
     }
 
-    /// Writes the length, where there is a body.
-    #[tactic(auto, using(crate::proofs::Kept::one_line), unfolding(crate::specs::Line::lines_text))]
-    fn write_length<W: Write>(&self, writer: &mut Counted<W>) -> Result<(), WriteFault>
-        ensures all { OnOk result
-            (Wrote W.contents writer.old writer.new
-            (lines_text (length_lines (lent self.now.body)))) }
-        ensures unfailing { OnOk result (failures_of writer.new ≡ failures_of writer.old) }
-        ensures failed { OnErr result (IsWriteCause writer.old writer.new) }
-        ensures flushes { flushes_of writer.new ≡ flushes_of writer.old }
-    {
-        match self.body {
-            Some(body) => write_length(writer, body),
-            None => Ok(()),
-        }
-    }
-
     /// Writes the line that tells of the gateway.
     #[tactic(auto, unfolding(crate::specs::Line::line_text, crate::specs::Forwarded::via_line))]
     fn write_via<W: Write>(&self, writer: &mut Counted<W>) -> Result<(), WriteFault>
@@ -125,7 +109,7 @@ impl Forwarded<'_> {
     {
         write_request_lines(writer, self.headers, authority(self.target))?;
         self.write_host(writer)?;
-        self.write_length(writer)?;
+        write_body_length(writer, self.body)?;
         self.write_via(writer)?;
         write_all(writer, b"Connection: close\r\n\r\n")
     }

@@ -7,7 +7,7 @@ ghost use Rattle.counted_io.specs.Causes.{IsWriteCause};
 ghost use Rattle.message_fields.specs.Lines.{is_named};
 ghost use Rattle.message_fields.specs.Passed.{is_passed, is_passed_in_request, request_lines, response_lines};
 ghost use Rattle.message_text.specs.Line.{line_of, line_text, lines_text, length_line};
-ghost use Rattle.message_text.specs.Forwarded.{hosted, lent};
+ghost use Rattle.message_text.specs.Forwarded.{hosted, length_lines, lent};
 
 use super::number::write_decimal;
 use counted_io::{Counted, WriteFault, write_all};
@@ -43,7 +43,7 @@ pub fn write_line<W: Write>(
 
 /// Writes the line that tells the length of a body.
 #[tactic(auto, unfolding(crate::specs::Line::line_text))]
-pub fn write_length<W: Write>(writer: &mut Counted<W>, body: &[u8]) -> Result<(), WriteFault>
+fn write_length<W: Write>(writer: &mut Counted<W>, body: &[u8]) -> Result<(), WriteFault>
     ensures all { OnOk result
         (Wrote W.contents writer.old writer.new (line_text (length_line body.now))) }
     ensures unfailing { OnOk result (failures_of writer.new ≡ failures_of writer.old) }
@@ -53,6 +53,24 @@ pub fn write_length<W: Write>(writer: &mut Counted<W>, body: &[u8]) -> Result<()
     write_all(writer, b"Content-Length: ")?;
     write_decimal(writer, body.len() as u64)?;
     write_all(writer, b"\r\n")
+}
+
+/// Writes the length of a body, where there is one.
+#[tactic(auto, using(crate::proofs::Kept::one_line), unfolding(crate::specs::Line::lines_text))]
+pub fn write_body_length<W: Write>(
+    writer: &mut Counted<W>,
+    body: Option<&[u8]>,
+) -> Result<(), WriteFault>
+    ensures all { OnOk result (Wrote W.contents writer.old writer.new
+        (lines_text (length_lines (lent body.entry)))) }
+    ensures unfailing { OnOk result (failures_of writer.new ≡ failures_of writer.old) }
+    ensures failed { OnErr result (IsWriteCause writer.old writer.new) }
+    ensures flushes { flushes_of writer.new ≡ flushes_of writer.old }
+{
+    match body {
+        Some(body) => write_length(writer, body),
+        None => Ok(()),
+    }
 }
 
 /// Writes a line of a request: Host tells the authority, where the target has one.

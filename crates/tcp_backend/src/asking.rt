@@ -61,7 +61,7 @@ pub(crate) fn read_on<S: Read + OpenStream>(stream: &mut S) {
     if stream.set_read_timeout(Some(most)).is_err() {
         return;
     }
-    let mut dropped = [0u8; 1024];
+    let mut dropped = [0u8; 64];
     for _ in 0..LAST_READS {
         match stream.read(&mut dropped) {
             Ok(0) | Err(_) => return,

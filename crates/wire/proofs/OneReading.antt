@@ -1,14 +1,13 @@
 -- Bytes are one message at most.
 use Rattle.std.proofs.Common.{rules, arith, inl, inr, ◌≡◌, ◌+◌, ◌⊎◌, ◌∙◌, sym, ap, subst, refl, ℕ, Bool, true, false, List}
 use Rattle.std.specs.Prelude.{Option, Ok, Err}
-use Rattle.message_bytes.specs.declared.fault.Fault.{Fault}
-use Rattle.message_bytes.specs.Laws.{IsOne}
-use Rattle.message_bytes.specs.Reading.{By, Reading, Then, checked}
-use Rattle.message_bytes.specs.Head.{head_of}
-use Rattle.message_bodies.specs.Chunks.{IsChunks}
-use Rattle.message_heads.specs.declared.response.ResponseHead.{ResponseHead}
-use Rattle.message_heads.specs.Laws.{RequestsAreOne, ResponsesAreOne}
-use Rattle.message_heads.specs.Whole.{IsRequestIn, IsResponseIn}
+use Rattle.message_reading.specs.declared.fault.Fault.{Fault}
+use Rattle.message_reading.specs.Laws.{IsOne, RequestsAreOne, ResponsesAreOne}
+use Rattle.message_reading.specs.Reading.{By, Reading, Then, checked}
+use Rattle.message_reading.specs.HeadBytes.{head_of}
+use Rattle.message_reading.specs.Chunks.{IsChunks}
+use Rattle.message_reading.specs.declared.response_head.ResponseHead.{ResponseHead}
+use Rattle.message_reading.specs.WholeHeads.{IsRequestIn, IsResponseIn}
 use Rattle.message_reading.specs.declared.framing.Framing.{Framing}
 use Rattle.message_reading.specs.declared.framing.Framing.TheVariants.{Bodiless, Sized, Chunked, ToEnd}
 use Rattle.message_reading.specs.Body.{IsBody, IsWithBody, some_body}

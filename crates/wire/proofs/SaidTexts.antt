@@ -3,10 +3,10 @@ use Rattle.std.proofs.Common.{rules, inl, inr, ◌≡◌, ℕ, List, []}
 use Rattle.std.specs.Prelude.{Option, Some, None, Result, Ok, Err, IfSome}
 use Rattle.std.specs.Io.KnownBytes.{Appends}
 use Rattle.std.proofs.KnownBytes.{Appends-nil}
-use Rattle.message_bytes.specs.declared.fault.Fault.{Fault}
-use Rattle.message_bytes.specs.declared.fault.ReadFault.{ReadFault}
-use Rattle.message_bytes.specs.declared.fault.ReadFault.TheVariants.{Memory, Read, TurnLimit, Bytes}
-use Rattle.message_heads.specs.declared.request.RequestHead.{RequestHead}
+use Rattle.message_reading.specs.declared.fault.Fault.{Fault}
+use Rattle.message_reading.specs.declared.fault.MessageFault.{MessageFault}
+use Rattle.message_reading.specs.declared.fault.MessageFault.TheVariants.{Memory, Read, TurnLimit, Bytes}
+use Rattle.message_reading.specs.declared.request_head.RequestHead.{RequestHead}
 use Rattle.message_reading.specs.declared.framing.Framing.{Framing}
 use Rattle.message_reading.specs.Continue.{Says, continue_of}
 use Rattle.wire.specs.declared.fault.WireFault.{WireFault}
@@ -24,7 +24,7 @@ module _ (X : Type 0) where
       → Result X WireFault → Type 0
   SaidOf = Said {X = X}
 
-  pub silent_head : (old mid held : Option (List ℕ)) (e : ReadFault) (w : WireFault)
+  pub silent_head : (old mid held : Option (List ℕ)) (e : MessageFault) (w : WireFault)
       → w ≡ of_read e → GivesChecked old mid (Err e) → SaidOf old held held (Err w)
   silent_head None mid held e w is given = search rules
   silent_head (Some xs) mid held Memory w is given = rw is ((tt, inl (Appends-nil held)))

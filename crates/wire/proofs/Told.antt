@@ -1,14 +1,14 @@
 -- Phases, one behind the other, and what a call tells of them.
 use Rattle.std.proofs.Common.{rules, ◌≡◌, refl, ℕ, List}
 use Rattle.std.specs.Prelude.{Option, Some, None, Result, Ok, Err, IfSome}
-use Rattle.message_bytes.specs.declared.fault.Fault.{Fault}
-use Rattle.message_bytes.specs.declared.fault.Fault.TheVariants as own
-use Rattle.message_bytes.specs.declared.fault.ReadFault.{ReadFault}
-use Rattle.message_bytes.specs.declared.fault.ReadFault.TheVariants.{Memory, Read, TurnLimit, Bytes}
-use Rattle.message_bytes.specs.Reading.{By, Fails, Reading, Then, checked}
-use Rattle.message_bytes.specs.Reading as bytes
-use Rattle.message_heads.specs.declared.request.RequestHead.{RequestHead}
-use Rattle.message_heads.specs.declared.response.ResponseHead.{ResponseHead}
+use Rattle.message_reading.specs.declared.fault.Fault.{Fault}
+use Rattle.message_reading.specs.declared.fault.Fault.TheVariants as own
+use Rattle.message_reading.specs.declared.fault.MessageFault.{MessageFault}
+use Rattle.message_reading.specs.declared.fault.MessageFault.TheVariants.{Memory, Read, TurnLimit, Bytes}
+use Rattle.message_reading.specs.Reading.{By, Fails, Reading, Then, checked}
+use Rattle.message_reading.specs.Reading as bytes
+use Rattle.message_reading.specs.declared.request_head.RequestHead.{RequestHead}
+use Rattle.message_reading.specs.declared.response_head.ResponseHead.{ResponseHead}
 use Rattle.message_reading.specs.declared.framing.Framing.{Framing}
 use Rattle.message_reading.specs.Framing.{response_framing}
 use Rattle.message_reading.specs.Heads.{IsCheckedHead, IsFinalHead}
@@ -22,7 +22,7 @@ use Rattle.wire.specs.Response.{ResponseValue}
 
 module _ {X A : Type 0} (view : X → A) (First : List ℕ → Reading A → Type 0) where
   module _ {Y B : Type 0} (seen : Y → B) (Next : A → List ℕ → Reading B → Type 0) where
-    then_fault : (old mid : Option (List ℕ)) (f : ReadFault)
+    then_fault : (old mid : Option (List ℕ)) (f : MessageFault)
         → bytes.Gives view First old mid (Err f)
         → bytes.Gives seen (Then First Next) old mid (Err f)
     then_fault None mid f given = search rules
@@ -31,7 +31,7 @@ module _ {X A : Type 0} (view : X → A) (First : List ℕ → Reading A → Typ
     then_fault (Some xs) mid TurnLimit given = search rules
     then_fault (Some xs) mid (Bytes f) given = Then.first_fails xs f given
 
-    then_next : (old mid new : Option (List ℕ)) (x : X) (result : Result Y ReadFault)
+    then_next : (old mid new : Option (List ℕ)) (x : X) (result : Result Y MessageFault)
         → bytes.Gives view First old mid (Ok x) → bytes.Gives seen (Next (view x)) mid new result
         → bytes.Gives seen (Then First Next) old new result
     then_next None mid new x result one two = search rules
@@ -62,7 +62,7 @@ module _ {X V : Type 0} (view : X → V) (Is : List ℕ → Reading V → Type 0
   tells_ok (Some xs) None x given = absurd given
   tells_ok (Some xs) (Some ys) x given = given
 
-  tells_err : (old new : Option (List ℕ)) (e : ReadFault) (w : WireFault) → w ≡ of_read e
+  tells_err : (old new : Option (List ℕ)) (e : MessageFault) (w : WireFault) → w ≡ of_read e
       → bytes.Gives view Is old new (Err e) → Gives view Is old new (Err w)
   tells_err None new e w is given = search rules
   tells_err (Some xs) new Memory w is given = rw is tt
@@ -71,7 +71,7 @@ module _ {X V : Type 0} (view : X → V) (Is : List ℕ → Reading V → Type 0
   tells_err (Some xs) new (Bytes f) w is given = rw is (told_bytes Is xs f given)
 
 abbrev GivesBody : Framing → Option (List ℕ) → Option (List ℕ)
-    → Result (Option (List ℕ)) ReadFault → Type 0
+    → Result (Option (List ℕ)) MessageFault → Type 0
 GivesBody framing = bytes.Gives {X = Option (List ℕ)} (λ body. body) (IsBody framing)
 
 module _ {V : Type 0} (make : Option (List ℕ) → V) (framing : Framing) where
@@ -82,7 +82,7 @@ module _ {V : Type 0} (make : Option (List ℕ) → V) (framing : Framing) where
   body_made (Some xs) None body v is given = absurd given
   body_made (Some xs) (Some ys) body v is given = rw is (IsWithBody.body_read xs ys body given)
 
-  body_cut : (old new : Option (List ℕ)) (e : ReadFault) → GivesBody framing old new (Err e)
+  body_cut : (old new : Option (List ℕ)) (e : MessageFault) → GivesBody framing old new (Err e)
       → bytes.Gives {X = V} (λ v. v) (IsWithBody make framing) old new (Err e)
   body_cut None new e given = search rules
   body_cut (Some xs) new Memory given = search rules
@@ -93,7 +93,7 @@ module _ {V : Type 0} (make : Option (List ℕ) → V) (framing : Framing) where
 abbrev Head : Type 0
 Head = RequestHead × Framing
 
-abbrev pub GivesChecked : Option (List ℕ) → Option (List ℕ) → Result Head ReadFault → Type 0
+abbrev pub GivesChecked : Option (List ℕ) → Option (List ℕ) → Result Head MessageFault → Type 0
 GivesChecked = bytes.Gives {X = Head} (λ head. head) IsCheckedHead
 
 abbrev After : Head → List ℕ → Reading Request → Type 0
@@ -102,7 +102,7 @@ After head = IsWithBody (request_of head.0) head.1
 abbrev TellsRequest : Option (List ℕ) → Option (List ℕ) → Result Request WireFault → Type 0
 TellsRequest = Gives {X = Request} (λ request. request) IsRequest
 
-pub request_cut : (old mid : Option (List ℕ)) (e : ReadFault) (w : WireFault) → w ≡ of_read e
+pub request_cut : (old mid : Option (List ℕ)) (e : MessageFault) (w : WireFault) → w ≡ of_read e
     → GivesChecked old mid (Err e) → TellsRequest old mid (Err w)
 request_cut old mid e w is given =
     tells_err (λ r. r) IsRequest old mid e w is
@@ -117,7 +117,7 @@ request_not_asked None new = search rules
 request_not_asked (Some xs) new = tt
 
 pub request_body_cut : (old mid new : Option (List ℕ)) (head : RequestHead) (framing : Framing)
-    (e : ReadFault) (w : WireFault) → w ≡ of_read e → GivesChecked old mid (Ok (head, framing))
+    (e : MessageFault) (w : WireFault) → w ≡ of_read e → GivesChecked old mid (Ok (head, framing))
     → GivesBody framing mid new (Err e) → TellsRequest old new (Err w)
 request_body_cut old mid new head framing e w is one two =
     tells_err (λ r. r) IsRequest old new e w is
@@ -133,7 +133,7 @@ request_whole old mid new head framing body r is one two =
     (then_next (λ h. h) IsCheckedHead (λ r. r) After old mid new (head, framing) (Ok r) one
     (body_made (request_of head) framing mid new body r is two))
 
-abbrev GivesFinal : Option (List ℕ) → Option (List ℕ) → Result ResponseHead ReadFault → Type 0
+abbrev GivesFinal : Option (List ℕ) → Option (List ℕ) → Result ResponseHead MessageFault → Type 0
 GivesFinal = bytes.Gives {X = ResponseHead} (λ head. head) (IsFinalHead 16)
 
 module _ (method : List ℕ) where
@@ -159,7 +159,7 @@ module _ (method : List ℕ) where
   not_framed None head f is = search rules
   not_framed (Some xs) head f is = rw is refl
 
-  pub response_cut : (old mid : Option (List ℕ)) (e : ReadFault) (w : WireFault) → w ≡ of_read e
+  pub response_cut : (old mid : Option (List ℕ)) (e : MessageFault) (w : WireFault) → w ≡ of_read e
       → GivesFinal old mid (Err e) → TellsResponse old mid (Err w)
   response_cut old mid e w is given =
       tells_err (λ r. r) (IsResponse method) old mid e w is
@@ -176,7 +176,7 @@ module _ (method : List ℕ) where
       (not_framed mid head f two)))
 
   pub response_body_cut : (old mid new : Option (List ℕ)) (head : ResponseHead)
-      (framing : Framing) (e : ReadFault) (w : WireFault) → w ≡ of_read e
+      (framing : Framing) (e : MessageFault) (w : WireFault) → w ≡ of_read e
       → GivesFinal old mid (Ok head) → response_framing method head ≡ Ok framing
       → GivesBody framing mid new (Err e) → TellsResponse old new (Err w)
   response_body_cut old mid new head framing e w is one two three =

@@ -5,19 +5,19 @@ use Rattle.std.specs.List.{list_all, slice_get, flat_map}
 use Rattle.std.proofs.lemmas.List.{nil_from_length}
 use Rattle.std.proofs.lemmas.List.Sums.{length-filter}
 use Rattle.message_parts.specs.declared.headers.Header.{Header}
-use Rattle.message_bytes.specs.declared.fault.Fault.{Fault}
-use Rattle.message_bytes.specs.declared.fault.Fault.TheVariants as fault
-use Rattle.message_bytes.specs.Reading.{Reading, Then, checked}
 use Rattle.message_fields.specs.Lengths.{digits_first, digits_length, is_digits}
 use Rattle.message_fields.specs.Lines.{count_named, is_chunked_alone, is_named}
 use Rattle.message_fields.specs.Parts.{parts, parts_named}
-use Rattle.message_heads.specs.declared.request.RequestHead.{RequestHead}
-use Rattle.message_heads.specs.declared.response.ResponseHead.{ResponseHead}
+use Rattle.message_fields.specs.Target.{is_target}
+use Rattle.message_reading.specs.declared.fault.Fault.{Fault}
+use Rattle.message_reading.specs.declared.fault.Fault.TheVariants as fault
+use Rattle.message_reading.specs.Reading.{Reading, Then, checked}
+use Rattle.message_reading.specs.declared.request_head.RequestHead.{RequestHead}
+use Rattle.message_reading.specs.declared.response_head.ResponseHead.{ResponseHead}
 use Rattle.message_reading.specs.declared.framing.Framing.{Framing}
 use Rattle.message_reading.specs.declared.framing.Framing.TheVariants.{Bodiless, Chunked, ToEnd}
 use Rattle.message_reading.specs.Body.{IsWithBody}
 use Rattle.message_reading.specs.Framing.{coded, hosts_fit, is_refused, lengths_of, request_framing, response_framing, sized, sized_by}
-use Rattle.message_fields.specs.Target.{is_target}
 use Rattle.message_reading.specs.Heads.{IsCheckedHead, framed}
 use Rattle.message_text.specs.Answer.{is_bodiless}
 use Rattle.message_parts.specs.declared.request.Request.{Request}

@@ -3,11 +3,11 @@ use Rattle.std.specs.Prelude.{◌≤◌, ◌+◌, ◌⊎◌, ℕ, List, Option, 
 use Rattle.counted_io.specs.declared.counted.Counted.{Counted}
 use Rattle.counted_io.specs.Count.{count_end}
 use Rattle.counted_io.specs.Counted.{calls_of, inner_of}
-use Rattle.message_bytes.specs.declared.fault.Fault.{Fault}
-use Rattle.message_bytes.specs.declared.fault.Fault.TheVariants as own
-use Rattle.message_bytes.specs.declared.fault.ReadFault.{ReadFault}
-use Rattle.message_bytes.specs.declared.fault.ReadFault.TheVariants as read
-use Rattle.message_bytes.specs.Reading.{Reading}
+use Rattle.message_reading.specs.declared.fault.Fault.{Fault}
+use Rattle.message_reading.specs.declared.fault.Fault.TheVariants as own
+use Rattle.message_reading.specs.declared.fault.MessageFault.{MessageFault}
+use Rattle.message_reading.specs.declared.fault.MessageFault.TheVariants as read
+use Rattle.message_reading.specs.Reading.{Reading}
 use Rattle.wire.specs.declared.fault.WireFault.{WireFault}
 use Rattle.wire.specs.declared.fault.WireFault.TheVariants as fault
 
@@ -22,7 +22,7 @@ of_bytes own.BothLengths = fault.BothLengths
 of_bytes _ = fault.Method
 
 -- a fault of reading
-abbrev pub of_read : ReadFault → WireFault
+abbrev pub of_read : MessageFault → WireFault
 of_read read.Memory = fault.Memory
 of_read read.Read = fault.Read
 of_read read.TurnLimit = fault.TurnLimit

@@ -1,10 +1,10 @@
 -- Messages: what the bytes of a reader are read as.
 use Rattle.std.specs.Prelude.{ℕ, ◌==◌, ⊤, ◌⊎◌, List, [], Option, Some, None, Result, Ok, Err, IfSome, if◌then◌else◌}
 use Rattle.std.specs.Io.KnownBytes.{Appends}
-use Rattle.message_bytes.specs.Reading.{By, Reading, Then, checked}
-use Rattle.message_heads.specs.declared.request.RequestHead.{RequestHead}
-use Rattle.message_heads.specs.declared.response.ResponseHead.{ResponseHead}
 use Rattle.message_fields.specs.Target.{path_of}
+use Rattle.message_reading.specs.Reading.{By, Reading, Then, checked}
+use Rattle.message_reading.specs.declared.request_head.RequestHead.{RequestHead}
+use Rattle.message_reading.specs.declared.response_head.ResponseHead.{ResponseHead}
 use Rattle.message_reading.specs.Framing.{response_framing}
 use Rattle.message_reading.specs.Heads.{IsCheckedHead, IsFinalHead}
 use Rattle.message_reading.specs.Body.{IsWithBody}

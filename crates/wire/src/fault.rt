@@ -1,6 +1,6 @@
 // Why a message was not read or written.
 use counted_io::WriteFault;
-use message_bytes::{Fault, ReadFault};
+use message_reading::{Fault, MessageFault};
 use std::alloc::AllocError;
 
 /// Why a message was not read or written.
@@ -49,18 +49,18 @@ impl From<Fault> for WireFault {
     }
 }
 
-impl From<ReadFault> for WireFault {
+impl From<MessageFault> for WireFault {
     ghost use Rattle.std.specs.Prelude.{◌≡◌};
     ghost use Rattle.wire.specs.Fault.{of_read};
 
     ghost from_gives = { λ read fault. fault ≡ of_read read };
 
-    fn from(read: ReadFault) -> WireFault {
+    fn from(read: MessageFault) -> WireFault {
         match read {
-            ReadFault::Memory => WireFault::Memory,
-            ReadFault::Read => WireFault::Read,
-            ReadFault::TurnLimit => WireFault::TurnLimit,
-            ReadFault::Bytes(own) => own.into(),
+            MessageFault::Memory => WireFault::Memory,
+            MessageFault::Read => WireFault::Read,
+            MessageFault::TurnLimit => WireFault::TurnLimit,
+            MessageFault::Bytes(own) => own.into(),
         }
     }
 }

@@ -1,12 +1,11 @@
 // The laws of messages. These functions make nothing: each is there for its contract.
 ghost use Rattle.std.specs.Prelude.{ℕ, List};
-ghost use Rattle.message_bytes.specs.Laws.{IsOne};
+ghost use Rattle.message_reading.specs.Laws.{IsOne};
 ghost use Rattle.wire.specs.Laws.{RequestsAreUnambiguous, RequestsHaveOneHost};
 ghost use Rattle.wire.specs.Laws.{ResponsesAreUnambiguous};
 ghost use Rattle.wire.specs.Messages.{IsRequest, IsResponse};
 
-use message_bodies::chunks_have_one_reading;
-use message_heads::heads_have_one_reading;
+use message_reading::{chunks_have_one_reading, heads_have_one_reading};
 
 /// Bytes are one request at most, and one response to a request of a method, or else have one
 /// fault: they have one reading.

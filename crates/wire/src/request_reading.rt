@@ -2,8 +2,8 @@
 ghost use Rattle.std.specs.Prelude.{◌≡◌, ◌≤◌, ◌+◌, IsErrOf};
 ghost use Rattle.counted_io.specs.Causes.{IsWriteCause};
 ghost use Rattle.counted_io.specs.Counted.{calls_of, failures_of, inner_of};
-ghost use Rattle.message_bytes.specs.Reading.{HasFailed};
 ghost use Rattle.message_fields.specs.Target.{path_of};
+ghost use Rattle.message_reading.specs.Reading.{HasFailed};
 ghost use Rattle.message_reading.specs.Continue.{IsSeen};
 ghost use Rattle.wire.specs.Fault.{IsUsedUp, Reads, most_reads};
 ghost use Rattle.wire.specs.Messages.{IsRequest, Said, request_of, version_of};
@@ -11,9 +11,8 @@ ghost use Rattle.wire.specs.Messages.{IsRequest, Said, request_of, version_of};
 use crate::fault::WireFault;
 use crate::path::copy_path;
 use counted_io::Counted;
-use message_heads::RequestHead;
 use message_parts::{Bytes, Request, Text, Version};
-use message_reading::{read_body, read_checked_head, say_continue};
+use message_reading::{RequestHead, read_body, read_checked_head, say_continue};
 use std::alloc::Global;
 use std::io::{BufRead, Write};
 

@@ -1,7 +1,7 @@
 // Responses that are read.
 ghost use Rattle.std.specs.Prelude.{◌≡◌, ◌≤◌, ◌+◌, IsErrOf};
 ghost use Rattle.counted_io.specs.Counted.{calls_of};
-ghost use Rattle.message_bytes.specs.Reading.{HasFailed};
+ghost use Rattle.message_reading.specs.Reading.{HasFailed};
 ghost use Rattle.wire.specs.Fault.{IsUsedUp, Reads, most_reads};
 ghost use Rattle.wire.specs.Messages.{IsResponse};
 

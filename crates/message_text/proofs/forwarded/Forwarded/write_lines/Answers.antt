@@ -14,6 +14,6 @@ returns-clause-all g c =
     (Appends-trans _ _ _ _ _
     (Appends-trans _ _ _ _ _ (rw told at c.in_ok-write_request_lines.ensures.all)
     c.in_ok-write_host.ensures.all)
-    c.in_ok-write_length.ensures.all)
+    c.in_ok-write_body_length.ensures.all)
     c.in_ok-write_via.ensures.all)
     c.write_all.ensures.all

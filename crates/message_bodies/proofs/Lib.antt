@@ -1,3 +1,0 @@
-mod Joined
-mod OneReading
-mod SizeLines

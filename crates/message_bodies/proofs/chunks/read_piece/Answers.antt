@@ -1,5 +1,0 @@
-use Rattle.std.proofs.Common.{rules}
-use Rattle.message_bodies.proofs.chunks.read_piece.Goals as goal
-
-pub returns-clause-piece : goal.returns-clause-piece
-returns-clause-piece c = search rules

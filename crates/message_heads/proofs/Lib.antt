@@ -1,3 +1,0 @@
-mod Copies
-mod LineCounts
-mod OneReading

@@ -1,8 +1,0 @@
-use Rattle.std.proofs.Common.{◌≡◌, map, take}
-use Rattle.message_heads.specs.Whole.{line_at}
-use Rattle.message_heads.proofs.lines.lines_at.Given as goal
-
-abbrev pub invariant-loop-at : goal.invariant-loop-at
-invariant-loop-at l = record {
-  copied : l.lines.items ≡ map (line_at l.text) (take l.at l.spans);
-}

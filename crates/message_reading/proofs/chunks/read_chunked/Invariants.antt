@@ -1,0 +1,17 @@
+use Rattle.std.proofs.Common.{◌≡◌, ◌≤◌, ◌-◌, max, length}
+use Rattle.counted_io.specs.Counted.{inner_of, calls_of, failures_of}
+use Rattle.message_reading.specs.Chunks.{GoOn}
+use Rattle.message_reading.proofs.chunks.read_chunked.Given as goal
+
+abbrev pub invariant-loop-body : goal.invariant-loop-body
+invariant-loop-body g l =
+    let left = g.R.Read.remaining in
+    record {
+      on : GoOn (left (inner_of l.fn.reader)) (left (inner_of l.reader)) l.body.items;
+      fits : length l.body.items ≤ 8388608;
+      failures : failures_of l.reader ≡ failures_of l.fn.reader;
+      few : calls_of l.reader ≤ max l.limit (calls_of l.fn.reader);
+    }
+
+abbrev pub decreases-loop-body : goal.decreases-loop-body
+decreases-loop-body g l = 8388608 - length l.body.items

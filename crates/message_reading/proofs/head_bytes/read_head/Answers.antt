@@ -1,0 +1,101 @@
+use Rattle.std.proofs.Common.{rules, arith, refl, ◌∙◌, ◌≡◌, ◌≤◌, ◌+◌, ◌++◌, true, false, length, length-append, Vec, Global, ℕ}
+use Rattle.counted_io.specs.Counted.{inner_of}
+use Rattle.message_reading.specs.declared.fault.Fault.TheVariants.{HeadTooLarge}
+use Rattle.message_reading.specs.HeadBytes.{ends_head, limit_lines}
+use Rattle.message_reading.proofs.Gathers.{gathered_over}
+use Rattle.message_reading.proofs.HeadProgress.{head_ends_in_lf}
+use Rattle.message_reading.proofs.HeadEnds.{head_given}
+use Rattle.message_reading.proofs.Pieces.{goes_on_piece, found_piece}
+use Rattle.message_reading.proofs.head_bytes.read_head.Goals as goal
+
+pub loop-seen-preserved : goal.loop-seen-preserved
+loop-seen-preserved g c =
+    let left = g.R.Read.remaining in
+    let gave = c.in_ok-read_on.ensures.gave in
+    let invariant = c.loop-seen.invariant in
+    let room : length c.loop-seen.seen + length gave.0 ≤ 65536 =
+    omega (arith, gave.2, invariant.fits) in
+    let more : ends_head (c.loop-seen.seen ++ gave.0) ≡ false = search rules in
+    let on = goes_on_piece ends_head 65536 HeadTooLarge 10 head_ends_in_lf
+    (left (inner_of c.args.reader.now)) (left (inner_of c.loop-seen.reader))
+    (left (inner_of c.read_on.new.reader)) c.loop-seen.seen gave.0 invariant.on gave.4 gave.1
+    gave.5 room more in
+    record {
+      on = rw gave.3 on;
+      fits = rw gave.3 (rw length-append room);
+      failures = c.in_ok-read_on.ensures.unfailing ∙ invariant.failures;
+      few = omega (arith, c.in_ok-read_on.ensures.few, invariant.few);
+    }
+
+pub returns-then-branch-clause-head : goal.returns-then-branch-clause-head
+returns-then-branch-clause-head g c =
+    let left = g.R.Read.remaining in
+    let gave = c.in_ok-read_on.ensures.gave in
+    let invariant = c.loop-seen.invariant in
+    let room : length c.loop-seen.seen + length gave.0 ≤ 65536 =
+    omega (arith, gave.2, invariant.fits) in
+    let end : ends_head (c.loop-seen.seen ++ gave.0) ≡ true = search rules in
+    let old = left (inner_of c.args.reader.now) in
+    let new = left (inner_of c.read_on.new.reader) in
+    let found = found_piece ends_head 65536 HeadTooLarge 10 head_ends_in_lf old
+    (left (inner_of c.loop-seen.reader)) new c.loop-seen.seen gave.0 invariant.on gave.4 gave.1
+    gave.5 room end in
+    let head = c.into_head.ensures in
+    head_given old new c.read_on.new.self c.into_head.result (rw gave.3 found) head.head head.lines
+    head.fault head.too_large
+
+pub returns-clause-head : goal.returns-clause-head
+returns-clause-head g c =
+    let left = g.R.Read.remaining in
+    let full : 65536 ≤ length c.loop-seen.seen = search rules in
+    gathered_over ends_head 65536 HeadTooLarge (λ (head : Vec ℕ Global). head.items) limit_lines
+    (left (inner_of c.args.reader.now)) (left (inner_of c.loop-seen.reader)) c.loop-seen.seen
+    c.loop-seen.invariant.on full refl
+
+pub returns-in_err-read_on-clause-head : goal.returns-in_err-read_on-clause-head
+returns-in_err-read_on-clause-head g c = search rules
+
+pub returns-in_err-read_on-clause-lines : goal.returns-in_err-read_on-clause-lines
+returns-in_err-read_on-clause-lines g c = search rules
+
+pub returns-in_err-read_on-clause-read : goal.returns-in_err-read_on-clause-read
+returns-in_err-read_on-clause-read g c = search rules
+
+pub returns-in_err-read_on-clause-unfailing : goal.returns-in_err-read_on-clause-unfailing
+returns-in_err-read_on-clause-unfailing g c = search rules
+
+pub returns-in_err-read_on-clause-turns : goal.returns-in_err-read_on-clause-turns
+returns-in_err-read_on-clause-turns g c = search rules
+
+pub returns-in_err-read_on-clause-few : goal.returns-in_err-read_on-clause-few
+returns-in_err-read_on-clause-few g c = search rules
+
+pub returns-then-branch-clause-lines : goal.returns-then-branch-clause-lines
+returns-then-branch-clause-lines g c = search rules
+
+pub returns-then-branch-clause-read : goal.returns-then-branch-clause-read
+returns-then-branch-clause-read g c = search rules
+
+pub returns-then-branch-clause-unfailing : goal.returns-then-branch-clause-unfailing
+returns-then-branch-clause-unfailing g c = search rules
+
+pub returns-then-branch-clause-turns : goal.returns-then-branch-clause-turns
+returns-then-branch-clause-turns g c = search rules
+
+pub returns-then-branch-clause-few : goal.returns-then-branch-clause-few
+returns-then-branch-clause-few g c = search rules
+
+pub returns-clause-lines : goal.returns-clause-lines
+returns-clause-lines g c = search rules
+
+pub returns-clause-read : goal.returns-clause-read
+returns-clause-read g c = search rules
+
+pub returns-clause-unfailing : goal.returns-clause-unfailing
+returns-clause-unfailing g c = search rules
+
+pub returns-clause-turns : goal.returns-clause-turns
+returns-clause-turns g c = search rules
+
+pub returns-clause-few : goal.returns-clause-few
+returns-clause-few g c = search rules

@@ -1,0 +1,99 @@
+use Rattle.std.proofs.Common.{arith, rules, ◌<◌, ◌∙◌, length, drop, length-append}
+use Rattle.std.proofs.KnownBytes.{Consumes-trans}
+use Rattle.std.proofs.lemmas.Grind.{common_steps}
+use Rattle.message_reading.proofs.PlainBodies.{longer, not_filled, stays}
+use Rattle.message_reading.proofs.plain_body.fill.Goals as goal
+
+pub loop-left-preserved : goal.loop-left-preserved
+loop-left-preserved g c =
+    let left = g.R.Read.remaining in
+    let gave = c.in_ok-count.ensures.gave in
+    let invariant = c.loop-left.invariant in
+    let front = c.args.body.now.items in
+    let more = longer front c.loop-left.body.items c.read_some.new.into.items gave.0 invariant.kept
+    gave.2 in
+    let got = drop (length front) c.loop-left.body.items in
+    let size = length-append got gave.0 in
+    record {
+      consumed = rw more (Consumes-trans _ _ _ got gave.0 invariant.consumed gave.3);
+      kept = stays front c.loop-left.body.items _ gave.0 invariant.kept gave.2;
+      counted = rw more (omega (
+        arith,
+        size,
+        gave.1,
+        invariant.counted,
+        c.in_ok-count.ensures.fits,
+      ));
+      failures = c.in_ok-count.ensures.unfailing ∙ invariant.failures;
+      few = omega (arith, c.in_ok-count.ensures.few, invariant.few);
+    }
+
+pub returns-then-count-eq0-clause-bytes : goal.returns-then-count-eq0-clause-bytes
+returns-then-count-eq0-clause-bytes g c =
+    let invariant = c.loop-left.invariant in
+    let short : length (drop (length c.args.body.now.items) c.loop-left.body.items) < c.args.size =
+    grind (arith, common_steps, invariant.counted) in
+    not_filled _ c.args.size _ _ _ _ invariant.consumed short
+    (c.in_ok-count.ensures.end (search rules))
+
+pub returns-in_err-count-clause-bytes : goal.returns-in_err-count-clause-bytes
+returns-in_err-count-clause-bytes c = search rules
+
+pub returns-in_err-count-clause-kept : goal.returns-in_err-count-clause-kept
+returns-in_err-count-clause-kept c = search rules
+
+pub returns-in_err-count-clause-length : goal.returns-in_err-count-clause-length
+returns-in_err-count-clause-length c = search rules
+
+pub returns-in_err-count-clause-read : goal.returns-in_err-count-clause-read
+returns-in_err-count-clause-read c = search rules
+
+pub returns-in_err-count-clause-unfailing : goal.returns-in_err-count-clause-unfailing
+returns-in_err-count-clause-unfailing c = search rules
+
+pub returns-in_err-count-clause-turns : goal.returns-in_err-count-clause-turns
+returns-in_err-count-clause-turns c = search rules
+
+pub returns-in_err-count-clause-few : goal.returns-in_err-count-clause-few
+returns-in_err-count-clause-few c = search rules
+
+pub returns-then-count-eq0-clause-kept : goal.returns-then-count-eq0-clause-kept
+returns-then-count-eq0-clause-kept g c =
+    let gave = c.in_ok-count.ensures.gave in
+    stays c.args.body.now.items c.loop-left.body.items _ gave.0 c.loop-left.invariant.kept gave.2
+
+pub returns-then-count-eq0-clause-length : goal.returns-then-count-eq0-clause-length
+returns-then-count-eq0-clause-length c = search rules
+
+pub returns-then-count-eq0-clause-read : goal.returns-then-count-eq0-clause-read
+returns-then-count-eq0-clause-read c = search rules
+
+pub returns-then-count-eq0-clause-unfailing : goal.returns-then-count-eq0-clause-unfailing
+returns-then-count-eq0-clause-unfailing c = search rules
+
+pub returns-then-count-eq0-clause-turns : goal.returns-then-count-eq0-clause-turns
+returns-then-count-eq0-clause-turns c = search rules
+
+pub returns-then-count-eq0-clause-few : goal.returns-then-count-eq0-clause-few
+returns-then-count-eq0-clause-few c = search rules
+
+pub returns-clause-bytes : goal.returns-clause-bytes
+returns-clause-bytes c = grind (arith, common_steps)
+
+pub returns-clause-kept : goal.returns-clause-kept
+returns-clause-kept c = search rules
+
+pub returns-clause-length : goal.returns-clause-length
+returns-clause-length c = grind (arith, common_steps)
+
+pub returns-clause-read : goal.returns-clause-read
+returns-clause-read c = search rules
+
+pub returns-clause-unfailing : goal.returns-clause-unfailing
+returns-clause-unfailing c = search rules
+
+pub returns-clause-turns : goal.returns-clause-turns
+returns-clause-turns c = search rules
+
+pub returns-clause-few : goal.returns-clause-few
+returns-clause-few c = search rules

@@ -1,0 +1,71 @@
+use Rattle.std.proofs.Common.{arith, rules, ◌≡◌, ◌∙◌, length-append}
+use Rattle.std.proofs.KnownBytes.{Consumes-trans}
+use Rattle.std.proofs.lemmas.Grind.{common_steps}
+use Rattle.message_reading.proofs.PlainBodies.{all_read, too_many}
+use Rattle.message_reading.proofs.plain_body.read_to_end.Goals as goal
+
+pub loop-body-preserved : goal.loop-body-preserved
+loop-body-preserved g c =
+    let gave = c.in_ok-count.ensures.gave in
+    let invariant = c.loop-body.invariant in
+    let size = length-append c.loop-body.body.items gave.0 in
+    record {
+      consumed = rw gave.2 (Consumes-trans _ _ _ _ gave.0 invariant.consumed gave.3);
+      fits = rw gave.2 (grind (arith, common_steps, size, gave.1, invariant.fits));
+      failures = c.in_ok-count.ensures.unfailing ∙ invariant.failures;
+      few = omega (arith, c.in_ok-count.ensures.few, invariant.few);
+    }
+
+pub returns-then-count-eq0-clause-body : goal.returns-then-count-eq0-clause-body
+returns-then-count-eq0-clause-body g c =
+    let gave = c.in_ok-count.ensures.gave in
+    let invariant = c.loop-body.invariant in
+    let zero : c.in_ok-count.count ≡ 0 = search rules in
+    all_read _ _ _ _ _ _ gave.0 invariant.consumed invariant.fits gave.2 (gave.1 ∙ zero) gave.3
+    (c.in_ok-count.ensures.end zero)
+
+pub returns-then-count-room-clause-body : goal.returns-then-count-room-clause-body
+returns-then-count-room-clause-body g c =
+    let gave = c.in_ok-count.ensures.gave in
+    let invariant = c.loop-body.invariant in
+    too_many _ _ _ _ _ gave.0 invariant.consumed gave.3
+    (grind (arith, common_steps, gave.1, invariant.fits))
+
+pub returns-in_err-count-clause-body : goal.returns-in_err-count-clause-body
+returns-in_err-count-clause-body c = search rules
+
+pub returns-in_err-count-clause-read : goal.returns-in_err-count-clause-read
+returns-in_err-count-clause-read c = search rules
+
+pub returns-in_err-count-clause-unfailing : goal.returns-in_err-count-clause-unfailing
+returns-in_err-count-clause-unfailing c = search rules
+
+pub returns-in_err-count-clause-turns : goal.returns-in_err-count-clause-turns
+returns-in_err-count-clause-turns c = search rules
+
+pub returns-in_err-count-clause-few : goal.returns-in_err-count-clause-few
+returns-in_err-count-clause-few c = search rules
+
+pub returns-then-count-eq0-clause-read : goal.returns-then-count-eq0-clause-read
+returns-then-count-eq0-clause-read c = search rules
+
+pub returns-then-count-eq0-clause-unfailing : goal.returns-then-count-eq0-clause-unfailing
+returns-then-count-eq0-clause-unfailing c = search rules
+
+pub returns-then-count-eq0-clause-turns : goal.returns-then-count-eq0-clause-turns
+returns-then-count-eq0-clause-turns c = search rules
+
+pub returns-then-count-eq0-clause-few : goal.returns-then-count-eq0-clause-few
+returns-then-count-eq0-clause-few c = search rules
+
+pub returns-then-count-room-clause-read : goal.returns-then-count-room-clause-read
+returns-then-count-room-clause-read c = search rules
+
+pub returns-then-count-room-clause-unfailing : goal.returns-then-count-room-clause-unfailing
+returns-then-count-room-clause-unfailing c = search rules
+
+pub returns-then-count-room-clause-turns : goal.returns-then-count-room-clause-turns
+returns-then-count-room-clause-turns c = search rules
+
+pub returns-then-count-room-clause-few : goal.returns-then-count-room-clause-few
+returns-then-count-room-clause-few c = search rules

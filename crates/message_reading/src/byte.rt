@@ -1,0 +1,153 @@
+// One byte of a reader, or some.
+ghost use Rattle.std.specs.Prelude.{◌≡◌, ◌≤◌, ◌<◌, ◌⊎◌, ◌++◌, max, ℕ, List, [], length, IfOk, IfErr, IfSome, IsErrOf, OnErr, OnOk};
+ghost use Rattle.std.specs.Io.{StopsAt};
+ghost use Rattle.counted_io.specs.Counted.{inner_of, calls_of, failures_of};
+ghost use Rattle.counted_io.specs.Effects.{Gave, IfLeft};
+ghost use Rattle.message_reading.specs.PlainBody.{byte_is, crlf_of};
+ghost use Rattle.message_reading.specs.Reading.{By, HasFailed, Reads, byte_of};
+
+use crate::fault::{Fault, MessageFault};
+use counted_io::{AppendFault, Counted};
+use std::io::{BufRead, Read};
+
+/// The next byte, unless the reader made `limit` calls already.
+pub(crate) fn read_byte<R: Read>(reader: &mut Counted<R>, limit: u64) -> Result<u8, MessageFault>
+    ensures byte { Reads R.remaining reader.old reader.new (λ b. b) (By byte_of) result }
+    ensures read { IsErrOf result MessageFault.Read → HasFailed reader.old reader.new }
+    ensures unfailing { OnOk result (failures_of reader.new ≡ failures_of reader.old) }
+    ensures turns { IsErrOf result MessageFault.TurnLimit → limit ≤ calls_of reader.new }
+    ensures few { calls_of reader.new ≤ max limit (calls_of reader.old) }
+{
+    if reader.calls() >= limit {
+        return Err(MessageFault::TurnLimit);
+    }
+    let mut byte = [0u8; 1];
+    match reader.read(&mut byte) {
+        Err(_) => Err(MessageFault::Read),
+        Ok(0) => Err(MessageFault::Bytes(Fault::Early)),
+        Ok(_) => Ok(byte[0]),
+    }
+}
+
+// Puts some of the next bytes behind those of `into`, at most `most` of them, and no further than
+// the first `stop` where one is named.
+fn append<R: BufRead>(
+    reader: &mut Counted<R>,
+    limit: u64,
+    stop: Option<u8>,
+    most: usize,
+    into: &mut Vec<u8>,
+) -> Result<usize, MessageFault>
+    ensures gave { IfOk result (λ n. (part : List ℕ) × (length part ≡ n)
+        × (into.new.items ≡ into.old.items ++ part)
+        × Gave R.remaining reader.old reader.new part × IfSome stop (λ stop. StopsAt part stop)) }
+    ensures fits { IfOk result (λ n. n ≤ most) }
+    ensures end { IfOk result (λ n. n ≡ 0 → 0 < most
+        → IfLeft R.remaining reader.old (λ left. left ≡ [])) }
+    ensures unchanged { OnErr result (into.new.items ≡ into.old.items) }
+    ensures faults { IfErr result (λ fault. (fault ≡ MessageFault.TurnLimit)
+        ⊎ (fault ≡ MessageFault.Read) ⊎ (fault ≡ MessageFault.Memory)) }
+    ensures read { IsErrOf result MessageFault.Read → HasFailed reader.old reader.new }
+    ensures unfailing { OnOk result (failures_of reader.new ≡ failures_of reader.old) }
+    ensures turns { IsErrOf result MessageFault.TurnLimit → limit ≤ calls_of reader.new }
+    ensures few { calls_of reader.new ≤ max limit (calls_of reader.old) }
+{
+    if reader.calls() >= limit {
+        return Err(MessageFault::TurnLimit);
+    }
+    match reader.append(stop, most, into) {
+        Ok(count) => Ok(count),
+        Err(AppendFault::Read) => Err(MessageFault::Read),
+        Err(AppendFault::Memory) => Err(MessageFault::Memory),
+    }
+}
+
+/// Puts some of the next bytes behind those of `into`, at most `most` of them: how many, 0 where
+/// the reader is at its end.
+///
+/// The faults are `TurnLimit`, where the reader made `limit` calls already, `Read`, and `Memory`,
+/// where a growth was refused; after each of them `into` is as it was.
+pub(crate) fn read_some<R: BufRead>(
+    reader: &mut Counted<R>,
+    limit: u64,
+    most: usize,
+    into: &mut Vec<u8>,
+) -> Result<usize, MessageFault>
+    requires { 0 < most }
+    ensures gave { IfOk result (λ n. (part : List ℕ) × (length part ≡ n)
+        × (into.new.items ≡ into.old.items ++ part)
+        × Gave R.remaining reader.old reader.new part) }
+    ensures end { IfOk result (λ n. n ≡ 0
+        → IfLeft R.remaining reader.old (λ left. left ≡ [])) }
+    ensures fits { IfOk result (λ n. n ≤ most) }
+    ensures unchanged { OnErr result (into.new.items ≡ into.old.items) }
+    ensures faults { IfErr result (λ fault. (fault ≡ MessageFault.TurnLimit)
+        ⊎ (fault ≡ MessageFault.Read) ⊎ (fault ≡ MessageFault.Memory)) }
+    ensures read { IsErrOf result MessageFault.Read → HasFailed reader.old reader.new }
+    ensures unfailing { OnOk result (failures_of reader.new ≡ failures_of reader.old) }
+    ensures turns { IsErrOf result MessageFault.TurnLimit → limit ≤ calls_of reader.new }
+    ensures few { calls_of reader.new ≤ max limit (calls_of reader.old) }
+{
+    append(reader, limit, None, most, into)
+}
+
+/// Puts the next bytes behind those of `into`, at most `most` of them, and no further than the
+/// first LF among them.
+///
+/// It is one at least, and as many as the reader shows where it has them at hand. The faults are
+/// `TurnLimit`, where the reader made `limit` calls already, `Read`, `Early` at its end, and
+/// `Memory`, where a growth was refused; after each of them `into` is as it was.
+pub(crate) fn read_line_part<R: BufRead>(
+    reader: &mut Counted<R>,
+    limit: u64,
+    most: usize,
+    into: &mut Vec<u8>,
+) -> Result<(), MessageFault>
+    requires { 0 < most }
+    ensures gave { OnOk result ((part : List ℕ) × (0 < length part) × (length part ≤ most)
+        × (into.new.items ≡ into.old.items ++ part)
+        × Gave R.remaining reader.old reader.new part × StopsAt part 10) }
+    ensures unchanged { OnErr result (into.new.items ≡ into.old.items) }
+    ensures faults { IfErr result (λ fault. (fault ≡ MessageFault.TurnLimit)
+        ⊎ (fault ≡ MessageFault.Read) ⊎ (fault ≡ MessageFault.Memory)
+        ⊎ (fault ≡ MessageFault.Bytes Fault.Early)) }
+    ensures early { IsErrOf result (MessageFault.Bytes Fault.Early)
+        → IfLeft R.remaining reader.old (λ left. left ≡ []) }
+    ensures read { IsErrOf result MessageFault.Read → HasFailed reader.old reader.new }
+    ensures unfailing { OnOk result (failures_of reader.new ≡ failures_of reader.old) }
+    ensures turns { IsErrOf result MessageFault.TurnLimit → limit ≤ calls_of reader.new }
+    ensures few { calls_of reader.new ≤ max limit (calls_of reader.old) }
+{
+    match append(reader, limit, Some(b'\n'), most, into)? {
+        0 => Err(MessageFault::from(Fault::Early)),
+        _ => Ok(()),
+    }
+}
+
+// This byte.
+fn read_this<R: Read>(reader: &mut Counted<R>, limit: u64, byte: u8) -> Result<(), MessageFault>
+    ensures byte { Reads R.remaining reader.old reader.new (λ u. u) (By (byte_is byte)) result }
+    ensures read { IsErrOf result MessageFault.Read → HasFailed reader.old reader.new }
+    ensures unfailing { OnOk result (failures_of reader.new ≡ failures_of reader.old) }
+    ensures turns { IsErrOf result MessageFault.TurnLimit → limit ≤ calls_of reader.new }
+    ensures few { calls_of reader.new ≤ max limit (calls_of reader.old) }
+{
+    let found = read_byte(reader, limit)?;
+    if found == byte {
+        Ok(())
+    } else {
+        Err(MessageFault::Bytes(Fault::Malformed))
+    }
+}
+
+/// CR LF, unless the reader made `limit` calls already.
+pub(crate) fn read_crlf<R: Read>(reader: &mut Counted<R>, limit: u64) -> Result<(), MessageFault>
+    ensures bytes { Reads R.remaining reader.old reader.new (λ u. u) (By crlf_of) result }
+    ensures read { IsErrOf result MessageFault.Read → HasFailed reader.old reader.new }
+    ensures unfailing { OnOk result (failures_of reader.new ≡ failures_of reader.old) }
+    ensures turns { IsErrOf result MessageFault.TurnLimit → limit ≤ calls_of reader.new }
+    ensures few { calls_of reader.new ≤ max limit (calls_of reader.old) }
+{
+    read_this(reader, limit, b'\r')?;
+    read_this(reader, limit, b'\n')
+}

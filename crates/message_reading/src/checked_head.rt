@@ -1,0 +1,50 @@
+// The head of a request, read and checked.
+ghost use Rattle.std.specs.Prelude.{◌≡◌, ◌≤◌, max, IsErrOf, OnOk};
+ghost use Rattle.counted_io.specs.Counted.{calls_of, failures_of};
+ghost use Rattle.message_reading.specs.Reading.{HasFailed, Reads};
+ghost use Rattle.message_reading.specs.Heads.{IsCheckedHead, IsRequestHead};
+
+use crate::fault::MessageFault;
+use crate::framing::{Framing, frame_request};
+use crate::head_bytes::read_head;
+use crate::request_head::{RequestHead, parse_request};
+use counted_io::Counted;
+use std::alloc::Global;
+use std::io::BufRead;
+
+// The head of a request, and nothing behind it.
+#[tactic(auto, using(crate::proofs::JoinedPhases::request_steps))]
+fn read_request_head<R: BufRead>(
+    alloc: Global,
+    reader: &mut Counted<R>,
+    limit: u64,
+) -> Result<RequestHead, MessageFault>
+    ensures head { Reads R.remaining reader.old reader.new (λ head. head) IsRequestHead result }
+    ensures read { IsErrOf result MessageFault.Read → HasFailed reader.old reader.new }
+    ensures unfailing { OnOk result (failures_of reader.new ≡ failures_of reader.old) }
+    ensures turns { IsErrOf result MessageFault.TurnLimit → limit ≤ calls_of reader.new }
+    ensures few { calls_of reader.new ≤ max limit (calls_of reader.old) }
+{
+    let text = read_head(alloc, reader, limit)?;
+    parse_request(alloc, text)
+}
+
+/// The head of a request, and how its body is delimited, once all checks passed.
+#[tactic(auto, using(crate::proofs::JoinedPhases::check_steps))]
+pub fn read_checked_head<R: BufRead>(
+    alloc: Global,
+    reader: &mut Counted<R>,
+    limit: u64,
+) -> Result<(RequestHead, Framing), MessageFault>
+    ensures head { Reads R.remaining reader.old reader.new (λ head. head) IsCheckedHead result }
+    ensures read { IsErrOf result MessageFault.Read → HasFailed reader.old reader.new }
+    ensures unfailing { OnOk result (failures_of reader.new ≡ failures_of reader.old) }
+    ensures turns { IsErrOf result MessageFault.TurnLimit → limit ≤ calls_of reader.new }
+    ensures few { calls_of reader.new ≤ max limit (calls_of reader.old) }
+{
+    let head = read_request_head(alloc, reader, limit)?;
+    match frame_request(&head) {
+        Ok(framing) => Ok((head, framing)),
+        Err(fault) => Err(MessageFault::Bytes(fault)),
+    }
+}

@@ -1,0 +1,71 @@
+// Chunked bodies.
+ghost use Rattle.std.specs.Prelude.{◌≡◌, ◌≤◌, ◌+◌, ◌++◌, max, drop, length, IfOk, IsErrOf, OnOk};
+ghost use Rattle.counted_io.specs.Counted.{calls_of, failures_of};
+ghost use Rattle.message_reading.specs.Reading.{By, HasFailed, Reads};
+ghost use Rattle.message_reading.specs.Chunks.{IsChunks, piece_of};
+
+use crate::byte::read_crlf;
+use crate::chunk_size::read_size;
+use crate::fault::{Fault, MessageFault};
+use crate::plain_body::fill;
+use crate::trailers::read_trailers;
+use counted_io::Counted;
+use std::alloc::Global;
+use std::io::BufRead;
+
+/// The greatest number of bytes of a body.
+const MOST_BODY: u64 = 8_388_608;
+
+// A chunk's bytes, behind those of the body, and the CR LF behind them.
+fn read_piece<R: BufRead>(
+    reader: &mut Counted<R>,
+    limit: u64,
+    mut body: Vec<u8>,
+    size: usize,
+) -> Result<Vec<u8>, MessageFault>
+    ensures piece { Reads R.remaining reader.old reader.new
+        (λ longer. drop (length body.items) longer.items) (By (piece_of size)) result }
+    ensures kept { IfOk result (λ longer.
+        longer.items ≡ body.items ++ drop (length body.items) longer.items) }
+    ensures length { IfOk result (λ longer. length longer.items ≡ length body.items + size) }
+    ensures read { IsErrOf result MessageFault.Read → HasFailed reader.old reader.new }
+    ensures unfailing { OnOk result (failures_of reader.new ≡ failures_of reader.old) }
+    ensures turns { IsErrOf result MessageFault.TurnLimit → limit ≤ calls_of reader.new }
+    ensures few { calls_of reader.new ≤ max limit (calls_of reader.old) }
+{
+    fill(reader, limit, &mut body, size)?;
+    read_crlf(reader, limit)?;
+    Ok(body)
+}
+
+/// A chunked body: the bytes of all chunks. The lines behind the last chunk are read and dropped.
+///
+/// A size line over 4,096 bytes, or one that gives no size, is `Malformed`, and so is a chunk that
+/// no CR LF follows; a size with which the sum passes 8,388,608 is `BodyTooLarge`, before the
+/// chunk's bytes are read; more than 65,536 bytes behind the last chunk are `HeadTooLarge`.
+#[tactic(auto, using(crate::proofs::JoinedChunks::chunk_steps))]
+pub(crate) fn read_chunked<R: BufRead>(
+    alloc: Global,
+    reader: &mut Counted<R>,
+    limit: u64,
+) -> Result<Vec<u8>, MessageFault>
+    ensures body { Reads R.remaining reader.old reader.new (λ body. body.items)
+        (IsChunks 0) result }
+    ensures read { IsErrOf result MessageFault.Read → HasFailed reader.old reader.new }
+    ensures unfailing { OnOk result (failures_of reader.new ≡ failures_of reader.old) }
+    ensures turns { IsErrOf result MessageFault.TurnLimit → limit ≤ calls_of reader.new }
+    ensures few { calls_of reader.new ≤ max limit (calls_of reader.old) }
+{
+    let mut body = Vec::new(alloc);
+    loop {
+        let size = read_size(alloc, reader, limit)?;
+        if size == 0 {
+            read_trailers(reader, limit)?;
+            return Ok(body);
+        }
+        if size > MOST_BODY - body.len() as u64 {
+            return Err(MessageFault::Bytes(Fault::BodyTooLarge));
+        }
+        body = read_piece(reader, limit, body, size as usize)?;
+    }
+}

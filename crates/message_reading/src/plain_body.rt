@@ -1,0 +1,90 @@
+// Bodies of a known length, and bodies that run to the reader's end.
+ghost use Rattle.std.specs.Prelude.{◌≡◌, ◌≤◌, ◌+◌, ◌++◌, max, length, drop, IsErrOf, OnOk};
+ghost use Rattle.counted_io.specs.Counted.{inner_of, calls_of, failures_of};
+ghost use Rattle.message_reading.specs.PlainBody.{all_of, sized_of};
+ghost use Rattle.message_reading.specs.Reading.{By, HasFailed, Reads};
+
+use crate::byte::read_some;
+use crate::fault::{Fault, MessageFault};
+use counted_io::Counted;
+use std::alloc::Global;
+use std::io::BufRead;
+
+/// The greatest number of bytes of a body.
+const MOST_BODY: usize = 8_388_608;
+
+/// Puts the next `size` bytes behind `body`.
+///
+/// They are copied once, out of what the reader shows. After a fault nothing is said of how many of
+/// them were put there.
+pub(crate) fn fill<R: BufRead>(
+    reader: &mut Counted<R>,
+    limit: u64,
+    body: &mut Vec<u8>,
+    size: usize,
+) -> Result<(), MessageFault>
+    ensures bytes { Reads R.remaining reader.old reader.new
+        (λ _. drop (length body.old.items) body.new.items) (By (sized_of size)) result }
+    ensures kept { body.new.items
+        ≡ body.old.items ++ drop (length body.old.items) body.new.items }
+    ensures length { OnOk result (length body.new.items ≡ length body.old.items + size) }
+    ensures read { IsErrOf result MessageFault.Read → HasFailed reader.old reader.new }
+    ensures unfailing { OnOk result (failures_of reader.new ≡ failures_of reader.old) }
+    ensures turns { IsErrOf result MessageFault.TurnLimit → limit ≤ calls_of reader.new }
+    ensures few { calls_of reader.new ≤ max limit (calls_of reader.old) }
+{
+    let mut left = size;
+    while left > 0 {
+        let count = read_some(reader, limit, left, body)?;
+        if count == 0 {
+            return Err(MessageFault::Bytes(Fault::Early));
+        }
+        left -= count;
+    }
+    Ok(())
+}
+
+/// A body of `size` bytes.
+pub(crate) fn read_sized<R: BufRead>(
+    alloc: Global,
+    reader: &mut Counted<R>,
+    limit: u64,
+    size: usize,
+) -> Result<Vec<u8>, MessageFault>
+    ensures body { Reads R.remaining reader.old reader.new (λ body. body.items)
+        (By (sized_of size)) result }
+    ensures read { IsErrOf result MessageFault.Read → HasFailed reader.old reader.new }
+    ensures unfailing { OnOk result (failures_of reader.new ≡ failures_of reader.old) }
+    ensures turns { IsErrOf result MessageFault.TurnLimit → limit ≤ calls_of reader.new }
+    ensures few { calls_of reader.new ≤ max limit (calls_of reader.old) }
+{
+    let mut body = Vec::new(alloc);
+    fill(reader, limit, &mut body, size)?;
+    Ok(body)
+}
+
+/// A body that runs to the reader's end, of at most 8,388,608 bytes.
+pub(crate) fn read_to_end<R: BufRead>(
+    alloc: Global,
+    reader: &mut Counted<R>,
+    limit: u64,
+) -> Result<Vec<u8>, MessageFault>
+    ensures body { Reads R.remaining reader.old reader.new (λ body. body.items)
+        (By all_of) result }
+    ensures read { IsErrOf result MessageFault.Read → HasFailed reader.old reader.new }
+    ensures unfailing { OnOk result (failures_of reader.new ≡ failures_of reader.old) }
+    ensures turns { IsErrOf result MessageFault.TurnLimit → limit ≤ calls_of reader.new }
+    ensures few { calls_of reader.new ≤ max limit (calls_of reader.old) }
+{
+    let mut body = Vec::new(alloc);
+    loop {
+        let room = MOST_BODY - body.len();
+        let count = read_some(reader, limit, room + 1, &mut body)?;
+        if count == 0 {
+            return Ok(body);
+        }
+        if count > room {
+            return Err(MessageFault::Bytes(Fault::BodyTooLarge));
+        }
+    }
+}
