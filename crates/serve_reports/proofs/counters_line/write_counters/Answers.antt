@@ -1,5 +1,5 @@
 use Rattle.std.proofs.Common.{rules}
-use Rattle.counters_line.proofs.writing.write_counters.Goals as goal
+use Rattle.serve_reports.proofs.counters_line.write_counters.Goals as goal
 
 pub returns-clause-all : goal.returns-clause-all
 returns-clause-all c = search rules

@@ -1,10 +1,10 @@
 // The text of a report.
 ghost use Rattle.std.specs.Prelude.{◌≡◌, ◌++◌, ◌<◌, IfOk, OnOk, string_bytes};
-ghost use Rattle.report_line.specs.Report.{acquires_text, answers_text, class_text, classes_text};
-ghost use Rattle.report_line.specs.Report.{counters_text, outcomes_text, report_text, stands_text};
-ghost use Rattle.report_line.specs.Report.{waits_text};
+ghost use Rattle.serve_reports.specs.Report.{acquires_text, answers_text, class_text, classes_text};
+ghost use Rattle.serve_reports.specs.Report.{counters_text, outcomes_text, report_text, stands_text};
+ghost use Rattle.serve_reports.specs.Report.{waits_text};
 
-use answer_tally::AnswerTally;
+use crate::tally::AnswerTally;
 use limiter_core::Counters;
 use partitions::{Part, PartitionTable};
 use shared_gate::Report;

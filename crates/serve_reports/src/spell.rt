@@ -1,6 +1,6 @@
 // What happens often, told seldom.
 ghost use Rattle.std.specs.Prelude.{◌≡◌, None};
-ghost use Rattle.spells.specs.Spells.{is_due, noted, told};
+ghost use Rattle.serve_reports.specs.Spells.{is_due, noted, told};
 
 /// The least time from one telling to the next, in nanoseconds: ten seconds.
 const LENGTH: u64 = 10_000_000_000;

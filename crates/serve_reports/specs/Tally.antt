@@ -2,7 +2,7 @@
 use Rattle.std.specs.Prelude.{ℕ, Option, None, Some, nat_eq, if◌then◌else◌}
 use Rattle.counted_io.specs.Count.{raised}
 use Rattle.proxy.specs.declared.told.Exchange.{Exchange}
-use Rattle.answer_tally.specs.declared.tally.AnswerTally.{AnswerTally}
+use Rattle.serve_reports.specs.declared.tally.AnswerTally.{AnswerTally}
 
 -- a tally after one more answer of this status
 abbrev pub counted_at : ℕ → AnswerTally → AnswerTally

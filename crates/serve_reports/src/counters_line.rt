@@ -3,7 +3,7 @@ ghost use Rattle.std.specs.Prelude.{◌≡◌, true, OnErr, OnOk};
 ghost use Rattle.counted_io.specs.Counted.{failures_of, is_flushed};
 ghost use Rattle.counted_io.specs.Effects.{Wrote};
 ghost use Rattle.counted_io.specs.Causes.{IsWriteCause};
-ghost use Rattle.counters_line.specs.Line.{counters_line};
+ghost use Rattle.serve_reports.specs.CountersLine.{counters_line};
 
 use counted_io::{Counted, WriteFault};
 use fault_lines::write_line;

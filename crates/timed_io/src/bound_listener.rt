@@ -6,23 +6,23 @@ use std::os::fd::AsFd;
 
 /// Clients over TCP.
 #[derive(Drop)]
-pub struct Front {
+pub struct BoundListener {
     listener: TcpListener,
 }
 
-impl Front {
+impl BoundListener {
     /// Binds the address; the fault is the system's, mostly that another program has it. As many
     /// clients may wait to be accepted as the system allows, 4,096 by default; std's own number is
     /// 128, and a client that finds the queue full tries again a second later.
-    pub fn bind<R: Net>(rt: &R, address: SocketAddr) -> Result<Front> {
+    pub fn bind<R: Net>(rt: &R, address: SocketAddr) -> Result<BoundListener> {
         let queue = mio::net::TcpListener::bind(rt, address)?;
         let listener = TcpListener::from(queue.as_fd().try_clone_to_owned()?);
         listener.set_nonblocking(false)?;
-        Ok(Front { listener })
+        Ok(BoundListener { listener })
     }
 }
 
-impl Listener for Front {
+impl Listener for BoundListener {
     type Stream = TcpStream;
 
     fn accept(&self) -> Result<TcpStream> {

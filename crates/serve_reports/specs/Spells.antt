@@ -1,6 +1,6 @@
 -- What happens often, told seldom.
 use Rattle.std.specs.Prelude.{ℕ, ◌+◌, ◌-◌, ◌^◌, min, nat_le, Bool, true, Option, None, Some, if◌then◌else◌}
-use Rattle.spells.specs.declared.spell.Spell.{Spell}
+use Rattle.serve_reports.specs.declared.spell.Spell.{Spell}
 
 -- the least time from one telling to the next, in nanoseconds
 abbrev pub spell_length : ℕ

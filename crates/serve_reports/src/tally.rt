@@ -1,7 +1,7 @@
 // How many exchanges ended in each of the gateway's own answers.
 ghost use Rattle.std.specs.Prelude.{◌≡◌};
 ghost use Rattle.counted_io.specs.Count.{raised};
-ghost use Rattle.answer_tally.specs.Tally.{counted, counted_at};
+ghost use Rattle.serve_reports.specs.Tally.{counted, counted_at};
 
 use proxy::Exchange;
 

@@ -1,6 +1,6 @@
 // Where connections come from.
+use crate::connection::Connection;
 use std::io::Result;
-use timed_io::Connection;
 
 /// Where connections come from. Several threads may ask it at once.
 pub trait Listener {

@@ -1,0 +1,4 @@
+pub mod CountersLine
+pub mod Report
+pub mod Spells
+pub mod Tally
