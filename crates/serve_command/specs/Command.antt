@@ -10,7 +10,7 @@ use Rattle.limiter_core.specs.declared.counters.Counters.{Counters}
 use Rattle.gate_config.specs.declared.settings.Settings.{Settings}
 use Rattle.config_check.specs.Check.{Held, IsUnset, Says}
 use Rattle.config_check.specs.declared.check_fault.CheckFault.TheVariants as Check
-use Rattle.counters_line.specs.Line.{counters_line}
+use Rattle.serve_reports.specs.CountersLine.{counters_line}
 use Rattle.serve_command.specs.declared.fault.ServiceFault.{ServiceFault}
 use Rattle.serve_command.specs.declared.fault.ServiceFault.TheVariants as Service
 

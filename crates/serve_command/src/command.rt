@@ -12,13 +12,12 @@ use crate::watching::Watcher;
 use clocks::ProgramClock;
 use config_check::{read_bytes, read_file_text};
 use counted_io::Counted;
-use counters_line::write_counters;
 use fault_lines::{DONE, FAULT};
 use gate_config::Settings;
 use limiter_core::Counters;
-use listening::Front;
 use log::Log;
-use serving::{Shift, serve};
+use serve_reports::write_counters;
+use serving::{WorkerSettings, serve};
 use std::alloc::Global;
 use std::fs::Files;
 use std::io::Write;
@@ -26,6 +25,7 @@ use std::net::{Net, SocketAddr};
 use std::sync::Wait;
 use std::thread::Threads;
 use std::time::Clock as SystemClock;
+use timed_io::BoundListener;
 
 /// The nanoseconds of a millisecond.
 const MILLI: u64 = 1_000_000;
@@ -129,23 +129,23 @@ where
     requires few { service.now.workers ≤ 64 }
     ensures { IfErr result IsOfServing }
 {
-    let Ok(front) = Front::bind(rt, SocketAddr::V4(settings.listen.socket())) else {
+    let Ok(front) = BoundListener::bind(rt, SocketAddr::V4(settings.listen.socket())) else {
         return Err(ServiceFault::Listen);
     };
     log_listening(rt, alloc, settings, service.workers);
     let clock = ProgramClock::start(rt);
     let watch = Watcher::new(rt, alloc);
-    let shift = Shift {
+    let common = WorkerSettings {
         listener: &front,
         source: text,
         clock: &clock,
         per_worker: u64::from(service.per_worker),
-        client_time: u64::from(service.client_timeout_ms) * MILLI,
-        report_every: report_time(service.report_seconds),
+        client_timeout_ns: u64::from(service.client_timeout_ms) * MILLI,
+        report_every_ns: report_time(service.report_seconds),
         watch: &watch,
         alloc,
     };
-    Ok(serve(rt, &shift, settings, service.workers as usize)?)
+    Ok(serve(rt, &common, settings, service.workers as usize)?)
 }
 
 /// So many seconds in nanoseconds.

@@ -1,13 +1,11 @@
 // What the log says while a gateway serves.
-use answer_tally::AnswerTally;
 use clocks::{Clock, ProgramClock};
 use log::{Log, info, warn};
 use partitions::PartitionTable;
 use proxy::Exchange;
-use report_line::report_text;
+use serve_reports::{AnswerTally, Spell, report_text};
 use serving::Watch;
 use shared_gate::Report;
-use spells::Spell;
 use std::alloc::Global;
 use std::io::Error;
 use std::sync::{Mutex, Wait};

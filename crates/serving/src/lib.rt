@@ -16,5 +16,5 @@ mod working;
 
 pub use fault::ServeFault;
 pub use watch::Watch;
-pub use workers::{serve, serve_with};
-pub use working::{Buffers, Shift, Source, serve_client, work};
+pub use workers::serve;
+pub use working::{Buffers, Source, WorkerSettings, work};

@@ -1,5 +1,5 @@
 // Workers that serve through one gate.
-ghost use Rattle.std.specs.Prelude.{◌≡◌, ◌≤◌, true, IfOk, vec_len};
+ghost use Rattle.std.specs.Prelude.{◌≡◌, ◌≤◌, ◌+◌, true, IfOk, vec_len};
 ghost use Rattle.limit_kinds.specs.AnyKinds.{any_rules};
 ghost use Rattle.gate_ledgers.specs.Names.{AreNamed, AreWhole};
 ghost use Rattle.gate_config.specs.Settings.{AreSound};
@@ -7,14 +7,14 @@ ghost use Rattle.gate_config.specs.Settings.{AreSound};
 use crate::fault::ServeFault;
 use crate::reporting::{Present, report_all};
 use crate::watch::Watch;
-use crate::working::{Buffers, Shift, Source, work};
+use crate::working::{Buffers, Source, WorkerSettings, work};
 use backend::Backend;
 use clocks::Clock;
-use gate_config::{AnyLimit, Settings};
+use gate_config::Settings;
 use gate_history::Blanks;
 use gate_opening::open_gate;
+use limit_laws::Limit;
 use limiter_core::Counters;
-use listening::Listener;
 use ports::Port;
 use shared_gate::{GateNaming, Pass, SharedGate, Word};
 use std::alloc::{AllocError, Global};
@@ -25,16 +25,17 @@ use std::thread::Threads;
 use std::time::Clock as SystemClock;
 use tasks::{Task, run_tasks};
 use tcp_backend::{BackendWatch, TcpBackend};
+use timed_io::Listener;
 
 /// Serves clients by so many workers, each on a thread of its own with a connection of its own to
 /// the backend of the settings, and tells the gate's counters once all have ended.
 ///
-/// The gate is opened by `settings`, which are those that the source of the shift gives. `Memory`
-/// comes before any worker is started, or where one had none for its settings, once all have ended;
+/// The gate is opened by `settings`, which are those that the workers' source gives. `Memory` comes
+/// before any worker is started, or where one had none for its settings, once all have ended;
 /// `Thread` once those that were started have.
 pub fn serve<R, L, C, S, W>(
     rt: &R,
-    shift: &Shift<'_, L, C, S, W>,
+    common: &WorkerSettings<'_, L, C, S, W>,
     settings: &Settings,
     workers: usize,
 ) -> Result<Counters, ServeFault>
@@ -51,54 +52,40 @@ where
     requires few { workers ≤ 64 }
     requires sound { AreSound settings.now }
 {
-    let backends = make_backends(rt, shift, settings, workers)?;
-    serve_with(rt, shift, settings, backends)
+    let word = Word::new(common.alloc)?;
+    let backends = make_backends(rt, common, settings, workers)?;
+    serve_named::<Brand, R, L, TcpBackend<&R, &W>, C, S, W>(
+        rt,
+        common,
+        settings,
+        backends,
+        Blanks::new(),
+        word,
+    )
 }
 
 /// So many backends at the address of the settings.
 fn make_backends<'r, R: Net, L, C, S, W>(
     rt: &'r R,
-    shift: &Shift<'r, L, C, S, W>,
+    common: &WorkerSettings<'r, L, C, S, W>,
     settings: &Settings,
     count: usize,
 ) -> Result<Vec<TcpBackend<&'r R, &'r W>>, ServeFault>
     ensures all { IfOk result (λ backends. vec_len backends ≡ count) }
 {
-    let (alloc, watch) = (shift.alloc, shift.watch);
+    let (alloc, watch) = (common.alloc, common.watch);
     let mut backends = Vec::with_capacity(alloc, count)?;
     for _ in 0..count {
         let backend = TcpBackend::new(rt, alloc, settings.backend.socket(), watch)?;
-        if backends.push(backend).is_err() {
-            return Err(ServeFault::Memory);
-        }
+        backends.push_reserved(backend);
     }
     Ok(backends)
 }
 
-/// Serves clients by one worker for each backend.
-pub fn serve_with<R, L, B, C, S, W>(
-    rt: &R,
-    shift: &Shift<'_, L, C, S, W>,
-    settings: &Settings,
-    backends: Vec<B>,
-) -> Result<Counters, ServeFault>
-where
-    R: Threads + Wait + SystemClock + Sync,
-    L: Listener + Sync,
-    B: Backend + Send + Drop,
-    C: Clock + Sync,
-    S: Source + Sync,
-    W: Watch + Sync,
-    L::Stream: Send + Sync,
-    requires sound { AreSound settings.now }
-{
-    let word = Word::new(shift.alloc)?;
-    serve_named::<Brand, R, L, B, C, S, W>(rt, shift, settings, backends, Blanks::new(), word)
-}
-
+/// Serves clients through the gate of the settings, by one worker for each backend.
 fn serve_named<M, R, L, B, C, S, W>(
     rt: &R,
-    shift: &Shift<'_, L, C, S, W>,
+    common: &WorkerSettings<'_, L, C, S, W>,
     settings: &Settings,
     backends: Vec<B>,
     blanks: Blanks,
@@ -124,21 +111,24 @@ where
     requires limit { M.limit ≡ any_rules.limit settings.now.limit }
     requires sound { AreSound settings.now }
 {
-    let (gate, passes) = open_gate::<M>(shift.alloc, settings, blanks, word, backends.len())?;
-    serve_through(rt, shift, &gate, passes, backends)
+    let (gate, passes) = open_gate::<M>(common.alloc, settings, blanks, word, backends.len())?;
+    serve_through(rt, common, &gate, passes, backends)
 }
 
-/// Serves clients through a gate, by one worker for each pass and backend.
-fn serve_through<M, R, L, B, C, S, W>(
+/// Serves clients through a gate, by one worker for each pass and backend, each on a thread of its
+/// own, until all have ended. Where reports are wanted one more thread makes them: it is started
+/// last, once all workers were. Which limit the gate has isn't told apart here.
+fn serve_through<M, R, G, L, B, C, S, W>(
     rt: &R,
-    shift: &Shift<'_, L, C, S, W>,
-    gate: &SharedGate<AnyLimit, M>,
+    common: &WorkerSettings<'_, L, C, S, W>,
+    gate: &SharedGate<G, M>,
     passes: Vec<Pass<M>>,
     backends: Vec<B>,
 ) -> Result<Counters, ServeFault>
 where
     M: GateNaming + Send + Sync,
     R: Threads + Wait + SystemClock + Sync,
+    G: Limit + Send,
     L: Listener + Sync,
     B: Backend + Send + Drop,
     C: Clock + Sync,
@@ -146,46 +136,17 @@ where
     W: Watch + Sync,
     L::Stream: Send + Sync,
 {
-    let present = Present::new(backends.len());
-    let post = Post {
+    let context = Context {
         rt,
-        shift,
+        common,
         gate,
-        present,
+        present: Present::new(backends.len()),
     };
-    let workers = hire(&post, passes, backends)?;
-    run_all(&post, workers)?;
-    Ok(gate.counters(rt))
-}
-
-/// Runs the workers, each on a thread of its own, until all have ended, and where reports are
-/// wanted one more thread that makes them. It is started last, once all workers were.
-fn run_all<'a, M, R, L, B, C, S, W>(
-    post: &'a Post<'a, M, R, L, C, S, W>,
-    workers: Vec<Worker<'a, M, R, L, B, C, S, W>>,
-) -> Result<(), ServeFault>
-where
-    M: GateNaming + Send + Sync,
-    R: Threads + Wait + SystemClock + Sync,
-    L: Listener + Sync,
-    B: Backend + Send + Drop,
-    C: Clock + Sync,
-    S: Source + Sync,
-    W: Watch + Sync,
-    L::Stream: Send + Sync,
-{
-    let mut hands = Vec::with_capacity(post.shift.alloc, workers.len())?;
-    if let Some(every) = post.shift.report_every {
-        hands
-            .push(Hand::Reporter(post, every))
-            .map_err(AllocError::from)?;
-    }
-    for worker in workers {
-        hands.push(Hand::Worker(worker)).map_err(AllocError::from)?;
-    }
-    let began = run_tasks(post.rt, post.shift.alloc, hands)?;
+    let reporters = make_reporter(common.alloc, &context, common.report_every_ns)?;
+    let hands = add_workers(common.alloc, &context, reporters, passes, backends)?;
+    let began = run_tasks(rt, common.alloc, hands)?;
     if began.iter().all(|it| *it) {
-        Ok(())
+        Ok(gate.counters(rt))
     } else {
         Err(ServeFault::Memory)
     }
@@ -193,65 +154,82 @@ where
 
 /// The gate, as its workers find it.
 #[derive(Drop)]
-struct Post<'a, M: GateNaming, R, L, C, S, W> {
+struct Context<'a, M: GateNaming, R, G: Limit, L, C, S, W> {
     rt: &'a R,
-    shift: &'a Shift<'a, L, C, S, W>,
-    gate: &'a SharedGate<AnyLimit, M>,
+    common: &'a WorkerSettings<'a, L, C, S, W>,
+    gate: &'a SharedGate<G, M>,
     present: Present,
 }
 
-/// Whoever has a thread: a worker, or who reports every so many nanoseconds.
+/// Whoever has a thread, in a context: a worker, or who reports every so many nanoseconds.
 #[derive(Drop)]
-enum Hand<'a, M: GateNaming, R, L, B, C, S, W> {
-    Reporter(&'a Post<'a, M, R, L, C, S, W>, u64),
-    Worker(Worker<'a, M, R, L, B, C, S, W>),
+enum Hand<'a, M: GateNaming, B, X> {
+    Reporter(&'a X, u64),
+    Worker(&'a X, Worker<M, B>),
 }
 
-/// One worker: what it shares, and what it owns.
+/// What a worker owns.
 #[derive(Drop)]
-struct Worker<'a, M: GateNaming, R, L, B, C, S, W> {
-    post: &'a Post<'a, M, R, L, C, S, W>,
+struct Worker<M: GateNaming, B> {
     pass: Pass<M>,
     backend: B,
     buffers: Buffers,
 }
 
-/// A worker for each backend, with a pass each.
-fn hire<'a, M, R, L, B, C, S, W>(
-    post: &'a Post<'a, M, R, L, C, S, W>,
+/// Whoever reports every so many nanoseconds, where that is wanted.
+fn make_reporter<'a, M: GateNaming, B: Drop, X>(
+    alloc: Global,
+    context: &'a X,
+    every: Option<u64>,
+) -> Result<Vec<Hand<'a, M, B, X>>, AllocError> {
+    let mut hands = Vec::new(alloc);
+    if let Some(every) = every {
+        hands.push(Hand::Reporter(context, every))?;
+    }
+    Ok(hands)
+}
+
+/// Adds a worker for each backend, with a pass each.
+fn add_workers<'a, M: GateNaming, B: Drop, X>(
+    alloc: Global,
+    context: &'a X,
+    mut hands: Vec<Hand<'a, M, B, X>>,
     passes: Vec<Pass<M>>,
     backends: Vec<B>,
-) -> Result<Vec<Worker<'a, M, R, L, B, C, S, W>>, ServeFault>
-where
-    M: GateNaming,
-    B: Drop,
-    ensures all { IfOk result (λ workers. vec_len workers ≡ vec_len backends) }
+) -> Result<Vec<Hand<'a, M, B, X>>, AllocError>
+    ensures all { IfOk result (λ added. vec_len added ≡ vec_len hands.entry + vec_len backends) }
 {
-    let alloc = post.shift.alloc;
-    let mut workers = Vec::with_capacity(alloc, backends.len())?;
+    hands.reserve(backends.len())?;
     let mut passes = passes.into_iter();
     for backend in backends {
         let Some(pass) = passes.next() else {
-            return Err(ServeFault::Memory);
+            return Err(AllocError);
         };
-        let buffers = Buffers::new(alloc)?;
-        let worker = Worker {
-            post,
-            pass,
-            backend,
-            buffers,
-        };
-        if workers.push(worker).is_err() {
-            return Err(ServeFault::Memory);
-        }
+        let worker = make_worker(alloc, pass, backend)?;
+        hands.push_reserved(Hand::Worker(context, worker));
     }
-    Ok(workers)
+    Ok(hands)
 }
 
-impl<'a, M, R, L, B, C, S, W> Task for Hand<'a, M, R, L, B, C, S, W>
+/// A worker with new buffers.
+fn make_worker<M: GateNaming, B: Drop>(
+    alloc: Global,
+    pass: Pass<M>,
+    backend: B,
+) -> Result<Worker<M, B>, AllocError> {
+    let buffers = Buffers::new(alloc)?;
+    Ok(Worker {
+        pass,
+        backend,
+        buffers,
+    })
+}
+
+impl<'a, M, R, G, L, B, C, S, W> Task for Hand<'a, M, B, Context<'a, M, R, G, L, C, S, W>>
 where
     M: GateNaming + Send + Sync,
     R: Wait + SystemClock + Sync,
+    G: Limit + Send,
     L: Listener + Sync,
     B: Backend + Send + Drop,
     C: Clock + Sync,
@@ -263,16 +241,10 @@ where
 
     fn run(self) -> bool {
         match self {
-            Hand::Reporter(post, every) => run_reports(post, every).is_ok(),
-            Hand::Worker(worker) => {
-                let Worker {
-                    post,
-                    pass,
-                    mut backend,
-                    mut buffers,
-                } = worker;
-                let ran = run_one(post, pass, &mut backend, &mut buffers);
-                post.present.leave(post.rt);
+            Hand::Reporter(context, every) => run_reports(context, every).is_ok(),
+            Hand::Worker(context, worker) => {
+                let ran = run_one(context, worker);
+                context.present.leave(context.rt);
                 ran.is_ok()
             }
         }
@@ -280,50 +252,62 @@ where
 }
 
 /// The reports, with the names of settings of its own.
-fn run_reports<M, R, L, C, S, W>(
-    post: &Post<'_, M, R, L, C, S, W>,
+fn run_reports<M, R, G, L, C, S, W>(
+    context: &Context<'_, M, R, G, L, C, S, W>,
     every: u64,
 ) -> Result<(), AllocError>
 where
     M: GateNaming,
     R: Wait + SystemClock,
+    G: Limit,
     C: Clock,
     S: Source,
     W: Watch,
 {
-    let shift = post.shift;
-    let settings = shift.source.settings(shift.alloc)?;
+    let common = context.common;
+    let settings = common.source.settings(common.alloc)?;
     report_all(
-        post.rt,
-        &post.present,
-        post.gate,
+        context.rt,
+        &context.present,
+        context.gate,
         &settings.table,
-        shift.clock,
-        shift.watch,
+        common.clock,
+        common.watch,
         every,
     );
     Ok(())
 }
 
 /// One worker's whole run, over settings and a port of its own.
-fn run_one<M, R, L, B, C, S, W>(
-    post: &Post<'_, M, R, L, C, S, W>,
-    pass: Pass<M>,
-    backend: &mut B,
-    buffers: &mut Buffers,
+fn run_one<M, R, G, L, B, C, S, W>(
+    context: &Context<'_, M, R, G, L, C, S, W>,
+    worker: Worker<M, B>,
 ) -> Result<(), AllocError>
 where
     M: GateNaming,
     R: Wait + SystemClock,
+    G: Limit,
     L: Listener,
-    B: Backend,
+    B: Backend + Drop,
     C: Clock,
     S: Source,
     W: Watch,
 {
-    let shift = post.shift;
-    let settings = shift.source.settings(shift.alloc)?;
-    let mut port = Port::new(post.rt, post.gate, pass, shift.clock);
-    work(post.rt, shift, &settings, &mut port, backend, buffers);
+    let common = context.common;
+    let settings = common.source.settings(common.alloc)?;
+    let Worker {
+        pass,
+        mut backend,
+        mut buffers,
+    } = worker;
+    let mut port = Port::new(context.rt, context.gate, pass, common.clock);
+    work(
+        context.rt,
+        common,
+        &settings,
+        &mut port,
+        &mut backend,
+        &mut buffers,
+    );
     Ok(())
 }

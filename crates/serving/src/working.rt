@@ -12,13 +12,12 @@ use counted_io::Counted;
 use gate_config::Settings;
 use gate_port::GatePort;
 use lent_io::{BufferedRead, BufferedWrite, ReadBuffer, WriteBuffer};
-use listening::Listener;
 use proxy::{Exchange, exchange};
 use std::alloc::{AllocError, Global};
 use std::io::{BufRead, Write};
 use std::thread;
 use std::time::{Clock as SystemClock, Duration};
-use timed_io::{Connection, Lent, TimedReader, TimedWriter, Uninterrupted};
+use timed_io::{Connection, Lent, Listener, TimedReader, TimedWriter, Uninterrupted};
 
 /// How many bytes are read or written at once.
 const PIECE: usize = 16_384;
@@ -57,7 +56,7 @@ pub trait Source {
 
 /// What all workers of a gateway share, and what each of them is asked to do.
 #[derive(Drop)]
-pub struct Shift<'a, L, C, S, W> {
+pub struct WorkerSettings<'a, L, C, S, W> {
     /// Where clients come from.
     pub listener: &'a L,
     /// Where a worker has its settings from.
@@ -66,24 +65,23 @@ pub struct Shift<'a, L, C, S, W> {
     pub clock: &'a C,
     /// How many connections a worker accepts, one after the other.
     pub per_worker: u64,
-    /// How long a client may take to send its request, and again to take its answer, in
-    /// nanoseconds.
-    pub client_time: u64,
-    /// How many nanoseconds there are from one report to the next; none is made without it.
-    pub report_every: Option<u64>,
+    /// How long a client may take to send its request, and again to take its answer.
+    pub client_timeout_ns: u64,
+    /// From one report to the next; none is made without it.
+    pub report_every_ns: Option<u64>,
     /// What hears of what workers do.
     pub watch: &'a W,
     /// What is read of a client is held here.
     pub alloc: Global,
 }
 
-/// Accepts as many connections as the shift says, one after the other, and serves each by one
-/// exchange. A connection that can't be had counts as one, and the next one is tried a while later:
-/// what was missing, such as a free descriptor, isn't there at once. None is forwarded twice. The
-/// settings are some that the shift's source gives; its watch hears of each.
+/// Accepts `per_worker` connections, one after the other, and serves each by one exchange. A
+/// connection that can't be had counts as one, and the next one is tried a while later: what was
+/// missing, such as a free descriptor, isn't there at once. None is forwarded twice. The settings
+/// are some that the workers' source gives; the watch hears of each.
 pub fn work<R, P, B, C, L, S, W>(
     rt: &R,
-    shift: &Shift<'_, L, C, S, W>,
+    common: &WorkerSettings<'_, L, C, S, W>,
     settings: &Settings,
     port: &mut P,
     backend: &mut B,
@@ -97,17 +95,17 @@ where
     L: Listener,
     S: Source,
     W: Watch,
-    requires settings { S.gives shift.now.source.now settings.now }
-    ensures once { B.forwarded backend.new ≤ B.forwarded backend.old + shift.now.per_worker }
+    requires settings { S.gives common.now.source.now settings.now }
+    ensures once { B.forwarded backend.new ≤ B.forwarded backend.old + common.now.per_worker }
 {
-    for _ in 0..shift.per_worker {
-        match shift.listener.accept() {
+    for _ in 0..common.per_worker {
+        match common.listener.accept() {
             Ok(stream) => {
-                let served = serve_client(shift, settings, &stream, port, backend, buffers);
-                shift.watch.ended(&served);
+                let served = serve_client(common, settings, &stream, port, backend, buffers);
+                common.watch.ended(&served);
             }
             Err(error) => {
-                shift.watch.unaccepted(&error);
+                common.watch.unaccepted(&error);
                 thread::sleep(rt, Duration::from_millis(WITHOUT_A_CLIENT));
             }
         }
@@ -119,8 +117,8 @@ where
 /// answered before its whole request was read, or has sent more than that, what it still sends is
 /// dropped, so that it gets to read the answer. A signal that cuts a read or a write short changes
 /// nothing.
-pub fn serve_client<T: Connection, P: GatePort, B: Backend, C: Clock, L, S, W>(
-    shift: &Shift<'_, L, C, S, W>,
+fn serve_client<T: Connection, P: GatePort, B: Backend, C: Clock, L, S, W>(
+    common: &WorkerSettings<'_, L, C, S, W>,
     settings: &Settings,
     stream: &T,
     port: &mut P,
@@ -130,19 +128,19 @@ pub fn serve_client<T: Connection, P: GatePort, B: Backend, C: Clock, L, S, W>(
     ensures forwarded { B.forwarded backend.new ≡ (if is_through result.admission
         then raised (B.forwarded backend.old) else B.forwarded backend.old) }
 {
-    let (clock, time) = (shift.clock, shift.client_time);
+    let (clock, time) = (common.clock, common.client_timeout_ns);
     let from = TimedReader::new(Lent::new(stream), clock, time);
     let to = TimedWriter::new(Lent::new(stream), clock, time);
     let reader = BufferedRead::new(Uninterrupted::new(from), &mut buffers.ahead);
     let writer = BufferedWrite::new(Uninterrupted::new(to), &mut buffers.behind);
-    let served = exchange_over(shift, settings, port, backend, reader, writer);
+    let served = exchange_over(common, settings, port, backend, reader, writer);
     linger(&served, &buffers.ahead, stream, clock, time);
     served
 }
 
 /// One exchange over a reader and a writer, whatever they are.
 fn exchange_over<R, O, P, B, C, L, S, W>(
-    shift: &Shift<'_, L, C, S, W>,
+    common: &WorkerSettings<'_, L, C, S, W>,
     settings: &Settings,
     port: &mut P,
     backend: &mut B,
@@ -161,11 +159,11 @@ where
     let mut reader = Counted::new(from);
     let mut writer = Counted::new(to);
     exchange(
-        shift.alloc,
+        common.alloc,
         port,
         backend,
         settings,
-        shift.clock,
+        common.clock,
         &mut reader,
         &mut writer,
     )
