@@ -1,11 +1,11 @@
 -- Settings that were had, and why they weren't.
-use Rattle.std.proofs.Common.{◌≡◌, ◌⊎◌, inl, inr, ℕ, List, Option, Result, Ok, Err, IfOk, IfErr, OnOk, IsErrAnd, refl, sym, subst}
+use Rattle.std.proofs.Common.{◌≡◌, ◌⊎◌, inl, inr, ℕ, true, List, Option, Result, Ok, Err, IfOk, IfErr, OnOk, IsErrAnd, refl, sym, subst}
 use Rattle.counted_io.specs.declared.counted.Counted.{Counted}
 use Rattle.counted_io.specs.Counted.{failures_of}
-use Rattle.gate_config.specs.declared.settings.Settings.{Settings}
+use Rattle.counted_io.specs.Effects.{Wrote}
 use Rattle.config_check.specs.declared.check_fault.CheckFault.{CheckFault}
 use Rattle.config_check.specs.declared.check_fault.CheckFault.TheVariants as Check
-use Rattle.config_check.specs.Check.{Held, IsFaultOf, IsUnread, IsUnset, IsWhy, IsWhyOfReader}
+use Rattle.config_check.specs.Check.{Held, IsAccepted, IsAcceptedAfter, IsFaultOf, IsUnread, IsWhy, IsWhyAfter}
 
 -- `?` hands a fault on
 pub handed_on : {T E : Type 0} (r : Result T E) (e : E) (P : E → Type 0)
@@ -20,21 +20,21 @@ why_of_fault w bytes Check.Read is = elim is [ ]
 why_of_fault w bytes (Check.Config fault) is = (refl, is)
 why_of_fault w bytes Check.Write is = elim is [ ]
 
-pub why_of_unset : {R W : Type 0} (remaining : R → Option (List ℕ)) (before after : Counted R)
-    (w : Counted W) (fault : CheckFault) → IsUnset remaining before after fault
-    → IsWhyOfReader remaining before after w w fault
-why_of_unset remaining before after w fault (inl unread) = inl (unread, refl)
-why_of_unset remaining before after w fault (inr (same, (bytes, held, is))) =
-    inr (same, (bytes, held, why_of_fault w bytes fault is))
+-- what is said behind words that were written first
+pub accepted_behind : {W T : Type 0} (contents : W → Option (List ℕ)) (old between new : Counted W)
+    (words bytes : List ℕ) (r : Result T CheckFault) → Wrote contents old between words
+    → OnOk r (IsAccepted contents between new bytes)
+    → OnOk r (IsAcceptedAfter true contents old new bytes)
+accepted_behind contents old between new words bytes (Ok x) wrote is =
+    (between, words, wrote, is)
+accepted_behind contents old between new words bytes (Err f) wrote is = tt
 
--- the fault of the bytes that a reader had is why its settings weren't had
-pub unset_by_bytes : {R : Type 0} (remaining : R → Option (List ℕ)) (before after : Counted R)
-    (bytes : List ℕ) (r : Result Settings CheckFault) → failures_of after ≡ failures_of before
-    → Held remaining before bytes → IfErr r (IsFaultOf bytes)
-    → IfErr r (IsUnset remaining before after)
-unset_by_bytes remaining before after bytes (Ok s) same held is = tt
-unset_by_bytes remaining before after bytes (Err f) same held is =
-    inr (same, (bytes, held, is))
+pub why_behind : {W T : Type 0} (contents : W → Option (List ℕ)) (old between new : Counted W)
+    (words bytes : List ℕ) (r : Result T CheckFault) → Wrote contents old between words
+    → IfErr r (IsWhy between new bytes) → IfErr r (IsWhyAfter true contents old new bytes)
+why_behind contents old between new words bytes (Ok x) wrote is = tt
+why_behind contents old between new words bytes (Err f) wrote is =
+    inr (between, words, wrote, is)
 
 -- what is said of a reader is said of a file that was opened
 pub had_of_file : {F X : Type 0} (items : X → List ℕ) (remaining : F → Option (List ℕ))

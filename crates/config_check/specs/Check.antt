@@ -1,5 +1,5 @@
 -- What `check` answers a configuration.
-use Rattle.std.specs.Prelude.{◌≡◌, ◌≢◌, ◌<◌, ◌≤◌, ◌⊎◌, ℕ, true, List, length, Option, Result, Ok, Err}
+use Rattle.std.specs.Prelude.{◌≡◌, ◌≢◌, ◌<◌, ◌≤◌, ◌⊎◌, ℕ, Bool, true, false, List, length, Option, Result, Ok, Err}
 use Rattle.toml.specs.Data.{Members}
 use Rattle.counted_io.specs.declared.counted.Counted.{Counted}
 use Rattle.counted_io.specs.Causes.{IsMemoryCause, IsReadCause, IsWriteCause}
@@ -12,6 +12,8 @@ use Rattle.gate_config.specs.Settings.{Reads, settings_of}
 use Rattle.config_check.specs.declared.check_fault.CheckFault.{CheckFault}
 use Rattle.config_check.specs.declared.check_fault.CheckFault.TheVariants as Check
 use Rattle.config_check.specs.Accepted.{accepted_line}
+use Rattle.config_check.specs.CheckFault.{check_fault_text}
+use Rattle.fault_lines.specs.FaultLine.{IsTold, fault_line}
 
 -- the bytes have this answer: it is that of every table that toml reads of them, and without such a
 -- table it is the fault of the text
@@ -68,11 +70,43 @@ IsUnset remaining before after fault =
     ⊎ ((failures_of after ≡ failures_of before)
     × ((bytes : List ℕ) × Held remaining before bytes × IsFaultOf bytes fault))
 
--- the fault of what a reader had: its bytes were not had, and then nothing is written; or no read
--- failed, and the fault is that of its bytes
-abbrev pub IsWhyOfReader : {R W : Type 0} → (R → Option (List ℕ)) → Counted R → Counted R
+-- WORDS FIRST: if an explanation is asked for, words are written, and behind them all that `P`
+-- says; else `P` says it from the start
+abbrev pub AfterWords : {W : Type 0} → Bool → (W → Option (List ℕ)) → Counted W
+    → (Counted W → Type 0) → Type 0
+AfterWords false contents old P = P old
+AfterWords true contents old P =
+    (between : Counted _) × (words : List ℕ) × Wrote contents old between words × P between
+
+-- ACCEPTED: the line of the settings is written, behind the words
+abbrev pub IsAcceptedAfter : {W : Type 0} → Bool → (W → Option (List ℕ)) → Counted W → Counted W
+    → List ℕ → Type 0
+IsAcceptedAfter explain contents old new bytes =
+    AfterWords explain contents old (λ between. IsAccepted contents between new bytes)
+
+-- WHY NOT: behind the words it is why the bytes aren't accepted; or the words weren't written
+abbrev pub IsWhyAfter : {W : Type 0} → Bool → (W → Option (List ℕ)) → Counted W → Counted W
+    → List ℕ → CheckFault → Type 0
+IsWhyAfter false contents old new bytes fault = IsWhy old new bytes fault
+IsWhyAfter true contents old new bytes fault =
+    ((fault ≡ Check.Write) × IsWriteCause old new)
+    ⊎ AfterWords true contents old (λ between. IsWhy between new bytes fault)
+
+-- why the configuration of a file isn't accepted: no file was opened, or its bytes were not had,
+-- and then nothing but an explanation is written; or no read failed, and it is why its bytes aren't
+-- accepted
+abbrev pub IsWhyOfFile : {F W : Type 0} → Bool → (F → Option (List ℕ)) → (W → Option (List ℕ))
     → Counted W → Counted W → CheckFault → Type 0
-IsWhyOfReader remaining before after old new fault =
-    (IsUnread remaining before after fault × (new ≡ old))
-    ⊎ ((failures_of after ≡ failures_of before)
-    × ((bytes : List ℕ) × Held remaining before bytes × IsWhy old new bytes fault))
+IsWhyOfFile {F} explain remaining contents old new fault =
+    (((fault ≡ Check.Read)
+    ⊎ (before : Counted _) × (after : Counted _) × IsUnread remaining before after fault)
+    × (explain ≡ false → new ≡ old))
+    ⊎ ((before : Counted F) × (after : Counted F) × (bytes : List ℕ)
+    × (failures_of after ≡ failures_of before) × Held remaining before bytes
+    × IsWhyAfter explain contents old new bytes fault)
+
+-- REFUSED: the line of a fault is told, and this fault is why
+abbrev pub IsRefused : {E : Type 0} → (E → Option (List ℕ)) → Counted E → Counted E
+    → (CheckFault → Type 0) → Type 0
+IsRefused contents old new P = (fault : CheckFault)
+    × IsTold contents old new (fault_line (check_fault_text fault)) × P fault

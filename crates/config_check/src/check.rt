@@ -1,131 +1,129 @@
 // A configuration, checked.
-ghost use Rattle.std.specs.Prelude.{◌≡◌, ◌≤◌, ◌+◌, ◌⊎◌, ℕ, List, IfErr, OnOk};
+ghost use Rattle.std.specs.Prelude.{◌≡◌, ◌⊎◌, ℕ, true, List, IfErr, OnOk};
 ghost use Rattle.counted_io.specs.declared.counted.Counted.{Counted as CountedValue};
-ghost use Rattle.counted_io.specs.Counted.{calls_of, failures_of};
-ghost use Rattle.config_check.specs.Check.{Held, IsAccepted, IsWhy, IsWhyOfReader, most_reads};
+ghost use Rattle.config_check.specs.Check.{Held, IsAccepted, IsAcceptedAfter, IsRefused, IsWhy, IsWhyAfter, IsWhyOfFile};
 ghost use Rattle.config_check.specs.CheckFault.{check_fault_text};
 ghost use Rattle.fault_lines.specs.FaultLine.{IsTold, fault_line};
 
 use super::accepted::write_accepted;
 use super::check_fault::{CheckFault, tell_check_fault};
-use super::reading::{read_bytes, read_settings};
+use super::explained::{write_explanation, write_why_unread};
+use super::reading::{read_bytes, read_file_text};
 use counted_io::Counted;
 use fault_lines::{DONE, FAULT};
 use std::alloc::Global;
-use std::fs::{File, Files};
-use std::io::{Read, Write};
+use std::fs::Files;
+use std::io::Write;
 
-/// Checks the configuration in the file of a path, as [`check_reader`] does, and answers the exit
+/// Checks the configuration in the file of a path, as [`check_text`] does, and answers the exit
 /// status.
 ///
-/// A file that can't be opened is reported as one that can't be read. Of opening no contract
-/// speaks, so which path was opened, and why that failed, is left open; what is said is said of a
-/// file's bytes.
+/// A file that can't be opened or read, isn't at its end after 2^25 reads, or has more than 1 MiB
+/// is reported as one that can't be read; where an explanation is asked for, its path and the
+/// system's words are written before, if they can be. Of opening no contract speaks, so which path
+/// was opened, and why that failed, is left open; what is said is said of a file's bytes.
 pub fn check_file<F: Files, W: Write, E: Write>(
     files: &F,
     alloc: Global,
     path: &str,
+    explain: bool,
     writer: &mut Counted<W>,
     errors: &mut Counted<E>,
 ) -> u8
     ensures status { (result ≡ 0) ⊎ (result ≡ 1) }
     ensures accepted { result ≡ 0 → (file : CountedValue F.File) × (bytes : List ℕ)
-        × Held F.File.remaining file bytes × IsAccepted W.contents writer.old writer.new bytes }
+        × Held F.File.remaining file bytes
+        × IsAcceptedAfter explain W.contents writer.old writer.new bytes }
     ensures quiet { result ≡ 0 → errors.new ≡ errors.old }
 
-    // The first fault is told, and where no file was opened it is `Read`, with nothing written.
-    ensures refused { result ≡ 1 → (fault : CheckFault)
-        × IsTold E.contents errors.old errors.new (fault_line (check_fault_text fault))
-        × (((fault ≡ CheckFault.Read) × (writer.new ≡ writer.old))
-        ⊎ (before : CountedValue F.File) × (after : CountedValue F.File)
-        × IsWhyOfReader F.File.remaining before after writer.old writer.new fault) }
+    // The first fault is told: of a file whose bytes were not had, or of its bytes.
+    ensures refused { result ≡ 1 → IsRefused E.contents errors.old errors.new
+        (IsWhyOfFile explain F.File.remaining W.contents writer.old writer.new) }
 {
-    match File::open(files, path) {
-        Ok(file) => check_reader(alloc, &mut Counted::new(file), writer, errors),
-        Err(_) => report(errors, CheckFault::Read),
-    }
-}
-
-/// Checks the configuration that a reader gives up to its end, at most 1 MiB in at most 2^25 reads,
-/// as [`check_text`] does, and answers the exit status.
-///
-/// A reader that fails, isn't at its end after so many reads, or has more is reported as one that
-/// can't be read.
-pub fn check_reader<R: Read, W: Write, E: Write>(
-    alloc: Global,
-    reader: &mut Counted<R>,
-    writer: &mut Counted<W>,
-    errors: &mut Counted<E>,
-) -> u8
-    ensures status { (result ≡ 0) ⊎ (result ≡ 1) }
-
-    // The line of the settings that the reader had is written, and nothing else.
-    ensures accepted { result ≡ 0 → (bytes : List ℕ) × Held R.remaining reader.old bytes
-        × IsAccepted W.contents writer.old writer.new bytes }
-    ensures unfailing { result ≡ 0 → failures_of reader.new ≡ failures_of reader.old }
-    ensures quiet { result ≡ 0 → errors.new ≡ errors.old }
-
-    // The first fault is told.
-    ensures refused { result ≡ 1 → (fault : CheckFault)
-        × IsTold E.contents errors.old errors.new (fault_line (check_fault_text fault))
-        × IsWhyOfReader R.remaining reader.old reader.new writer.old writer.new fault }
-
-    // Whatever it answers.
-    ensures few { calls_of reader.new ≤ calls_of reader.old + most_reads }
-{
-    match check_read(alloc, reader, writer) {
-        Ok(()) => DONE,
-        Err(fault) => report(errors, fault),
+    match read_file_text(files, alloc, path) {
+        Ok(text) => check_text(alloc, &text, explain, writer, errors),
+        Err(fault) => {
+            write_why_unread(files, alloc, path, explain, writer);
+            report(errors, fault)
+        }
     }
 }
 
 /// Checks the bytes of a configuration: writes one line on its settings to `writer`, or the line of
 /// its first fault to `errors`, and answers the exit status.
 ///
+/// Where an explanation is asked for, it is written to `writer` before: where the first fault
+/// stands and what is wanted there, or what is worth knowing of settings without fault. Where it is
+/// out of memory for the words, there are none.
+///
 /// Either line is flushed and takes no memory. Where the line of a fault can't be written itself,
 /// it is dropped.
 pub fn check_text<W: Write, E: Write>(
     alloc: Global,
     bytes: &[u8],
+    explain: bool,
     writer: &mut Counted<W>,
     errors: &mut Counted<E>,
 ) -> u8
     ensures status { (result ≡ 0) ⊎ (result ≡ 1) }
 
-    // The line of the settings is written, and nothing else.
-    ensures accepted { result ≡ 0 → IsAccepted W.contents writer.old writer.new bytes.now }
+    // The line of the settings is written, behind the words if they are asked for, and nothing
+    // else.
+    ensures accepted { result ≡ 0 →
+        IsAcceptedAfter explain W.contents writer.old writer.new bytes.now }
     ensures quiet { result ≡ 0 → errors.new ≡ errors.old }
 
     // The first fault is told.
-    ensures refused { result ≡ 1 → (fault : CheckFault)
-        × IsTold E.contents errors.old errors.new (fault_line (check_fault_text fault))
-        × IsWhy writer.old writer.new bytes.now fault }
+    ensures refused { result ≡ 1 → IsRefused E.contents errors.old errors.new
+        (IsWhyAfter explain W.contents writer.old writer.new bytes.now) }
 {
-    match check(alloc, bytes, writer) {
+    match check(alloc, bytes, explain, writer) {
         Ok(()) => DONE,
         Err(fault) => report(errors, fault),
     }
 }
 
-/// Writes the line of the settings that the reader's bytes hold.
-fn check_read<R: Read, W: Write>(
+/// Writes the line of the settings that the bytes hold, behind the words if they are asked for.
+fn check<W: Write>(
     alloc: Global,
-    reader: &mut Counted<R>,
+    bytes: &[u8],
+    explain: bool,
     writer: &mut Counted<W>,
 ) -> Result<(), CheckFault>
-    ensures accepted { OnOk result ((bytes : List ℕ) × Held R.remaining reader.old bytes
-        × IsAccepted W.contents writer.old writer.new bytes) }
-    ensures unfailing { OnOk result (failures_of reader.new ≡ failures_of reader.old) }
-    ensures refused { IfErr result (λ fault.
-        IsWhyOfReader R.remaining reader.old reader.new writer.old writer.new fault) }
-    ensures few { calls_of reader.new ≤ calls_of reader.old + most_reads }
+    ensures accepted { OnOk result
+        (IsAcceptedAfter explain W.contents writer.old writer.new bytes.now) }
+    ensures refused { IfErr result
+        (IsWhyAfter explain W.contents writer.old writer.new bytes.now) }
 {
-    let settings = read_settings(alloc, reader)?;
-    Ok(write_accepted(writer, &settings)?)
+    if explain {
+        check_after_words(alloc, bytes, writer)
+    } else {
+        check_bytes(alloc, bytes, writer)
+    }
+}
+
+/// Writes the words on the bytes, and behind them the line of their settings.
+fn check_after_words<W: Write>(
+    alloc: Global,
+    bytes: &[u8],
+    writer: &mut Counted<W>,
+) -> Result<(), CheckFault>
+    ensures accepted { OnOk result
+        (IsAcceptedAfter true W.contents writer.old writer.new bytes.now) }
+    ensures refused { IfErr result (IsWhyAfter true W.contents writer.old writer.new bytes.now) }
+{
+    match write_explanation(alloc, bytes, writer) {
+        Ok(()) => check_bytes(alloc, bytes, writer),
+        Err(_) => Err(CheckFault::Write),
+    }
 }
 
 /// Writes the line of the settings that the bytes hold.
-fn check<W: Write>(alloc: Global, bytes: &[u8], writer: &mut Counted<W>) -> Result<(), CheckFault>
+fn check_bytes<W: Write>(
+    alloc: Global,
+    bytes: &[u8],
+    writer: &mut Counted<W>,
+) -> Result<(), CheckFault>
     ensures accepted { OnOk result (IsAccepted W.contents writer.old writer.new bytes.now) }
     ensures refused { IfErr result (IsWhy writer.old writer.new bytes.now) }
 {

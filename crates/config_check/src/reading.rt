@@ -1,9 +1,9 @@
 // A configuration, read.
-ghost use Rattle.std.specs.Prelude.{◌≡◌, ◌≤◌, ◌+◌, ◌⊎◌, ℕ, List, Ok, IfErr, IfOk, OnOk};
+ghost use Rattle.std.specs.Prelude.{◌≡◌, ◌≤◌, ◌+◌, ◌⊎◌, Ok, IfErr, IfOk, OnOk};
 ghost use Rattle.counted_io.specs.declared.counted.Counted.{Counted as CountedValue};
 ghost use Rattle.counted_io.specs.Counted.{calls_of, failures_of};
 ghost use Rattle.gate_config.specs.Settings.{AreSound};
-ghost use Rattle.config_check.specs.Check.{Held, IsFaultOf, IsUnread, IsUnset, Says, most_reads};
+ghost use Rattle.config_check.specs.Check.{Held, IsFaultOf, IsUnread, Says, most_reads};
 
 use super::check_fault::CheckFault;
 use counted_io::{Counted, read_all};
@@ -36,34 +36,17 @@ pub fn read_file_text<F: Files>(files: &F, alloc: Global, path: &str) -> Result<
     }
 }
 
-/// The text that a reader gives up to its end.
-fn read_text<R: Read>(alloc: Global, reader: &mut Counted<R>) -> Result<Vec<u8>, CheckFault>
+/// The text that a reader gives up to its end, at most 1 MiB in at most 2^25 reads.
+///
+/// A reader that fails, isn't at its end after so many reads, or has more is told as one that can't
+/// be read; else the fault is that of running out of memory.
+pub fn read_text<R: Read>(alloc: Global, reader: &mut Counted<R>) -> Result<Vec<u8>, CheckFault>
     ensures text { IfOk result (λ text. Held R.remaining reader.old text.items) }
     ensures unfailing { OnOk result (failures_of reader.new ≡ failures_of reader.old) }
     ensures refused { IfErr result (IsUnread R.remaining reader.old reader.new) }
     ensures few { calls_of reader.new ≤ calls_of reader.old + most_reads }
 {
     Ok(read_all(alloc, reader, MOST_CONFIG, MOST_READS)?)
-}
-
-/// The settings of the configuration that a reader gives up to its end, at most 1 MiB in at most
-/// 2^25 reads.
-///
-/// A reader that fails, isn't at its end after so many reads, or has more is reported as one that
-/// can't be read; else the fault is the first of its bytes.
-pub fn read_settings<R: Read>(
-    alloc: Global,
-    reader: &mut Counted<R>,
-) -> Result<Settings, CheckFault>
-    ensures settings { IfOk result (λ settings. (bytes : List ℕ)
-        × Held R.remaining reader.old bytes × Says bytes (Ok settings)) }
-    ensures sound { IfOk result AreSound }
-    ensures unfailing { OnOk result (failures_of reader.new ≡ failures_of reader.old) }
-    ensures refused { IfErr result (IsUnset R.remaining reader.old reader.new) }
-    ensures few { calls_of reader.new ≤ calls_of reader.old + most_reads }
-{
-    let bytes = read_all(alloc, reader, MOST_CONFIG, MOST_READS)?;
-    read_bytes(alloc, &bytes)
 }
 
 /// The settings that bytes hold, or the first fault of the bytes; out of memory may hide it.

@@ -1,87 +1,42 @@
-// A configuration, checked and explained.
-ghost use Rattle.std.specs.Prelude.{◌≡◌, ◌⊎◌, ℕ, List};
-ghost use Rattle.counted_io.specs.declared.counted.Counted.{Counted as CountedValue};
-ghost use Rattle.config_check.specs.Check.{Held, IsUnread};
-ghost use Rattle.config_check.specs.CheckFault.{check_fault_text};
-ghost use Rattle.fault_lines.specs.FaultLine.{IsTold, fault_line};
-ghost use Rattle.config_explain.specs.Explain.{IsExplained, IsWhyExplained};
+// What is said of the bytes of a configuration.
+use crate::faults::{Source, explain_fault};
+use crate::place::line_at;
+use crate::settings::explain_settings;
+use gate_config::settings_in;
+use std::alloc::{AllocError, Global};
 
-use crate::explanation::explanation;
-use crate::unread::why_unread;
-use config_check::{CheckFault, check_text, read_file_text, tell_check_fault};
-use counted_io::{Counted, write_and_flush};
-use fault_lines::FAULT;
-use std::alloc::Global;
-use std::fs::Files;
-use std::io::Write;
-
-/// Checks the configuration in the file of a path, as [`explain_text`] does, and answers the exit
-/// status. Of a file that can't be read its path and the system's words are written to `writer`,
-/// where they can be.
-pub fn explain_file<F: Files, W: Write, E: Write>(
-    files: &F,
-    alloc: Global,
-    path: &str,
-    writer: &mut Counted<W>,
-    errors: &mut Counted<E>,
-) -> u8
-    ensures status { (result ≡ 0) ⊎ (result ≡ 1) }
-    ensures accepted { result ≡ 0 → (file : CountedValue F.File) × (bytes : List ℕ)
-        × Held F.File.remaining file bytes × IsExplained W.contents writer.old writer.new bytes }
-    ensures quiet { result ≡ 0 → errors.new ≡ errors.old }
-
-    // The first fault is told: of a file that wasn't read, or of its bytes.
-    ensures refused { result ≡ 1 → (fault : CheckFault)
-        × IsTold E.contents errors.old errors.new (fault_line (check_fault_text fault))
-        × ((fault ≡ CheckFault.Read)
-        ⊎ ((before : CountedValue F.File) × (after : CountedValue F.File)
-        × IsUnread F.File.remaining before after fault)
-        ⊎ ((file : CountedValue F.File) × (bytes : List ℕ) × Held F.File.remaining file bytes
-        × IsWhyExplained W.contents writer.old writer.new bytes fault)) }
-{
-    match read_file_text(files, alloc, path) {
-        Ok(text) => explain_text(alloc, &text, writer, errors),
-        Err(fault) => {
-            if let Ok(words) = why_unread(files, alloc, path) {
-                let _ = write_and_flush(writer, words.as_bytes());
+/// What is said of a configuration, a line or more; nothing where memory can't tell it.
+pub fn explanation(alloc: Global, bytes: &[u8]) -> Result<String, AllocError> {
+    let mut out = String::new(alloc);
+    let Ok(text) = str::from_utf8(bytes) else {
+        explain_bytes(&mut out, bytes)?;
+        return Ok(out);
+    };
+    match toml::table_from_slice(alloc, bytes) {
+        Ok(table) => match settings_in(alloc, &table) {
+            Ok(settings) => explain_settings(&mut out, &table, &settings)?,
+            Err(fault) => {
+                let source = Source {
+                    text,
+                    table: &table,
+                };
+                explain_fault(&mut out, source, &fault)?;
             }
-            tell_check_fault(errors, &fault);
-            FAULT
+        },
+        Err(error) => {
+            if !error.is_memory() {
+                write!(out, "{error}")?;
+            }
         }
     }
+    Ok(out)
 }
 
-/// Checks the bytes of a configuration: writes to `writer` where the first fault stands and what is
-/// wanted there, or what is worth knowing of settings without fault; then does as
-/// [`check_text`](config_check::check_text) does, and answers the exit status.
-///
-/// Where it is out of memory for the words, there are none.
-pub fn explain_text<W: Write, E: Write>(
-    alloc: Global,
-    bytes: &[u8],
-    writer: &mut Counted<W>,
-    errors: &mut Counted<E>,
-) -> u8
-    ensures status { (result ≡ 0) ⊎ (result ≡ 1) }
-
-    // The line of the settings is written behind the words, and nothing else.
-    ensures accepted { result ≡ 0 → IsExplained W.contents writer.old writer.new bytes.now }
-    ensures quiet { result ≡ 0 → errors.new ≡ errors.old }
-
-    // The first fault is told.
-    ensures refused { result ≡ 1 → (fault : CheckFault)
-        × IsTold E.contents errors.old errors.new (fault_line (check_fault_text fault))
-        × IsWhyExplained W.contents writer.old writer.new bytes.now fault }
-{
-    let words = match explanation(alloc, bytes) {
-        Ok(words) => words,
-        Err(_) => String::new(alloc),
-    };
-    match write_and_flush(writer, words.as_bytes()) {
-        Ok(()) => check_text(alloc, bytes, writer, errors),
-        Err(_) => {
-            tell_check_fault(errors, &CheckFault::Write);
-            FAULT
-        }
+/// Says where bytes begin that aren't UTF-8.
+fn explain_bytes(out: &mut String, bytes: &[u8]) -> Result<(), AllocError> {
+    if let Err(error) = str::from_utf8(bytes) {
+        let line = line_at(bytes, error.valid_up_to());
+        write!(out, "line {line} isn't UTF-8\n")?;
     }
+    Ok(())
 }

@@ -1,20 +1,21 @@
-//! What `check --explain` says of a configuration, for a person.
+//! What `check --explain` says of a configuration to a person.
 //!
-//! [`explain_file`] and [`explain_text`] write where the first fault stands and what is wanted
-//! there, or what is worth knowing of a configuration without fault, and then do as `check` does.
-//! The contracts pin all that `check` says; of the words before it they say that these are written
-//! whole, and first.
+//! [`explanation`] says where the first fault stands and what is wanted there, or what is worth
+//! knowing of a configuration without fault, and [`why_unread`] why a file can't be read. What the
+//! words are no contract says, but for the line of bytes that aren't UTF-8 (`place.rt`).
 #![tactic(auto)]
 
 mod about;
 mod explain;
-mod explanation;
 mod faults;
 mod finding;
 mod members;
 mod place;
 mod ranges;
+mod routes;
 mod settings;
+mod unknown;
 mod unread;
 
-pub use explain::{explain_file, explain_text};
+pub use explain::explanation;
+pub use unread::why_unread;

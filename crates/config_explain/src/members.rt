@@ -3,7 +3,8 @@ ghost use Rattle.std.specs.Prelude.{◌≤◌, length};
 
 use arrayvec::ArrayVec;
 use config_sections::{ClassKeys, Version, check_bypasses, check_resolvers, read_classes};
-use config_values::{Key, Section, read_tables, value_at};
+use config_values::{Key, Section, read_tables};
+use gate_config::version_of;
 use toml::{Table, Value};
 
 /// The most resolvers, and the most bypass rules.
@@ -16,19 +17,10 @@ pub(crate) struct Member {
     pub(crate) count: usize,
 }
 
-/// The version of a table.
-pub(crate) fn version_in(table: &Table) -> Option<Version> {
-    match value_at(table, Key::Version)?.as_integer()? {
-        1 => Some(Version::One),
-        2 => Some(Version::Two),
-        _ => None,
-    }
-}
-
 /// The classes of a table, where none of their keys is at fault.
 pub(crate) fn classes_in(table: &Table) -> Option<ArrayVec<ClassKeys<'_>, 4>> {
     let items = read_tables(table, Key::Class, 4).ok()?;
-    read_classes(version_in(table)?, items).ok()
+    read_classes(version_of(table)?, items).ok()
 }
 
 /// The member of a section's array that has the first key at fault.
@@ -42,7 +34,7 @@ pub(crate) fn member_at_fault(table: &Table, section: Section) -> Option<Member>
 }
 
 fn class_at_fault(table: &Table) -> Option<Member> {
-    let version = version_in(table)?;
+    let version = version_of(table)?;
     let items = read_tables(table, Key::Class, 4).ok()?;
     let count = items.len();
     for place in 0..count {

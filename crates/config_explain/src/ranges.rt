@@ -1,7 +1,8 @@
 // The range of a key that hangs on other keys.
-use crate::members::{Member, version_in};
+use crate::members::Member;
 use config_sections::{ClassKeys, Version, read_classes};
 use config_values::{Key, Range, read_number, read_table, read_tables, read_text};
+use gate_config::version_of;
 use toml::Table;
 
 /// The greatest limit, and one hour in microseconds.
@@ -50,7 +51,7 @@ fn initial_range(table: &Table) -> Option<(u32, u32)> {
 /// What the classes before a member leave of a thousand thousandths.
 fn left_before(table: &Table, member: Member) -> Option<u32> {
     let items = read_tables(table, Key::Class, 4).ok()?;
-    left_by(version_in(table)?, items.get(..member.place)?)
+    left_by(version_of(table)?, items.get(..member.place)?)
 }
 
 fn left_by(version: Version, items: &[toml::Value]) -> Option<u32> {

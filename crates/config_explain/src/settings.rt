@@ -27,22 +27,26 @@ pub(crate) fn explain_settings(
 
 /// Says how many may be inside together, and so how many workers are wanted.
 fn explain_workers(out: &mut String, settings: &Settings) -> Result<(), AllocError> {
-    let limit = u64::from(settings.limit.hi());
-    let shares = settings
-        .table
-        .most(settings.limit.hi())
-        .saturating_sub(limit);
-    let waiting = if settings.wait {
-        u64::from(settings.backlog)
-    } else {
-        0
-    };
+    let (limit, shares, waiting) = most_of(settings);
     let inside = limit.saturating_add(shares).saturating_add(waiting);
     write!(
         out,
         "greatest limit {limit}, shares of it {shares} and backlog {waiting} \
          are {inside} together\n"
     )?;
+    say_workers(out, inside)
+}
+
+/// The greatest limit, the most that shares add to it, and the most who wait.
+fn most_of(settings: &Settings) -> (u64, u64, u64) {
+    let limit = u64::from(settings.limit.hi());
+    let most = settings.table.most(settings.limit.hi());
+    let waiting = if settings.wait { settings.backlog } else { 0 };
+    (limit, most.saturating_sub(limit), u64::from(waiting))
+}
+
+/// Says how many workers are wanted where so many may be inside together.
+fn say_workers(out: &mut String, inside: u64) -> Result<(), AllocError> {
     if inside < MOST_WORKERS {
         let workers = inside.saturating_add(1);
         write!(

@@ -4,11 +4,7 @@ use std::fs::{File, Files};
 use std::io::Read;
 
 /// What is said of a file that can't be read: its path and the system's words.
-pub(crate) fn why_unread<F: Files>(
-    files: &F,
-    alloc: Global,
-    path: &str,
-) -> Result<String, AllocError> {
+pub fn why_unread<F: Files>(files: &F, alloc: Global, path: &str) -> Result<String, AllocError> {
     let mut file = match File::open(files, path) {
         Ok(file) => file,
         Err(error) => return format!(in alloc; "{path}: {error}\n"),

@@ -22,4 +22,4 @@ pub use key::{Key, Section};
 pub use number::{Range, read_flag, read_number};
 pub use table::{read_optional_table, read_table, read_tables};
 pub use text::{read_prefix, read_text, read_token, string_of};
-pub use unknown::{Stranger, least_unknown};
+pub use unknown::{UnknownKey, least_unknown};

@@ -6,7 +6,7 @@ ghost use Rattle.std.specs.Prelude.{◌≡◌, IfOk, bytes_eq, fold, map, option
 ghost use Rattle.toml.specs.View.{table_view};
 ghost use Rattle.config_values.specs.Key.{name_of};
 ghost use Rattle.config_values.specs.Text.{is_among};
-ghost use Rattle.config_values.specs.Unknown.{lesser, stranger_of, stranger_path, stranger_text, strangers_in};
+ghost use Rattle.config_values.specs.Unknown.{lesser, unknown_key_of, unknown_key_path, unknown_key_text, unknown_keys_in};
 
 use crate::key::{Key, Section};
 use crate::key_text::key_text;
@@ -16,15 +16,15 @@ use toml::Table;
 
 /// A key that isn't allowed where it stands.
 #[derive(Clone, Copy)]
-pub struct Stranger<'a> {
+pub struct UnknownKey<'a> {
     pub section: Section,
     pub name: &'a str,
 }
 
-impl Stranger<'_> {
+impl UnknownKey<'_> {
     /// The key's dotted path as a fault tells it. Fails where it is out of memory.
     pub fn path(&self, alloc: Global) -> Result<Text, AllocError>
-        ensures { IfOk result (λ path. path ≡ stranger_text (stranger_of self.now)) }
+        ensures { IfOk result (λ path. path ≡ unknown_key_text (unknown_key_of self.now)) }
     {
         let prefix = self.section.prefix();
         let name = key_text(alloc, self.name)?;
@@ -32,9 +32,10 @@ impl Stranger<'_> {
     }
 
     /// Whether this key's path is less than the other's in byte order.
-    fn is_before(&self, other: &Stranger) -> bool
+    fn is_before(&self, other: &UnknownKey) -> bool
         ensures { result ≡ is_lt (slice_cmp nat_cmp
-            (stranger_path (stranger_of self.now)) (stranger_path (stranger_of other.now))) }
+            (unknown_key_path (unknown_key_of self.now))
+            (unknown_key_path (unknown_key_of other.now))) }
     {
         let path = self.section.prefix().bytes().chain(self.name.bytes());
         let others = other.section.prefix().bytes().chain(other.name.bytes());
@@ -44,21 +45,21 @@ impl Stranger<'_> {
 
 /// Of a key and a table's keys that its section doesn't have, the one with the least path.
 pub fn least_unknown<'a>(
-    least: Option<Stranger<'a>>,
+    least: Option<UnknownKey<'a>>,
     section: Section,
     keys: &[Key],
     table: &'a Table,
-) -> Option<Stranger<'a>>
-    ensures { option_map stranger_of result
-        ≡ fold lesser (option_map stranger_of least.entry)
-        (strangers_in section (map name_of keys.now) (table_view table.now)) }
+) -> Option<UnknownKey<'a>>
+    ensures { option_map unknown_key_of result
+        ≡ fold lesser (option_map unknown_key_of least.entry)
+        (unknown_keys_in section (map name_of keys.now) (table_view table.now)) }
 {
     let mut least = least;
     for name in table.keys() {
         if !is_name_of(keys, name.as_str()) {
             least = lesser(
                 least,
-                Stranger {
+                UnknownKey {
                     section,
                     name: name.as_str(),
                 },
@@ -69,9 +70,9 @@ pub fn least_unknown<'a>(
 }
 
 /// The one with the lesser path, where the first may be none.
-fn lesser<'a>(least: Option<Stranger<'a>>, key: Stranger<'a>) -> Option<Stranger<'a>>
-    ensures { option_map stranger_of result
-        ≡ lesser (option_map stranger_of least.entry) (stranger_of key.entry) }
+fn lesser<'a>(least: Option<UnknownKey<'a>>, key: UnknownKey<'a>) -> Option<UnknownKey<'a>>
+    ensures { option_map unknown_key_of result
+        ≡ lesser (option_map unknown_key_of least.entry) (unknown_key_of key.entry) }
 {
     match least {
         None => Some(key),

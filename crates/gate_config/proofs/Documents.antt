@@ -1,13 +1,17 @@
 -- A document of its sections and its rules.
-use Rattle.std.proofs.Common.{◌≡◌, refl, [], List, Option, Result, Ok, Err, IsOk}
+use Rattle.std.proofs.Common.{◌≡◌, ◌∙◌, ap, refl, sym, [], List, Option, option_map, Result, Ok, Err, IsOk}
 use Rattle.toml.specs.Data.{Members}
 use Rattle.partitions.specs.Table.{Row}
 use Rattle.config_values.specs.declared.fault.ConfigFault.{ConfigFault}
-use Rattle.config_values.specs.Outcomes.{◌>>=◌}
+use Rattle.config_values.specs.Outcomes.{◌>>=◌, result_map}
+use Rattle.config_sections.specs.declared.limit.LimitKeys.{LimitKeys}
+use Rattle.config_sections.specs.declared.top.TopKeys.{TopKeys}
 use Rattle.config_sections.specs.declared.version.Version.{Version}
+use Rattle.config_sections.specs.declared.window.WindowKeys.{WindowKeys}
 use Rattle.config_sections.specs.Rows.{top_rows}
 use Rattle.config_sections.specs.Section.{Values, section_values}
-use Rattle.gate_config.specs.Document.{DocumentValues, RuleValues, bypasses_of, classes_in, document_of, limit_of, resolvers_of, rules_of, window_of}
+use Rattle.config_sections.specs.Top.{top_values}
+use Rattle.gate_config.specs.Document.{DocumentValues, RuleValues, TableRef, bypasses_of, classes_in, document_of, limit_member, limit_of, resolvers_of, rules_of, window_member, window_of}
 
 -- what stands before the rules was read
 pub record IsRead (t : Members) : Type 0 where
@@ -17,6 +21,24 @@ pub record IsRead (t : Members) : Type 0 where
   pub is_top : section_values [] top_rows t ≡ Ok top
   pub is_limit : limit_of t ≡ Ok limit
   pub is_window : window_of t ≡ Ok window
+
+-- it was, where each part was
+abbrev pub is_read : (t : Members) (top : Result TopKeys ConfigFault)
+    (limit : Result (TableRef × LimitKeys) ConfigFault)
+    (window : Result (Option (TableRef × WindowKeys)) ConfigFault)
+    (a : TopKeys) (b : TableRef × LimitKeys) (c : Option (TableRef × WindowKeys)) →
+    result_map top_values top ≡ section_values [] top_rows t →
+    result_map limit_member limit ≡ limit_of t →
+    result_map (option_map window_member) window ≡ window_of t →
+    top ≡ Ok a → limit ≡ Ok b → window ≡ Ok c → IsRead t
+is_read t top limit window a b c of_top of_limit of_window is_a is_b is_c = record {
+  top = top_values a;
+  limit = limit_member b;
+  window = option_map window_member c;
+  is_top = sym of_top ∙ ap (result_map top_values) is_a;
+  is_limit = sym of_limit ∙ ap (result_map limit_member) is_b;
+  is_window = sym of_window ∙ ap (result_map (option_map window_member)) is_c;
+}
 
 -- what was read, and the rules
 abbrev pub with_rules : {t : Members} → IsRead t → RuleValues → DocumentValues

@@ -4,12 +4,12 @@ use Rattle.toml.specs.Data.{Members}
 use Rattle.config_values.specs.declared.fault.ConfigFault.{ConfigFault}
 use Rattle.config_values.specs.declared.fault.ConfigFault.TheVariants as Fault
 use Rattle.config_values.specs.Outcomes.{◌>>=◌}
-use Rattle.config_values.specs.Unknown.{Stranger, least}
+use Rattle.config_values.specs.Unknown.{UnknownKey, least}
 use Rattle.config_sections.specs.declared.version.Version.{Version}
 use Rattle.gate_config.specs.declared.settings.Settings.{Settings}
 use Rattle.gate_config.specs.Document.{DocumentValues}
 use Rattle.gate_config.specs.Settings.{IsOfKey, known, made_of}
-use Rattle.gate_config.specs.Strangers.{strangers_of}
+use Rattle.gate_config.specs.UnknownKeys.{unknown_keys_of}
 
 abbrev IsEarly : Result Settings ConfigFault → Type 0
 IsEarly (Ok settings) = ⊥
@@ -23,15 +23,15 @@ not_made : (o : Option Settings) → ¬ (IsEarly (ok_or o Fault.Route))
 not_made None h = h
 not_made (Some settings) h = h
 
-not_known : (d : DocumentValues) (key : Option Stranger) → ¬ (IsEarly (known d key))
+not_known : (d : DocumentValues) (key : Option UnknownKey) → ¬ (IsEarly (known d key))
 not_known d None = not_made (made_of d)
 not_known d (Some key) = λ h. h
 
 -- a key's fault is that of the document
 pub of_document : (v : Version) (t : Members) (r : Result DocumentValues ConfigFault)
     (fault : ConfigFault) → IsOfKey fault →
-    (r >>= λ d. known d (least (strangers_of v t d))) ≡ Err fault → r ≡ Err fault
+    (r >>= λ d. known d (least (unknown_keys_of v t d))) ≡ Err fault → r ≡ Err fault
 of_document v t (Err e) fault of_a_key said = cc
 of_document v t (Ok d) fault of_a_key said =
-    absurd (not_known d (least (strangers_of v t d))
-    (early (known d (least (strangers_of v t d))) fault of_a_key said))
+    absurd (not_known d (least (unknown_keys_of v t d))
+    (early (known d (least (unknown_keys_of v t d))) fault of_a_key said))

@@ -1,5 +1,5 @@
 pub mod Document
-pub mod Strangers
+pub mod UnknownKeys
 pub mod Rules
 pub mod Limit
 pub mod Settings

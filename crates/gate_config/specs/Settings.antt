@@ -8,7 +8,7 @@ use Rattle.classifier.specs.declared.resolver.Resolver.{Resolver}
 use Rattle.config_values.specs.declared.fault.ConfigFault.{ConfigFault}
 use Rattle.config_values.specs.declared.fault.ConfigFault.TheVariants as Fault
 use Rattle.config_values.specs.Outcomes.{◌>>=◌}
-use Rattle.config_values.specs.Unknown.{Stranger, least, stranger_text}
+use Rattle.config_values.specs.Unknown.{UnknownKey, least, unknown_key_text}
 use Rattle.config_sections.specs.declared.version.Version.{Version}
 use Rattle.config_sections.specs.declared.version.Version.TheVariants.{One, Two}
 use Rattle.config_sections.specs.Rows.{all}
@@ -17,7 +17,7 @@ use Rattle.gate_config.specs.declared.settings.Settings.{Settings}
 use Rattle.gate_config.specs.Document.{DocumentValues, document_of}
 use Rattle.gate_config.specs.Limit.{any_of, limit_from, window_from}
 use Rattle.gate_config.specs.Rules.{bypass_from, resolvers_after}
-use Rattle.gate_config.specs.Strangers.{strangers_of}
+use Rattle.gate_config.specs.UnknownKeys.{unknown_keys_of}
 
 -- the bytes are text that toml reads as this table
 abbrev pub Reads : List ℕ → Members → Type 0
@@ -57,16 +57,16 @@ abbrev pub made_of : DocumentValues → Option Settings
 made_of d = option_map (settings_with d) (resolvers_after d.classes.1 [] d.resolvers)
 
 -- the settings that keys make, or the first fault: of the least unknown key, of a route
-abbrev pub known : DocumentValues → Option Stranger → Result Settings ConfigFault
+abbrev pub known : DocumentValues → Option UnknownKey → Result Settings ConfigFault
 known d None = ok_or (made_of d) Fault.Route
-known d (Some key) = Err (Fault.Unknown (stranger_text key))
+known d (Some key) = Err (Fault.Unknown (unknown_key_text key))
 
 -- the settings that a table of a version holds, or the first fault: of the version where it is
 -- none, of a key, of an unknown key, of a route
 abbrev pub settings_in_version : Members → Option Version → Result Settings ConfigFault
 settings_in_version t None = Err Fault.Version
 settings_in_version t (Some version) =
-    document_of version t >>= λ d. known d (least (strangers_of version t d))
+    document_of version t >>= λ d. known d (least (unknown_keys_of version t d))
 
 -- the settings that a table holds
 abbrev pub settings_of : Members → Result Settings ConfigFault

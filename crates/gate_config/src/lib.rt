@@ -8,9 +8,9 @@ mod build;
 mod document;
 mod reading;
 mod settings;
-mod strangers;
+mod unknown_keys;
 
 pub use config_values::{Address, ConfigFault, Key, Section};
 pub use limit_kinds::{AnyLimit, BaseLimit};
-pub use reading::{read, settings_in};
+pub use reading::{read, settings_in, version_of};
 pub use settings::Settings;

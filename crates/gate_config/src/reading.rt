@@ -20,7 +20,7 @@ use crate::build::promote::promote_of;
 use crate::build::rules::{add, make_bypass, make_resolver, partitions_of};
 use crate::document::{Document, RuleKeys, read_document};
 use crate::settings::Settings;
-use crate::strangers::least_stranger;
+use crate::unknown_keys::least_unknown_key;
 use classifier::{Bypass, Resolver, Rules};
 use config_sections::{BypassKeys, ResolverKeys, Version};
 use config_values::{ConfigFault, Key, value_at};
@@ -85,14 +85,14 @@ pub fn settings_in(alloc: Global, table: &Table) -> Result<Settings, ConfigFault
         return Err(ConfigFault::Version);
     };
     let document = read_document(alloc, version, table)?;
-    match least_stranger(version, table, &document) {
+    match least_unknown_key(version, table, &document) {
         Some(key) => Err(ConfigFault::Unknown(key.path(alloc)?)),
         None => made_of(alloc, document),
     }
 }
 
 /// The version of a table, where it is the whole number 1 or 2.
-fn version_of(table: &Table) -> Option<Version>
+pub fn version_of(table: &Table) -> Option<Version>
     ensures { result ≡ version_of (get_member (codes "version") (table_view table.now)) }
 {
     match value_at(table, Key::Version)?.as_integer()? {

@@ -1,29 +1,51 @@
-use Rattle.std.proofs.Common.{rules, inr}
+use Rattle.std.proofs.Common.{rules, ◌≡◌, inl, inr, ℕ, List, subst}
+use Rattle.config_check.specs.Check.{IsAcceptedAfter, IsWhyAfter}
 use Rattle.config_check.proofs.check.check_file.Goals as goal
 
--- the file is the one that was opened, before its first read
+-- the bytes are those of the file that was read
 pub returns-in-Ok-clause-accepted : goal.returns-in-Ok-clause-accepted
 returns-in-Ok-clause-accepted g c is =
-    let held = c.check_reader.ensures.accepted is in
-    (c.new.result, held.0, held.1, held.2)
+    let had = c.in-Ok.ensures.text in
+    let bytes = c.in-Ok.text.items in
+    let same : c.deref.result.now ≡ bytes = search rules in (
+      had.0,
+      bytes,
+      had.2,
+      subst (λ (xs : List ℕ). IsAcceptedAfter c.args.explain g.W.Write.contents
+          c.args.writer.now c.check_text.new.writer xs) same (c.check_text.ensures.accepted is),
+    )
 
--- and after its last
 pub returns-in-Ok-clause-refused : goal.returns-in-Ok-clause-refused
 returns-in-Ok-clause-refused g c is =
-    let why = c.check_reader.ensures.refused is in
-    (why.0, why.1, inr (c.new.result, c.check_reader.new.reader, why.2))
-
-pub returns-in-Err-clause-status : goal.returns-in-Err-clause-status
-returns-in-Err-clause-status c = search rules
+    let had = c.in-Ok.ensures.text in
+    let bytes = c.in-Ok.text.items in
+    let same : c.deref.result.now ≡ bytes = search rules in
+    let why = c.check_text.ensures.refused is in (
+      why.0,
+      why.1,
+      inr (
+        had.0,
+        had.1,
+        bytes,
+        had.3,
+        had.2,
+        subst (λ (xs : List ℕ). IsWhyAfter c.args.explain g.W.Write.contents
+            c.args.writer.now c.check_text.new.writer xs why.0) same why.2,
+      ),
+    )
 
 pub returns-in-Err-clause-refused : goal.returns-in-Err-clause-refused
-returns-in-Err-clause-refused c = search rules
+returns-in-Err-clause-refused g c is =
+    (c.in-Err.fault, c.report.ensures.told, inl (c.in-Err.ensures.refused, search rules))
 
 pub returns-in-Ok-clause-status : goal.returns-in-Ok-clause-status
 returns-in-Ok-clause-status c = search rules
 
 pub returns-in-Ok-clause-quiet : goal.returns-in-Ok-clause-quiet
 returns-in-Ok-clause-quiet c = search rules
+
+pub returns-in-Err-clause-status : goal.returns-in-Err-clause-status
+returns-in-Err-clause-status c = search rules
 
 pub returns-in-Err-clause-accepted : goal.returns-in-Err-clause-accepted
 returns-in-Err-clause-accepted c = search rules

@@ -1,22 +1,14 @@
-use Rattle.std.proofs.Common.{rules, ◌≡◌, sym, ap, ◌∙◌, option_map, Err, IsErrOf}
+use Rattle.std.proofs.Common.{rules, ◌≡◌, Err, IsErrOf}
 use Rattle.toml.specs.View.{table_view}
-use Rattle.config_values.specs.Outcomes.{result_map}
-use Rattle.config_sections.specs.Top.{top_values}
-use Rattle.gate_config.specs.Document.{limit_member, rules_of, window_member}
-use Rattle.gate_config.proofs.Documents.{IsRead, document_read, same_fault, with_rules}
+use Rattle.gate_config.specs.Document.{rules_of}
+use Rattle.gate_config.proofs.Documents.{IsRead, document_read, is_read, same_fault, with_rules}
 use Rattle.gate_config.proofs.document.read_document.Goals as goal
 
 pub returns-in_err-rules-clause-fault : goal.returns-in_err-rules-clause-fault
 returns-in_err-rules-clause-fault c = λ fault said.
-    let read : IsRead (table_view c.args.table.now) = record {
-      top = top_values c.in_ok-top.top;
-      limit = limit_member c.in_ok-limit.limit;
-      window = option_map window_member c.in_ok-window.window;
-      is_top = sym c.read_top.ensures.value ∙ ap (result_map top_values) c.in_ok-top.was;
-      is_limit = sym c.limit_in.ensures.said ∙ ap (result_map limit_member) c.in_ok-limit.was;
-      is_window = sym c.window_in.ensures.said
-          ∙ ap (result_map (option_map window_member)) c.in_ok-window.was;
-    } in
+    let read : IsRead (table_view c.args.table.now) = is_read _ _ _ _ c.in_ok-top.top
+    c.in_ok-limit.limit c.in_ok-window.window c.read_top.ensures.value c.limit_in.ensures.said
+    c.window_in.ensures.said c.in_ok-top.was c.in_ok-limit.was c.in_ok-window.was in
     let whole = document_read c.args.version (table_view c.args.table.now) read in
     let key : rules_of c.args.version (table_view c.args.table.now) ≡ Err fault =
     same_fault (rules_of c.args.version (table_view c.args.table.now)) (with_rules read) fault
@@ -26,43 +18,25 @@ returns-in_err-rules-clause-fault c = λ fault said.
 
 pub returns-in_err-rules-clause-said : goal.returns-in_err-rules-clause-said
 returns-in_err-rules-clause-said c =
-    let read : IsRead (table_view c.args.table.now) = record {
-      top = top_values c.in_ok-top.top;
-      limit = limit_member c.in_ok-limit.limit;
-      window = option_map window_member c.in_ok-window.window;
-      is_top = sym c.read_top.ensures.value ∙ ap (result_map top_values) c.in_ok-top.was;
-      is_limit = sym c.limit_in.ensures.said ∙ ap (result_map limit_member) c.in_ok-limit.was;
-      is_window = sym c.window_in.ensures.said
-          ∙ ap (result_map (option_map window_member)) c.in_ok-window.was;
-    } in
+    let read : IsRead (table_view c.args.table.now) = is_read _ _ _ _ c.in_ok-top.top
+    c.in_ok-limit.limit c.in_ok-window.window c.read_top.ensures.value c.limit_in.ensures.said
+    c.window_in.ensures.said c.in_ok-top.was c.in_ok-limit.was c.in_ok-window.was in
     let whole = document_read c.args.version (table_view c.args.table.now) read in
     search rules
 
 pub returns-clause-said : goal.returns-clause-said
 returns-clause-said c =
-    let read : IsRead (table_view c.args.table.now) = record {
-      top = top_values c.in_ok-top.top;
-      limit = limit_member c.in_ok-limit.limit;
-      window = option_map window_member c.in_ok-window.window;
-      is_top = sym c.read_top.ensures.value ∙ ap (result_map top_values) c.in_ok-top.was;
-      is_limit = sym c.limit_in.ensures.said ∙ ap (result_map limit_member) c.in_ok-limit.was;
-      is_window = sym c.window_in.ensures.said
-          ∙ ap (result_map (option_map window_member)) c.in_ok-window.was;
-    } in
+    let read : IsRead (table_view c.args.table.now) = is_read _ _ _ _ c.in_ok-top.top
+    c.in_ok-limit.limit c.in_ok-window.window c.read_top.ensures.value c.limit_in.ensures.said
+    c.window_in.ensures.said c.in_ok-top.was c.in_ok-limit.was c.in_ok-window.was in
     let whole = document_read c.args.version (table_view c.args.table.now) read in
     search rules
 
 pub returns-clause-fault : goal.returns-clause-fault
 returns-clause-fault c =
-    let read : IsRead (table_view c.args.table.now) = record {
-      top = top_values c.in_ok-top.top;
-      limit = limit_member c.in_ok-limit.limit;
-      window = option_map window_member c.in_ok-window.window;
-      is_top = sym c.read_top.ensures.value ∙ ap (result_map top_values) c.in_ok-top.was;
-      is_limit = sym c.limit_in.ensures.said ∙ ap (result_map limit_member) c.in_ok-limit.was;
-      is_window = sym c.window_in.ensures.said
-          ∙ ap (result_map (option_map window_member)) c.in_ok-window.was;
-    } in
+    let read : IsRead (table_view c.args.table.now) = is_read _ _ _ _ c.in_ok-top.top
+    c.in_ok-limit.limit c.in_ok-window.window c.read_top.ensures.value c.limit_in.ensures.said
+    c.window_in.ensures.said c.in_ok-top.was c.in_ok-limit.was c.in_ok-window.was in
     let whole = document_read c.args.version (table_view c.args.table.now) read in
     search rules
 

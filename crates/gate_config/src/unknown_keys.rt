@@ -2,25 +2,25 @@
 ghost use Rattle.std.specs.Prelude.{◌≡◌, flat_map, fold, map, option_map};
 ghost use Rattle.toml.specs.View.{table_view};
 ghost use Rattle.config_values.specs.Table.{tables_among};
-ghost use Rattle.config_values.specs.Unknown.{least, lesser, stranger_of};
+ghost use Rattle.config_values.specs.Unknown.{least, lesser, unknown_key_of};
 ghost use Rattle.config_sections.specs.Bypass.{bypass_member};
 ghost use Rattle.config_sections.specs.Resolver.{resolver_member};
 ghost use Rattle.gate_config.specs.Document.{document_values};
-ghost use Rattle.gate_config.specs.Strangers.{bypass_strangers, class_strangers, resolver_strangers, strangers_of};
+ghost use Rattle.gate_config.specs.UnknownKeys.{bypass_unknown_keys, class_unknown_keys, resolver_unknown_keys, unknown_keys_of};
 
 use crate::document::Document;
 use config_sections::{BypassKeys, ResolverKeys, TOP_KEYS, Version, WINDOW_KEYS, class_keys};
-use config_values::{Section, Stranger, least_unknown};
+use config_values::{Section, UnknownKey, least_unknown};
 use toml::{Table, Value};
 
 /// The key that isn't allowed where it stands in a version, of several the one with the least path.
-pub fn least_stranger<'a>(
+pub fn least_unknown_key<'a>(
     version: Version,
     table: &'a Table,
     document: &Document<'a>,
-) -> Option<Stranger<'a>>
-    ensures { option_map stranger_of result
-        ≡ least (strangers_of version (table_view table.now) (document_values document.now)) }
+) -> Option<UnknownKey<'a>>
+    ensures { option_map unknown_key_of result
+        ≡ least (unknown_keys_of version (table_view table.now) (document_values document.now)) }
 {
     let mut least = least_unknown(None, Section::Top, &TOP_KEYS, table);
     let (limit, keys) = &document.limit;
@@ -36,12 +36,12 @@ pub fn least_stranger<'a>(
 /// The least of these classes' and one more.
 fn least_of_classes<'a>(
     version: Version,
-    least: Option<Stranger<'a>>,
+    least: Option<UnknownKey<'a>>,
     items: &'a [Value],
-) -> Option<Stranger<'a>>
-    ensures { option_map stranger_of result
-        ≡ fold lesser (option_map stranger_of least.entry)
-        (flat_map (class_strangers version) (tables_among items.now)) }
+) -> Option<UnknownKey<'a>>
+    ensures { option_map unknown_key_of result
+        ≡ fold lesser (option_map unknown_key_of least.entry)
+        (flat_map (class_unknown_keys version) (tables_among items.now)) }
 {
     let mut least = least;
     for item in items {
@@ -54,12 +54,12 @@ fn least_of_classes<'a>(
 
 /// The least of these resolvers' and one more.
 fn least_of_resolvers<'a>(
-    least: Option<Stranger<'a>>,
+    least: Option<UnknownKey<'a>>,
     resolvers: &[(&'a Table, ResolverKeys)],
-) -> Option<Stranger<'a>>
-    ensures { option_map stranger_of result
-        ≡ fold lesser (option_map stranger_of least.entry)
-        (flat_map resolver_strangers (map resolver_member resolvers.now)) }
+) -> Option<UnknownKey<'a>>
+    ensures { option_map unknown_key_of result
+        ≡ fold lesser (option_map unknown_key_of least.entry)
+        (flat_map resolver_unknown_keys (map resolver_member resolvers.now)) }
 {
     let mut least = least;
     for (table, keys) in resolvers {
@@ -70,12 +70,12 @@ fn least_of_resolvers<'a>(
 
 /// The least of these bypass rules' and one more.
 fn least_of_bypasses<'a>(
-    least: Option<Stranger<'a>>,
+    least: Option<UnknownKey<'a>>,
     rules: &[(&'a Table, BypassKeys)],
-) -> Option<Stranger<'a>>
-    ensures { option_map stranger_of result
-        ≡ fold lesser (option_map stranger_of least.entry)
-        (flat_map bypass_strangers (map bypass_member rules.now)) }
+) -> Option<UnknownKey<'a>>
+    ensures { option_map unknown_key_of result
+        ≡ fold lesser (option_map unknown_key_of least.entry)
+        (flat_map bypass_unknown_keys (map bypass_member rules.now)) }
 {
     let mut least = least;
     for (table, keys) in rules {

@@ -1,6 +1,6 @@
 use Rattle.std.proofs.lemmas.Result.{IfOk-from_err}
 use Rattle.config_check.proofs.Whys.{handed_on, why_of_fault}
-use Rattle.config_check.proofs.check.check.Goals as goal
+use Rattle.config_check.proofs.check.check_bytes.Goals as goal
 
 -- bytes without settings
 pub returns-in_err-settings-clause-accepted : goal.returns-in_err-settings-clause-accepted

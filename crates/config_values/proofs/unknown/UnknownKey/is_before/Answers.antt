@@ -4,7 +4,7 @@ use Rattle.std.proofs.lemmas.Iterator.Adapters.{YieldsList-from_bytes}
 use Rattle.std.proofs.lemmas.Iterator.Consumers.{YieldsList-from_chain}
 use Rattle.std.proofs.lemmas.Iterator.Search.{cmp_from_yields_List}
 use Rattle.config_values.specs.Key.{prefix_of}
-use Rattle.config_values.proofs.unknown.Stranger.is_before.Goals as goal
+use Rattle.config_values.proofs.unknown.UnknownKey.is_before.Goals as goal
 
 pub returns : goal.returns
 returns c =

@@ -1,0 +1,43 @@
+// The words of an explanation, written.
+ghost use Rattle.std.specs.Prelude.{◌≡◌, false, ℕ, List, OnErr, OnOk};
+ghost use Rattle.counted_io.specs.Effects.{Wrote};
+ghost use Rattle.counted_io.specs.Causes.{IsWriteCause};
+
+use config_explain::{explanation, why_unread};
+use counted_io::{Counted, WriteFault, write_and_flush};
+use std::alloc::Global;
+use std::fs::Files;
+use std::io::Write;
+
+/// Writes what there is to say of the bytes of a configuration; nothing where it is out of memory.
+pub(crate) fn write_explanation<W: Write>(
+    alloc: Global,
+    bytes: &[u8],
+    writer: &mut Counted<W>,
+) -> Result<(), WriteFault>
+    ensures all { OnOk result ((words : List ℕ) × Wrote W.contents writer.old writer.new words) }
+    ensures failed { OnErr result (IsWriteCause writer.old writer.new) }
+{
+    let words = match explanation(alloc, bytes) {
+        Ok(words) => words,
+        Err(_) => String::new(alloc),
+    };
+    write_and_flush(writer, words.as_bytes())
+}
+
+/// Writes why a file can't be read, if that is asked for, and if it can be.
+pub(crate) fn write_why_unread<F: Files, W: Write>(
+    files: &F,
+    alloc: Global,
+    path: &str,
+    explain: bool,
+    writer: &mut Counted<W>,
+)
+    ensures unasked { explain ≡ false → writer.new ≡ writer.old }
+{
+    if explain {
+        if let Ok(words) = why_unread(files, alloc, path) {
+            let _ = write_and_flush(writer, words.as_bytes());
+        }
+    }
+}
