@@ -21,7 +21,7 @@ use Rattle.limiter_core.specs.Laws.{MayEndOpen, AnswersHanded, OpensByItsCall, S
 use Rattle.gate_journal.specs.Image.{Standing, image_of}
 use Rattle.gate_journal.specs.Journal.{Journal, gate, image, next_number, is_over, answered}
 use Rattle.gate_journal.specs.Rolling.{StretchesJoin, continued, after, rolls, standing}
-use Rattle.script.specs.declared.why.Why.TheVariants.{Class}
+use Rattle.script.specs.declared.fault_kind.FaultKind.TheVariants.{Class}
 use Rattle.script.specs.declared.line.Line.TheVariants as line
 use Rattle.script.specs.declared.request.Request.{Request}
 use Rattle.script.specs.declared.request.Request.TheVariants as request

@@ -5,7 +5,7 @@ use Rattle.limit_kinds.specs.declared.kinds.AnyLimit.{AnyLimit}
 use Rattle.limit_kinds.specs.AnyKinds.{any_rules}
 use Rattle.limiter_core.specs.Limiter.{unasked}
 use Rattle.gate_journal.specs.Journal.{Journal, opened}
-use Rattle.script.specs.declared.why.Why.{Why}
+use Rattle.script.specs.declared.fault_kind.FaultKind.{FaultKind}
 use Rattle.script.specs.declared.line_fault.LineFault.{LineFault}
 use Rattle.script.specs.declared.line.Line.TheVariants.{Setting, Request}
 use Rattle.script.specs.Words.{words}
@@ -20,7 +20,7 @@ journal_of n kept s =
     opened (unasked s.rows (room_of s) (promote_of s) (limit_of n s)) (kept_of kept s) s.is_rolling
 
 -- nothing is written, and this line is at fault
-abbrev pub faulty : ℕ → Why → Told
+abbrev pub faulty : ℕ → FaultKind → Told
 faulty number why = record { out = []; fault = Some (record { line = number; why = why }) }
 
 -- what a setting leads to: the text of the lines after it under the settings with it, or the fault

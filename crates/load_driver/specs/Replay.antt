@@ -12,8 +12,8 @@ use Rattle.limiter_core.specs.declared.event.Event.TheVariants as event
 use Rattle.limiter_core.specs.declared.event.Entry.{Entry}
 use Rattle.limiter_core.specs.Open.{open_permit}
 use Rattle.gate_journal.specs.Journal.{Journal, next_number, is_over, answered}
-use Rattle.script.specs.declared.why.Why.{Why}
-use Rattle.script.specs.declared.why.Why.TheVariants.{Late, Class}
+use Rattle.script.specs.declared.fault_kind.FaultKind.{FaultKind}
+use Rattle.script.specs.declared.fault_kind.FaultKind.TheVariants.{Late, Class}
 use Rattle.script.specs.declared.line_fault.LineFault.{LineFault}
 use Rattle.script.specs.declared.line.Line.TheVariants as line
 use Rattle.script.specs.declared.request.Request.{Request}
@@ -41,7 +41,7 @@ entries_text rows number (e ∷ es) = entry_text rows number e ++ entries_text r
 
 -- what a line asks, or why it is at fault
 abbrev pub Asks : Type 0
-Asks = Result Asked Why
+Asks = Result Asked FaultKind
 
 -- what is asked about the part of a class
 abbrev pub about : List Row → List ℕ → (Part → Event) → Asks

@@ -11,7 +11,7 @@ use super::session::Session;
 use limit_laws::Limit;
 use limiter_core::{Event, Outcome};
 use partitions::Part;
-use script::{Line, Request, Why, read_line, read_part};
+use script::{FaultKind, Line, Request, read_line, read_part};
 
 /// What a line asks once the settings are over.
 #[derive(Clone, Copy)]
@@ -40,7 +40,7 @@ pub fn read_end<L: Limit>(session: &Session<L>, number: u64, outcome: Outcome, n
 }
 
 /// What a request asks, or that the table has no such class.
-fn read_request<L: Limit>(session: &Session<L>, request: Request<&[u8]>) -> Result<Asked, Why>
+fn read_request<L: Limit>(session: &Session<L>, request: Request<&[u8]>) -> Result<Asked, FaultKind>
     ensures asked { result
         ≡ request_asks session.now.journal.rows (open_in session.now)
         (request_bytes request.entry) }
@@ -76,14 +76,14 @@ fn read_request<L: Limit>(session: &Session<L>, request: Request<&[u8]>) -> Resu
 }
 
 /// What a line asks behind the settings, or why it is at fault.
-pub(crate) fn read_asked<L: Limit>(session: &Session<L>, line: &[u8]) -> Result<Asked, Why>
+pub(crate) fn read_asked<L: Limit>(session: &Session<L>, line: &[u8]) -> Result<Asked, FaultKind>
     ensures asked { result
         ≡ line_asks session.now.journal.rows (open_in session.now) (line_of (words line.now)) }
     ensures named { IfOk result (λ asked. IfEvent asked (IsOpen (open_in session.now))) }
 {
     match read_line(line)? {
         None => Ok(Asked::Nothing),
-        Some(Line::Setting(_)) => Err(Why::Late),
+        Some(Line::Setting(_)) => Err(FaultKind::Late),
         Some(Line::Request(request)) => read_request(session, request),
     }
 }

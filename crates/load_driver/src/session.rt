@@ -137,7 +137,7 @@ impl<L: Limit> Session<L> {
         open_permits_may_end::<L>();
         open_permits_are_in_flight::<L>();
         rolling_runs_are_legal::<L>();
-        self.journal.check();
+        self.journal.invariant();
         self.permits.reserve(1)?;
         match self.journal.apply(event) {
             Some((number, reply)) => {

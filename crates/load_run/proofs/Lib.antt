@@ -1,4 +1,5 @@
 pub mod Calling
+mod Gathering
 pub mod Runs
 pub mod Walks
 pub mod Working

@@ -2,6 +2,8 @@
 use Rattle.std.specs.Prelude.{◌≡◌, ℕ, ◌≤◌, List, length, None, Some}
 use Rattle.counted_io.specs.declared.reading.ReadFault.{ReadFault}
 use Rattle.counted_io.specs.declared.reading.ReadFault.TheVariants as reading
+use Rattle.tasks.specs.declared.running.TasksFault.{TasksFault}
+use Rattle.tasks.specs.declared.running.TasksFault.TheVariants as tasks
 use Rattle.script.specs.declared.line_fault.LineFault.{LineFault}
 use Rattle.script.specs.Settings.{SettingFacts}
 use Rattle.load_driver.specs.Limits.{most_script}
@@ -10,8 +12,6 @@ use Rattle.trace.specs.declared.arrival.Arrival.{Arrival}
 use Rattle.trace.specs.Trace.{TraceFacts, trace_of}
 use Rattle.load_run.specs.declared.fault.LoadFault.{LoadFault}
 use Rattle.load_run.specs.declared.fault.LoadFault.TheVariants.{Memory, Read, TooLarge, Line, Thread, Audit}
-use Rattle.load_run.specs.declared.workers.WorkFault.{WorkFault}
-use Rattle.load_run.specs.declared.workers.WorkFault.TheVariants as work
 use Rattle.load_run.specs.declared.summary.Summary.{Summary}
 use Rattle.load_run.specs.Summary.{summary_text}
 use Rattle.load_run.specs.Load.{IsRun, IsUnaccepted}
@@ -23,9 +23,9 @@ told_of_read reading.Read = Read
 told_of_read reading.TooLarge = TooLarge
 
 -- what it tells where the workers weren't all at work
-abbrev pub told_of_work : WorkFault → LoadFault
-told_of_work work.Memory = Memory
-told_of_work work.Thread = Thread
+abbrev pub told_of_tasks : TasksFault → LoadFault
+told_of_tasks tasks.Memory = Memory
+told_of_tasks tasks.Thread = Thread
 
 -- a fact of the line at fault, where the fault is a line's
 abbrev pub IfLine : LoadFault → (LineFault → Type 0) → Type 0

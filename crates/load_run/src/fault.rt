@@ -1,11 +1,11 @@
 // Why a load stops.
 ghost use Rattle.std.specs.Prelude.{◌≡◌};
 
-use crate::workers::WorkFault;
 use counted_io::{ReadFault, WriteFault};
 use script::LineFault;
 use shared_gate::Cause;
 use std::alloc::AllocError;
+use tasks::TasksFault;
 
 /// Why a load stops.
 #[derive(Clone, Copy, PartialEq, Eq)]
@@ -36,15 +36,15 @@ impl From<AllocError> for LoadFault {
     }
 }
 
-impl From<WorkFault> for LoadFault {
-    ghost use Rattle.load_run.specs.Driver.{told_of_work};
+impl From<TasksFault> for LoadFault {
+    ghost use Rattle.load_run.specs.Driver.{told_of_tasks};
 
-    ghost from_gives = { λ fault told. told ≡ told_of_work fault };
+    ghost from_gives = { λ fault told. told ≡ told_of_tasks fault };
 
-    fn from(fault: WorkFault) -> LoadFault {
+    fn from(fault: TasksFault) -> LoadFault {
         match fault {
-            WorkFault::Memory => LoadFault::Memory,
-            WorkFault::Thread => LoadFault::Thread,
+            TasksFault::Memory => LoadFault::Memory,
+            TasksFault::Thread => LoadFault::Thread,
         }
     }
 }

@@ -14,7 +14,7 @@ mod counting;
 mod driver;
 mod fault;
 mod fitting;
-mod hiring;
+mod making;
 mod run;
 mod summary;
 mod worker;

@@ -3,13 +3,15 @@ ghost use Rattle.std.specs.Prelude.{◌≡◌, ◌≤◌, IfErr, IfOk, vec_len};
 ghost use Rattle.limit_laws.specs.Algorithm.{greatest_limit};
 ghost use Rattle.gate_ledgers.specs.Names.{AreNamed, AreWhole};
 ghost use Rattle.gate_history.specs.Book.{made_as};
+ghost use Rattle.script.specs.Settings.{kept_of, promote_of, room_of};
+ghost use Rattle.load_driver.specs.Limits.{kept_entries};
 ghost use Rattle.load_run.specs.Driver.{StopsRun};
 ghost use Rattle.load_run.specs.Load.{AreOf, IsAccepted, IsRejected, IsRun, making_of};
 
 use crate::counting::count_entries;
 use crate::fault::LoadFault;
 use crate::fitting::all_fit;
-use crate::hiring::hire;
+use crate::making::make_workers;
 use crate::summary::Summary;
 use crate::worker::{Shop, Worker};
 use crate::workers::{Worked, run_all};
@@ -61,7 +63,7 @@ where
 {
     let timeout = settings.timeout();
     let turns = (arrivals.len() / crew.workers).saturating_add(1);
-    let (gate, hired) = open_gate::<M>(alloc, blanks, word, settings, crew, turns)?;
+    let (gate, workers) = open_gate::<M>(alloc, blanks, word, settings, crew, turns)?;
     let shop = Shop {
         rt,
         gate: &gate,
@@ -70,31 +72,8 @@ where
         timeout,
         workers: crew.workers,
     };
-    let worked = run_all(alloc, &shop, hired)?;
+    let worked = run_all(alloc, &shop, workers)?;
     Ok(close(alloc, gate, worked)?)
-}
-
-/// The book of a run, in which nothing was asked.
-fn begin_book<M: Naming>(
-    alloc: Global,
-    blanks: Blanks,
-    settings: Settings,
-    limit: u32,
-) -> Result<Book<AnyLimit, M>, AllocError>
-    requires least { 1 ≤ limit }
-    requires most { limit ≤ greatest_limit }
-    requires making { AreOf (making_of limit settings)
-        M.rows M.room M.promote M.kept M.is_rolling M.limit }
-    requires names { AreNamed M.calls M.place blanks }
-    requires parts { AreWhole blanks }
-{
-    let limit = settings.limit(limit);
-    let room = settings.room();
-    let promote = settings.promote();
-    let kept = settings.kept(KEPT);
-    let is_rolling = settings.is_rolling();
-    let table = settings.into_table();
-    Book::begin(alloc, limit, table, room, promote, kept, is_rolling, blanks)
 }
 
 /// The gate of a run, and its workers, each with room for so many turns.
@@ -115,25 +94,59 @@ fn open_gate<M: GateNaming>(
     requires word { word ≡ M.word }
     ensures { IfOk result (λ opened. vec_len opened.1 ≡ crew.workers) }
 {
-    let book = begin_book::<M>(alloc, blanks, settings, crew.limit)?;
-    open_with_workers(alloc, word, book, crew.workers, turns)
+    let limit = settings.limit(crew.limit);
+    open_over(alloc, blanks, word, settings, limit, crew.workers, turns)
 }
 
-/// A gate over a book, and so many workers, each with room for so many turns: which limit the book
-/// is of isn't told apart here.
-fn open_with_workers<L: Limit, M: GateNaming>(
+/// The gate over a limit, whichever it is, and so many workers, each with room for so many turns.
+fn open_over<L: Limit, M: GateNaming>(
     alloc: Global,
+    blanks: Blanks,
     word: Word,
-    book: Book<L, M>,
+    settings: Settings,
+    limit: L,
     workers: usize,
     turns: usize,
 ) -> Result<(SharedGate<L, M>, Vec<Worker<M>>), AllocError>
+    requires rows { M.rows ≡ settings.rows }
+    requires room { M.room ≡ room_of settings }
+    requires promote { M.promote ≡ promote_of settings }
+    requires kept { M.kept ≡ kept_of kept_entries settings }
+    requires rolling { M.is_rolling ≡ settings.is_rolling }
+    requires limit { M.limit ≡ L.rules.limit limit }
+    requires names { AreNamed M.calls M.place blanks }
+    requires parts { AreWhole blanks }
     requires word { word ≡ M.word }
     ensures { IfOk result (λ opened. vec_len opened.1 ≡ workers) }
 {
+    let book = begin_book::<L, M>(alloc, blanks, settings, limit)?;
     let (gate, passes) = SharedGate::open(alloc, word, book, workers)?;
-    let hired = hire(alloc, passes, turns)?;
-    Ok((gate, hired))
+    let workers = make_workers(alloc, passes, turns)?;
+    Ok((gate, workers))
+}
+
+/// The book of a run, in which nothing was asked.
+fn begin_book<L: Limit, M: Naming>(
+    alloc: Global,
+    blanks: Blanks,
+    settings: Settings,
+    limit: L,
+) -> Result<Book<L, M>, AllocError>
+    requires rows { M.rows ≡ settings.rows }
+    requires room { M.room ≡ room_of settings }
+    requires promote { M.promote ≡ promote_of settings }
+    requires kept { M.kept ≡ kept_of kept_entries settings }
+    requires rolling { M.is_rolling ≡ settings.is_rolling }
+    requires limit { M.limit ≡ L.rules.limit limit }
+    requires names { AreNamed M.calls M.place blanks }
+    requires parts { AreWhole blanks }
+{
+    let room = settings.room();
+    let promote = settings.promote();
+    let kept = settings.kept(KEPT);
+    let is_rolling = settings.is_rolling();
+    let table = settings.into_table();
+    Book::begin(alloc, limit, table, room, promote, kept, is_rolling, blanks)
 }
 
 /// What is counted of the history of a gate that is closed, where its audit accepts it and the

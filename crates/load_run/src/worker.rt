@@ -29,6 +29,7 @@ pub(crate) struct Shop<'a, L: Limit, M: GateNaming, R, C> {
     pub(crate) clock: &'a C,
     pub(crate) timeout: u64,
     pub(crate) workers: usize,
+    ghost some: { 0 < workers },
 }
 
 /// Makes the calls of the arrival at a place, where it falls to the worker of this number, and
@@ -41,7 +42,6 @@ fn take_turn<L: Limit, M: GateNaming, R: Wait + SystemClock, C: Clock>(
     receipts: &mut Vec<Receipt<M>>,
     refusals: &mut Vec<Spent<M>>,
 ) -> Result<(), AllocError>
-    requires some { 0 < shop.now.workers }
     requires inside { place < length shop.now.arrivals.now.items }
     ensures { OnOk result (
         IsWork shop.now.workers number
@@ -63,7 +63,6 @@ pub(crate) fn work<L: Limit, M: GateNaming, R: Wait + SystemClock, C: Clock>(
     number: usize,
     worker: Worker<M>,
 ) -> Result<Worker<M>, AllocError>
-    requires { 0 < shop.now.workers }
     ensures { IfOk result (λ done.
         IsWork shop.now.workers number shop.now.arrivals.now.items
         done.receipts.items done.refusals.items) }

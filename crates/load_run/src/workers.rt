@@ -1,6 +1,7 @@
 // All workers, each on a thread of its own.
-ghost use Rattle.std.specs.Prelude.{◌≡◌, ◌<◌, ◌++◌, ◌∷◌, [], IfOk, vec_len};
-ghost use Rattle.load_run.specs.Worker.{IsWork};
+ghost use Rattle.std.specs.Prelude.{◌≡◌, ◌++◌, ◌∷◌, [], IfOk, vec_len};
+ghost use Rattle.audit.specs.Firsts.{EachHas};
+ghost use Rattle.load_run.specs.Gathered.{IsKeptAt};
 ghost use Rattle.load_run.specs.Workers.{AreWork};
 
 use crate::worker::{Shop, Worker, work};
@@ -8,31 +9,10 @@ use gate_history::{Receipt, Spent};
 use limit_laws::Limit;
 use shared_gate::{Clock, GateNaming, Pass};
 use std::alloc::{AllocError, Global};
-use std::snapshot::Snapshot;
 use std::sync::Wait;
-use std::thread;
-use std::thread::{Promise, Scope, Threads};
+use std::thread::Threads;
 use std::time::Clock as SystemClock;
-use trace::Arrival;
-
-/// Why not all workers made their calls.
-#[derive(Clone, Copy, Drop)]
-pub(crate) enum WorkFault {
-    /// Out of memory.
-    Memory = 1,
-    /// A worker can't be started; those that were have ended.
-    Thread = 2,
-}
-
-impl From<AllocError> for WorkFault {
-    ghost use Rattle.load_run.specs.declared.workers.WorkFault.TheVariants.{Memory};
-
-    ghost from_gives = { λ _ fault. fault ≡ Memory };
-
-    fn from(_error: AllocError) -> WorkFault {
-        WorkFault::Memory
-    }
-}
+use tasks::{Task, TasksFault, run_tasks};
 
 /// The passes, the receipts and the refusals of the workers, in order of their numbers.
 #[derive(Drop)]
@@ -42,94 +22,100 @@ pub(crate) struct Worked<M: GateNaming> {
     pub(crate) spent: Vec<Vec<Spent<M>>>,
 }
 
-/// What the worker of a number, one of so many, brings back of these arrivals.
+/// A worker of a shop, with its number.
 #[derive(Drop)]
-struct WorkOf {
-    workers: usize,
+struct Hand<'a, M: GateNaming, X> {
+    shop: &'a X,
     number: usize,
-    arrivals: Snapshot<Vec<Arrival>>,
+    worker: Worker<M>,
 }
 
-impl<M: GateNaming> Promise<Result<Worker<M>, AllocError>> for WorkOf {
+impl<'a, L, M, R, C> Task for Hand<'a, M, Shop<'a, L, M, R, C>>
+where
+    L: Limit + Send,
+    M: GateNaming + Send + Sync,
+    R: Wait + SystemClock + Sync,
+    C: Clock + Sync,
+{
     ghost use Rattle.std.specs.Prelude.{IfOk};
     ghost use Rattle.load_run.specs.Worker.{IsWork};
 
-    ghost kept_by = { λ p r. IfOk r (λ done.
-        IsWork p.workers p.number p.arrivals.value.items
-        done.receipts.items done.refusals.items) };
+    // What the worker brings back.
+    type Done = Result<Worker<M>, AllocError>;
+
+    ghost makes = { λ hand done. IfOk done (λ worker.
+        IsWork hand.shop.now.workers hand.number hand.shop.now.arrivals.now.items
+        worker.receipts.items worker.refusals.items) };
+
+    fn run(self) -> Result<Worker<M>, AllocError> {
+        work(self.shop, self.number, self.worker)
+    }
 }
 
-/// Runs these workers, the last of them first: once all that were started have ended, their
-/// passes, receipts and refusals.
-fn run_from<'s, E, L: Limit + Send, M: GateNaming + Send + Sync, R, C>(
-    scope: &Scope<'s, E>,
+/// The workers of a shop, with their numbers.
+fn hands_of<'a, M: GateNaming, X>(
     alloc: Global,
-    shop: &'s Shop<'s, L, M, R, C>,
-    mut workers: Vec<Worker<M>>,
-) -> Result<Worked<M>, WorkFault>
-where
-    R: Threads + Wait + SystemClock + Sync,
-    C: Clock + Sync,
-    requires { 0 < shop.now.workers }
-    ensures count { IfOk result (λ worked. vec_len worked.kept ≡ vec_len workers) }
-    ensures beside { IfOk result (λ worked. vec_len worked.spent ≡ vec_len workers) }
-    ensures work { IfOk result (λ worked. AreWork shop.now.workers
-        shop.now.arrivals.now.items worked.kept.items worked.spent.items) }
+    shop: &'a X,
+    workers: Vec<Worker<M>>,
+) -> Result<Vec<Hand<'a, M, X>>, AllocError>
+    ensures all { IfOk result (λ hands. vec_len hands ≡ vec_len workers) }
+    ensures each { IfOk result (λ hands. EachHas
+        (λ place hand. (hand.number ≡ place) × (hand.shop.now ≡ shop.now)) hands.items) }
 {
-    let Some(worker) = workers.pop() else {
-        return Ok(Worked {
-            passes: Vec::new(alloc),
-            kept: Vec::new(alloc),
-            spent: Vec::new(alloc),
+    let mut hands = Vec::with_capacity(alloc, workers.len())?;
+    for worker in workers {
+        let number = hands.len();
+        hands.push_reserved(Hand {
+            shop,
+            number,
+            worker,
         });
-    };
-    let number = workers.len();
-    let promise = WorkOf {
-        workers: shop.workers,
-        number,
-        arrivals: Snapshot::of(shop.arrivals),
-    };
-    let started = scope.spawn_with(
-        promise,
-        move || -> Result<Worker<M>, AllocError>
-            requires { 0 < shop.now.workers }
-            ensures { IfOk result (λ done. IsWork shop.entry.now.workers number
-                shop.entry.now.arrivals.now.items done.receipts.items done.refusals.items) }
-        { work(shop, number, worker) },
-    );
-    let Ok(thread) = started else {
-        return Err(WorkFault::Thread);
-    };
-    let before = run_from(scope, alloc, shop, workers);
-    let done = thread.join(shop.rt);
-    Ok(before?.add(done?)?)
+    }
+    Ok(hands)
 }
 
-/// Runs all workers: once they have ended, their passes, receipts and refusals.
+/// What the workers brought back, where all of them had the memory.
+fn gather<M: GateNaming>(
+    alloc: Global,
+    done: Vec<Result<Worker<M>, AllocError>>,
+) -> Result<Worked<M>, AllocError>
+    ensures count { IfOk result (λ worked. vec_len worked.kept ≡ vec_len done) }
+    ensures each { IfOk result (λ worked. EachHas
+        (IsKeptAt worked.kept.items worked.spent.items) done.items) }
+{
+    let mut worked = Worked {
+        passes: Vec::new(alloc),
+        kept: Vec::new(alloc),
+        spent: Vec::new(alloc),
+    };
+    for worker in done {
+        worked = worked.add(worker?)?;
+    }
+    Ok(worked)
+}
+
+/// Runs all workers: once they have ended, their passes, receipts and refusals. `Memory` may also
+/// come once they have.
 pub(crate) fn run_all<L: Limit + Send, M: GateNaming + Send + Sync, R, C>(
     alloc: Global,
     shop: &Shop<L, M, R, C>,
     workers: Vec<Worker<M>>,
-) -> Result<Worked<M>, WorkFault>
+) -> Result<Worked<M>, TasksFault>
 where
     R: Threads + Wait + SystemClock + Sync,
     C: Clock + Sync,
-    requires { 0 < shop.now.workers }
     ensures count { IfOk result (λ worked. vec_len worked.kept ≡ vec_len workers) }
     ensures work { IfOk result (λ worked. AreWork shop.now.workers
         shop.now.arrivals.now.items worked.kept.items worked.spent.items) }
 {
-    thread::scope(
-        thread::scope_env(),
-        shop.rt,
-        move |scope| -> Result<Worked<M>, WorkFault>
-            requires { 0 < shop.now.workers }
-            ensures count { IfOk result (λ worked. vec_len worked.kept ≡ vec_len workers) }
-            ensures work { IfOk result (λ worked.
-                AreWork shop.entry.now.workers shop.entry.now.arrivals.now.items
-                worked.kept.items worked.spent.items) }
-        { run_from(scope, alloc, shop, workers) },
-    )
+    let Ok(hands) = hands_of(alloc, shop, workers) else {
+        return Err(TasksFault::Memory);
+    };
+    let done = run_tasks(shop.rt, alloc, hands)?;
+    let Ok(worked) = gather(alloc, done) else {
+        return Err(TasksFault::Memory);
+    };
+    Ok(worked)
 }
 
 impl<M: GateNaming> Worked<M> {

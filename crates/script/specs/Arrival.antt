@@ -3,8 +3,8 @@ use Rattle.std.specs.Prelude.{ℕ, nat_le, List, bytes_eq, codes, Option, None, 
 use Rattle.std.specs.Prelude.{option_and_then, Result, Ok, Err, if◌then◌else◌}
 use Rattle.std.specs.Borrow.{Bor}
 use Rattle.limit_laws.specs.Facts.{hour}
-use Rattle.script.specs.declared.why.Why.{Why}
-use Rattle.script.specs.declared.why.Why.TheVariants.{Words, Value}
+use Rattle.script.specs.declared.fault_kind.FaultKind.{FaultKind}
+use Rattle.script.specs.declared.fault_kind.FaultKind.TheVariants.{Words, Value}
 use Rattle.script.specs.declared.arrival.ArrivalLine.{ArrivalLine}
 use Rattle.script.specs.declared.arrival.ArrivalLine.TheVariants.{Arrive, Bypass}
 use Rattle.script.specs.Words.{with_number, with_word, lone_number}
@@ -35,18 +35,18 @@ arrival_words first rest =
     else None)
 
 -- a permit is held for an hour at most
-abbrev pub within_an_hour : Arrives → Result Arrives Why
+abbrev pub within_an_hour : Arrives → Result Arrives FaultKind
 within_an_hour (Arrive class at duration outcome wait) =
     if nat_le duration hour then Ok (Arrive class at duration outcome wait) else Err Value
 within_an_hour (Bypass at) = Ok (Bypass at)
 
 -- what is made of the words, where they have the format
-abbrev pub arrival_from : Option Arrives → Result Arrives Why
+abbrev pub arrival_from : Option Arrives → Result Arrives FaultKind
 arrival_from None = Err Words
 arrival_from (Some arrival) = within_an_hour arrival
 
 -- WHAT A LINE SAYS OF A CALL, by its first word and the others
-abbrev pub arrival_of : List ℕ → List (List ℕ) → Result Arrives Why
+abbrev pub arrival_of : List ℕ → List (List ℕ) → Result Arrives FaultKind
 arrival_of first rest = arrival_from (arrival_words first rest)
 
 -- a call with the bytes of its class's name

@@ -3,8 +3,8 @@ use Rattle.std.specs.Prelude.{ℕ, ◌^◌, Bool, true, false, List, [], ◌∷�
 use Rattle.std.specs.Borrow.{Bor}
 use Rattle.limiter_core.specs.declared.event.Outcome.{Outcome}
 use Rattle.limiter_core.specs.declared.event.Outcome.TheVariants.{Success, Ignored, Dropped}
-use Rattle.script.specs.declared.why.Why.{Why}
-use Rattle.script.specs.declared.why.Why.TheVariants.{Words, Value}
+use Rattle.script.specs.declared.fault_kind.FaultKind.{FaultKind}
+use Rattle.script.specs.declared.fault_kind.FaultKind.TheVariants.{Words, Value}
 use Rattle.script.specs.declared.request.Request.{Request}
 use Rattle.script.specs.declared.request.Request.TheVariants.{Acquire, Bypass, End, Claim, GiveUp, SetLimit, Reset, Look}
 use Rattle.script.specs.Words.{with_number, with_word, alone, lone_number, number_pair}
@@ -45,12 +45,12 @@ abbrev pub look_of : List (List ℕ) → Option Asks
 look_of ws = with_word (λ class. alone (Look class)) ws
 
 -- a limit by hand, which is 32 bits long
-abbrev pub set_to : Option (ℕ × ℕ) → Result Asks Why
+abbrev pub set_to : Option (ℕ × ℕ) → Result Asks FaultKind
 set_to None = Err Words
 set_to (Some pair) = if nat_lt pair.0 (2 ^ 32) then Ok (SetLimit pair.0 pair.1) else Err Value
 
 -- `set N NOW`
-abbrev pub set_of : List (List ℕ) → Result Asks Why
+abbrev pub set_of : List (List ℕ) → Result Asks FaultKind
 set_of ws = set_to (number_pair ws)
 
 -- `bypass NOW`, `claim N`, `giveup N` and `reset NOW`: one number
@@ -63,7 +63,7 @@ short_of first rest =
     else None)))
 
 -- what a line asks, by its first word and the others
-abbrev pub request_of : List ℕ → List (List ℕ) → Result Asks Why
+abbrev pub request_of : List ℕ → List (List ℕ) → Result Asks FaultKind
 request_of first rest =
     if bytes_eq first (codes "acquire") then ok_or (acquire_of rest) Words
     else (if bytes_eq first (codes "end") then ok_or (end_of rest) Words

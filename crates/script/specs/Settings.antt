@@ -15,8 +15,8 @@ use Rattle.script.specs.declared.limit_line.LimitLine.{LimitLine}
 use Rattle.script.specs.declared.window_line.WindowLine.{WindowLine}
 use Rattle.script.specs.declared.setting.Setting.{Setting}
 use Rattle.script.specs.declared.setting.Setting.TheVariants.{Limit, Window, Class, Share, Backlog, Keep, Timeout, Promotion}
-use Rattle.script.specs.declared.why.Why.{Why}
-use Rattle.script.specs.declared.why.Why.TheVariants.{Twice, Value}
+use Rattle.script.specs.declared.fault_kind.FaultKind.{FaultKind}
+use Rattle.script.specs.declared.fault_kind.FaultKind.TheVariants.{Twice, Value}
 use Rattle.script.specs.Limits.{usual_backlog, usual_timeout, most_kept}
 use Rattle.script.specs.LimitLine.{base_of}
 use Rattle.script.specs.WindowLine.{windows_of}
@@ -48,7 +48,7 @@ no_settings = record {
 
 -- what a setting leads to: the settings with it, or why it is at fault
 abbrev pub Set : Type 0
-Set = Result SettingFacts Why
+Set = Result SettingFacts FaultKind
 
 -- what a value leads to, and the fault where it is out of its range
 abbrev pub in_range : {A : Type 0} → Option A → (A → SettingFacts) → Set
@@ -148,6 +148,6 @@ promote_of s = unwrap_or s.promote Newest
 
 -- what is answered to a setting: that it is taken, or why it is at fault, and then the settings
 -- stay
-abbrev pub Answers : Set → SettingFacts → SettingFacts → Result (Unit {0}) Why → Type 0
+abbrev pub Answers : Set → SettingFacts → SettingFacts → Result (Unit {0}) FaultKind → Type 0
 Answers set old new answer =
     MatchResult answer (λ _. set ≡ Ok new) (λ why. (set ≡ Err why) × (new ≡ old))

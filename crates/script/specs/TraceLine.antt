@@ -1,7 +1,7 @@
 -- What a line of a trace says, by its words.
 use Rattle.std.specs.Prelude.{ℕ, List, [], ◌∷◌, Option, None, Some, Result, Ok, if◌then◌else◌}
 use Rattle.std.specs.Borrow.{Bor}
-use Rattle.script.specs.declared.why.Why.{Why}
+use Rattle.script.specs.declared.fault_kind.FaultKind.{FaultKind}
 use Rattle.script.specs.declared.setting.Setting.{Setting as SettingLine}
 use Rattle.script.specs.declared.trace_line.TraceLine.{TraceLine}
 use Rattle.script.specs.declared.trace_line.TraceLine.TheVariants.{Setting, Arrival}
@@ -12,10 +12,10 @@ use Rattle.script.specs.Arrival.{Arrives, arrival_of, arrival_bytes}
 
 -- what a line says: nothing, a setting or a call, or why it is at fault
 abbrev pub Traced : Type 0
-Traced = Result (Option (TraceLine (List ℕ))) Why
+Traced = Result (Option (TraceLine (List ℕ))) FaultKind
 
 -- a setting where the words make one, and else a call
-abbrev pub setting_or_arrival : Option (SettingLine (List ℕ)) → Result Arrives Why → Traced
+abbrev pub setting_or_arrival : Option (SettingLine (List ℕ)) → Result Arrives FaultKind → Traced
 setting_or_arrival (Some setting) call = Ok (Some (Setting setting))
 setting_or_arrival None call = result_map (λ arrival. Some (Arrival arrival)) call
 

@@ -4,9 +4,9 @@ ghost use Rattle.script.specs.Words.{words, result_map};
 ghost use Rattle.script.specs.Arrival.{arrive_with, arrive_of, arrival_words, within_an_hour};
 ghost use Rattle.script.specs.Arrival.{arrival_of, arrival_bytes};
 
+use super::fault_kind::FaultKind;
 use super::numbers::{next_number, read_lone_number};
 use super::request::{read_outcome, read_wait};
-use super::why::Why;
 use super::words::next_word;
 use limit_laws::HOUR;
 use limiter_core::Outcome;
@@ -76,19 +76,22 @@ fn read_words<'a>(first: &[u8], line: &'a [u8]) -> Option<ArrivalLine<&'a [u8]>>
 }
 
 /// A call whose permit is held for an hour at most.
-fn check_duration(arrival: ArrivalLine<&[u8]>) -> Result<ArrivalLine<&[u8]>, Why>
+fn check_duration(arrival: ArrivalLine<&[u8]>) -> Result<ArrivalLine<&[u8]>, FaultKind>
     ensures { result_map arrival_bytes result ≡ within_an_hour (arrival_bytes arrival.entry) }
 {
     match arrival {
-        ArrivalLine::Arrive { duration, .. } if duration > HOUR => Err(Why::Value),
+        ArrivalLine::Arrive { duration, .. } if duration > HOUR => Err(FaultKind::Value),
         _ => Ok(arrival),
     }
 }
 
 /// What a line says of a call, by its first word and the rest; or the fault of its words or its
 /// value.
-pub(crate) fn read_arrival<'a>(first: &[u8], line: &'a [u8]) -> Result<ArrivalLine<&'a [u8]>, Why>
+pub(crate) fn read_arrival<'a>(
+    first: &[u8],
+    line: &'a [u8],
+) -> Result<ArrivalLine<&'a [u8]>, FaultKind>
     ensures { result_map arrival_bytes result ≡ arrival_of first.now (words line.now) }
 {
-    check_duration(read_words(first, line).ok_or(Why::Words)?)
+    check_duration(read_words(first, line).ok_or(FaultKind::Words)?)
 }

@@ -13,6 +13,7 @@
 
 mod arrival;
 mod classes;
+mod fault_kind;
 mod limit_line;
 mod line;
 mod line_fault;
@@ -22,21 +23,18 @@ mod request;
 mod setting;
 mod settings;
 mod trace_line;
-mod why;
 mod window_line;
 mod words;
 
 pub use arrival::ArrivalLine;
 pub use classes::read_part;
+pub use fault_kind::FaultKind;
 pub use limit_line::LimitLine;
 pub use line::{Line, read_line};
 pub use line_fault::LineFault;
 pub use lines::next_line;
-pub use numbers::{next_number, read_lone_number, read_number};
 pub use request::Request;
 pub use setting::Setting;
 pub use settings::Settings;
 pub use trace_line::{TraceLine, read_trace_line};
-pub use why::Why;
 pub use window_line::WindowLine;
-pub use words::next_word;

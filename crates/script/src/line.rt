@@ -3,9 +3,9 @@ ghost use Rattle.std.specs.Prelude.{◌≡◌, option_map};
 ghost use Rattle.script.specs.Words.{words, result_map};
 ghost use Rattle.script.specs.Line.{line_of, line_bytes};
 
+use super::fault_kind::FaultKind;
 use super::request::{Request, read_request};
 use super::setting::{Setting, read_setting};
-use super::why::Why;
 use super::words::next_word;
 
 /// A line that isn't skipped. A class is told by a `C`, as a line is read by its name.
@@ -22,7 +22,7 @@ pub enum Line<C> {
 ///
 /// [`Why::Words`] where no line has this format, and [`Why::Value`] where a `set` has a limit past
 /// 32 bits. The numbers of a setting may be out of their ranges yet.
-pub fn read_line(line: &[u8]) -> Result<Option<Line<&[u8]>>, Why>
+pub fn read_line(line: &[u8]) -> Result<Option<Line<&[u8]>>, FaultKind>
     ensures { result_map (option_map line_bytes) result ≡ line_of (words line.now) }
 {
     let Some((first, line)) = next_word(line) else {

@@ -1,5 +1,5 @@
 // A line at fault.
-use super::why::Why;
+use super::fault_kind::FaultKind;
 use std::fmt;
 
 /// A line at fault.
@@ -8,7 +8,7 @@ pub struct LineFault {
     /// The number of the line in its text, from 1.
     pub line: u64,
     /// What is wrong with it.
-    pub why: Why,
+    pub why: FaultKind,
 }
 
 impl fmt::Display for LineFault {

@@ -27,7 +27,7 @@ fn parse_digits(text: &str) -> Option<u64>
 
 /// The number that a word spells in 1 to 20 digits, where it fits a `u64`; leading zeros are
 /// allowed.
-pub fn read_number(word: &[u8]) -> Option<u64>
+pub(crate) fn read_number(word: &[u8]) -> Option<u64>
     ensures { result ≡ number_of word.now }
 {
     if word.len() > 20 || !all_digits(word) {
@@ -41,7 +41,7 @@ pub fn read_number(word: &[u8]) -> Option<u64>
 
 /// The number in front, and what follows it; nothing where no word is left, or the first one spells
 /// no number.
-pub fn next_number(line: &[u8]) -> Option<(u64, &[u8])>
+pub(crate) fn next_number(line: &[u8]) -> Option<(u64, &[u8])>
     ensures none { IfNone result (first_number (words line.now) ≡ None) }
     ensures first { IfSome result
         (λ cut. first_number (words line.now) ≡ Some (cut.0, words cut.1.now)) }
@@ -51,7 +51,7 @@ pub fn next_number(line: &[u8]) -> Option<(u64, &[u8])>
 }
 
 /// The number of a line that has no other word.
-pub fn read_lone_number(line: &[u8]) -> Option<u64>
+pub(crate) fn read_lone_number(line: &[u8]) -> Option<u64>
     ensures { result ≡ lone_number (words line.now) }
 {
     let (number, line) = next_number(line)?;

@@ -4,8 +4,8 @@ ghost use Rattle.script.specs.Words.{words, result_map};
 ghost use Rattle.script.specs.Request.{outcome_of, wait_of, acquire_of, end_of, look_of};
 ghost use Rattle.script.specs.Request.{set_of, short_of, request_of, request_bytes};
 
+use super::fault_kind::FaultKind;
 use super::numbers::{next_number, read_lone_number, read_number_pair};
-use super::why::Why;
 use super::words::next_word;
 use limiter_core::Outcome;
 
@@ -117,12 +117,12 @@ fn read_look(line: &[u8]) -> Option<Request<&[u8]>>
 }
 
 /// What follows `set`.
-fn read_set(line: &[u8]) -> Result<Request<&[u8]>, Why>
+fn read_set(line: &[u8]) -> Result<Request<&[u8]>, FaultKind>
     ensures { result_map request_bytes result ≡ set_of (words line.now) }
 {
-    let (limit, now) = read_number_pair(line).ok_or(Why::Words)?;
+    let (limit, now) = read_number_pair(line).ok_or(FaultKind::Words)?;
     let Ok(n) = u32::try_from(limit) else {
-        return Err(Why::Value);
+        return Err(FaultKind::Value);
     };
     Ok(Request::SetLimit { n, now })
 }
@@ -146,18 +146,18 @@ fn read_short<'a>(first: &[u8], line: &'a [u8]) -> Option<Request<&'a [u8]>>
 }
 
 /// What a line asks, by its first word and the rest; or the fault of its words or its value.
-pub(crate) fn read_request<'a>(first: &[u8], line: &'a [u8]) -> Result<Request<&'a [u8]>, Why>
+pub(crate) fn read_request<'a>(first: &[u8], line: &'a [u8]) -> Result<Request<&'a [u8]>, FaultKind>
     ensures { result_map request_bytes result ≡ request_of first.now (words line.now) }
 {
     if first == b"acquire".as_slice() {
-        read_acquire(line).ok_or(Why::Words)
+        read_acquire(line).ok_or(FaultKind::Words)
     } else if first == b"end".as_slice() {
-        read_end(line).ok_or(Why::Words)
+        read_end(line).ok_or(FaultKind::Words)
     } else if first == b"set".as_slice() {
         read_set(line)
     } else if first == b"look".as_slice() {
-        read_look(line).ok_or(Why::Words)
+        read_look(line).ok_or(FaultKind::Words)
     } else {
-        read_short(first, line).ok_or(Why::Words)
+        read_short(first, line).ok_or(FaultKind::Words)
     }
 }

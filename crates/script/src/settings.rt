@@ -5,9 +5,9 @@ ghost use Rattle.limit_laws.specs.Algorithm.{greatest_limit};
 ghost use Rattle.partitions.specs.Faults.{given};
 ghost use Rattle.script.specs.Settings.{table_of};
 
+use super::fault_kind::FaultKind;
 use super::limit_line::{LimitLine, make_limit};
 use super::setting::Setting;
-use super::why::Why;
 use super::window_line::{WindowLine, make_windows};
 use limit_kinds::{AnyLimit, BaseLimit};
 use limit_laws::HOUR;
@@ -98,7 +98,7 @@ impl<'a> Settings<'a> {
     ///
     /// [`Why::Twice`] where anything but a class was set before, and [`Why::Value`] where a number
     /// is out of its range, or the classes with this one make no table.
-    pub fn take(&mut self, setting: Setting<&'a [u8]>) -> Result<Result<(), Why>, AllocError>
+    pub fn take(&mut self, setting: Setting<&'a [u8]>) -> Result<Result<(), FaultKind>, AllocError>
         ensures answer { IfOk result (Answers
             (with_setting self.old (setting_bytes setting.entry)) self.old self.new) }
         ensures memory { OnErr result (self.new ≡ self.old) }
@@ -119,58 +119,58 @@ impl<'a> Settings<'a> {
     }
 
     /// Takes a limit.
-    fn take_limit(&mut self, line: LimitLine) -> Result<(), Why>
+    fn take_limit(&mut self, line: LimitLine) -> Result<(), FaultKind>
         ensures taken { OnOk result (with_limit self.old line ≡ Ok self.new) }
         ensures fault { IfErr result (λ why. with_limit self.old line ≡ Err why) }
         ensures unchanged { OnErr result (self.new ≡ self.old) }
     {
         if self.limit.is_some() {
-            return Err(Why::Twice);
+            return Err(FaultKind::Twice);
         }
-        self.limit = Some(make_limit(line).ok_or(Why::Value)?);
+        self.limit = Some(make_limit(line).ok_or(FaultKind::Value)?);
         Ok(())
     }
 
     /// Takes windows.
-    fn take_window(&mut self, line: WindowLine) -> Result<(), Why>
+    fn take_window(&mut self, line: WindowLine) -> Result<(), FaultKind>
         ensures taken { OnOk result (with_window self.old line ≡ Ok self.new) }
         ensures fault { IfErr result (λ why. with_window self.old line ≡ Err why) }
         ensures unchanged { OnErr result (self.new ≡ self.old) }
     {
         if self.windows.is_some() {
-            return Err(Why::Twice);
+            return Err(FaultKind::Twice);
         }
-        self.windows = Some(make_windows(line).ok_or(Why::Value)?);
+        self.windows = Some(make_windows(line).ok_or(FaultKind::Value)?);
         Ok(())
     }
 
     /// Takes a backlog.
-    fn take_backlog(&mut self, room: u64) -> Result<(), Why>
+    fn take_backlog(&mut self, room: u64) -> Result<(), FaultKind>
         ensures taken { OnOk result (with_backlog self.old room ≡ Ok self.new) }
         ensures fault { IfErr result (λ why. with_backlog self.old room ≡ Err why) }
         ensures unchanged { OnErr result (self.new ≡ self.old) }
     {
         if self.backlog.is_some() {
-            return Err(Why::Twice);
+            return Err(FaultKind::Twice);
         }
         if room > MOST_WAITING as u64 {
-            return Err(Why::Value);
+            return Err(FaultKind::Value);
         }
         self.backlog = Some(room as u32);
         Ok(())
     }
 
     /// Takes how many entries are kept, and whether the history rolls.
-    fn take_keep(&mut self, entries: u64, is_rolling: bool) -> Result<(), Why>
+    fn take_keep(&mut self, entries: u64, is_rolling: bool) -> Result<(), FaultKind>
         ensures taken { OnOk result (with_keep self.old entries is_rolling ≡ Ok self.new) }
         ensures fault { IfErr result (λ why. with_keep self.old entries is_rolling ≡ Err why) }
         ensures unchanged { OnErr result (self.new ≡ self.old) }
     {
         if self.keep.is_some() {
-            return Err(Why::Twice);
+            return Err(FaultKind::Twice);
         }
         if entries < 1 || entries > MOST_KEPT {
-            return Err(Why::Value);
+            return Err(FaultKind::Value);
         }
         self.keep = Some(entries as usize);
         self.is_rolling = is_rolling;
@@ -178,36 +178,40 @@ impl<'a> Settings<'a> {
     }
 
     /// Takes how long a caller waits.
-    fn take_timeout(&mut self, nanos: u64) -> Result<(), Why>
+    fn take_timeout(&mut self, nanos: u64) -> Result<(), FaultKind>
         ensures taken { OnOk result (with_timeout self.old nanos ≡ Ok self.new) }
         ensures fault { IfErr result (λ why. with_timeout self.old nanos ≡ Err why) }
         ensures unchanged { OnErr result (self.new ≡ self.old) }
     {
         if self.timeout.is_some() {
-            return Err(Why::Twice);
+            return Err(FaultKind::Twice);
         }
         if nanos < 1 || nanos > HOUR {
-            return Err(Why::Value);
+            return Err(FaultKind::Value);
         }
         self.timeout = Some(nanos);
         Ok(())
     }
 
     /// Takes a rule of promotion.
-    fn take_promote(&mut self, rule: Promote) -> Result<(), Why>
+    fn take_promote(&mut self, rule: Promote) -> Result<(), FaultKind>
         ensures taken { OnOk result (with_promote self.old rule ≡ Ok self.new) }
         ensures fault { IfErr result (λ why. with_promote self.old rule ≡ Err why) }
         ensures unchanged { OnErr result (self.new ≡ self.old) }
     {
         if self.promote.is_some() {
-            return Err(Why::Twice);
+            return Err(FaultKind::Twice);
         }
         self.promote = Some(rule);
         Ok(())
     }
 
     /// Takes one more class, whose share is told in percent.
-    fn take_class(&mut self, name: &'a [u8], percent: u64) -> Result<Result<(), Why>, AllocError>
+    fn take_class(
+        &mut self,
+        name: &'a [u8],
+        percent: u64,
+    ) -> Result<Result<(), FaultKind>, AllocError>
         ensures answer { IfOk result
             (Answers (with_percent self.old name.now percent) self.old self.new) }
         ensures memory { OnErr result (self.new ≡ self.old) }
@@ -220,21 +224,21 @@ impl<'a> Settings<'a> {
         &mut self,
         name: &'a [u8],
         thousandths: u64,
-    ) -> Result<Result<(), Why>, AllocError>
+    ) -> Result<Result<(), FaultKind>, AllocError>
         ensures answer { IfOk result (Answers
             (with_row self.old (record { name = name.now; thousandths = thousandths }))
             self.old self.new) }
         ensures memory { OnErr result (self.new ≡ self.old) }
     {
         let Ok(thousandths) = u32::try_from(thousandths) else {
-            return Ok(Err(Why::Value));
+            return Ok(Err(FaultKind::Value));
         };
         match push_row(&mut self.rows, (name, thousandths))? {
             Some(table) => {
                 self.table = table;
                 Ok(Ok(()))
             }
-            None => Ok(Err(Why::Value)),
+            None => Ok(Err(FaultKind::Value)),
         }
     }
 

@@ -4,8 +4,8 @@ ghost use Rattle.script.specs.Words.{words, result_map};
 ghost use Rattle.script.specs.TraceLine.{trace_line_of, trace_line_bytes};
 
 use super::arrival::{ArrivalLine, read_arrival};
+use super::fault_kind::FaultKind;
 use super::setting::{Setting, read_setting};
-use super::why::Why;
 use super::words::next_word;
 
 /// A line of a trace that isn't skipped. A class is told by a `C`, as a line is read by its name.
@@ -22,7 +22,7 @@ pub enum TraceLine<C> {
 ///
 /// [`Why::Words`] where no line of a trace has this format, and [`Why::Value`] where a permit is
 /// held for longer than an hour. The numbers of a setting may be out of their ranges yet.
-pub fn read_trace_line(line: &[u8]) -> Result<Option<TraceLine<&[u8]>>, Why>
+pub fn read_trace_line(line: &[u8]) -> Result<Option<TraceLine<&[u8]>>, FaultKind>
     ensures { result_map (option_map trace_line_bytes) result ≡ trace_line_of (words line.now) }
 {
     let Some((first, line)) = next_word(line) else {

@@ -29,7 +29,7 @@ fn without_spaces(line: &[u8]) -> &[u8]
 
 /// The first word, and what follows it; nothing where no word is left.
 #[tactic(auto, using(crate::proofs::Parts::words_first, std::proofs::lemmas::List::take_rest))]
-pub fn next_word(line: &[u8]) -> Option<(&[u8], &[u8])>
+pub(crate) fn next_word(line: &[u8]) -> Option<(&[u8], &[u8])>
     ensures none { IfNone result (words line.now ≡ []) }
     ensures first { IfSome result (λ cut. words line.now ≡ cut.0.now ∷ words cut.1.now) }
 {

@@ -4,8 +4,8 @@ use Rattle.std.specs.Prelude.{Result, Ok, Err}
 use Rattle.partitions.specs.declared.part.Part.TheVariants.{Unknown}
 use Rattle.partitions.specs.Table.{Row}
 use Rattle.limiter_core.specs.declared.event.Outcome.TheVariants.{Success}
-use Rattle.script.specs.declared.why.Why.{Why}
-use Rattle.script.specs.declared.why.Why.TheVariants.{Late, Class}
+use Rattle.script.specs.declared.fault_kind.FaultKind.{FaultKind}
+use Rattle.script.specs.declared.fault_kind.FaultKind.TheVariants.{Late, Class}
 use Rattle.script.specs.declared.line_fault.LineFault.{LineFault}
 use Rattle.script.specs.declared.arrival.ArrivalLine.TheVariants.{Arrive, Bypass}
 use Rattle.script.specs.declared.trace_line.TraceLine.TheVariants as line
@@ -17,7 +17,7 @@ use Rattle.trace.specs.declared.arrival.Arrival.{Arrival}
 
 -- the call of a line, or that the table has no such class: one that goes past the limit is of no
 -- class, and holds nothing
-abbrev pub call_of : List Row → Arrives → Result Arrival Why
+abbrev pub call_of : List Row → Arrives → Result Arrival FaultKind
 call_of rows (Arrive class at duration outcome wait) =
     result_map (λ part. record {
       part = part;
@@ -37,7 +37,7 @@ call_of rows (Bypass at) = Ok (record {
 })
 
 -- what a line says behind the settings: nothing where it is skipped; a setting comes too late here
-abbrev pub call_at : List Row → Traced → Result (Option Arrival) Why
+abbrev pub call_at : List Row → Traced → Result (Option Arrival) FaultKind
 call_at rows (Ok None) = Ok None
 call_at rows (Ok (Some (line.Setting setting))) = Err Late
 call_at rows (Ok (Some (line.Arrival arrival))) = result_map Some (call_of rows arrival)
@@ -53,11 +53,11 @@ abbrev pub after_calls : List Arrival → Calls → Calls
 after_calls before calls = record { arrivals = before ++ calls.arrivals; fault = calls.fault }
 
 -- no call, and this line is at fault
-abbrev pub faulty : ℕ → Why → Calls
+abbrev pub faulty : ℕ → FaultKind → Calls
 faulty number why = record { arrivals = []; fault = Some (record { line = number; why = why }) }
 
 -- by what a line says: it and the calls after it, or its fault
-abbrev pub by_call : ℕ → Result (Option Arrival) Why → Calls → Calls
+abbrev pub by_call : ℕ → Result (Option Arrival) FaultKind → Calls → Calls
 by_call number (Ok None) after = after
 by_call number (Ok (Some arrival)) after = after_calls (arrival ∷ []) after
 by_call number (Err why) after = faulty number why

@@ -7,7 +7,7 @@ ghost use Rattle.trace.specs.Calls.{call_of, call_at};
 
 use limiter_core::Outcome;
 use partitions::{Part, PartitionTable};
-use script::{ArrivalLine, TraceLine, Why, read_part, read_trace_line};
+use script::{ArrivalLine, FaultKind, TraceLine, read_part, read_trace_line};
 
 /// A call that comes at a moment, and holds its permit for so long, if it gets one.
 #[derive(Clone, Copy)]
@@ -27,7 +27,7 @@ pub struct Arrival {
 }
 
 /// The call of a line, or that the table has no such class.
-fn make_arrival(table: &PartitionTable, line: ArrivalLine<&[u8]>) -> Result<Arrival, Why>
+fn make_arrival(table: &PartitionTable, line: ArrivalLine<&[u8]>) -> Result<Arrival, FaultKind>
     ensures { result ≡ call_of table.now (arrival_bytes line.entry) }
 {
     match line {
@@ -60,12 +60,15 @@ fn make_arrival(table: &PartitionTable, line: ArrivalLine<&[u8]>) -> Result<Arri
 }
 
 /// The call of a line behind the settings; nothing where it is skipped, or why it is at fault.
-pub(crate) fn read_arrival(table: &PartitionTable, line: &[u8]) -> Result<Option<Arrival>, Why>
+pub(crate) fn read_arrival(
+    table: &PartitionTable,
+    line: &[u8],
+) -> Result<Option<Arrival>, FaultKind>
     ensures { result ≡ call_at table.now (trace_line_of (words line.now)) }
 {
     match read_trace_line(line)? {
         None => Ok(None),
-        Some(TraceLine::Setting(_)) => Err(Why::Late),
+        Some(TraceLine::Setting(_)) => Err(FaultKind::Late),
         Some(TraceLine::Arrival(line)) => Ok(Some(make_arrival(table, line)?)),
     }
 }

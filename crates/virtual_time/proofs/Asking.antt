@@ -1,4 +1,4 @@
--- What a deed is answered, by a session that stands for all entries so far.
+-- What an action is answered, by a session that stands for all entries so far.
 use Rattle.std.proofs.Common.{◌≡◌, ℕ, ◌++◌, refl, sym, append-nil}
 use Rattle.limit_laws.specs.Algorithm.{Algorithm}
 use Rattle.gate_journal.specs.Journal.{Journal}
@@ -6,7 +6,7 @@ use Rattle.load_driver.specs.declared.asked.Asked.{Asked}
 use Rattle.load_driver.specs.declared.asked.Asked.TheVariants.{Nothing, NotOpen, Event}
 use Rattle.load_driver.specs.Replay.{Open, after_asked, told_of}
 use Rattle.trace.specs.declared.arrival.Arrival.{Arrival}
-use Rattle.virtual_time.specs.declared.deed.Deed.{Deed}
+use Rattle.virtual_time.specs.declared.action.Action.{Action}
 use Rattle.virtual_time.specs.Course.{asked_of, journal_with}
 
 -- the journal after what is asked has the entries that this adds
@@ -17,6 +17,6 @@ grown rules w NotOpen = λ k. journal_with w (sym (append-nil w.entries) k)
 grown rules w (Event e) = refl
 
 -- the same is asked where the same permits are open
-pub same_asked : (some others : Open) → ((n : ℕ) → some n ≡ others n) → (a : Arrival) (d : Deed)
+pub same_asked : (some others : Open) → ((n : ℕ) → some n ≡ others n) → (a : Arrival) (d : Action)
     → asked_of some a d ≡ asked_of others a d
 same_asked some others same a d = λ k. asked_of (λ n. same n k) a d

@@ -1,17 +1,17 @@
--- A calendar after one deed more.
+-- A calendar after one action more.
 use Rattle.std.proofs.Common.{◌≡◌, ◌≢◌, ℕ, ◌<◌, true, List, [], ◌∷◌, ◌++◌, length, Option, None}
 use Rattle.std.proofs.Common.{Some, is_some, slice_get, unwrap_or, sym, ap, ◌∙◌, subst, true≢false}
 use Rattle.std.proofs.Common.{⊎_elim, arith}
 use Rattle.std.proofs.lemmas.Bool.{cases_eq}
 use Rattle.limiter_core.specs.declared.event.Entry.{Entry}
 use Rattle.trace.specs.declared.arrival.Arrival.{Arrival}
-use Rattle.virtual_time.specs.declared.deed.Kind.TheVariants.{GivingUp}
-use Rattle.virtual_time.specs.declared.deed.Deed.{Deed}
-use Rattle.virtual_time.specs.declared.deed.Step.{Step}
+use Rattle.virtual_time.specs.declared.action.Kind.TheVariants.{GivingUp}
+use Rattle.virtual_time.specs.declared.action.Action.{Action}
+use Rattle.virtual_time.specs.declared.action.Step.{Step}
 use Rattle.virtual_time.specs.declared.calendar.Calendar.{Calendar}
 use Rattle.virtual_time.specs.Pending.{IsPending, pending_at, left}
 use Rattle.virtual_time.specs.Next.{IsNext, follows, leads}
-use Rattle.virtual_time.specs.Course.{Limiter, Course, IsCourse, more, answered, with_deed}
+use Rattle.virtual_time.specs.Course.{Limiter, Course, IsCourse, more, answered, with_action}
 use Rattle.virtual_time.specs.Course.{course_with, step_of, reply_of}
 use Rattle.virtual_time.specs.Calendar.{has, Has, IsKept, IsHeld, Takes, Adds, Joins}
 use Rattle.virtual_time.proofs.Calendars.{had_before, follows_more}
@@ -19,9 +19,10 @@ use Rattle.virtual_time.proofs.Pendings.{pending_within, pending_here, pending_e
 use Rattle.virtual_time.proofs.Pendings.{left_place, left_number, left_answered}
 use Rattle.virtual_time.proofs.Additions.{kept_grown, kept_added, joined}
 
--- the next deed is the same where the same deeds are pending
-pub next_same : (P Q : Deed → Type 0) (entries : List Entry) (d : Deed) → ((e : Deed) → P e → Q e)
-    → ((e : Deed) → Q e → P e) → IsNext P entries d → IsNext Q entries d
+-- the next action is the same where the same actions are pending
+pub next_same : (P Q : Action → Type 0) (entries : List Entry) (d : Action)
+    → ((e : Action) → P e → Q e)
+    → ((e : Action) → Q e → P e) → IsNext P entries d → IsNext Q entries d
 next_same P Q entries d to from (follows first) = follows (record {
   place = first.place;
   follows = follows_more P Q entries first.place d to first.follows;
@@ -37,9 +38,9 @@ replied [] h = absurd (true≢false (sym h))
 replied (e ∷ told) h = omega arith
 
 module _ (arrivals : List Arrival) (timeout : ℕ) (steps : List Step) (entries : List Entry)
-    (c mid : Calendar) (held : IsHeld arrivals timeout steps entries c) (d : Deed)
-    (takes : Takes c.deeds mid.deeds d) where
-  abbrev taken : Deed
+    (c mid : Calendar) (held : IsHeld arrivals timeout steps entries c) (d : Action)
+    (takes : Takes c.actions mid.actions d) where
+  abbrev taken : Action
   taken = record d { moment = takes.late }
 
   was_pending : IsPending arrivals timeout steps taken
@@ -55,23 +56,24 @@ module _ (arrivals : List Arrival) (timeout : ℕ) (steps : List Step) (entries 
     s = step_of d entries told
 
     -- what is still queued is pending at another place
-    still_pending : (e : Deed) → Has mid.deeds e → IsPending arrivals timeout steps e
-    still_pending e h = held.from e (had_before c.deeds mid.deeds taken takes.loses e h)
+    still_pending : (e : Action) → Has mid.actions e → IsPending arrivals timeout steps e
+    still_pending e h = held.from e (had_before c.actions mid.actions taken takes.loses e h)
 
-    another_place : (e : Deed) → Has mid.deeds e → e.place ≢ d.place
+    another_place : (e : Action) → Has mid.actions e → e.place ≢ d.place
     another_place e h same =
-        let is : e ≡ taken = ap (λ (o : Option Deed). unwrap_or o e) (sym (still_pending e h)
+        let is : e ≡ taken = ap (λ (o : Option Action). unwrap_or o e) (sym (still_pending e h)
         ∙ ap (pending_at arrivals timeout steps) same ∙ was_pending) in
-        true≢false (sym h ∙ ap (has mid.deeds) is ∙ takes.loses.gone)
+        true≢false (sym h ∙ ap (has mid.actions) is ∙ takes.loses.gone)
 
-    pending_still : (e : Deed) → Has mid.deeds e → IsPending arrivals timeout (steps ++ s ∷ []) e
+    pending_still : (e : Action) → Has mid.actions e
+        → IsPending arrivals timeout (steps ++ s ∷ []) e
     pending_still e h = pending_elsewhere steps s arrivals timeout e.place (another_place e h)
         ∙ still_pending e h
 
-    queued_still : (e : Deed) → e.place ≢ d.place → IsPending arrivals timeout (steps ++ s ∷ []) e
-        → Has mid.deeds e
+    queued_still : (e : Action) → e.place ≢ d.place → IsPending arrivals timeout (steps ++ s ∷ []) e
+        → Has mid.actions e
     queued_still e apart p =
-        takes.loses.others e (λ same. apart (ap (λ (x : Deed). x.place) same))
+        takes.loses.others e (λ same. apart (ap (λ (x : Action). x.place) same))
         ∙ held.to e (sym (pending_elsewhere steps s arrivals timeout e.place apart) ∙ p)
 
     -- where the step leaves nothing
@@ -85,8 +87,8 @@ module _ (arrivals : List Arrival) (timeout : ℕ) (steps : List Step) (entries 
           (λ apart. queued_still e apart p) (cases_eq e.place d.place);
     }
 
-    -- where it leaves a deed, which joins
-    pub held_with : (x : Deed) (new : Calendar) → left timeout a s ≡ Some x → Adds mid new x
+    -- where it leaves an action, which joins
+    pub held_with : (x : Action) (new : Calendar) → left timeout a s ≡ Some x → Adds mid new x
         → IsHeld arrivals timeout (steps ++ s ∷ []) (entries ++ told) new
     held_with x new some adds =
         let place : x.place ≡ d.place = left_place timeout a s d.kind (reply_of told) x some in
@@ -102,28 +104,28 @@ module _ (arrivals : List Arrival) (timeout : ℕ) (steps : List Step) (entries 
               (pending_still e) (joined entries told mid new x kept adds number answered e h);
           to = λ e p. ⊎_elim
               (λ same.
-              let is : x ≡ e = ap (λ (o : Option Deed). unwrap_or o e) (sym some
+              let is : x ≡ e = ap (λ (o : Option Action). unwrap_or o e) (sym some
               ∙ sym (pending_here steps s arrivals timeout a e.place same found) ∙ p) in
-              subst (Has new.deeds) is adds.here)
-              (λ apart. adds.others e (λ same. apart (ap (λ (y : Deed). y.place) same ∙ place))
+              subst (Has new.actions) is adds.here)
+              (λ apart. adds.others e (λ same. apart (ap (λ (y : Action). y.place) same ∙ place))
               ∙ queued_still e apart p)
               (cases_eq e.place d.place);
         }
 
-    pub held_after : (new : Calendar) (x : Option Deed) → x ≡ left timeout a s → Joins mid new x
+    pub held_after : (new : Calendar) (x : Option Action) → x ≡ left timeout a s → Joins mid new x
         → IsHeld arrivals timeout (steps ++ s ∷ []) (entries ++ told) new
     held_after new None is same =
         subst (IsHeld arrivals timeout (steps ++ s ∷ []) (entries ++ told)) (sym same)
         (held_without (sym is))
     held_after new (Some x) is adds = held_with x new (sym is) adds
 
--- A DEED MORE, the next one by a calendar: the course is one still, and the calendar holds what is
--- pending then
+-- one action more, the next one by a calendar: the course is one still, and the calendar has what
+-- is pending then
 module _ (limiter : Limiter) (arrivals : List Arrival) (timeout : ℕ) (c : Course)
     (before mid : Calendar) (course : IsCourse limiter arrivals timeout c)
     (held : IsHeld arrivals timeout c.steps c.entries before)
-    (d : Deed) (a : Arrival) (found : slice_get arrivals d.place ≡ Some a)
-    (next : IsNext (Has before.deeds) c.entries d) (takes : Takes before.deeds mid.deeds d)
+    (d : Action) (a : Arrival) (found : slice_get arrivals d.place ≡ Some a)
+    (next : IsNext (Has before.actions) c.entries d) (takes : Takes before.actions mid.actions d)
     (kept : IsKept c.entries mid) where
   abbrev pub told : List Entry
   told = (limiter c.entries a d).told
@@ -133,13 +135,13 @@ module _ (limiter : Limiter) (arrivals : List Arrival) (timeout : ℕ) (c : Cour
 
   pub after_course : IsCourse limiter arrivals timeout after
   after_course =
-      let then : IsCourse limiter arrivals timeout (with_deed limiter arrivals timeout c d) =
-      more c d course (next_same (Has before.deeds) (IsPending arrivals timeout c.steps)
+      let then : IsCourse limiter arrivals timeout (with_action limiter arrivals timeout c d) =
+      more c d course (next_same (Has before.actions) (IsPending arrivals timeout c.steps)
       c.entries d held.from held.to next) in
       subst (λ (o : Option Arrival). IsCourse limiter arrivals timeout
       (course_with c d (answered limiter c.entries o d))) found then
 
-  pub after_held : (new : Calendar) (x : Option Deed) → x
+  pub after_held : (new : Calendar) (x : Option Action) → x
       ≡ left timeout a (step_of d c.entries told) → Joins mid new x
       → IsHeld arrivals timeout after.steps after.entries new
   after_held = held_after arrivals timeout c.steps c.entries before mid held d takes told a found

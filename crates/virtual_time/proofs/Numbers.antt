@@ -6,9 +6,9 @@ use Rattle.std.specs.Prelude.{option_and_then}
 use Rattle.std.proofs.lemmas.Bool.{cases_eq}
 use Rattle.limiter_core.specs.declared.event.Entry.{Entry}
 use Rattle.trace.specs.declared.arrival.Arrival.{Arrival}
-use Rattle.virtual_time.specs.declared.deed.Kind.TheVariants.{GivingUp}
-use Rattle.virtual_time.specs.declared.deed.Deed.{Deed}
-use Rattle.virtual_time.specs.declared.deed.Step.{Step}
+use Rattle.virtual_time.specs.declared.action.Kind.TheVariants.{GivingUp}
+use Rattle.virtual_time.specs.declared.action.Action.{Action}
+use Rattle.virtual_time.specs.declared.action.Step.{Step}
 use Rattle.virtual_time.specs.Pending.{IsPending, left, arriving}
 use Rattle.virtual_time.specs.Course.{Limiter, Course, IsCourse, begin, more, answered, step_of}
 use Rattle.virtual_time.proofs.Pendings.{pending_by_arrival, pending_elsewhere, left_number}
@@ -17,13 +17,13 @@ use Rattle.virtual_time.proofs.Courses.{replied}
 
 module _ (arrivals : List Arrival) (timeout : ℕ) where
   pub record AreNumbered (steps : List Step) (entries : List Entry) : Type 0 where
-    pub below : (d : Deed) → IsPending arrivals timeout steps d → d.kind ≡ GivingUp
+    pub below : (d : Action) → IsPending arrivals timeout steps d → d.kind ≡ GivingUp
         → d.number < length entries
-    pub one : (d e : Deed) → IsPending arrivals timeout steps d
+    pub one : (d e : Action) → IsPending arrivals timeout steps d
         → IsPending arrivals timeout steps e → d.kind ≡ GivingUp → e.kind ≡ GivingUp → d.number
         ≡ e.number → d.place ≡ e.place
 
-  to_come : (d : Deed) (o : Option Arrival)
+  to_come : (d : Action) (o : Option Arrival)
       → option_and_then (λ (a : Arrival). Some (arriving a d.place)) o ≡ Some d → d.kind ≡ GivingUp
       → ⊥
   to_come d None h waits = cc
@@ -35,23 +35,23 @@ module _ (arrivals : List Arrival) (timeout : ℕ) where
     one = λ d e h k waits waits_too same. absurd (to_come d (slice_get arrivals d.place) h waits);
   }
 
-  left_of : (s : Step) (e : Deed) (o : Option Arrival)
+  left_of : (s : Step) (e : Action) (o : Option Arrival)
       → option_and_then (λ (a : Arrival). left timeout a s) o ≡ Some e → e.kind ≡ GivingUp
       → (e.number ≡ s.first) × (is_some s.reply ≡ true)
   left_of s e None h waits = cc
   left_of s e (Some a) h waits = (
-    left_number timeout a s s.deed.kind s.reply e h waits,
-    left_answered timeout a s s.deed.kind
+    left_number timeout a s s.action.kind s.reply e h waits,
+    left_answered timeout a s s.action.kind
         s.reply e h,
   )
 
   module _ (steps : List Step) (entries : List Entry) (before : AreNumbered steps entries)
-      (d : Deed) (told : List Entry) where
+      (d : Action) (told : List Entry) where
     abbrev s : Step
     s = step_of d entries told
 
     -- a giving up that is pending then came with the step, or was pending before
-    came : (e : Deed) → IsPending arrivals timeout (steps ++ s ∷ []) e → e.kind ≡ GivingUp
+    came : (e : Action) → IsPending arrivals timeout (steps ++ s ∷ []) e → e.kind ≡ GivingUp
         → ((e.place ≡ d.place) × (e.number ≡ length entries) × (0 < length told))
         ⊎ IsPending arrivals timeout steps e
     came e h waits = ⊎_elim

@@ -3,21 +3,21 @@ use Rattle.std.proofs.Common.{◌≡◌, ℕ, ◌+◌, ◌<◌, List, [], ◌∷
 use Rattle.std.proofs.Common.{unwrap_or, refl, sym, ap, ◌∙◌, subst, ⊎_elim, length-append, arith}
 use Rattle.std.proofs.lemmas.Bool.{cases_eq, cases_lt}
 use Rattle.trace.specs.declared.arrival.Arrival.{Arrival}
-use Rattle.virtual_time.specs.declared.deed.Deed.{Deed}
+use Rattle.virtual_time.specs.declared.action.Action.{Action}
 use Rattle.virtual_time.specs.Pending.{IsPending, pending_at}
 use Rattle.virtual_time.specs.Next.{IsNext, IsFirst, IsLeast, follows, leads, promotes}
-use Rattle.virtual_time.specs.Course.{Limiter, Course, IsCourse, IsWhole, begin, more, with_deed}
+use Rattle.virtual_time.specs.Course.{Limiter, Course, IsCourse, IsWhole, begin, more, with_action}
 use Rattle.virtual_time.specs.Course.{step_of, answered}
 use Rattle.virtual_time.proofs.Orders.{one_place}
 use Rattle.virtual_time.proofs.Numbers.{numbered}
 
 module _ (limiter : Limiter) (arrivals : List Arrival) (timeout : ℕ) (c : Course)
     (course : IsCourse limiter arrivals timeout c) where
-  abbrev Pending : Deed → Type 0
+  abbrev Pending : Action → Type 0
   Pending = IsPending arrivals timeout c.steps
 
   -- the first promotion that is followed is one
-  one_entry : (d e : Deed) (f : IsFirst Pending c.entries d) (g : IsFirst Pending c.entries e)
+  one_entry : (d e : Action) (f : IsFirst Pending c.entries d) (g : IsFirst Pending c.entries e)
       → f.place ≡ g.place
   one_entry d e f g = ⊎_elim
       (λ below. absurd (g.first f.place d below f.follows))
@@ -25,7 +25,7 @@ module _ (limiter : Limiter) (arrivals : List Arrival) (timeout : ℕ) (c : Cour
       (λ under. omega (arith, above, under)) (cases_lt g.place f.place))
       (cases_lt f.place g.place)
 
-  one_follows : (d e : Deed) → IsFirst Pending c.entries d → IsFirst Pending c.entries e → d ≡ e
+  one_follows : (d e : Action) → IsFirst Pending c.entries d → IsFirst Pending c.entries e → d ≡ e
   one_follows d e f g =
       let told : Some (d.number, d.moment) ≡ Some (e.number, e.moment) =
       sym f.follows.promoted ∙ ap (λ (k : ℕ). promotes (slice_get c.entries k))
@@ -46,29 +46,29 @@ module _ (limiter : Limiter) (arrivals : List Arrival) (timeout : ℕ) (c : Cour
         number = number i;
       }
 
-  one_least : (d e : Deed) → IsLeast Pending d → IsLeast Pending e → d ≡ e
+  one_least : (d e : Action) → IsLeast Pending d → IsLeast Pending e → d ≡ e
   one_least d e f g =
       let place : d.place ≡ e.place = one_place d e (g.least d f.pending) (f.least e g.pending) in
-      ap (λ (o : Option Deed). unwrap_or o d) (sym f.pending
+      ap (λ (o : Option Action). unwrap_or o d) (sym f.pending
       ∙ ap (pending_at arrivals timeout c.steps) place ∙ g.pending)
 
-  -- THE NEXT DEED is one
-  pub one_next : (d e : Deed) → IsNext Pending c.entries d → IsNext Pending c.entries e → d ≡ e
+  -- THE NEXT ACTION is one
+  pub one_next : (d e : Action) → IsNext Pending c.entries d → IsNext Pending c.entries e → d ≡ e
   one_next d e (follows f) (follows g) = one_follows d e f g
   one_next d e (follows f) (leads none g) = absurd (none f.place d f.follows)
   one_next d e (leads none f) (follows g) = absurd (none g.place e g.follows)
   one_next d e (leads none f) (leads none_too g) = one_least d e f g
 
-  -- and a deed is pending where there is a next one
-  pub some_pending : (d : Deed) → IsNext Pending c.entries d → ((e : Deed) → Pending e → ⊥) → ⊥
+  -- and an action is pending where there is a next one
+  pub some_pending : (d : Action) → IsNext Pending c.entries d → ((e : Action) → Pending e → ⊥) → ⊥
   some_pending d (follows f) over = over (record d { moment = f.follows.late }) f.follows.waits
   some_pending d (leads none f) over = over d f.pending
 
 module _ (limiter : Limiter) (arrivals : List Arrival) (timeout : ℕ) where
-  abbrev after : Course → Deed → Course
-  after = with_deed limiter arrivals timeout
+  abbrev after : Course → Action → Course
+  after = with_action limiter arrivals timeout
 
-  longer : (c : Course) (d : Deed) → length (after c d).steps ≡ length c.steps + 1
+  longer : (c : Course) (d : Action) → length (after c d).steps ≡ length c.steps + 1
   longer c d = length-append c.steps
       (step_of d c.entries (answered limiter c.entries (slice_get arrivals d.place) d).told ∷ [])
 
@@ -81,14 +81,14 @@ module _ (limiter : Limiter) (arrivals : List Arrival) (timeout : ℕ) where
   same_course _ _ (more c d course next) (more e f course_too next_too) h =
       let before : c ≡ e = same_course c e course course_too
       (omega (arith, h, longer c d, longer e f)) in
-      let deed : d ≡ f = one_next limiter arrivals timeout c course d f next
+      let action : d ≡ f = one_next limiter arrivals timeout c course d f next
       (subst (λ (x : Course). IsNext (IsPending arrivals timeout x.steps) x.entries f)
       (sym before) next_too) in
-      λ i. after (before i) (deed i)
+      λ i. after (before i) (action i)
 
-  -- a course that is shorter than another has a next deed
+  -- a course that is shorter than another has a next action
   goes_on : (c e : Course) → IsCourse limiter arrivals timeout c
-      → IsCourse limiter arrivals timeout e → length c.steps < length e.steps → (d : Deed)
+      → IsCourse limiter arrivals timeout e → length c.steps < length e.steps → (d : Action)
       × IsNext (IsPending arrivals timeout c.steps) c.entries d
   goes_on c _ course begin h = absurd (omega (arith, h))
   goes_on c _ course (more e d course_too next) h = ⊎_elim
@@ -103,7 +103,7 @@ module _ (limiter : Limiter) (arrivals : List Arrival) (timeout : ℕ) where
   not_longer : (c e : Course) → IsWhole limiter arrivals timeout c
       → IsWhole limiter arrivals timeout e → length c.steps < length e.steps → ⊥
   not_longer c e whole whole_too h =
-      let next : (d : Deed) × IsNext (IsPending arrivals timeout c.steps) c.entries d =
+      let next : (d : Action) × IsNext (IsPending arrivals timeout c.steps) c.entries d =
       goes_on c e whole.course whole_too.course h in
       some_pending limiter arrivals timeout c whole.course next.0 next.1 whole.over
 

@@ -1,26 +1,26 @@
-// The deeds to come, in their order.
+// The actions to come, in their order.
 ghost use Rattle.std.specs.Prelude.{◌≡◌, ◌+◌, ◌<◌, ℕ, [], false, length, nat_eq, slice_get, Some};
 ghost use Rattle.std.specs.Prelude.{IfOk, OnOk, IfSome, IfNone};
 ghost use Rattle.std.specs.HashMap.{get};
-ghost use Rattle.virtual_time.specs.declared.deed.Deed.{Deed};
+ghost use Rattle.virtual_time.specs.declared.action.Action.{Action};
 ghost use Rattle.virtual_time.specs.Next.{promotes, IsNext, IsFirst, IsLeast, Follows};
 ghost use Rattle.virtual_time.specs.Calendar.{has, Has, IsKept, IsHeld, Loses, Takes, Adds, Joins};
 
-use super::deed::{Deed, Kind};
+use super::action::{Action, Kind};
 use super::pending::arriving;
 use limiter_core::Entry;
 use std::alloc::{AllocError, Global};
 use std::collections::{BTreeSet, HashMap};
 use trace::Arrival;
 
-/// The deeds to come, in their order.
+/// The actions to come, in their order.
 ///
 /// A promotion is found once: the entries up to `read` were looked through for them.
 #[derive(Drop)]
 pub(crate) struct Calendar {
-    deeds: BTreeSet<Deed>,
-    /// The giving up of each number that ever waited; it is pending where `deeds` has it.
-    waiters: HashMap<u64, Deed>,
+    actions: BTreeSet<Action>,
+    /// The giving up of each number that ever waited; it is pending where `actions` has it.
+    waiters: HashMap<u64, Action>,
     read: usize,
 }
 
@@ -29,74 +29,74 @@ impl Calendar {
     pub(crate) fn new(alloc: Global, arrivals: &[Arrival]) -> Result<Calendar, AllocError>
         ensures { IfOk result (λ c. (timeout : ℕ) → IsHeld arrivals.now timeout [] [] c) }
     {
-        let mut deeds = BTreeSet::new(alloc);
+        let mut actions = BTreeSet::new(alloc);
         for (place, arrival) in arrivals.iter().enumerate() {
-            deeds.insert(arriving(arrival, place))?;
+            actions.insert(arriving(arrival, place))?;
         }
         Ok(Calendar {
-            deeds,
+            actions,
             waiters: HashMap::new(alloc),
             read: 0,
         })
     }
 
-    /// Takes the next deed out.
-    pub(crate) fn next(&mut self, entries: &[Entry]) -> Option<Deed>
+    /// Takes the next action out.
+    pub(crate) fn next(&mut self, entries: &[Entry]) -> Option<Action>
         requires { IsKept entries.now self.old }
         ensures kept { IsKept entries.now self.new }
-        ensures next { IfSome result (IsNext (Has self.old.deeds) entries.now) }
-        ensures takes { IfSome result (Takes self.old.deeds self.new.deeds) }
-        ensures over { IfNone result ((d : Deed) → has self.old.deeds d ≡ false) }
+        ensures next { IfSome result (IsNext (Has self.old.actions) entries.now) }
+        ensures takes { IfSome result (Takes self.old.actions self.new.actions) }
+        ensures over { IfNone result ((d : Action) → has self.old.actions d ≡ false) }
     {
-        if let Some(deed) = self.next_promoted(entries) {
-            return Some(deed);
+        if let Some(action) = self.next_promoted(entries) {
+            return Some(action);
         }
-        let deed = self.pop_least()?;
-        Some(deed)
+        let action = self.pop_least()?;
+        Some(action)
     }
 
-    /// Takes the least deed out.
-    fn pop_least(&mut self) -> Option<Deed>
-        ensures least { IfSome result (IsLeast (Has self.old.deeds)) }
-        ensures loses { IfSome result (Loses self.old.deeds self.new.deeds) }
-        ensures none { IfNone result ((d : Deed) → has self.old.deeds d ≡ false) }
-        ensures same { IfNone result (self.new.deeds ≡ self.old.deeds) }
+    /// Takes the least action out.
+    fn pop_least(&mut self) -> Option<Action>
+        ensures least { IfSome result (IsLeast (Has self.old.actions)) }
+        ensures loses { IfSome result (Loses self.old.actions self.new.actions) }
+        ensures none { IfNone result ((d : Action) → has self.old.actions d ≡ false) }
+        ensures same { IfNone result (self.new.actions ≡ self.old.actions) }
         ensures waiters { self.new.waiters ≡ self.old.waiters }
         ensures read { self.new.read ≡ self.old.read }
     {
-        let deed = self.deeds.pop_first()?;
-        Some(deed)
+        let action = self.actions.pop_first()?;
+        Some(action)
     }
 
     /// Takes the giving up out that follows the first promotion that has one.
-    fn next_promoted(&mut self, entries: &[Entry]) -> Option<Deed>
+    fn next_promoted(&mut self, entries: &[Entry]) -> Option<Action>
         requires { IsKept entries.now self.old }
         ensures kept { IsKept entries.now self.new }
-        ensures first { IfSome result (IsFirst (Has self.old.deeds) entries.now) }
-        ensures takes { IfSome result (Takes self.old.deeds self.new.deeds) }
-        ensures none { IfNone result ((k : ℕ) (d : Deed)
-            → Follows (Has self.old.deeds) entries.now k d → ⊥) }
-        ensures same { IfNone result (self.new.deeds ≡ self.old.deeds) }
+        ensures first { IfSome result (IsFirst (Has self.old.actions) entries.now) }
+        ensures takes { IfSome result (Takes self.old.actions self.new.actions) }
+        ensures none { IfNone result ((k : ℕ) (d : Action)
+            → Follows (Has self.old.actions) entries.now k d → ⊥) }
+        ensures same { IfNone result (self.new.actions ≡ self.old.actions) }
     {
         while self.read < entries.len() {
-            if let Some(deed) = self.read_one(entries) {
-                return Some(deed);
+            if let Some(action) = self.read_one(entries) {
+                return Some(action);
             }
         }
         None
     }
 
     /// Reads one entry more, and takes the giving up out that follows it, if one does.
-    fn read_one(&mut self, entries: &[Entry]) -> Option<Deed>
+    fn read_one(&mut self, entries: &[Entry]) -> Option<Action>
         requires kept { IsKept entries.now self.old }
         requires more { self.old.read < length entries.now }
         ensures kept { IsKept entries.now self.new }
         ensures read { self.new.read ≡ self.old.read + 1 }
-        ensures follows { IfSome result (Follows (Has self.old.deeds) entries.now self.old.read) }
-        ensures takes { IfSome result (Takes self.old.deeds self.new.deeds) }
-        ensures none { IfNone result ((d : Deed)
-            → Follows (Has self.old.deeds) entries.now self.old.read d → ⊥) }
-        ensures same { IfNone result (self.new.deeds ≡ self.old.deeds) }
+        ensures follows { IfSome result (Follows (Has self.old.actions) entries.now self.old.read) }
+        ensures takes { IfSome result (Takes self.old.actions self.new.actions) }
+        ensures none { IfNone result ((d : Action)
+            → Follows (Has self.old.actions) entries.now self.old.read d → ⊥) }
+        ensures same { IfNone result (self.new.actions ≡ self.old.actions) }
     {
         let number = self.read;
         self.read += 1;
@@ -105,47 +105,47 @@ impl Calendar {
             return None;
         }
         let late = self.take_waiter(waiter)?;
-        Some(Deed {
+        Some(Action {
             moment: start,
             ..late
         })
     }
 
     /// Takes the giving up of a number out.
-    fn take_waiter(&mut self, number: u64) -> Option<Deed>
+    fn take_waiter(&mut self, number: u64) -> Option<Action>
         ensures found { IfSome result (λ d. get nat_eq self.old.waiters number ≡ Some d) }
-        ensures loses { IfSome result (Loses self.old.deeds self.new.deeds) }
-        ensures none { IfNone result ((d : Deed) → get nat_eq self.old.waiters number ≡ Some d
-            → has self.old.deeds d ≡ false) }
-        ensures same { IfNone result (self.new.deeds ≡ self.old.deeds) }
+        ensures loses { IfSome result (Loses self.old.actions self.new.actions) }
+        ensures none { IfNone result ((d : Action) → get nat_eq self.old.waiters number ≡ Some d
+            → has self.old.actions d ≡ false) }
+        ensures same { IfNone result (self.new.actions ≡ self.old.actions) }
         ensures waiters { self.new.waiters ≡ self.old.waiters }
         ensures read { self.new.read ≡ self.old.read }
     {
         let late = *self.waiters.get(&number)?;
-        if self.deeds.remove(&late) {
+        if self.actions.remove(&late) {
             Some(late)
         } else {
             None
         }
     }
 
-    /// Adds a deed, if there is one.
-    pub(crate) fn join(&mut self, deed: Option<Deed>) -> Result<(), AllocError>
-        ensures { OnOk result (Joins self.old self.new deed) }
+    /// Adds an action, if there is one.
+    pub(crate) fn join(&mut self, action: Option<Action>) -> Result<(), AllocError>
+        ensures { OnOk result (Joins self.old self.new action) }
     {
-        match deed {
-            Some(deed) => self.add(deed),
+        match action {
+            Some(action) => self.add(action),
             None => Ok(()),
         }
     }
 
-    /// Adds a deed.
-    fn add(&mut self, deed: Deed) -> Result<(), AllocError>
-        ensures { OnOk result (Adds self.old self.new deed) }
+    /// Adds an action.
+    fn add(&mut self, action: Action) -> Result<(), AllocError>
+        ensures { OnOk result (Adds self.old self.new action) }
     {
-        self.deeds.insert(deed)?;
-        if let Kind::GivingUp = deed.kind {
-            self.waiters.insert(deed.number, deed)?;
+        self.actions.insert(action)?;
+        if let Kind::GivingUp = action.kind {
+            self.waiters.insert(action.number, action)?;
         }
         Ok(())
     }

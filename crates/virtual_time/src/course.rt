@@ -8,8 +8,8 @@ ghost use Rattle.load_driver.specs.Stretches.{IsOpen, StandsFor};
 ghost use Rattle.virtual_time.specs.Course.{asked_of, limiter_of, journal_with, reply_of};
 ghost use Rattle.virtual_time.specs.Course.{step_of, IsRun};
 
+use super::action::{Action, Kind, Step};
 use super::calendar::Calendar;
-use super::deed::{Deed, Kind, Step};
 use super::pending::left;
 use limit_laws::Limit;
 use limiter_core::{Entry, Event, Reply};
@@ -17,22 +17,22 @@ use load_driver::{Asked, Session, answer, read_end};
 use std::alloc::{AllocError, Global};
 use trace::Arrival;
 
-/// What is asked to do a deed.
-fn asked_of<L: Limit>(session: &Session<L>, arrival: &Arrival, deed: Deed) -> Asked
-    ensures asked { result ≡ asked_of (open_in session.now) arrival.now deed }
+/// What is asked to do an action.
+fn asked_of<L: Limit>(session: &Session<L>, arrival: &Arrival, action: Action) -> Asked
+    ensures asked { result ≡ asked_of (open_in session.now) arrival.now action }
     ensures named { IfEvent result (IsOpen (open_in session.now)) }
 {
-    match deed.kind {
+    match action.kind {
         Kind::Arriving => Asked::Event(Event::Acquire {
             part: arrival.part,
             bypass: arrival.bypass,
             wait: arrival.wait,
-            now: deed.moment,
+            now: action.moment,
         }),
         Kind::GivingUp => Asked::Event(Event::GiveUp {
-            number: deed.number,
+            number: action.number,
         }),
-        Kind::Ending => read_end(session, deed.number, arrival.outcome, deed.moment),
+        Kind::Ending => read_end(session, action.number, arrival.outcome, action.moment),
     }
 }
 
@@ -46,14 +46,14 @@ fn reply_of(told: &[Entry]) -> Option<Reply>
     }
 }
 
-/// Does a deed of an arrival, adds the entries that this adds to those so far, and what is written
+/// Does an action of an arrival, adds its entries to those so far, and what is written
 /// of them to the text.
 fn carry_out<L: Limit>(
     session: &mut Session<L>,
     text: &mut String,
     entries: &mut Vec<Entry>,
     arrival: &Arrival,
-    deed: Deed,
+    action: Action,
 ) -> Result<Step, AllocError>
     ensures stands { OnOk result ((j : Journal L) →
         StandsFor L.rules (journal_with j entries.old.items) session.old →
@@ -61,30 +61,30 @@ fn carry_out<L: Limit>(
     ensures entries { OnOk result ((j : Journal L) →
         StandsFor L.rules (journal_with j entries.old.items) session.old → entries.new.items
         ≡ entries.old.items
-        ++ (limiter_of L.rules j entries.old.items arrival.now deed).told) }
+        ++ (limiter_of L.rules j entries.old.items arrival.now action).told) }
     ensures text { OnOk result ((j : Journal L) →
         StandsFor L.rules (journal_with j entries.old.items) session.old → string_bytes text.new
         ≡ string_bytes text.old
-        ++ (limiter_of L.rules j entries.old.items arrival.now deed).out) }
+        ++ (limiter_of L.rules j entries.old.items arrival.now action).out) }
     ensures step { IfOk result (λ step. (j : Journal L) →
         StandsFor L.rules (journal_with j entries.old.items) session.old → step
-        ≡ step_of deed entries.old.items
-        (limiter_of L.rules j entries.old.items arrival.now deed).told) }
+        ≡ step_of action entries.old.items
+        (limiter_of L.rules j entries.old.items arrival.now action).told) }
 {
     let first = entries.as_slice().len();
-    let asked = asked_of(session, arrival, deed);
+    let asked = asked_of(session, arrival, action);
     let added = answer(session, text, asked)?;
     let told = session.told(added);
     let reply = reply_of(told);
     entries.extend_from_slice(told)?;
     Ok(Step {
-        deed,
+        action,
         first: first as u64,
         reply,
     })
 }
 
-/// Carries the deeds of a trace out, each after those before it, and says what is written of them.
+/// Carries out the actions of a trace, each after those before it, and says what is written.
 ///
 /// Of the session nothing was asked yet. An arrival that waits gives up after `timeout`, in
 /// nanoseconds.
@@ -102,9 +102,9 @@ pub(crate) fn run<L: Limit>(
     let mut calendar = Calendar::new(alloc, arrivals)?;
     let mut entries = Vec::new(alloc);
     let mut text = String::new(alloc);
-    while let Some(deed) = calendar.next(&entries) {
-        let arrival = &arrivals[deed.place];
-        let step = carry_out(session, &mut text, &mut entries, arrival, deed)?;
+    while let Some(action) = calendar.next(&entries) {
+        let arrival = &arrivals[action.place];
+        let step = carry_out(session, &mut text, &mut entries, arrival, action)?;
         calendar.join(left(timeout, arrival, step))?;
     }
     Ok(text)

@@ -17,13 +17,13 @@ module _ (g : Over) (c : goal.In_ok-extend_from_slice g) (j : Journal g.row.L.De
   w = journal_with j c.args.entries.now.items
 
   abbrev asks : Asked
-  asks = asked_of (open_of w) c.args.arrival.now c.args.deed
+  asks = asked_of (open_of w) c.args.arrival.now c.args.action
 
   asked_now : c.asked_of-asked.result ≡ asks
   asked_now =
       c.asked_of-asked.ensures.asked
       ∙ same_asked (open_in c.args.session.now) (open_of w) stands.opens c.args.arrival.now
-      c.args.deed
+      c.args.action
 
   told_now : c.told-told.result.now ≡ told_of g.L.Limit.rules w c.asked_of-asked.result
   told_now = c.told-told.ensures ∙ c.in_ok-added.ensures.told w stands
@@ -67,7 +67,7 @@ returns-clause-text g c = λ j stands. text_then g c j stands
 
 pub returns-clause-step : goal.returns-clause-step
 returns-clause-step g c = λ j stands i. record {
-  deed = c.args.deed;
+  action = c.args.action;
   first = ap length c.as_slice-first.ensures.value i;
   reply = replied g c j stands i;
 }

@@ -23,7 +23,7 @@ invariant_of-self-in-Some g c =
     c.in-Some.number c.in-Some.reply c.in-Some.ensures.number c.in-Some.ensures.reply
     c.reserve.ensures.entries.2 c.note.ensures
     (c.rolling_runs_are_legal.ensures.stretches g.L.Limit.rules)
-    c.check.ensures.sound c.open_permits_may_end.ensures
+    c.invariant.ensures.sound c.open_permits_may_end.ensures
     c.open_permits_are_in_flight.ensures.answer c.open_permits_are_in_flight.ensures.call
     c.apply.new.self c.in-Some.ensures.entries
 
@@ -35,7 +35,7 @@ invariant_of-self-in-None g c =
 pub returns-in-Some-clause-entries : goal.returns-in-Some-clause-entries
 returns-in-Some-clause-entries g c =
     entries_from g.L.Limit.rules c.self.inside.journal c.apply.new.self c.args.event
-    c.in-Some.ensures.entries c.check.ensures.anew (c.check.ensures.same c.args.event)
+    c.in-Some.ensures.entries c.invariant.ensures.anew (c.invariant.ensures.same c.args.event)
     c.in-Some.number c.base.result c.in-Some.ensures.number c.base.ensures
     ∙ ap (λ (v : Session g.row.L.Denot). answered g.L.Limit.rules v.journal c.args.event)
     c.self.view_is

@@ -6,5 +6,5 @@ returns-clause-kept c =
     let old = c.next_promoted.new.self in
     let new = c.pop_least.new.self in
     stays_kept c.args.entries.now old c.next_promoted.ensures.kept new
-    (had_before old.deeds new.deeds c.in_ok-deed.deed c.in_ok-deed.ensures.loses)
+    (had_before old.actions new.actions c.in_ok-action.action c.in_ok-action.ensures.loses)
     c.pop_least.ensures.waiters c.pop_least.ensures.read

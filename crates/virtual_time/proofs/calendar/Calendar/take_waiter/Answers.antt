@@ -5,7 +5,7 @@ use Rattle.virtual_time.proofs.calendar.Calendar.take_waiter.Goals as goal
 
 pub returns-then-remove-clause-loses : goal.returns-then-remove-clause-loses
 returns-then-remove-clause-loses c =
-    removed c.args.self.now.deeds c.remove.new.self c.in_ok-late.field-0.now (sym c.if-remove.true
+    removed c.args.self.now.actions c.remove.new.self c.in_ok-late.field-0.now (sym c.if-remove.true
     ∙ c.remove.ensures.test) c.remove.ensures.updates
-    (left_weight c.args.self.now.deeds c.remove.new.self c.in_ok-late.field-0.now
+    (left_weight c.args.self.now.actions c.remove.new.self c.in_ok-late.field-0.now
     (sym c.if-remove.true ∙ c.remove.ensures.test) (sym c.remove.ensures.keys))

@@ -1,5 +1,5 @@
 use Rattle.std.proofs.Common.{rules}
-use Rattle.script.proofs.why.Why.text.Goals as goal
+use Rattle.script.proofs.fault_kind.FaultKind.text.Goals as goal
 
 pub returns-in-Words : goal.returns-in-Words
 returns-in-Words c = search rules

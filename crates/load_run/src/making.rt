@@ -21,16 +21,16 @@ fn a_worker<M: GateNaming>(
 }
 
 /// A worker for each pass, each with room for so many turns.
-pub(crate) fn hire<M: GateNaming>(
+pub(crate) fn make_workers<M: GateNaming>(
     alloc: Global,
     passes: Vec<Pass<M>>,
     turns: usize,
 ) -> Result<Vec<Worker<M>>, AllocError>
-    ensures { IfOk result (λ hired. vec_len hired ≡ vec_len passes) }
+    ensures { IfOk result (λ workers. vec_len workers ≡ vec_len passes) }
 {
-    let mut hired = Vec::with_capacity(alloc, passes.len())?;
+    let mut workers = Vec::with_capacity(alloc, passes.len())?;
     for pass in passes {
-        hired.push(a_worker(alloc, pass, turns)?)?;
+        workers.push_reserved(a_worker(alloc, pass, turns)?);
     }
-    Ok(hired)
+    Ok(workers)
 }

@@ -1,12 +1,12 @@
 // Why a line is at fault.
 ghost use Rattle.std.specs.Prelude.{◌≡◌};
-ghost use Rattle.script.specs.Faults.{why_text};
+ghost use Rattle.script.specs.Faults.{kind_text};
 
 use std::fmt;
 
 /// Why a line is at fault. Where several apply, the first in this order is answered.
 #[derive(Clone, Copy, PartialEq, Eq)]
-pub enum Why {
+pub enum FaultKind {
     /// No line has this format.
     Words,
     /// A setting behind a line that is none.
@@ -19,26 +19,26 @@ pub enum Why {
     Class,
 }
 
-impl Why {
+impl FaultKind {
     /// The word for what is wrong with a line, as a fault's text has it.
     pub fn text(self) -> &'static str
-        ensures { result.now ≡ why_text self }
+        ensures { result.now ≡ kind_text self }
     {
         match self {
-            Why::Words => "words",
-            Why::Late => "late",
-            Why::Twice => "twice",
-            Why::Value => "value",
-            Why::Class => "class",
+            FaultKind::Words => "words",
+            FaultKind::Late => "late",
+            FaultKind::Twice => "twice",
+            FaultKind::Value => "value",
+            FaultKind::Class => "class",
         }
     }
 }
 
-impl fmt::Display for Why {
+impl fmt::Display for FaultKind {
     ghost use Rattle.std.specs.Prelude.{Some};
-    ghost use Rattle.script.specs.Faults.{why_text};
+    ghost use Rattle.script.specs.Faults.{kind_text};
 
-    ghost output = { λ why. Some (why_text why) };
+    ghost output = { λ why. Some (kind_text why) };
 
     fn fmt<W: fmt::Write>(&self, f: &mut fmt::Formatter<W>) -> fmt::Result {
         f.write_str(self.text())
