@@ -12,6 +12,7 @@ use limit_laws::Limit;
 use limiter_core::Event;
 
 /// Asks the journal, and counts the call on the pass where it is answered.
+#[inline(always)]
 pub(crate) fn ask<L: Limit, N: Naming>(
     journal: &mut Journal<L>,
     tally: &mut Tally<N>,
@@ -41,6 +42,7 @@ pub(crate) fn ask<L: Limit, N: Naming>(
 }
 
 /// The number of the next entry, which leaves room for what is owed and is far from the greatest.
+#[inline(always)]
 fn next_of<L: Limit>(journal: &Journal<L>) -> u64
     ensures next { result ≡ next_number journal.now }
     ensures small { result < 2 ^ 63 }

@@ -6,7 +6,7 @@
 //! exhausted it hands out a [`Spent`] instead, and nothing changes. `specs/Steps.antt` is its
 //! contract.
 //!
-//! [`Book::check`] says what holds between any two steps: the history is legal, and the ledgers
+//! [`Book::invariant`] says what holds between any two steps: the history is legal, and the ledgers
 //! stand at what it says. A ledger's book only rises and falls with the shares that permits and
 //! passes hold, so what is in flight is what callers hold and what lies granted, whatever they do.
 #![tactic(auto)]

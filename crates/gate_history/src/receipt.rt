@@ -27,6 +27,7 @@ impl<N: Naming> Model for Receipt<N> {
 
 impl<N: Naming> Receipt<N> {
     /// The receipt of a call.
+    #[inline(always)]
     pub(crate) fn new(number: u64, event: Event, reply: Reply) -> Receipt<N>
         ensures { result ≡ record { number = number; event = event; reply = reply } }
     {

@@ -65,6 +65,7 @@ impl<N: Naming> Tally<N> {
     }
 
     /// One call more by a pass, which made no more than all did.
+    #[inline(always)]
     pub fn count(&mut self, pass: &mut Pass<N>)
         requires { self.old.calls < 2 ^ 63 }
         ensures calls { self.new ≡ record self.old { calls = self.old.calls + 1 } }

@@ -13,6 +13,7 @@ pub(crate) type WordTable = Table<u64, View, (), Rises, Global>;
 pub(crate) type Shared = atomic_table::Shared<u64, View, (), Rises>;
 
 /// A new seat that knows the number of this one.
+#[inline(always)]
 pub(crate) fn told_by(shared: &Shared, seat: &mut Seat) -> Seat
     requires table { seat.old.table_id ≡ shared.now.table_id }
     requires word { shared.now.table_id.words ≡ 1 }
@@ -25,6 +26,7 @@ pub(crate) fn told_by(shared: &Shared, seat: &mut Seat) -> Seat
 }
 
 /// A reader's seat loads the word.
+#[inline(always)]
 pub(crate) fn look(shared: &Shared, seat: &mut Seat) -> u64
     requires table { seat.old.table_id ≡ shared.now.table_id }
     requires word { shared.now.table_id.words ≡ 1 }
@@ -37,6 +39,7 @@ pub(crate) fn look(shared: &Shared, seat: &mut Seat) -> u64
 }
 
 /// A reader's seat takes in a number, and then loads the word.
+#[inline(always)]
 pub(crate) fn learn(shared: &Shared, seat: &mut Seat, note: Seat) -> u64
     requires table { seat.old.table_id ≡ shared.now.table_id }
     requires note_table { note.table_id ≡ shared.now.table_id }
@@ -53,6 +56,7 @@ pub(crate) fn learn(shared: &Shared, seat: &mut Seat, note: Seat) -> u64
 }
 
 /// The keeper's seat takes in the number of another, which is spent.
+#[inline(always)]
 pub(crate) fn compare(shared: &Shared, keeper: &mut Seat, other: Seat)
     requires table { keeper.old.table_id ≡ shared.now.table_id }
     requires other_table { other.table_id ≡ shared.now.table_id }
@@ -65,6 +69,7 @@ pub(crate) fn compare(shared: &Shared, keeper: &mut Seat, other: Seat)
 }
 
 /// The keeper's seat stores the word, and what it took in was at most the word before.
+#[inline(always)]
 pub(crate) fn lift(shared: &Shared, keeper: &mut Seat, next: u64)
     requires table { keeper.old.table_id ≡ shared.now.table_id }
     requires word { shared.now.table_id.words ≡ 1 }

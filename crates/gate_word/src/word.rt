@@ -87,6 +87,7 @@ impl SharedWord {
 
     /// Raises the word, and shows the reader the raised word: what the reader had seen was at most
     /// the word, and what it has seen now is at least the raised one.
+    #[inline(always)]
     pub fn raise(&self, keeper: &mut Keeper, reader: &mut Reader, next: u64)
         requires table { keeper.old.table ≡ self.now }
         requires reader_table { reader.old.table ≡ self.now }

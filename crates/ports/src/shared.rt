@@ -69,6 +69,7 @@ impl<'a, L: Limit, M: GateNaming, R, C> Port<'a, L, M, R, C> {
 
 impl<'a, L: Limit, M: GateNaming, R: Wait + SystemClock, C: Clock> Port<'a, L, M, R, C> {
     /// Asks without waiting.
+    #[inline(always)]
     fn ask(&mut self, part: Part, bypass: bool, now: u64) -> Admission<Permit<M>>
         ensures { IsTold self.old self.new
             (record { part = part; bypass = bypass; wait = false }) now result }
@@ -115,6 +116,7 @@ impl<'a, L: Limit, M: GateNaming, R: Wait + SystemClock, C: Clock> GatePort
 
     /// Asks the gate once, and where that waits gives up once: a call by the pass each, unless
     /// the history is exhausted.
+    #[inline(always)]
     fn admit(
         &mut self,
         part: Part,
@@ -133,6 +135,7 @@ impl<'a, L: Limit, M: GateNaming, R: Wait + SystemClock, C: Clock> GatePort
     }
 
     /// Ends a permit, in one call by the pass.
+    #[inline(always)]
     fn end(&mut self, permit: Permit<M>, outcome: Outcome, now: u64) -> Receipt<M>
         ensures told { Ends self.old self.new permit outcome now result }
         ensures few { self.new.count ≤ self.old.count + 1 }

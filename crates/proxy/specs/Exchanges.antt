@@ -4,7 +4,7 @@ use Rattle.counted_io.specs.declared.counted.Counted.{Counted}
 use Rattle.counted_io.specs.Causes.{IsWriteCause}
 use Rattle.counted_io.specs.Counted.{inner_of}
 use Rattle.counted_io.specs.Effects.{Wrote}
-use Rattle.message_bytes.specs.Reading.{HasFailed}
+use Rattle.message_reading.specs.Reading.{HasFailed}
 use Rattle.wire.specs.declared.fault.WireFault.{WireFault}
 use Rattle.wire.specs.declared.fault.WireFault.TheVariants as fault
 use Rattle.message_parts.specs.declared.request.Request.{Request}

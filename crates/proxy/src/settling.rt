@@ -69,6 +69,7 @@ fn deadline(settings: &Settings, now: u64) -> Option<u64>
 
 /// Asks the gate, forwards once where it lets the request through, and ends the permit. It is lent
 /// no writer, so nothing is written to the client before its permit is ended.
+#[inline(always)]
 pub(crate) fn settle<P: GatePort, B: Backend, C: Clock>(
     port: &mut P,
     backend: &mut B,

@@ -34,10 +34,17 @@ use Rattle.gate_history.specs.declared.step.Step.TheVariants.{Done, Exhausted}
 use Rattle.gate_history.specs.Book.{Book}
 use Rattle.gate_history.specs.Handing.{Given, IsChange, given, given_back, given_by}
 use Rattle.gate_history.specs.Handing.{nothing, permit, ticket}
-use Rattle.gate_history.specs.Steps.{IsDone, IsExhausted}
+use Rattle.gate_history.specs.Steps.{IsDone, IsExhausted, Steps}
 use Rattle.gate_history.specs.Told.{Told, Refusal}
 use Rattle.shared_gate.specs.Answers.{Answers, HandsBack}
 use Rattle.shared_gate.specs.Calls.{Changes, HandsNothing, Pass, Tells, plainly}
+
+-- what is known of a step, of the answer that it gave
+pub steps_as : {S : Type 0} {N : Type 0} (rules : Algorithm S) (old new : Book S)
+    (before after : ℕ) (e : Event) {step told : Step N} → step ≡ told
+    → Steps rules old new before after e step → Steps rules old new before after e told
+steps_as {S} {N} rules old new before after e is =
+    subst (λ (step : Step N). Steps rules old new before after e step) is
 
 abbrev kind : Given → ℕ
 kind nothing = 0

@@ -72,7 +72,7 @@ pub(crate) fn judge<L: Limit, M: Naming>(
         fault.history.opening.standing fault.history.base fault.history.entries.items) }
     ensures kept { IfErr result (λ fault. fault.kept ≡ kept) }
 {
-    book.check();
+    book.invariant();
     let history = book.into_journal().into_history();
     match verdict(alloc, calls, history.base, &history.entries, &kept) {
         None => Ok(history),

@@ -71,11 +71,25 @@ impl<L: Limit, M: GateNaming> SharedGate<L, M> {
         Ok((gate, passes))
     }
 
-    /// One step of the book under the lock.
+    /// One step of the book under the lock. Where that is done, the word is raised to the next
+    /// number before the lock is free.
+    #[inline(always)]
     fn step(&self, rt: &impl Wait, pass: &mut Pass<M>, call: Call<M>) -> Step<M>
         ensures { Tells pass.old pass.new (event_of call) result }
     {
-        self.book.lock(rt).step(&self.word, pass, call)
+        let mut locked = self.book.lock(rt);
+        let sealed = &mut *locked;
+        sealed.book.journal().invariant();
+        let step = sealed.book.step(&mut pass.pass, call);
+        match &step {
+            Step::Done(_, _) => {
+                let next = sealed.book.journal().number();
+                self.word.raise(&mut sealed.keeper, &mut pass.reader, next);
+            }
+            Step::Exhausted(_, _) => {}
+        }
+        drop(locked);
+        step
     }
 
     /// How many replies, promotions and outcomes of each kind there were so far.
@@ -93,6 +107,7 @@ impl<L: Limit, M: GateNaming> SharedGate<L, M> {
     }
 
     /// Asks for a permit, or with `wait` for a place in line.
+    #[inline(always)]
     pub fn acquire(
         &self,
         rt: &impl Wait,
@@ -185,6 +200,7 @@ impl<L: Limit, M: GateNaming> SharedGate<L, M> {
     }
 
     /// Ends a permit, and wakes all who wait.
+    #[inline(always)]
     pub fn end(
         &self,
         rt: &impl Wait,

@@ -42,7 +42,7 @@ fn make_passes<L: Limit, M: GateNaming>(
         let Some(pass) = book.pass() else {
             return Err(AllocError);
         };
-        passes.push(pass)?;
+        passes.push_reserved(pass);
     }
     Ok(passes)
 }

@@ -59,7 +59,7 @@ pub(crate) fn with_readers<M: GateNaming>(
     let mut made = Vec::with_capacity(alloc, passes.len())?;
     for pass in passes {
         let reader = word.reader(keeper);
-        made.push(Pass { pass, reader })?;
+        made.push_reserved(Pass { pass, reader });
     }
     Ok(made)
 }

@@ -1,17 +1,14 @@
 // What lies under the lock.
 ghost use Rattle.std.specs.Prelude.{◌≡◌, true};
 ghost use Rattle.gate_journal.specs.Journal.{next_number};
-ghost use Rattle.gate_history.specs.Steps.{event_of};
 ghost use Rattle.gate_history.specs.Book.{made_as};
-ghost use Rattle.shared_gate.specs.Calls.{Tells};
 ghost use Rattle.shared_gate.specs.Closing.{limiter_of};
 ghost use Rattle.shared_gate.specs.Report.{IsReportOf};
 
 use crate::naming::GateNaming;
-use crate::pass::Pass;
 use crate::report::{Report, report_of};
-use gate_history::{Book, Call, Step};
-use gate_word::{Keeper, SharedWord};
+use gate_history::Book;
+use gate_word::Keeper;
 use limit_laws::Limit;
 
 /// A book that gives no more passes, and the keeper of the word, which is its next number.
@@ -25,30 +22,14 @@ pub(crate) struct Sealed<L: Limit, M: GateNaming> {
 }
 
 impl<L: Limit, M: GateNaming> Sealed<L, M> {
-    /// One step of the book, and where that is done the word is raised to the next number.
-    pub(crate) fn step(&mut self, word: &SharedWord, pass: &mut Pass<M>, call: Call<M>) -> Step<M>
-        requires { word.now ≡ M.word }
-        ensures { Tells pass.old pass.new (event_of call) result }
-    {
-        self.book.journal().check();
-        match self.book.step(&mut pass.pass, call) {
-            Step::Done(receipt, handed) => {
-                let next = self.book.journal().number();
-                word.raise(&mut self.keeper, &mut pass.reader, next);
-                Step::Done(receipt, handed)
-            }
-            Step::Exhausted(spent, handed) => Step::Exhausted(spent, handed),
-        }
-    }
-
     /// What stands.
     pub(crate) fn report(&self) -> Report
         ensures { IsReportOf (limiter_of L.rules
             (made_as M.rows M.room M.promote M.kept M.is_rolling M.limit)) result }
     {
-        self.book.check();
+        self.book.invariant();
         let journal = self.book.journal();
-        journal.check();
+        journal.invariant();
         report_of(journal.core())
     }
 }

@@ -58,7 +58,7 @@ impl<L: Limit, N: Naming> SoloPort<L, N> {
         ensures { Makes L.rules self.old.book.journal self.new.book.journal (event_of call)
             result }
     {
-        self.book.journal().check();
+        self.book.journal().invariant();
         self.book.step(&mut self.pass, call)
     }
 }

@@ -9,17 +9,18 @@ pub returns-in-None-clause-legal : goal.returns-in-None-clause-legal
 returns-in-None-clause-legal g c =
     is_kept g.L.Limit.rules _ c.args.book c.into_journal.result
     c.into_history-history.result.opening.standing c.into_history-history.result.base
-    c.into_history-history.result.entries.items c.check.ensures.legal c.check.ensures.sound
-    c.check.ensures.rows c.check.ensures.room c.check.ensures.promote c.check.ensures.rolling
-    c.check.ensures.unasked
-    c.check.ensures.agrees c.into_journal.ensures
+    c.into_history-history.result.entries.items c.invariant.ensures.legal c.invariant.ensures.sound
+    c.invariant.ensures.rows c.invariant.ensures.room c.invariant.ensures.promote
+    c.invariant.ensures.rolling
+    c.invariant.ensures.unasked
+    c.invariant.ensures.agrees c.into_journal.ensures
     c.into_history-history.ensures.opening c.into_history-history.ensures.base
     c.into_history-history.ensures.entries
 
 pub returns-in-None-clause-counted : goal.returns-in-None-clause-counted
 returns-in-None-clause-counted g c =
     has_the_calls g.L.Limit.rules c.args.book c.args.calls c.into_history-history.result.base
-    c.into_history-history.result.entries.items c.check.ensures.agrees
+    c.into_history-history.result.entries.items c.invariant.ensures.agrees
     (is_history_in c.args.book c.into_journal.result c.into_history-history.result.base
     c.into_history-history.result.entries.items c.into_journal.ensures
     c.into_history-history.ensures.base c.into_history-history.ensures.entries)
@@ -56,10 +57,11 @@ pub returns-in-Some-clause-history : goal.returns-in-Some-clause-history
 returns-in-Some-clause-history g c =
     is_kept g.L.Limit.rules _ c.args.book c.into_journal.result
     c.into_history-history.result.opening.standing c.into_history-history.result.base
-    c.into_history-history.result.entries.items c.check.ensures.legal c.check.ensures.sound
-    c.check.ensures.rows c.check.ensures.room c.check.ensures.promote c.check.ensures.rolling
-    c.check.ensures.unasked
-    c.check.ensures.agrees c.into_journal.ensures
+    c.into_history-history.result.entries.items c.invariant.ensures.legal c.invariant.ensures.sound
+    c.invariant.ensures.rows c.invariant.ensures.room c.invariant.ensures.promote
+    c.invariant.ensures.rolling
+    c.invariant.ensures.unasked
+    c.invariant.ensures.agrees c.into_journal.ensures
     c.into_history-history.ensures.opening c.into_history-history.ensures.base
     c.into_history-history.ensures.entries
 
@@ -70,7 +72,7 @@ pub returns-in-Some-clause-first : goal.returns-in-Some-clause-first
 returns-in-Some-clause-first g c =
     fails_by g.L.Limit.rules c.args.book c.args.calls c.into_history-history.result.base
     c.into_history-history.result.entries.items c.deref.result.now c.args.kept.items
-    c.deref-2.result.now c.in-Some.cause c.check.ensures.agrees
+    c.deref-2.result.now c.in-Some.cause c.invariant.ensures.agrees
     (is_history_in c.args.book c.into_journal.result c.into_history-history.result.base
     c.into_history-history.result.entries.items c.into_journal.ensures
     c.into_history-history.ensures.base c.into_history-history.ensures.entries)

@@ -1,7 +1,6 @@
-use Rattle.std.proofs.Common.{◌≡◌, ◌∙◌, ap, subst}
-use Rattle.limiter_core.specs.Bound.{IsSound}
+use Rattle.std.proofs.Common.{◌∙◌, ap}
 use Rattle.gate_history.specs.Book.{made_as}
-use Rattle.gate_journal.specs.Journal.{Journal, gate, image}
+use Rattle.gate_journal.specs.Journal.{Journal}
 use Rattle.shared_gate.proofs.Reporting.{reported}
 use Rattle.shared_gate.proofs.sealed.Sealed.report.Goals as goal
 
@@ -13,8 +12,8 @@ returns g c =
     reported g.L.Limit.rules
     (made_as names.rows names.room names.promote names.kept names.is_rolling names.limit)
     c.journal-journal.result.now c.core.result.now c.report_of.result
-    (ap (λ (j : Journal g.row.L.Denot). j.rows) same ∙ c.check.ensures.rows)
-    (ap (λ (j : Journal g.row.L.Denot). j.room) same ∙ c.check.ensures.room)
-    (ap (λ (j : Journal g.row.L.Denot). j.promote) same ∙ c.check.ensures.promote)
+    (ap (λ (j : Journal g.row.L.Denot). j.rows) same ∙ c.invariant.ensures.rows)
+    (ap (λ (j : Journal g.row.L.Denot). j.room) same ∙ c.invariant.ensures.room)
+    (ap (λ (j : Journal g.row.L.Denot). j.promote) same ∙ c.invariant.ensures.promote)
     c.core.ensures.rows c.core.ensures.room c.core.ensures.promote c.core.ensures.stands
-    c.check-2.ensures.sound c.report_of.ensures
+    c.invariant-2.ensures.sound c.report_of.ensures

@@ -14,8 +14,8 @@ returns g c =
     c.step.new.self.journal (event_of c.args.call) c.step.result) c.self.view_is
     (makes rules c.self.inside.book c.step.new.self _ _ (event_of c.args.call)
     c.step.result c.requires
-    (subst (λ (j : Journal g.row.L.Denot). 1 ≤ j.kept) c.journal.ensures c.check.ensures.some)
+    (subst (λ (j : Journal g.row.L.Denot). 1 ≤ j.kept) c.journal.ensures c.invariant.ensures.some)
     (subst (λ (j : Journal g.row.L.Denot). (e : Event)
     → answered rules (ready rules j) e ≡ answered rules j e) c.journal.ensures
-    c.check.ensures.same)
+    c.invariant.ensures.same)
     c.step.ensures)
