@@ -5,7 +5,6 @@
 
 use commands::{Run, words};
 use config_check::check_file;
-use config_explain::explain_file;
 use counted_io::Counted;
 use fault_lines::tell_unread_words;
 use load_command::run_load;
@@ -36,11 +35,7 @@ fn main(rt: HostRuntime) -> ExitCode {
             run_text(alloc, task, &mut reader, &mut writer, &mut errors)
         }
         Run::Check { path, explain } => {
-            if explain {
-                explain_file(&rt, alloc, path, &mut writer, &mut errors)
-            } else {
-                check_file(&rt, alloc, path, &mut writer, &mut errors)
-            }
+            check_file(&rt, alloc, path, explain, &mut writer, &mut errors)
         }
         Run::Load { limit, workers } => {
             let mut reader = Counted::new(rt.stdin());

@@ -17,7 +17,7 @@ no_run name rows (OfText (Replay limit)) replay simulate load check serve is = r
 no_run name rows (OfText (Simulate limit)) replay simulate load check serve is = simulate is.0
 no_run name rows (Load limit workers) replay simulate load check serve is = load is.0
 no_run name rows (Check path explain) replay simulate load check serve is = check is.0
-no_run name rows (Serve path workers per_worker timeout report) replay simulate load check serve is =
+no_run name rows (Serve path workers most timeout report) replay simulate load check serve is =
     serve is.0
 
 -- a path that isn't there

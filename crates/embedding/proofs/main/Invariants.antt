@@ -1,0 +1,21 @@
+use Rattle.std.specs.Prelude.{false}
+use Rattle.limiter_core.specs.declared.promote.Promote.TheVariants.{Newest}
+use Rattle.gate_ledgers.specs.Names.{places_of}
+use Rattle.embedding.proofs.main.Given as goal
+
+-- the ledgers that were just made, and what the gate is made with
+abbrev pub ghosts-run-M-Naming : goal.ghosts-run-M-Naming
+ghosts-run-M-Naming g a = record {
+  calls = a.blanks.calls.name;
+  place = places_of a.blanks;
+  rows = a.table;
+  room = 10;
+  promote = Newest;
+  kept = 1000;
+  is_rolling = false;
+  limit = a.limit.limit;
+}
+
+-- and the table of its word
+abbrev pub ghosts-run-M-GateNaming : goal.ghosts-run-M-GateNaming
+ghosts-run-M-GateNaming g a = record { word = a.word }

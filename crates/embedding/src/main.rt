@@ -1,0 +1,27 @@
+//! An example: a program with a gate of its own. The limit is AIMD, two classes share it, and two
+//! threads ask for permits, work and end them. At the end the gate is closed and audited.
+//!
+//! `docs/EMBEDDING.md` goes through the program call by call.
+#![tactic(auto)]
+
+mod caller;
+mod run;
+
+use aimd::Aimd;
+use gate_history::Blanks;
+use partitions::PartitionTable;
+use run::run;
+use shared_gate::Word;
+use std::marker::Brand;
+
+fn main(rt: HostRuntime) -> anyhow::Result<()> {
+    let alloc = rt.alloc();
+    let Ok(limit) = Aimd::new(2, 4, 100, 900, 1_000_000_000) else {
+        unreachable!()
+    };
+    let table = PartitionTable::new(alloc, &[(b"live", 600), (b"batch", 300)])?;
+    let word = Word::new(alloc)?;
+    let history = run::<Brand, _>(&rt, alloc, Blanks::new(), word, limit, table)?;
+    println!(rt; "audit ok: {} entries", history.entries.len())?;
+    Ok(())
+}

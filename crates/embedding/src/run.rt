@@ -1,0 +1,94 @@
+// A run: the gate is made, called by two threads, and closed.
+ghost use Rattle.std.specs.Prelude.{◌≡◌, false, IfOk};
+ghost use Rattle.limiter_core.specs.declared.promote.Promote.TheVariants.{Newest};
+ghost use Rattle.gate_ledgers.specs.Names.{AreNamed, AreWhole};
+ghost use Rattle.gate_history.specs.Book.{made_as};
+ghost use Rattle.embedding.specs.Run.{IsAudited};
+
+use crate::caller::Caller;
+use aimd::Aimd;
+use gate_history::{Blanks, Book, History};
+use limiter_core::Promote;
+use partitions::{Part, PartitionTable};
+use shared_gate::{GateNaming, ProgramClock, SharedGate, Word, accepted_histories_are_one_threads};
+use std::alloc::Global;
+use std::sync::Wait;
+use std::thread::{Threads, join};
+use std::time::Clock as SystemClock;
+
+/// Makes a gate of this limit and these classes, has two threads call it, one for the first class
+/// and one for the second, and closes it. The answer is the history of all calls.
+pub(crate) fn run<M: GateNaming + Send + Sync, R: Threads + Wait + SystemClock + Sync>(
+    rt: &R,
+    alloc: Global,
+    blanks: Blanks,
+    word: Word,
+    limit: Aimd,
+    table: PartitionTable,
+) -> anyhow::Result<History<Aimd>>
+    requires names { AreNamed M.calls M.place blanks }
+    requires parts { AreWhole blanks }
+    requires word { word ≡ M.word }
+    requires rows { M.rows ≡ table }
+    requires room { M.room ≡ 10 }
+    requires promote { M.promote ≡ Newest }
+    requires kept { M.kept ≡ 1000 }
+    requires rolling { M.is_rolling ≡ false }
+    requires limit { M.limit ≡ limit.limit }
+    ensures { IfOk result (λ history. IsAudited
+        (made_as table 10 Newest 1000 false limit.limit)
+        history.opening.standing history.entries.items) }
+{
+    let mut book = Book::begin(
+        alloc,
+        limit,
+        table,
+        10,
+        Promote::Newest,
+        1_000,
+        false,
+        blanks,
+    )?;
+    let (Some(one), Some(two)) = (book.pass(), book.pass()) else {
+        unreachable!()
+    };
+    book.seal();
+    let (gate, mut passes) = SharedGate::<Aimd, M>::new(
+        alloc,
+        word,
+        book,
+        vec![in alloc; one, two]?,
+    )?;
+    let (Some(two), Some(one)) = (passes.pop(), passes.pop()) else {
+        unreachable!()
+    };
+    let clock = ProgramClock::start(rt);
+    let live = Caller::new(alloc, one, Part::Known(0));
+    let batch = Caller::new(alloc, two, Part::Known(1));
+    let (live, batch) = join(
+        rt,
+        || live.call_often(rt, &gate, &clock),
+        || batch.call_often(rt, &gate, &clock),
+    );
+    audit(alloc, gate, live?, batch?)
+}
+
+/// Closes the gate, and audits its history against the receipts of both callers.
+fn audit<M: GateNaming>(
+    alloc: Global,
+    gate: SharedGate<Aimd, M>,
+    one: Caller<M>,
+    two: Caller<M>,
+) -> anyhow::Result<History<Aimd>>
+    ensures { IfOk result (λ history. IsAudited
+        (made_as M.rows M.room M.promote M.kept M.is_rolling M.limit)
+        history.opening.standing history.entries.items) }
+{
+    accepted_histories_are_one_threads::<Aimd>();
+    let passes = vec![in alloc; one.pass, two.pass]?;
+    let kept = vec![in alloc; one.kept, two.kept]?;
+    match gate.close(alloc, passes, kept) {
+        Ok(history) => Ok(history),
+        Err(fault) => Err(fault.cause)?,
+    }
+}
