@@ -290,7 +290,7 @@ ENDING, GIVING_UP, ARRIVING = range(3)
 
 
 class Course:
-    """The calls of a trace in virtual time. Of each call, by its place, at most one deed is pending: its moment, its
+    """The calls of a trace in virtual time. Of each call, by its place, at most one action is pending: its moment, its
     kind, its place, and the line of a script that does it."""
 
     def __init__(self, lines):
