@@ -1,19 +1,22 @@
 #!/usr/bin/env python3
 """Times `admission serve` beside nginx and HAProxy, in one run:
 
-    bench/proxy.py PROGRAM [--seconds S] [--rounds N] [--workers W,..] [--answer BYTES] [--upload BYTES] [--refused] [CLIENTS ..]
+    bench/proxy.py PROGRAM [--seconds S] [--rounds N] [--workers W,..]
+                   [--answer BYTES] [--upload BYTES] [--refused] [CLIENTS ..]
 
 It starts an origin (nginx, which answers 13 bytes from memory), nginx and HAProxy as proxies, and PROGRAM (built), once
 for each number of workers W (by default 64), on loopback ports below the ephemeral range. Every request has its own
 connection on both sides. Everything runs on one processor, since on a shared machine a program with more threads gets
 more of it. For each number of clients every round runs `wrk` against each proxy in turn, for S seconds. It prints the
 medians of requests a second, the ratio to nginx by round with its spread, the times of an answer, the user and system
-time of an exchange, its voluntary switches, and overflows of the accept queues, and the resident memory after the last
-round.
+time of an exchange and its voluntary switches over all rounds, overflows of the accept queues, and the resident memory
+after the last round.
 
-With --answer the origin answers with BYTES bytes; with --upload each request is a POST of BYTES bytes, and a second
-nginx runs without buffering. With --refused the limit is one and an exchange without an answer holds it; the refusals
-of `admission` with 429 and those of nginx's `limit_conn` are timed.
+`admission` runs under the scheduling policy batch, as its packaged unit has it, and nginx once under the usual one and
+once under batch. With --answer the origin answers with BYTES bytes; with --upload each request is a POST of BYTES bytes,
+all of which the origin reads before it answers. With either one more nginx runs without buffering. With --refused the
+limit is one and an exchange without an answer holds it; the refusals of `admission` with 429 and those of nginx's
+`limit_conn` are timed. The ratios are to each nginx, round by round.
 
 It ends all processes that it starts. Needs Debian's nginx-light, haproxy and wrk.
 """
@@ -34,7 +37,7 @@ import time
 
 TICK = os.sysconf("SC_CLK_TCK")
 PACKAGES = {"nginx": "nginx-light", "haproxy": "haproxy", "wrk": "wrk", "taskset": "util-linux"}
-NGINX = """daemon off; worker_processes {workers}; pid {room}/{name}.pid; error_log {room}/{name}.log;
+NGINX = """{first} daemon off; worker_processes 1; pid {room}/{name}.pid; error_log {room}/{name}.log;
 events {{ worker_connections 8192; }}
 http {{ access_log off; keepalive_timeout 0; {http} server {{ listen 127.0.0.1:{port} backlog=4096; {server} }} }}
 """
@@ -64,6 +67,13 @@ initial = {limit}
 # What nginx needs to pass on bodies of any size, and so that it passes them on as they come.
 ANY_SIZE = "client_max_body_size 0;"
 UNBUFFERED = f"{ANY_SIZE} proxy_buffering off; proxy_request_buffering off; proxy_http_version 1.1;"
+# An origin that answers once it has read the whole body. By `return` nginx answers before that, and a proxy that passes
+# a body on as it comes needn't pass on all of it.
+READS_ALL = """client_body_buffer_size 16m; chunked_transfer_encoding off; add_header Content-Length 13;
+echo_read_request_body; echo "hello, world";"""
+ECHO = "load_module modules/ngx_http_echo_module.so;"
+# The scheduling policy of the packaged unit.
+BATCH = ("chrt", "--batch", "0")
 ONE_AT_A_TIME = "limit_conn_zone $server_port zone=all:1m; limit_conn_status 429; limit_conn_log_level info;"
 
 
@@ -89,10 +99,9 @@ class Servers:
         self.started.append(process)
         return process
 
-    def nginx(self, name, port, server, http="", workers=1):
-        file = self.room / name
-        file.write_text(NGINX.format(name=name, room=self.room, port=port, server=server, http=http, workers=workers))
-        return self.start("nginx", "-c", str(file))
+    def nginx(self, name, port, server, http="", first="", policy=()):
+        text = NGINX.format(name=name, room=self.room, port=port, server=server, http=http, first=first)
+        return self.start(*policy, "nginx", "-c", self.written(name, text))
 
     def written(self, name, text):
         file = self.room / name
@@ -174,9 +183,10 @@ def visit(target, clients, seconds, processor, asking):
         "rate": float(re.search(r"Requests/sec:\s+([\d.]+)", said)[1]),
         "p50": milliseconds(re.search(r"\n\s+50%\s+(\S+)", said)[1]),
         "p99": milliseconds(re.search(r"\n\s+99%\s+(\S+)", said)[1]),
-        "user": user / total * 1e6,
-        "system": system / total * 1e6,
-        "switches": switches / total,
+        "requests": total,
+        "user": user * 1e6,
+        "system": system * 1e6,
+        "switches": switches,
         "resident": resident(process.pid),
         "wrong": int(wrong[1]) if wrong else 0,
         "overflows": overflows() - dropped,
@@ -184,32 +194,51 @@ def visit(target, clients, seconds, processor, asking):
     }
 
 
+def compared(runs, peers):
+    """The ratio of the rates to a peer's, round by round, and its spread."""
+    ratios = [run["rate"] / peer["rate"] for run, peer in zip(runs, peers)]
+    return f"{statistics.median(ratios):.2f} | {min(ratios):.2f} to {max(ratios):.2f}"
+
+
 def tell(clients, found):
     """The table of one number of clients."""
-    print(f"\n{clients} clients\n")
-    print("| Proxy | requests/s | of nginx's | spread | p50 | p99 | user time | system time | switches | resident "
-          "| not 200 | overflows |")
-    print("|---|---|---|---|---|---|---|---|---|---|---|---|")
+    peers = [name for name in found if name.startswith("nginx")]
+    columns = ["Proxy", "requests/s"]
+    for peer in peers:
+        columns += [f"of {peer}'s", "spread"]
+    columns += ["p50", "p99", "user time", "system time", "switches", "resident", "not 200", "overflows"]
+    print(f"\n{clients} clients\n\n| {' | '.join(columns)} |\n{'|---' * len(columns)}|")
     for name, runs in found.items():
-        middle = {key: statistics.median(run[key] for run in runs) for key in runs[0] if key != "faults"}
-        ratios = [run["rate"] / peer["rate"] for run, peer in zip(runs, found["nginx"])]
-        wrong, dropped = (sum(run[key] for run in runs) for key in ("wrong", "overflows"))
-        print(f"| {name} | {middle['rate']:,.0f} | {statistics.median(ratios):.2f} | {min(ratios):.2f} to {max(ratios):.2f} | "
-              f"{middle['p50']:.2f} ms | {middle['p99']:.2f} ms | {middle['user']:.1f} us | {middle['system']:.1f} us | "
-              f"{middle['switches']:.2f} | {runs[-1]['resident']:.1f} MB | {wrong} | {dropped} |", flush=True)
+        middle = {key: statistics.median(run[key] for run in runs) for key in ("rate", "p50", "p99")}
+        summed = {key: sum(run[key] for run in runs) for key in ("requests", "wrong", "overflows")}
+        each = {key: sum(run[key] for run in runs) / summed["requests"] for key in ("user", "system", "switches")}
+        ratios = " | ".join(compared(runs, found[peer]) for peer in peers)
+        print(f"| {name} | {middle['rate']:,.0f} | {ratios} | {middle['p50']:.2f} ms | {middle['p99']:.2f} ms | "
+              f"{each['user']:.1f} us | {each['system']:.1f} us | {each['switches']:.2f} | "
+              f"{runs[-1]['resident']:.1f} MB | {summed['wrong']} | {summed['overflows']} |", flush=True)
         for fault in sorted({run["faults"] for run in runs} - {""}):
             print(f"  {name}: {fault}", file=sys.stderr)
 
 
 @contextlib.contextmanager
-def held(target, is_refused):
-    """Somebody's request at a target that isn't answered meanwhile, where the others are to be refused."""
+def asked(port):
+    """A connection over which something was asked for."""
+    with socket.create_connection(("127.0.0.1", port)) as caller:
+        caller.sendall(b"GET / HTTP/1.1\r\nHost: h\r\nConnection: close\r\n\r\n")
+        yield caller
+
+
+@contextlib.contextmanager
+def held(port, is_refused):
+    """Somebody's request at a port that isn't answered meanwhile, where the others are to be refused, and are."""
     if not is_refused:
         yield
         return
-    with socket.create_connection(("127.0.0.1", target[0])) as caller:
-        caller.sendall(b"GET / HTTP/1.1\r\nHost: holder\r\n\r\n")
+    with asked(port):
         time.sleep(0.2)
+        with asked(port) as other:
+            status = other.recv(12)[-3:]
+        assert status == b"429", f"answered {status} in place of 429"
         yield
 
 
@@ -231,11 +260,13 @@ def start_origin(servers, port, given):
     if given.refused:
         silent_origin(port)
         return {}
-    answer = 'return 200 "hello, world\\n";'
-    if given.answer:
+    answer, first = 'return 200 "hello, world\\n";', ""
+    if given.upload:
+        answer, first = READS_ALL, ECHO
+    elif given.answer:
         servers.written("answer", "x" * given.answer)
         answer = f"root {servers.room}; rewrite ^ /answer break;"
-    servers.nginx("origin", port, f"{ANY_SIZE} location / {{ {answer} }}")
+    servers.nginx("origin", port, f"{ANY_SIZE} location / {{ {answer} }}", first=first)
     return {"origin alone": (port, servers.started[-1])}
 
 
@@ -245,15 +276,15 @@ def targets_of(servers, program, port, given):
     origin = next(ports)
     found = start_origin(servers, origin, given)
 
-    def nginx(name, server, http=""):
+    def nginx(name, server, http="", policy=()):
         own = next(ports)
         pass_on = f"location / {{ proxy_pass http://127.0.0.1:{origin}; proxy_set_header Connection close; }}"
-        found[name] = (own, servers.nginx(f"proxy_{own}", own, f"{server} {pass_on}", http))
+        found[name] = (own, servers.nginx(f"proxy_{own}", own, f"{server} {pass_on}", http, policy=policy))
 
-    if given.refused:
-        nginx("nginx", "limit_conn all 1;", ONE_AT_A_TIME)
-    else:
-        nginx("nginx", ANY_SIZE)
+    alone = ("limit_conn all 1;", ONE_AT_A_TIME) if given.refused else (ANY_SIZE,)
+    nginx("nginx", *alone)
+    nginx("nginx, batch", *alone, policy=BATCH)
+    if not given.refused:
         own = next(ports)
         file = servers.written("haproxy", HAPROXY.format(port=own, origin=origin))
         found["HAProxy"] = (own, servers.start("haproxy", "-f", file, "-db"))
@@ -262,7 +293,8 @@ def targets_of(servers, program, port, given):
     for count in given.workers:
         own, limit = next(ports), 1 if given.refused else 64
         file = servers.written(f"admission_{count}.toml", ADMISSION.format(port=own, origin=origin, limit=limit))
-        found[f"admission, {count} workers"] = (own, servers.start(program, "serve", file, "--workers", str(count)))
+        words = (*BATCH, program, "serve", file, "--workers", str(count))
+        found[f"admission, {count} workers"] = (own, servers.start(*words))
     return found
 
 
@@ -283,20 +315,23 @@ def main():
     reader.add_argument("--seconds", type=int, default=3)
     reader.add_argument("--rounds", type=int, default=8)
     reader.add_argument("--workers", type=numbers, default=[64])
-    reader.add_argument("--answer", type=int, default=0)
-    reader.add_argument("--upload", type=int, default=0)
-    reader.add_argument("--refused", action="store_true")
+    one_of = reader.add_mutually_exclusive_group()
+    one_of.add_argument("--answer", type=int, default=0)
+    one_of.add_argument("--upload", type=int, default=0)
+    one_of.add_argument("--refused", action="store_true")
     reader.add_argument("clients", type=int, nargs="*", default=[16, 64, 256])
     given = reader.parse_intermixed_args()
     missing = [package for name, package in PACKAGES.items() if not shutil.which(name)]
-    if missing or not os.access(given.program, os.X_OK):
-        sys.exit(f"proxy.py: {', '.join(missing)} isn't installed" if missing else f"proxy.py: {given.program} isn't a built program")
+    if missing:
+        sys.exit(f"proxy.py: {', '.join(missing)} isn't installed")
+    if not os.access(given.program, os.X_OK):
+        sys.exit(f"proxy.py: {given.program} isn't a built program")
     processor = max(os.sched_getaffinity(0))
     with tempfile.TemporaryDirectory(prefix="admission-bench-") as folder:
         os.chmod(folder, 0o755)
         servers = Servers(pathlib.Path(folder), processor)
         try:
-            first = first_port(4 + len(given.workers))
+            first = first_port(5 + len(given.workers))
             targets = targets_of(servers, str(given.program.resolve()), first, given)
             asking = asking_of(servers, given.upload)
             time.sleep(1.5)
@@ -308,7 +343,7 @@ def main():
                 for turn in range(given.rounds):
                     names = list(targets)
                     for name in names[turn % len(names):] + names[:turn % len(names)]:
-                        with held(targets[name], given.refused):
+                        with held(targets[name][0], given.refused):
                             found[name].append(visit(targets[name], clients, given.seconds, processor, asking))
                 tell(clients, found)
         finally:

@@ -1,0 +1,131 @@
+#!/usr/bin/env python3
+"""Tells which functions the user time of an exchange goes to: bench/profile.py PROGRAM [--top N] [--keep FOLDER]
+
+One worker of `admission serve` (PROGRAM, built) runs under valgrind's callgrind, which counts instructions. A small
+client asks as `wrk` does, a connection a request, and an origin answers as nginx does: 5 header lines and 13 bytes. It
+prints the instructions of one exchange by function, those of the function itself and those with all that it calls: the
+difference of two runs, divided by the difference of their exchanges, so that the start doesn't count. What the kernel
+does isn't in it. With --keep the files of callgrind stay in FOLDER. Needs valgrind.
+"""
+import argparse
+import collections
+import pathlib
+import re
+import shutil
+import socket
+import subprocess
+import sys
+import tempfile
+import threading
+import time
+
+FEW, MANY = 200, 2_200
+WAITING = 120
+REQUEST = b"GET / HTTP/1.1\r\nHost: 127.0.0.1:%d\r\nConnection: close\r\n\r\n"
+ANSWER = (b"HTTP/1.1 200 OK\r\nServer: nginx/1.22.1\r\nDate: Thu, 01 Jan 2026 00:00:00 GMT\r\n"
+          b"Content-Type: text/plain\r\nContent-Length: 13\r\nConnection: close\r\n\r\nhello, world\n")
+CONFIG = """version = 1
+listen = "127.0.0.1:{port}"
+backend = "127.0.0.1:{origin}"
+wait = false
+backlog = 0
+[limit]
+kind = "fixed"
+initial = 64
+"""
+COSTS = ("alone", "with calls")
+
+
+def answer(listener):
+    """Answers each connection once its head has come, until the listener is closed."""
+    while True:
+        with listener.accept()[0] as caller:
+            head = b""
+            while b"\r\n\r\n" not in head:
+                more = caller.recv(65_536)
+                if not more:
+                    break
+                head += more
+            caller.sendall(ANSWER)
+
+
+def ask(port):
+    """One exchange, once the program listens."""
+    begun = time.monotonic()
+    while True:
+        try:
+            with socket.create_connection(("127.0.0.1", port)) as server:
+                server.sendall(REQUEST % port)
+                with server.makefile("rb") as said:
+                    status = said.read().split(b" ")[1]
+                assert status == b"200", f"answered {status}"
+                return
+        except ConnectionError:
+            if time.monotonic() - begun > WAITING:
+                sys.exit("profile.py: the program doesn't listen")
+            time.sleep(0.2)
+
+
+def counted(file):
+    """The instructions by function that callgrind wrote to a file: of functions alone, and with all that they call."""
+    names, alone, whole = {}, collections.Counter(), collections.Counter()
+    caller = callee = None
+
+    def named(text):
+        """A function's name, which the file has once, and then its number alone."""
+        number, _, name = text.partition(" ")
+        return names.setdefault(number, name)
+
+    for line in file.read_text().splitlines():
+        key, _, rest = line.partition("=")
+        if key == "fn":
+            caller = named(rest)
+        elif key == "cfn":
+            callee = named(rest)
+        elif re.match(r"[\d+*-]", line):
+            count = int(line.split()[1])
+            alone[caller] += count if callee is None else 0
+            whole[caller] += count if callee != caller else 0
+            callee = None
+    return alone, whole
+
+
+def run(program, room, exchanges):
+    """The instructions of one run with so many exchanges: of the functions alone, and with their calls."""
+    with socket.create_server(("127.0.0.1", 0)) as origin, socket.create_server(("127.0.0.1", 0)) as free:
+        port, behind = free.getsockname()[1], origin.getsockname()[1]
+        free.close()
+        threading.Thread(target=answer, args=(origin.dup(),), daemon=True).start()
+        config, out = room / "gateway.toml", room / f"callgrind.{exchanges}"
+        config.write_text(CONFIG.format(port=port, origin=behind))
+        words = ["valgrind", "-q", "--tool=callgrind", f"--callgrind-out-file={out}", program, "serve", str(config),
+                 "--workers", "1", "--per-worker", str(exchanges)]
+        process = subprocess.Popen(words, stdout=subprocess.DEVNULL, stderr=subprocess.PIPE, text=True)
+        for _ in range(exchanges):
+            ask(port)
+        _, said = process.communicate(timeout=WAITING)
+    return counted(out) if out.exists() else sys.exit(f"profile.py: valgrind says\n{said}")
+
+
+def main():
+    reader = argparse.ArgumentParser(description=__doc__, formatter_class=argparse.RawDescriptionHelpFormatter)
+    reader.add_argument("program", type=pathlib.Path)
+    reader.add_argument("--top", type=int, default=40)
+    reader.add_argument("--keep", type=pathlib.Path)
+    given = reader.parse_args()
+    if not shutil.which("valgrind"):
+        sys.exit("profile.py: valgrind isn't installed")
+    with tempfile.TemporaryDirectory(prefix="admission-bench-") as folder:
+        room = given.keep or pathlib.Path(folder)
+        room.mkdir(parents=True, exist_ok=True)
+        few, many = (run(str(given.program.resolve()), room, times) for times in (FEW, MANY))
+    for cost, less, more in zip(COSTS, few, many):
+        each = {name: (more[name] - less[name]) / (MANY - FEW) for name in more}
+        print(f"\nInstructions of one exchange by function, {cost}")
+        if cost == COSTS[0]:
+            print(f"{sum(each.values()):>10,.1f}  all functions together")
+        for name, number in sorted(each.items(), key=lambda row: -row[1])[:given.top]:
+            print(f"{number:>10,.1f}  {name}", flush=True)
+
+
+main()
