@@ -7,7 +7,7 @@ use Rattle.std.proofs.lemmas.Option.{slice_get_within, get_or_from_slice_get, sa
 use Rattle.std.proofs.lemmas.List.{length-take-le, get_or-take}
 use Rattle.limiter_core.specs.declared.event.PermitFacts.{PermitFacts}
 use Rattle.limiter_core.specs.declared.event.Entry.{Entry}
-use Rattle.gate_history.specs.Told.{Told}
+use Rattle.gate_ledgers.specs.Told.{Told}
 use Rattle.audit.specs.Firsts.{EachHas}
 use Rattle.audit.specs.Receipts.{IsInOrder, IsOfCall, all_kept}
 use Rattle.audit.specs.Permits.{ends, ended, IsMatched}

@@ -4,7 +4,7 @@ use Rattle.std.specs.List.{list_any, flat_map}
 use Rattle.std.specs.declared.alloc.Global.{Global}
 use Rattle.limiter_core.specs.declared.event.Entry.{Entry}
 use Rattle.limiter_core.specs.declared.event.Entry.TheVariants.{Call, Promotion}
-use Rattle.gate_history.specs.Told.{Told}
+use Rattle.gate_ledgers.specs.Told.{Told}
 
 -- all receipts, list by list
 abbrev pub all_kept : List (Vec Told Global) → List Told

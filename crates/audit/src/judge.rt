@@ -9,8 +9,7 @@ use crate::cover::first_uncovered;
 use crate::matching::{first_endings, first_unmatched};
 use crate::order::first_unordered;
 use crate::strange::first_strange;
-use gate_history::Receipt;
-use gate_ledgers::Naming;
+use gate_ledgers::{Naming, Receipt};
 use limiter_core::Entry;
 use std::alloc::{AllocError, Global};
 

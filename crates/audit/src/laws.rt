@@ -8,7 +8,7 @@ ghost use Rattle.audit.specs.Verdict.{Audit, HasOneVerdict};
 
 use limiter_core::soundness_is_kept;
 
-/// Want of memory aside, an audit has one verdict: where a cause is the first that applies, no
+/// Where memory suffices, an audit has one verdict: where a cause is the first that applies, no
 /// other is, and some does.
 pub fn one_verdict()
     ensures { (a : Audit) → HasOneVerdict a }

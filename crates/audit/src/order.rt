@@ -5,8 +5,7 @@ ghost use Rattle.audit.specs.Firsts.{EachHas, IsFirstWithout, AllPlacesHave, IsF
 ghost use Rattle.audit.specs.Receipts.{IsInOrder, IsInOrderIn};
 
 use crate::cause::Place;
-use gate_history::Receipt;
-use gate_ledgers::Naming;
+use gate_ledgers::{Naming, Receipt};
 
 /// The first receipt whose number isn't above that of the one before it in its list.
 pub(crate) fn first_unordered<N: Naming>(kept: &[Vec<Receipt<N>>]) -> Option<Place>

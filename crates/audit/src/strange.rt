@@ -3,15 +3,14 @@ ghost use Rattle.std.specs.Prelude.{◌≡◌, ◌++◌, ◌<◌, ◌↔◌, ◌
 ghost use Rattle.std.specs.Prelude.{IsTrue, MatchOption, IfNone};
 ghost use Rattle.std.specs.Bool.{OnTrue};
 ghost use Rattle.limiter_core.specs.declared.event.Entry.TheVariants.{Call};
-ghost use Rattle.gate_history.specs.Told.{Told};
+ghost use Rattle.gate_ledgers.specs.Told.{Told};
 ghost use Rattle.audit.specs.Firsts.{EachHas, IsFirstWithout, AllPlacesHave, IsFirstPlaceWithout};
 ghost use Rattle.audit.specs.Receipts.{IsOfCall, Stands, StandsAfter, StandsIn, all_kept};
 ghost use Rattle.audit.specs.Marks.{AreNamed};
 
 use crate::cause::Place;
 use crate::equal::{same_event, same_reply};
-use gate_history::Receipt;
-use gate_ledgers::Naming;
+use gate_ledgers::{Naming, Receipt};
 use limiter_core::Entry;
 
 /// The first receipt that doesn't stand. Where all do, the marks are at the numbers that they name.

@@ -23,6 +23,7 @@ use Rattle.gate_journal.specs.Journal.{Journal, gate, image, opening, answered, 
 use Rattle.gate_journal.specs.Rolling.{continued, ready, rolls, standing}
 use Rattle.gate_ledgers.specs.Places.{Places}
 use Rattle.gate_ledgers.specs.Tally.{Tally}
+use Rattle.gate_ledgers.specs.Told.{Told}
 use Rattle.gate_history.specs.declared.step.Handed.{Handed}
 use Rattle.gate_history.specs.Asking.{IsAsked, IsRefused}
 use Rattle.gate_history.specs.Book.{Agrees, Book, IsBook, IsUnasked, Making, book_in, calls_of}
@@ -30,7 +31,7 @@ use Rattle.gate_history.specs.Book.{granteds, inflights, is_call}
 use Rattle.gate_history.specs.Handing.{IsChange, IsOfTicket, given, given_by, nothing}
 use Rattle.gate_history.specs.Handing.{promoted_by}
 use Rattle.gate_history.specs.Steps.{IsDone}
-use Rattle.gate_history.specs.Told.{Told, Refusal}
+use Rattle.gate_history.specs.Refusal.{Refusal}
 use Rattle.gate_history.proofs.Answered.{AreAt, of_ticket}
 use Rattle.gate_history.proofs.Promoting.{ArePromotions, are_promotions, drop_behind, grown_at}
 use Rattle.gate_history.proofs.Promoting.{no_calls}

@@ -6,7 +6,8 @@ use Rattle.limiter_core.specs.declared.event.Entry.TheVariants.{Call}
 use Rattle.gate_journal.specs.Journal.{Journal, is_over, answered}
 use Rattle.gate_journal.specs.Rolling.{continued}
 use Rattle.gate_ledgers.specs.Tally.{Tally}
-use Rattle.gate_history.specs.Told.{Told, Refusal}
+use Rattle.gate_ledgers.specs.Told.{Told}
+use Rattle.gate_history.specs.Refusal.{Refusal}
 
 -- it is answered: the journal goes on with the answer, and the call is counted on the pass
 pub record IsAsked {S : Type 0} (rules : Algorithm S) (j next : Journal S) (tally counted : Tally)

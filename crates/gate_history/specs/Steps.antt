@@ -6,6 +6,7 @@ use Rattle.limiter_core.specs.declared.event.Event.TheVariants as event
 use Rattle.limiter_core.specs.declared.event.Entry.TheVariants as entry
 use Rattle.gate_journal.specs.Journal.{answered, is_over}
 use Rattle.gate_journal.specs.Rolling.{continued}
+use Rattle.gate_ledgers.specs.Told.{Told}
 use Rattle.gate_history.specs.declared.step.Call.{Call}
 use Rattle.gate_history.specs.declared.step.Call.TheVariants as call
 use Rattle.gate_history.specs.declared.step.Handed.{Handed}
@@ -13,7 +14,7 @@ use Rattle.gate_history.specs.declared.step.Step.{Step}
 use Rattle.gate_history.specs.declared.step.Step.TheVariants.{Done, Exhausted}
 use Rattle.gate_history.specs.Book.{Book, Agrees}
 use Rattle.gate_history.specs.Handing.{given, given_by, given_back}
-use Rattle.gate_history.specs.Told.{Told, Refusal}
+use Rattle.gate_history.specs.Refusal.{Refusal}
 
 -- the event that a call asks for
 abbrev pub event_of : {N : Type 0} → Call N → Event

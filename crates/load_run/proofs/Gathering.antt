@@ -6,7 +6,8 @@ use Rattle.std.specs.declared.alloc.Global.{Global}
 use Rattle.std.specs.declared.alloc.AllocError.{AllocError}
 use Rattle.std.proofs.lemmas.Option.{same_Some, none-some}
 use Rattle.std.proofs.lemmas.Slice.Zip.{AllZip-right}
-use Rattle.gate_history.specs.Told.{Refusal, Told}
+use Rattle.gate_ledgers.specs.Told.{Told}
+use Rattle.gate_history.specs.Refusal.{Refusal}
 use Rattle.audit.specs.Firsts.{EachHas}
 use Rattle.trace.specs.declared.arrival.Arrival.{Arrival}
 use Rattle.load_run.specs.declared.worker.Worker.{Worker}

@@ -9,8 +9,9 @@ use Rattle.partitions.specs.Table.{Row}
 use Rattle.limiter_core.specs.declared.event.Entry.{Entry}
 use Rattle.gate_journal.specs.Image.{Standing}
 use Rattle.limiter_core.specs.declared.promote.Promote.{Promote}
+use Rattle.gate_ledgers.specs.Told.{Told}
 use Rattle.gate_history.specs.Book.{Making, calls_of, is_call, made_as}
-use Rattle.gate_history.specs.Told.{Refusal, Told}
+use Rattle.gate_history.specs.Refusal.{Refusal}
 use Rattle.audit.specs.declared.cause.Cause.{Cause}
 use Rattle.audit.specs.declared.cause.Cause.TheVariants as cause
 use Rattle.shared_gate.specs.Closing.{IsKept}

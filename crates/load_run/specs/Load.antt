@@ -7,8 +7,9 @@ use Rattle.partitions.specs.Table.{Row}
 use Rattle.limiter_core.specs.declared.event.Entry.{Entry}
 use Rattle.gate_journal.specs.Image.{Standing}
 use Rattle.limiter_core.specs.declared.promote.Promote.{Promote}
+use Rattle.gate_ledgers.specs.Told.{Told}
 use Rattle.gate_history.specs.Book.{Making, made_as}
-use Rattle.gate_history.specs.Told.{Refusal, Told}
+use Rattle.gate_history.specs.Refusal.{Refusal}
 use Rattle.audit.specs.declared.cause.Cause.{Cause}
 use Rattle.audit.specs.Accepted.{IsHistoryOf}
 use Rattle.shared_gate.specs.Closing.{FailsBy, IsKept}

@@ -7,7 +7,8 @@ use Rattle.limiter_core.specs.declared.event.Reply.TheVariants.{Waiting}
 use Rattle.limiter_core.specs.declared.event.Entry.TheVariants.{Call}
 use Rattle.limiter_core.specs.declared.event.PermitFacts.{PermitFacts}
 use Rattle.limiter_core.specs.Open.{handed_out}
-use Rattle.gate_history.specs.Told.{IsSpent, Refusal, Told}
+use Rattle.gate_ledgers.specs.Told.{Told}
+use Rattle.gate_history.specs.Refusal.{IsSpent, Refusal}
 use Rattle.trace.specs.declared.arrival.Arrival.{Arrival}
 
 -- an arrival waits where it says so and doesn't go past the limit

@@ -9,8 +9,8 @@ use Rattle.limiter_core.specs.Legal.{IsLegal}
 use Rattle.limiter_core.specs.Bound.{IsSound}
 use Rattle.gate_journal.specs.Image.{Standing, image_of}
 use Rattle.gate_journal.specs.Journal.{Journal, gate, opening}
+use Rattle.gate_ledgers.specs.Told.{Told}
 use Rattle.gate_history.specs.Book.{Agrees, Book, IsUnasked, Making, calls_of}
-use Rattle.gate_history.specs.Told.{Told}
 use Rattle.audit.specs.declared.cause.Cause.{Cause}
 use Rattle.audit.specs.declared.judge.Calls.{Calls}
 use Rattle.audit.specs.Accepted.{IsHistoryOf}

@@ -27,6 +27,7 @@ use Rattle.limiter_core.specs.Bound.{IsSound}
 use Rattle.gate_journal.specs.Journal.{Journal, answered, gate, image, is_over, next_number}
 use Rattle.gate_journal.specs.Journal.{opening}
 use Rattle.gate_journal.specs.Rolling.{continued, ready, rolls, standing}
+use Rattle.gate_ledgers.specs.Told.{Told}
 use Rattle.gate_history.specs.declared.step.Handed.{Handed}
 use Rattle.gate_history.specs.declared.step.Handed.TheVariants as handed
 use Rattle.gate_history.specs.declared.step.Step.{Step}
@@ -35,7 +36,7 @@ use Rattle.gate_history.specs.Book.{Book}
 use Rattle.gate_history.specs.Handing.{Given, IsChange, given, given_back, given_by}
 use Rattle.gate_history.specs.Handing.{nothing, permit, ticket}
 use Rattle.gate_history.specs.Steps.{IsDone, IsExhausted, Steps}
-use Rattle.gate_history.specs.Told.{Told, Refusal}
+use Rattle.gate_history.specs.Refusal.{Refusal}
 use Rattle.shared_gate.specs.Answers.{Answers, HandsBack}
 use Rattle.shared_gate.specs.Calls.{Changes, HandsNothing, Pass, Tells, plainly}
 

@@ -6,10 +6,11 @@ use Rattle.limiter_core.specs.declared.event.Event.TheVariants.{Acquire, End, Cl
 use Rattle.limiter_core.specs.declared.event.Outcome.{Outcome}
 use Rattle.limiter_core.specs.declared.event.PermitFacts.{PermitFacts}
 use Rattle.limiter_core.specs.declared.event.Reply.TheVariants as reply
+use Rattle.gate_ledgers.specs.Told.{Told}
 use Rattle.gate_history.specs.declared.step.Handed.TheVariants as handed
 use Rattle.gate_history.specs.declared.step.Step.{Step}
 use Rattle.gate_history.specs.declared.step.Step.TheVariants as step
-use Rattle.gate_history.specs.Told.{Told, Refusal}
+use Rattle.gate_history.specs.Refusal.{Refusal}
 use Rattle.shared_gate.specs.declared.answers.Got.{Got}
 use Rattle.shared_gate.specs.declared.answers.Got.TheVariants as got
 use Rattle.shared_gate.specs.declared.answers.Waited.{Waited}

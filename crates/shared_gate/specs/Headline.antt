@@ -14,7 +14,7 @@ use Rattle.limiter_core.specs.History.{Gate, Image, image_after, limit, total}
 use Rattle.limiter_core.specs.Answer.{answer}
 use Rattle.limiter_core.specs.Legal.{IsLegal}
 use Rattle.limiter_core.specs.Laws.{is_turned_away}
-use Rattle.gate_history.specs.Told.{Told}
+use Rattle.gate_ledgers.specs.Told.{Told}
 use Rattle.audit.specs.Firsts.{EachHas}
 use Rattle.audit.specs.Receipts.{all_kept, is_call}
 use Rattle.audit.specs.Accepted.{IsHistoryOf, IsNamedOnce, IsRising}

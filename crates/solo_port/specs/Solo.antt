@@ -11,12 +11,12 @@ use Rattle.limiter_core.specs.declared.event.Entry.TheVariants.{Call}
 use Rattle.limiter_core.specs.History.{permit_of}
 use Rattle.limiter_core.specs.Answer.{waits}
 use Rattle.gate_journal.specs.Journal.{Journal, image, is_over}
+use Rattle.gate_ledgers.specs.Told.{Told}
 use Rattle.gate_history.specs.declared.step.Handed.{Handed}
 use Rattle.gate_history.specs.declared.step.Handed.TheVariants.{Nothing, Permit, Ticket}
 use Rattle.gate_history.specs.declared.step.Step.{Step}
 use Rattle.gate_history.specs.declared.step.Step.TheVariants.{Done, Exhausted}
 use Rattle.gate_history.specs.Book.{Book}
-use Rattle.gate_history.specs.Told.{Told}
 use Rattle.gate_port.specs.Ending.{IsPromotion}
 use Rattle.gate_port.specs.Shown.{Adds, Shown, next_of}
 
