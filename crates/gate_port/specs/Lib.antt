@@ -1,3 +1,4 @@
 pub mod Asking
 pub mod Ending
+pub mod Report
 pub mod Shown

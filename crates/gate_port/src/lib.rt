@@ -1,10 +1,15 @@
-//! Where permits are asked for and ended.
+//! Where permits are asked for and ended, and what stands in a gate.
 //!
 //! [`GatePort`] is all that an exchange knows of a gate: one call that asks and one that ends.
 //! `specs/Asking.antt` and `specs/Ending.antt` say which entries a call adds where entries are
-//! shown, and what its caller is told by them.
+//! shown, and what its caller is told by them. A [`GateView`] gives a [`Report`] of what stands in
+//! a gate, as `specs/Report.antt` has it.
 #![tactic(auto)]
 
 mod port;
+mod report;
+mod view;
 
 pub use port::{Admission, GatePort, Why};
+pub use report::{Report, report_of};
+pub use view::GateView;

@@ -4,16 +4,18 @@
 //! classified and asked for; it is forwarded once where the gate lets it through, and else not at
 //! all; an admitted permit is ended with the outcome of the backend's answer, before anything is
 //! written to the client; and the client gets what the table of answers says
-//! (`specs/Table.antt`).
+//! (`specs/Table.antt`). A [`Watch`] hears of what came of exchanges.
 #![tactic(auto)]
 
 mod exchanging;
 mod replying;
 mod settling;
 mod told;
+mod watch;
 
 pub use backend::{Answer, Backend};
 pub use classifier::Class;
 pub use exchanging::exchange;
 pub use gate_port::{GatePort, Why};
 pub use told::{Exchange, Verdict};
+pub use watch::Watch;

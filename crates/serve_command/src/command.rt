@@ -7,8 +7,8 @@ ghost use Rattle.serve_command.specs.ServiceFault.{service_fault_text};
 
 use crate::config_text::ConfigText;
 use crate::fault::{ServiceFault, tell_service_fault};
+use crate::gateway::serve_gateway;
 use crate::logging::log_listening;
-use crate::watching::Watcher;
 use clocks::ProgramClock;
 use config_check::{read_bytes, read_file_text};
 use counted_io::Counted;
@@ -16,8 +16,8 @@ use fault_lines::{DONE, FAULT};
 use gate_config::Settings;
 use limiter_core::Counters;
 use log::Log;
-use serve_reports::write_counters;
-use serving::{WorkerSettings, serve};
+use serve_reports::{Watcher, write_counters};
+use serving::WorkerSettings;
 use std::alloc::Global;
 use std::fs::Files;
 use std::io::Write;
@@ -145,7 +145,7 @@ where
         watch: &watch,
         alloc,
     };
-    Ok(serve(rt, &common, settings, service.workers as usize)?)
+    Ok(serve_gateway(rt, &common, settings, service.workers as usize)?)
 }
 
 /// So many seconds in nanoseconds.

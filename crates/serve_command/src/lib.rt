@@ -9,8 +9,8 @@ mod command;
 mod config_text;
 mod descriptors;
 mod fault;
+mod gateway;
 mod logging;
-mod watching;
 
 pub use command::{Service, serve_file};
 pub use fault::ServiceFault;

@@ -4,7 +4,7 @@ use Rattle.std.specs.List.{concat}
 use Rattle.partitions.specs.declared.part.Part.TheVariants.{Known}
 use Rattle.partitions.specs.Table.{Row, name_of}
 use Rattle.limiter_core.specs.declared.counters.Counters.{Counters}
-use Rattle.shared_gate.specs.declared.report.Report.{Report}
+use Rattle.gate_port.specs.declared.report.Report.{Report}
 use Rattle.serve_reports.specs.declared.tally.AnswerTally.{AnswerTally}
 
 -- the limit, and how many are in flight, wait and lie granted

@@ -1,17 +1,20 @@
 //! What `serve` tells of what it does: in its log, and at its end.
 //!
-//! A [`Spell`] tells what happens often once in ten seconds, with how often it happened. An
-//! [`AnswerTally`] counts the gateway's own answers. [`report_text`] makes the text of a report, as
-//! the log has it every so often, and [`write_counters`] writes the line of a gate's counters at
-//! the end, without memory. `specs/` has both texts.
+//! A [`Watcher`] hears of each exchange and trouble, and logs what is to be logged. A [`Spell`]
+//! tells what happens often once in ten seconds, with how often it happened. An [`AnswerTally`]
+//! counts the gateway's own answers. [`report_text`] makes the text of a report, as the log has it
+//! every so often, and [`write_counters`] writes the line of a gate's counters at the end, without
+//! memory. `specs/` has both texts.
 #![tactic(auto)]
 
 mod counters_line;
 mod report_line;
 mod spell;
 mod tally;
+mod watching;
 
 pub use counters_line::write_counters;
 pub use report_line::report_text;
 pub use spell::Spell;
 pub use tally::AnswerTally;
+pub use watching::Watcher;

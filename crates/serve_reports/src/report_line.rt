@@ -5,9 +5,9 @@ ghost use Rattle.serve_reports.specs.Report.{counters_text, outcomes_text, repor
 ghost use Rattle.serve_reports.specs.Report.{waits_text};
 
 use crate::tally::AnswerTally;
+use gate_port::Report;
 use limiter_core::Counters;
 use partitions::{Part, PartitionTable};
-use shared_gate::Report;
 use std::alloc::{AllocError, Global};
 
 /// The text of what stands in a gate over these classes, and of how many exchanges ended in each of

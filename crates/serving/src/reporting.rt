@@ -1,9 +1,9 @@
 // What is told of a gate while its workers serve.
-use crate::watch::Watch;
 use clocks::Clock;
-use limit_laws::{LAST_MOMENT, Limit};
+use gate_port::GateView;
+use limit_laws::LAST_MOMENT;
 use partitions::PartitionTable;
-use shared_gate::{GateNaming, SharedGate};
+use proxy::Watch;
 use std::sync::{Condvar, Mutex, Wait};
 use std::time::{Clock as SystemClock, Duration};
 
@@ -59,28 +59,27 @@ impl Present {
 }
 
 /// Reports what stands in the gate every so many nanoseconds, until all workers have ended.
-pub(crate) fn report_all<M, R, C, W, L>(
+pub(crate) fn report_all<R, G, C, W>(
     rt: &R,
     present: &Present,
-    gate: &SharedGate<L, M>,
+    gate: &G,
     table: &PartitionTable,
     clock: &C,
     watch: &W,
     every: u64,
 )
 where
-    M: GateNaming,
     R: Wait + SystemClock,
+    G: GateView,
     C: Clock,
     W: Watch,
-    L: Limit,
 {
     let mut next = clock.now().saturating_add(every);
     for _ in rt.forever() {
         if !present.rest(rt, clock, next) {
             return;
         }
-        watch.report(table, &gate.report(rt));
+        watch.report(table, &gate.report());
         next = after(next, every, clock.now());
     }
 }

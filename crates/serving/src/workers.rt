@@ -1,24 +1,15 @@
 // Workers that serve through one gate.
-ghost use Rattle.std.specs.Prelude.{◌≡◌, ◌≤◌, ◌+◌, true, IfOk, vec_len};
-ghost use Rattle.limit_kinds.specs.AnyKinds.{any_rules};
-ghost use Rattle.gate_ledgers.specs.Names.{AreNamed, AreWhole};
-ghost use Rattle.gate_config.specs.Settings.{AreSound};
+ghost use Rattle.std.specs.Prelude.{◌≡◌, ◌≤◌, ◌+◌, IfOk, vec_len};
 
 use crate::fault::ServeFault;
 use crate::reporting::{Present, report_all};
-use crate::watch::Watch;
 use crate::working::{Buffers, Source, WorkerSettings, work};
 use backend::Backend;
 use clocks::Clock;
 use gate_config::Settings;
-use gate_history::Blanks;
-use gate_opening::open_gate;
-use limit_laws::Limit;
-use limiter_core::Counters;
-use ports::Port;
-use shared_gate::{GateNaming, Pass, SharedGate, Word};
+use gate_port::{GatePort, GateView};
+use proxy::Watch;
 use std::alloc::{AllocError, Global};
-use std::marker::Brand;
 use std::net::Net;
 use std::sync::Wait;
 use std::thread::Threads;
@@ -27,41 +18,36 @@ use tasks::{Task, run_tasks};
 use tcp_backend::{BackendWatch, TcpBackend};
 use timed_io::Listener;
 
-/// Serves clients by so many workers, each on a thread of its own with a connection of its own to
-/// the backend of the settings, and tells the gate's counters once all have ended.
+/// Serves clients by one worker for each port, each on a thread of its own with a connection of its
+/// own to the backend of the settings, until all have ended. Where reports are wanted one more
+/// thread has them of the gate: it is started last, once all workers were.
 ///
-/// The gate is opened by `settings`, which are those that the workers' source gives. `Memory` comes
-/// before any worker is started, or where one had none for its settings, once all have ended;
-/// `Thread` once those that were started have.
-pub fn serve<R, L, C, S, W>(
+/// The settings are those that the workers' source gives. `Memory` comes before any worker is
+/// started, or where one had none for its settings, once all have ended; `Thread` once those that
+/// were started have.
+pub fn serve<R, G, P, L, C, S, W>(
     rt: &R,
     common: &WorkerSettings<'_, L, C, S, W>,
     settings: &Settings,
-    workers: usize,
-) -> Result<Counters, ServeFault>
+    gate: &G,
+    ports: Vec<P>,
+) -> Result<(), ServeFault>
 where
     R: Net + Threads + Wait + SystemClock + Sync,
+    G: GateView + Sync,
+    P: GatePort + Send + Drop,
     L: Listener + Sync,
     C: Clock + Sync,
     S: Source + Sync,
     W: Watch + BackendWatch + Sync,
+    P::Permit: Send,
+    P::Receipt: Send,
     L::Stream: Send + Sync,
     R::Stream: Send + Sync,
     R::Listener: Send + Sync,
-    requires some { 1 ≤ workers }
-    requires few { workers ≤ 64 }
-    requires sound { AreSound settings.now }
 {
-    let word = Word::new(common.alloc)?;
-    let backends = make_backends(rt, common, settings, workers)?;
-    serve_named::<Brand, R, L, TcpBackend<&R, &W>, C, S, W>(
-        rt,
-        common,
-        settings,
-        backends,
-        Blanks::new(),
-        word,
-    )
+    let backends = make_backends(rt, common, settings, ports.len())?;
+    serve_by(rt, common, gate, ports, backends)
 }
 
 /// So many backends at the address of the settings.
@@ -82,58 +68,26 @@ fn make_backends<'r, R: Net, L, C, S, W>(
     Ok(backends)
 }
 
-/// Serves clients through the gate of the settings, by one worker for each backend.
-fn serve_named<M, R, L, B, C, S, W>(
+/// Serves clients by one worker for each port and backend. Which backend it is isn't told apart
+/// here.
+fn serve_by<R, G, P, L, B, C, S, W>(
     rt: &R,
     common: &WorkerSettings<'_, L, C, S, W>,
-    settings: &Settings,
+    gate: &G,
+    ports: Vec<P>,
     backends: Vec<B>,
-    blanks: Blanks,
-    word: Word,
-) -> Result<Counters, ServeFault>
+) -> Result<(), ServeFault>
 where
-    M: GateNaming + Send + Sync,
     R: Threads + Wait + SystemClock + Sync,
+    G: GateView + Sync,
+    P: GatePort + Send + Drop,
     L: Listener + Sync,
     B: Backend + Send + Drop,
     C: Clock + Sync,
     S: Source + Sync,
     W: Watch + Sync,
-    L::Stream: Send + Sync,
-    requires names { AreNamed M.calls M.place blanks }
-    requires parts { AreWhole blanks }
-    requires word { word ≡ M.word }
-    requires rows { M.rows ≡ settings.now.table }
-    requires room { M.room ≡ settings.now.backlog }
-    requires promote { M.promote ≡ settings.now.promote }
-    requires kept { M.kept ≡ settings.now.keep }
-    requires rolling { M.is_rolling ≡ true }
-    requires limit { M.limit ≡ any_rules.limit settings.now.limit }
-    requires sound { AreSound settings.now }
-{
-    let (gate, passes) = open_gate::<M>(common.alloc, settings, blanks, word, backends.len())?;
-    serve_through(rt, common, &gate, passes, backends)
-}
-
-/// Serves clients through a gate, by one worker for each pass and backend, each on a thread of its
-/// own, until all have ended. Where reports are wanted one more thread makes them: it is started
-/// last, once all workers were. Which limit the gate has isn't told apart here.
-fn serve_through<M, R, G, L, B, C, S, W>(
-    rt: &R,
-    common: &WorkerSettings<'_, L, C, S, W>,
-    gate: &SharedGate<G, M>,
-    passes: Vec<Pass<M>>,
-    backends: Vec<B>,
-) -> Result<Counters, ServeFault>
-where
-    M: GateNaming + Send + Sync,
-    R: Threads + Wait + SystemClock + Sync,
-    G: Limit + Send,
-    L: Listener + Sync,
-    B: Backend + Send + Drop,
-    C: Clock + Sync,
-    S: Source + Sync,
-    W: Watch + Sync,
+    P::Permit: Send,
+    P::Receipt: Send,
     L::Stream: Send + Sync,
 {
     let context = Context {
@@ -143,10 +97,10 @@ where
         present: Present::new(backends.len()),
     };
     let reporters = make_reporter(common.alloc, &context, common.report_every_ns)?;
-    let hands = add_workers(common.alloc, &context, reporters, passes, backends)?;
+    let hands = add_workers(common.alloc, &context, reporters, ports, backends)?;
     let began = run_tasks(rt, common.alloc, hands)?;
     if began.iter().all(|it| *it) {
-        Ok(gate.counters(rt))
+        Ok(())
     } else {
         Err(ServeFault::Memory)
     }
@@ -154,34 +108,34 @@ where
 
 /// The gate, as its workers find it.
 #[derive(Drop)]
-struct Context<'a, M: GateNaming, R, G: Limit, L, C, S, W> {
+struct Context<'a, R, G, L, C, S, W> {
     rt: &'a R,
     common: &'a WorkerSettings<'a, L, C, S, W>,
-    gate: &'a SharedGate<G, M>,
+    gate: &'a G,
     present: Present,
 }
 
 /// Whoever has a thread, in a context: a worker, or who reports every so many nanoseconds.
 #[derive(Drop)]
-enum Hand<'a, M: GateNaming, B, X> {
+enum Hand<'a, P, B, X> {
     Reporter(&'a X, u64),
-    Worker(&'a X, Worker<M, B>),
+    Worker(&'a X, Worker<P, B>),
 }
 
 /// What a worker owns.
 #[derive(Drop)]
-struct Worker<M: GateNaming, B> {
-    pass: Pass<M>,
+struct Worker<P, B> {
+    port: P,
     backend: B,
     buffers: Buffers,
 }
 
 /// Whoever reports every so many nanoseconds, where that is wanted.
-fn make_reporter<'a, M: GateNaming, B: Drop, X>(
+fn make_reporter<'a, P: Drop, B: Drop, X>(
     alloc: Global,
     context: &'a X,
     every: Option<u64>,
-) -> Result<Vec<Hand<'a, M, B, X>>, AllocError> {
+) -> Result<Vec<Hand<'a, P, B, X>>, AllocError> {
     let mut hands = Vec::new(alloc);
     if let Some(every) = every {
         hands.push(Hand::Reporter(context, every))?;
@@ -189,47 +143,47 @@ fn make_reporter<'a, M: GateNaming, B: Drop, X>(
     Ok(hands)
 }
 
-/// Adds a worker for each backend, with a pass each.
-fn add_workers<'a, M: GateNaming, B: Drop, X>(
+/// Adds a worker for each backend, with a port each.
+fn add_workers<'a, P: Drop, B: Drop, X>(
     alloc: Global,
     context: &'a X,
-    mut hands: Vec<Hand<'a, M, B, X>>,
-    passes: Vec<Pass<M>>,
+    mut hands: Vec<Hand<'a, P, B, X>>,
+    ports: Vec<P>,
     backends: Vec<B>,
-) -> Result<Vec<Hand<'a, M, B, X>>, AllocError>
+) -> Result<Vec<Hand<'a, P, B, X>>, AllocError>
     ensures all { IfOk result (λ added. vec_len added ≡ vec_len hands.entry + vec_len backends) }
 {
     hands.reserve(backends.len())?;
-    let mut passes = passes.into_iter();
+    let mut ports = ports.into_iter();
     for backend in backends {
-        let Some(pass) = passes.next() else {
+        let Some(port) = ports.next() else {
             return Err(AllocError);
         };
-        let worker = make_worker(alloc, pass, backend)?;
+        let worker = make_worker(alloc, port, backend)?;
         hands.push_reserved(Hand::Worker(context, worker));
     }
     Ok(hands)
 }
 
 /// A worker with new buffers.
-fn make_worker<M: GateNaming, B: Drop>(
+fn make_worker<P: Drop, B: Drop>(
     alloc: Global,
-    pass: Pass<M>,
+    port: P,
     backend: B,
-) -> Result<Worker<M, B>, AllocError> {
+) -> Result<Worker<P, B>, AllocError> {
     let buffers = Buffers::new(alloc)?;
     Ok(Worker {
-        pass,
+        port,
         backend,
         buffers,
     })
 }
 
-impl<'a, M, R, G, L, B, C, S, W> Task for Hand<'a, M, B, Context<'a, M, R, G, L, C, S, W>>
+impl<'a, R, G, P, L, B, C, S, W> Task for Hand<'a, P, B, Context<'a, R, G, L, C, S, W>>
 where
-    M: GateNaming + Send + Sync,
     R: Wait + SystemClock + Sync,
-    G: Limit + Send,
+    G: GateView + Sync,
+    P: GatePort + Send + Drop,
     L: Listener + Sync,
     B: Backend + Send + Drop,
     C: Clock + Sync,
@@ -252,14 +206,13 @@ where
 }
 
 /// The reports, with the names of settings of its own.
-fn run_reports<M, R, G, L, C, S, W>(
-    context: &Context<'_, M, R, G, L, C, S, W>,
+fn run_reports<R, G, L, C, S, W>(
+    context: &Context<'_, R, G, L, C, S, W>,
     every: u64,
 ) -> Result<(), AllocError>
 where
-    M: GateNaming,
     R: Wait + SystemClock,
-    G: Limit,
+    G: GateView,
     C: Clock,
     S: Source,
     W: Watch,
@@ -278,15 +231,14 @@ where
     Ok(())
 }
 
-/// One worker's whole run, over settings and a port of its own.
-fn run_one<M, R, G, L, B, C, S, W>(
-    context: &Context<'_, M, R, G, L, C, S, W>,
-    worker: Worker<M, B>,
+/// One worker's whole run, over settings of its own.
+fn run_one<R, G, P, L, B, C, S, W>(
+    context: &Context<'_, R, G, L, C, S, W>,
+    worker: Worker<P, B>,
 ) -> Result<(), AllocError>
 where
-    M: GateNaming,
     R: Wait + SystemClock,
-    G: Limit,
+    P: GatePort + Drop,
     L: Listener,
     B: Backend + Drop,
     C: Clock,
@@ -296,11 +248,10 @@ where
     let common = context.common;
     let settings = common.source.settings(common.alloc)?;
     let Worker {
-        pass,
+        mut port,
         mut backend,
         mut buffers,
     } = worker;
-    let mut port = Port::new(context.rt, context.gate, pass, common.clock);
     work(
         context.rt,
         common,

@@ -5,14 +5,13 @@ ghost use Rattle.gate_config.specs.declared.settings.Settings.{Settings as Setti
 ghost use Rattle.proxy.specs.Settling.{is_through};
 
 use crate::lingering::linger;
-use crate::watch::Watch;
 use backend::Backend;
 use clocks::Clock;
 use counted_io::Counted;
 use gate_config::Settings;
 use gate_port::GatePort;
 use lent_io::{BufferedRead, BufferedWrite, ReadBuffer, WriteBuffer};
-use proxy::{Exchange, exchange};
+use proxy::{Exchange, Watch, exchange};
 use std::alloc::{AllocError, Global};
 use std::io::{BufRead, Write};
 use std::thread;
@@ -43,8 +42,8 @@ impl Buffers {
 }
 
 /// Where a worker has its settings from: something that threads may share, such as the text of a
-/// configuration. Each worker makes settings of its own of it, since that threads may share
-/// settings themselves isn't known where a function has type parameters.
+/// configuration. Each worker makes settings of its own of it: they hold counted pointers, which
+/// threads may not share.
 pub trait Source {
     // Settings that it gives.
     ghost gives: { Self → SettingsValue → Type 0 };

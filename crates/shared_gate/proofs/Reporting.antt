@@ -8,9 +8,9 @@ use Rattle.limiter_core.specs.Bound.{IsSound}
 use Rattle.limiter_core.specs.Limiter.{Limiter, gate_of, stands}
 use Rattle.gate_journal.specs.Journal.{Journal, gate, image}
 use Rattle.gate_history.specs.Book.{Making}
-use Rattle.shared_gate.specs.declared.report.Report.{Report}
+use Rattle.gate_port.specs.declared.report.Report.{Report}
+use Rattle.gate_port.specs.Report.{IsReportOf, report_in}
 use Rattle.shared_gate.specs.Closing.{limiter_of}
-use Rattle.shared_gate.specs.Report.{IsReportOf, report_in}
 
 abbrev gate_with : {S : Type 0} → Algorithm S → List Row → ℕ → Promote → Gate S
 gate_with rules rows room promote =

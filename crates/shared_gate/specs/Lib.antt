@@ -2,5 +2,4 @@ pub mod Answers
 pub mod Calls
 pub mod Closing
 pub mod Headline
-pub mod Report
 pub mod Seen

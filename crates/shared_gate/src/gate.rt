@@ -1,6 +1,7 @@
 // A gate that threads share.
 ghost use Rattle.std.specs.Prelude.{◌≡◌, ◌≤◌, true, IfOk, IfErr, map};
 ghost use Rattle.limiter_core.specs.declared.event.Event.TheVariants.{SetLimit, Reset, Look};
+ghost use Rattle.gate_port.specs.Report.{IsReportOf};
 ghost use Rattle.audit.specs.Accepted.{IsHistoryOf};
 ghost use Rattle.gate_journal.specs.Journal.{next_number};
 ghost use Rattle.gate_history.specs.Book.{calls_of, made_as};
@@ -9,16 +10,15 @@ ghost use Rattle.gate_history.specs.Steps.{event_of};
 ghost use Rattle.shared_gate.specs.Calls.{Tells, Gets, Waits, Claims, GivesUp, Ends, Changes};
 ghost use Rattle.shared_gate.specs.Calls.{HandsNothing, pass_at, plainly};
 ghost use Rattle.shared_gate.specs.Closing.{FailsBy, IsKept, calls_by, limiter_of};
-ghost use Rattle.shared_gate.specs.Report.{IsReportOf};
 
 use crate::answers::{Claimed, GaveUp, Got, Waited};
 use crate::closing::{AuditFault, count_calls, judge};
 use crate::naming::GateNaming;
 use crate::pass::{Pass, with_readers};
-use crate::report::Report;
 use crate::sealed::Sealed;
 use clocks::Clock;
 use gate_history::{Book, Call, Handed, History, Naming, Permit, Receipt, Spent, Step, Ticket};
+use gate_port::Report;
 use gate_word::{SharedWord, Word};
 use limit_laws::Limit;
 use limiter_core::{Counters, Outcome, Reply};

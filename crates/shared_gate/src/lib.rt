@@ -16,7 +16,6 @@ mod laws;
 mod naming;
 mod opening;
 mod pass;
-mod report;
 mod sealed;
 
 pub use answers::{Claimed, GaveUp, Got, Waited};
@@ -24,8 +23,8 @@ pub use audit::Cause;
 pub use clocks::{Clock, ProgramClock};
 pub use closing::AuditFault;
 pub use gate::SharedGate;
+pub use gate_port::Report;
 pub use gate_word::Word;
 pub use laws::{accepted_histories_are_one_threads, receipts_of_a_pass_rise};
 pub use naming::GateNaming;
 pub use pass::Pass;
-pub use report::Report;

@@ -1,13 +1,13 @@
 // What lies under the lock.
 ghost use Rattle.std.specs.Prelude.{◌≡◌, true};
+ghost use Rattle.gate_port.specs.Report.{IsReportOf};
 ghost use Rattle.gate_journal.specs.Journal.{next_number};
 ghost use Rattle.gate_history.specs.Book.{made_as};
 ghost use Rattle.shared_gate.specs.Closing.{limiter_of};
-ghost use Rattle.shared_gate.specs.Report.{IsReportOf};
 
 use crate::naming::GateNaming;
-use crate::report::{Report, report_of};
 use gate_history::Book;
+use gate_port::{Report, report_of};
 use gate_word::Keeper;
 use limit_laws::Limit;
 

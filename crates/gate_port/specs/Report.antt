@@ -6,7 +6,7 @@ use Rattle.partitions.specs.Table.{place_of, share}
 use Rattle.limiter_core.specs.declared.counters.Counters.{Counters}
 use Rattle.limiter_core.specs.History.{Gate, Image, limit, total}
 use Rattle.limiter_core.specs.Bound.{IsSound}
-use Rattle.shared_gate.specs.declared.report.Report.{Report}
+use Rattle.gate_port.specs.declared.report.Report.{Report}
 
 -- the partitions that are told of, the unknown one last
 abbrev pub told_parts : List Part

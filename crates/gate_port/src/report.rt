@@ -1,7 +1,7 @@
 // What stands in a gate at one moment.
 ghost use Rattle.std.specs.Prelude.{◌≡◌};
 ghost use Rattle.limiter_core.specs.Limiter.{gate_of, stands};
-ghost use Rattle.shared_gate.specs.Report.{report_in};
+ghost use Rattle.gate_port.specs.Report.{report_in};
 
 use limit_laws::Limit;
 use limiter_core::{Core, Counters};
@@ -28,7 +28,7 @@ pub struct Report {
 }
 
 /// What stands in a limiter. It takes no memory.
-pub(crate) fn report_of<L: Limit>(core: &Core<L>) -> Report
+pub fn report_of<L: Limit>(core: &Core<L>) -> Report
     ensures { result
         ≡ report_in (gate_of L.rules core.now) (stands core.now) core.now.counters }
 {

@@ -1,10 +1,10 @@
-// What hears of what workers do.
+// What hears of exchanges.
+use crate::told::Exchange;
+use gate_port::Report;
 use partitions::PartitionTable;
-use proxy::Exchange;
-use shared_gate::Report;
 use std::io::Error;
 
-/// What hears of what workers do, from each of their threads.
+/// What hears of exchanges and of the gate that they ask, from each thread that carries them out.
 pub trait Watch {
     /// An exchange has ended.
     fn ended(&self, exchange: &Exchange);

@@ -1,7 +1,7 @@
 use Rattle.std.specs.Prelude.{true}
 use Rattle.limit_kinds.specs.AnyKinds.{any_rules}
 use Rattle.gate_ledgers.specs.Names.{places_of}
-use Rattle.serving.proofs.workers.serve.Given as goal
+use Rattle.serve_command.proofs.gateway.serve_gateway.Given as goal
 
 -- the ledgers that were just made, of a gate of the settings, which rolls
 abbrev pub ghosts-serve_named-M-Naming : goal.ghosts-serve_named-M-Naming

@@ -1,11 +1,12 @@
 // What the log says while a gateway serves.
+use crate::report_line::report_text;
+use crate::spell::Spell;
+use crate::tally::AnswerTally;
 use clocks::{Clock, ProgramClock};
+use gate_port::Report;
 use log::{Log, info, warn};
 use partitions::PartitionTable;
-use proxy::Exchange;
-use serve_reports::{AnswerTally, Spell, report_text};
-use serving::Watch;
-use shared_gate::Report;
+use proxy::{Exchange, Watch};
 use std::alloc::Global;
 use std::io::Error;
 use std::sync::{Mutex, Wait};
@@ -31,7 +32,7 @@ struct Notes {
 /// Logs what workers and their backends meet: a trouble at most once in ten seconds, with how often
 /// it came since it was last told, and what stands as often as it is asked to.
 #[derive(Drop)]
-pub(crate) struct Watcher<'a, R: SystemClock> {
+pub struct Watcher<'a, R: SystemClock> {
     rt: &'a R,
     alloc: Global,
     clock: ProgramClock<&'a R>,
@@ -40,7 +41,7 @@ pub(crate) struct Watcher<'a, R: SystemClock> {
 
 impl<'a, R: SystemClock> Watcher<'a, R> {
     /// Nothing has been noted.
-    pub(crate) fn new(rt: &'a R, alloc: Global) -> Watcher<'a, R> {
+    pub fn new(rt: &'a R, alloc: Global) -> Watcher<'a, R> {
         let notes = Notes {
             answers: AnswerTally::default(),
             unreached: Spell::new(),

@@ -1,0 +1,14 @@
+// A gate that is looked at while callers share it.
+use crate::report::Report;
+
+/// A gate that can be looked at while callers ask it.
+pub trait GateView {
+    ghost use Rattle.gate_port.specs.declared.report.Report.{Report};
+
+    // What its reports are.
+    ghost shows: { Report → Type 0 };
+
+    /// What stands at one moment, and the counters so far.
+    fn report(&self) -> Report
+        ensures { shows result };
+}
