@@ -26,11 +26,16 @@ def table():
     return {name: (int(proof), int(proof) + int(bodies or 0)) for name, proof, bodies in rows}
 
 
+def parse_rows(text):
+    """The rows of a list of crates: each crate with the libraries that it names, the toolchain's among them."""
+    rows = re.findall(r"^(\w+)[^:#\n]*:?([^#\n]*)", text, re.M)
+    return {name: re.findall(r"\w+", words) for name, words in rows}
+
+
 def libraries():
     """The crates, each with those that its row of crates.txt names."""
-    rows = re.findall(r"^(\w+)[^:#\n]*:?([^#\n]*)", (TOP / "crates.txt").read_text(encoding="utf-8"), re.M)
-    names = {name for name, _ in rows}
-    return {name: names.intersection(re.findall(r"\w+", words)) for name, words in rows}
+    rows = parse_rows((TOP / "crates.txt").read_text(encoding="utf-8"))
+    return {name: rows.keys() & {*words} for name, words in rows.items()}
 
 
 def number_in(file, pattern):
@@ -71,13 +76,15 @@ def between(seconds):
 
 
 class Plan:
-    """The proofs of some crates in the order of the toolchain: as many side by side as there are lanes, each once its
-    libraries stand, and first those that the longest way of others waits for."""
+    """The proofs of some crates: as many side by side as there are lanes, each once its libraries stand, and first those
+    that the longest way of others waits for."""
 
     def __init__(self, names):
         needs, found = libraries(), table()
         mean = sum(proof for proof, _ in found.values()) / len(found) if found else 40
         self.lanes, self.needs = lanes(), {it: needs[it] for it in names}
+        # one in four more, since a proof by several jobs doesn't keep all of them busy
+        self.jobs = self.lanes + self.lanes // 4
         self.cost = {it: found[it][0] if it in found else mean for it in names}
         self.way = {}
         for name in names:
@@ -89,6 +96,15 @@ class Plan:
             above = [it for it, needs in self.needs.items() if name in needs]
             self.way[name] = self.cost[name] + max(map(self.measure, above), default=0)
         return self.way[name]
+
+    def ready(self, rest, begun):
+        """Those of the rest that haven't begun and whose libraries stand, the longest way first."""
+        found = [it for it in rest if it not in begun and not self.needs[it] & rest]
+        return sorted(found, key=lambda it: -self.way[it])
+
+    def is_longest(self, name, rest):
+        """Whether none of the rest has a longer way."""
+        return self.way[name] == max(self.way[it] for it in rest)
 
     def ahead(self, rest, spent={}):
         """The seconds until the rest is proved, where some of it is under way and has spent some."""
