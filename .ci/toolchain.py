@@ -47,6 +47,16 @@ class Toolchain:
     def keep(self, name):
         (self.kept / f"{name}.stamp").write_text(self.stamp(name))
 
+    def take_unkept(self, names):
+        """Those of these crates, lowest first, that aren't kept, and those above them, which aren't kept from here on:
+        statements fit the build alone that they were proved over."""
+        found = []
+        for name in names:
+            if not self.is_kept(name) or {*self.rows[name]} & {*found}:
+                (self.kept / f"{name}.stamp").unlink(missing_ok=True)
+                found.append(name)
+        return found
+
     def of_crate(self, name, root, jobs):
         """The words that prove a crate over the libraries of its row, by so many jobs."""
         words = [f"{self.home}/bin/rattle", "build", "--crate-name", name, root]
@@ -59,7 +69,6 @@ class Toolchain:
 
     def library(self, name, jobs):
         """The words that prove a library and build its statements; what was there stays where it isn't proved."""
-        (self.kept / f"{name}.stamp").unlink(missing_ok=True)
         return [*self.of_crate(name, "src/lib.rt", jobs), "--statements", "-o", f"{self.kept}/{name}.rlib"]
 
     def program(self, name, jobs, made):
