@@ -13,7 +13,7 @@ def built(word):
     """The path of a built program."""
     path = pathlib.Path(word).resolve()
     if not path.is_file() or not os.access(path, os.X_OK):
-        raise argparse.ArgumentTypeError(f"{word} isn't a built program: run ./admission --version, "
+        raise argparse.ArgumentTypeError(f"{word} isn't a built program: run ./admission --prove, "
                                          "and take crates/admission/out/admission")
     return str(path)
 

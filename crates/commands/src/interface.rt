@@ -224,7 +224,7 @@ fn text_command<'a>(alloc: Global) -> Result<Command<'a>, AllocError>
 {
     let whole = Command::new(alloc, "admission")
         .about(ABOUT)
-        .version("1.0.0 (toolchain rattle-kit-13b)")
+        .version("1.1.0")
         .subcommand_required(true);
     let whole = with_leaf(Ok(whole), replay_command(alloc));
     with_leaf(whole, simulate_command(alloc))
