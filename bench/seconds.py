@@ -10,11 +10,11 @@ What a process has taken of the processors, as /proc told it last, counts for th
 - wrong bodies: a check of the crate in another folder, which is a copy with an edit,
 - running: a program out of crates/NAME/out.
 
-Printed are the rows of docs/GATE.md, each with a column for tests and one for running, and then the whole: processor
-minutes and minutes by the clock, on how many processors, and what the machine's host took of these meanwhile (`stolen`,
-of all processors together). What a process does between the last look at it and its end is missed. The whole is what the
-system counted, so the last row tells how much that was, with what the command itself took. --log writes a line for each
-process of a crate as it ended. The status is that of the command.
+Printed are the rows of docs/GATE.md, where a crate's tests count as its proof, and then the whole: the minutes of each
+kind, processor minutes and minutes by the clock, on how many processors, and what the machine's host took of these
+meanwhile (`stolen`, of all processors together). What a process does between the last look at it and its end is
+missed; the whole is what the system counted, so how much that was is told too, with what the command itself took.
+--log writes a line for each process of a crate as it ended. The status is that of the command.
 """
 import argparse
 import collections
@@ -135,18 +135,21 @@ def edits_of(crate):
 
 
 def rows(sums):
-    """The rows of docs/GATE.md, in the order of crates.txt, with a column for tests and one for running."""
+    """The rows of docs/GATE.md, in the order of crates.txt."""
     text = (TOP / "crates.txt").read_text(encoding="utf-8")
     order = [line.partition(":")[0] for line in text.splitlines() if ":" in line]
     seen = {name for name, _ in sums}
-    names = [name for name in order if name in seen] + sorted(seen - {*order})
-    yield "| Crate | proof | wrong bodies | all of them | tests | running |"
-    yield "|---|---|---|---|---|---|"
-    for name in names:
-        edits, spent = edits_of(name), [round(sums[name, kind]) or "" for kind in KINDS]
-        yield f"| {name} | {spent[0]} | {edits or ''} | {spent[2]} | {spent[1]} | {spent[3]} |"
-    whole = [round(sum(sums[name, kind] for name in seen)) for kind in KINDS]
-    yield f"| whole | {whole[0]} | {sum(map(edits_of, names))} | {whole[2]} | {whole[1]} | {whole[3]} |"
+    yield "| Crate | proof | wrong bodies | all of them |"
+    yield "|---|---|---|---|"
+    for name in [name for name in order if name in seen] + sorted(seen - {*order}):
+        proof, bodies = round(sums[name, "proof"] + sums[name, "tests"]), round(sums[name, "wrong bodies"])
+        yield f"| {name} | {proof} | {edits_of(name) or ''} | {bodies or ''} |"
+
+
+def minutes(sums):
+    """The minutes of each kind, in words."""
+    spent = {kind: sum(seconds for (_, it), seconds in sums.items() if it == kind) for kind in KINDS}
+    return ", ".join(f"{kind} {seconds / 60:.1f}" for kind, seconds in spent.items())
 
 
 def run(command, log):
@@ -174,10 +177,11 @@ def main():
     taken = stolen() - taken
     used = resource.getrusage(resource.RUSAGE_CHILDREN)
     spent = used.ru_utime + used.ru_stime
-    print(*rows(sums), sep="\n")
+    print("", *rows(sums), "", f"minutes of {minutes(sums)}", sep="\n")
     print(f"{spent / 60:.1f} processor minutes, {clock / 60:.1f} by the clock, on {os.cpu_count()} processors; "
           f"{taken / 60:.1f} stolen")
-    print(f"{(spent - sum(sums.values())) / 60:.1f} of these are of no crate: missed at the ends, or of the command itself")
+    missed = (spent - sum(sums.values())) / 60
+    print(f"{missed:.1f} of these are of no crate: missed at the ends, or of the command itself")
     sys.exit(status if status >= 0 else 128 - status)
 
 
