@@ -1,4 +1,4 @@
-use Rattle.std.proofs.Common.{refl, subst, ℕ, Vec, Global}
+use Rattle.std.proofs.Common.{refl, subst, ℕ, Vec, Global, rules}
 use Rattle.counted_io.specs.Counted.{inner_of}
 use Rattle.message_reading.specs.ChunkSize.{HasNoWholeSize}
 use Rattle.message_reading.proofs.JoinedChunks.{size_not_found}
@@ -12,3 +12,39 @@ returns-clause-size g c =
     (g.R.Read.remaining (inner_of c.args.reader.now))
     (g.R.Read.remaining (inner_of c.read_size_line.new.reader))
     c.in_ok-line.line c.in_ok-line.ensures.line none
+
+pub returns-in_err-line-clause-read : goal.returns-in_err-line-clause-read
+returns-in_err-line-clause-read g c = search rules
+
+pub returns-in_err-line-clause-unfailing : goal.returns-in_err-line-clause-unfailing
+returns-in_err-line-clause-unfailing g c = search rules
+
+pub returns-in_err-line-clause-turns : goal.returns-in_err-line-clause-turns
+returns-in_err-line-clause-turns g c = search rules
+
+pub returns-in_err-line-clause-few : goal.returns-in_err-line-clause-few
+returns-in_err-line-clause-few g c = search rules
+
+pub returns-in-Some-clause-read : goal.returns-in-Some-clause-read
+returns-in-Some-clause-read g c = search rules
+
+pub returns-in-Some-clause-unfailing : goal.returns-in-Some-clause-unfailing
+returns-in-Some-clause-unfailing g c = search rules
+
+pub returns-in-Some-clause-turns : goal.returns-in-Some-clause-turns
+returns-in-Some-clause-turns g c = search rules
+
+pub returns-in-Some-clause-few : goal.returns-in-Some-clause-few
+returns-in-Some-clause-few g c = search rules
+
+pub returns-clause-read : goal.returns-clause-read
+returns-clause-read g c = search rules
+
+pub returns-clause-unfailing : goal.returns-clause-unfailing
+returns-clause-unfailing g c = search rules
+
+pub returns-clause-turns : goal.returns-clause-turns
+returns-clause-turns g c = search rules
+
+pub returns-clause-few : goal.returns-clause-few
+returns-clause-few g c = search rules

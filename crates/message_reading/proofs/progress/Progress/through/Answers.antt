@@ -1,4 +1,4 @@
-use Rattle.std.proofs.Common.{◌≡◌, ◌-◌, ◌++◌, ◌∙◌, length, take, drop, sym, ap, subst, arith, append_assoc, take-append-drop}
+use Rattle.std.proofs.Common.{◌≡◌, ◌-◌, ◌++◌, ◌∙◌, length, take, drop, sym, ap, subst, arith, append_assoc, take-append-drop, rules}
 use Rattle.std.proofs.lemmas.List.{take_more, take_rest}
 use Rattle.message_reading.specs.Progress.{IsProgress}
 use Rattle.message_reading.proofs.progress.Progress.through.Goals as goal
@@ -29,3 +29,9 @@ returns c = λ text is.
     (append_assoc text (take at piece) _
     ∙ ap (λ all. text ++ (take at piece ++ all)) rest
     ∙ ap (λ all. text ++ all) (take-append-drop at piece)) past
+
+pub loop-at-init : goal.loop-at-init
+loop-at-init c = search rules
+
+pub loop-at-smaller : goal.loop-at-smaller
+loop-at-smaller c = search rules
