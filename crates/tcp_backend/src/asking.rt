@@ -2,7 +2,8 @@
 ghost use Rattle.std.specs.Prelude.{◌≡◌};
 ghost use Rattle.tcp_backend.specs.Answers.{answer_of};
 
-use crate::broken::BrokenRead;
+use crate::early::EarlyRead;
+use crate::unanswered::UnansweredWrite;
 use backend::Answer;
 use counted_io::Counted;
 use lent_io::{BufferedRead, BufferedWrite, ReadBuffer, WriteBuffer};
@@ -19,9 +20,10 @@ const LAST_READS: u32 = 16;
 /// How long each of them may take, in milliseconds.
 const LAST_MILLIS: u64 = 20;
 
-// Writes the request and reads its answer. A backend may answer and close before it has read the
-// whole request (RFC 9112, section 9.5), so the answer is looked for behind a failed write too.
-pub(crate) fn ask<S: Read + Write>(
+// Writes the request and reads its answer. A backend may answer before it has read the whole
+// request, and close or read no further (RFC 9112, section 9.5), so the answer is looked for behind
+// a write that failed or stands still, too; nothing more is written then.
+pub(crate) fn ask<S: Read + Write + OpenStream>(
     alloc: Global,
     stream: &mut S,
     ahead: &mut ReadBuffer,
@@ -29,7 +31,8 @@ pub(crate) fn ask<S: Read + Write>(
     request: &Request,
     host: &str,
 ) -> Result<Response, WireFault> {
-    let mut writer = Counted::new(BufferedWrite::new(&mut *stream, behind));
+    let unanswered = UnansweredWrite::new(&mut *stream);
+    let mut writer = Counted::new(BufferedWrite::new(unanswered, behind));
     if write_request(&mut writer, request, host).is_err() {
         return read_early(alloc, stream, ahead, request);
     }
@@ -37,16 +40,16 @@ pub(crate) fn ask<S: Read + Write>(
     read_response(alloc, &mut reader, &request.method)
 }
 
-// The answer that came before a write failed. It has to say its own length: where the connection
-// broke, its end may be a cut. Where there is none, the fault is that of the write.
-fn read_early<S: Read>(
+// The answer that came before the request was written. It has to say its own length: its end may be
+// a cut. Where there is none, the fault is that of the write.
+fn read_early<S: Read + OpenStream>(
     alloc: Global,
     stream: &mut S,
     ahead: &mut ReadBuffer,
     request: &Request,
 ) -> Result<Response, WireFault> {
-    let broken = BrokenRead::new(&mut *stream);
-    let mut reader = Counted::new(BufferedRead::new(broken, ahead));
+    let early = EarlyRead::new(&mut *stream);
+    let mut reader = Counted::new(BufferedRead::new(early, ahead));
     match read_response(alloc, &mut reader, &request.method) {
         Ok(response) => Ok(response),
         Err(WireFault::Memory) => Err(WireFault::Memory),

@@ -85,8 +85,9 @@ impl<R: Net, W: BackendWatch> Backend for TcpBackend<R, &W> {
 
     /// Connects once, writes the request and reads one response. Where there is no connection, that
     /// is `NotConnected`; each later fault is `Broken`, but out of memory is `Memory`. A
-    /// response that says its own length is read behind a failed write too: the backend may have
-    /// answered before it read the whole request, and closed. `NotConnected` and `Broken` are told.
+    /// response that says its own length is read behind a write that failed or stands still, too:
+    /// the backend may have answered before it read the whole request. `NotConnected` and `Broken`
+    /// are told.
     fn forward(&mut self, request: &Request) -> Answer {
         forward_over(&mut self.dialer, &mut self.line, self.watch, request)
     }

@@ -3,14 +3,16 @@
 //! [`TcpBackend`] makes one connection for each request, and no second one whatever fails: it
 //! writes the request, reads one response, also one that came before the whole request was written,
 //! and then the connection to its end, so that the backend closes first and the gateway's own ports
-//! are free again. A backend that keeps the connection open isn't waited for. Buffers are made once
-//! and serve all connections.
+//! are free again. A backend that keeps the connection open isn't waited for, and one that answers
+//! before it reads isn't written to until it has: where a write stands still and an answer lies
+//! there, the answer is read. Buffers are made once and serve all connections.
 #![tactic(auto)]
 
 mod asking;
-mod broken;
 mod connecting;
 mod dialing;
+mod early;
+mod unanswered;
 mod watch;
 
 pub use connecting::{BackendFault, TcpBackend};

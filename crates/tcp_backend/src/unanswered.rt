@@ -1,0 +1,85 @@
+// Writing a request as long as it isn't answered.
+use std::io::{Error, ErrorKind, Result, Write};
+use std::net::OpenStream;
+use std::time::Duration;
+
+/// How long a write waits that makes no progress, in milliseconds.
+const STALL_MILLIS: u64 = 250;
+
+/// How often one write may make no progress, or be interrupted: for weeks.
+const MOST_TURNS: u32 = 1 << 24;
+
+/// Where the status begins in the first line of a response.
+const STATUS_PLACE: usize = 9;
+
+/// A connection to which a request is written. A write that makes no progress twice in a row while
+/// an answer lies there fails: a backend may answer before it has read the whole request, and would
+/// wait for its answer to be read while the gateway waits for the request to be. One without an
+/// answer goes on for as long as the backend takes.
+#[derive(Drop)]
+pub(crate) struct UnansweredWrite<'s, S> {
+    stream: &'s mut S,
+}
+
+impl<'s, S: Write + OpenStream> UnansweredWrite<'s, S> {
+    // A connection whose writes can't be given a limit is written to as ever.
+    pub(crate) fn new(stream: &'s mut S) -> UnansweredWrite<'s, S> {
+        let _ = stream.set_write_timeout(Some(Duration::from_millis(STALL_MILLIS)));
+        UnansweredWrite { stream }
+    }
+}
+
+impl<'s, S: Write + OpenStream> Write for UnansweredWrite<'s, S> {
+    fn write(&mut self, buf: &[u8]) -> Result<usize> {
+        let mut has_stalled = false;
+        for _ in 0..MOST_TURNS {
+            match self.stream.write(buf) {
+                Err(fault) if fault.kind() == ErrorKind::Interrupted => {}
+                Err(fault) if fault.kind() == ErrorKind::WouldBlock => {
+                    if has_stalled && is_answered(&*self.stream) {
+                        return Err(fault);
+                    }
+                    has_stalled = true;
+                }
+                outcome => return outcome,
+            }
+        }
+        Err(Error::new(ErrorKind::TimedOut, "nothing was taken"))
+    }
+
+    fn flush(&mut self) -> Result<()> {
+        self.stream.flush()
+    }
+}
+
+// Whether a final response, or the end, lies unread. It waits for nothing, and reads nothing.
+fn is_answered<S: OpenStream>(stream: &S) -> bool {
+    if stream.set_nonblocking(true).is_err() {
+        return false;
+    }
+    let mut seen = [0u8; 1024];
+    let found = stream.peek(&mut seen);
+    let _ = stream.set_nonblocking(false);
+    match found {
+        Ok(0) => true,
+        Ok(count) => has_final(&seen[..count]),
+        Err(_) => false,
+    }
+}
+
+// Whether a final response begins in these bytes, behind any interim ones: behind those alone the
+// backend still wants the request.
+fn has_final(seen: &[u8]) -> bool {
+    let mut begins = true;
+    for line in seen.split(|byte| *byte == b'\n') {
+        let is_empty = line.is_empty() || line == b"\r".as_slice();
+        if begins && !is_empty {
+            match line.get(STATUS_PLACE) {
+                Some(b'1') => {}
+                status => return status.is_some(),
+            }
+        }
+        begins = is_empty;
+    }
+    false
+}
