@@ -76,6 +76,10 @@ impl Connection for Fake {
         false
     }
 
+    fn is_behind(&self, _most: Duration) -> bool {
+        false
+    }
+
     fn finish(&self) -> Result<()> {
         Ok(())
     }
@@ -149,16 +153,16 @@ fn each_call_waits_for_what_is_left(rt: HostRuntime) {
     assert!(rt; seconds_left(false) == [4, 3, 2, 1]);
 }
 
-/// What a read and a write give that are interrupted three times, and how often each was called.
+/// What a read and a write give that are interrupted five times, and how often each was called.
 fn read_through(seconds: u64) -> (Option<usize>, u64) {
-    let (fake, clock) = (fake_of(true, 3), fresh_ticking());
+    let (fake, clock) = (fake_of(true, 5), fresh_ticking());
     let timed = TimedReader::new(Lent::new(&fake), &clock, seconds.saturating_mul(SECOND));
     let found = Uninterrupted::new(timed).read(&mut [0u8; 4]).ok();
     (found, fake.calls.get())
 }
 
 fn written_through(seconds: u64) -> (Option<usize>, u64) {
-    let (fake, clock) = (fake_of(true, 3), fresh_ticking());
+    let (fake, clock) = (fake_of(true, 5), fresh_ticking());
     let timed = TimedWriter::new(Lent::new(&fake), &clock, seconds.saturating_mul(SECOND));
     let found = Uninterrupted::new(timed).write(b"four").ok();
     (found, fake.calls.get())
@@ -166,8 +170,8 @@ fn written_through(seconds: u64) -> (Option<usize>, u64) {
 
 #[test]
 fn an_interrupted_call_begins_anew_within_its_time(rt: HostRuntime) {
-    assert!(rt; read_through(9) == (Some(1), 4));
-    assert!(rt; written_through(9) == (Some(1), 4));
+    assert!(rt; read_through(9) == (Some(1), 6));
+    assert!(rt; written_through(9) == (Some(1), 6));
     assert!(rt; read_through(2) == (None, 2));
     assert!(rt; written_through(2) == (None, 2));
 }

@@ -4,11 +4,21 @@ ghost use Rattle.std.specs.Io.{ReadsAtMost, WritesAtMost};
 
 use crate::reading::LimitedRead;
 use crate::writing::LimitedWrite;
-use libc::net::{MSG_DONTWAIT, MSG_PEEK, recv};
+use libc::net::{
+    MSG_DONTWAIT, MSG_PEEK, POLLIN, POLLOUT, SO_SNDBUF, SOL_SOCKET, poll, recv, setsockopt,
+};
+use libc::types::pollfd;
 use std::io::{Read, Result, Write};
 use std::net::{Shutdown, TcpStream};
-use std::os::fd::AsRawFd;
+use std::os::fd::{AsRawFd, RawFd};
 use std::time::Duration;
+
+/// Half of what the system may have taken of memory for what was sent, where nobody waits for it, in
+/// bytes: so much is on its way with the first window.
+const ON_ITS_WAY: i32 = 16_384;
+
+/// The same where it was more once: the system makes it some two kilobytes, which is the least.
+const LEAST: i32 = 1;
 
 /// A connection, as a socket is one: reading and writing it doesn't change its owner's value.
 pub trait Connection {
@@ -28,6 +38,12 @@ pub trait Connection {
 
     /// Whether bytes of the other side lie unread. It waits for none, and reads none.
     fn has_unread(&self) -> bool;
+
+    /// Whether the other side hasn't acknowledged what was sent, but for a kilobyte or two, and may
+    /// lose it where it sends something and the connection is closed. It looks at once whether more
+    /// than some kilobytes are left, and where they are waits for so long at most, until they
+    /// aren't, or something comes of the other side.
+    fn is_behind(&self, most: Duration) -> bool;
 
     /// Nothing more is sent: the other side finds the end behind what was. It may go on sending.
     fn finish(&self) -> Result<()>;
@@ -59,9 +75,33 @@ impl Connection for TcpStream {
         found > 0
     }
 
+    fn is_behind(&self, most: Duration) -> bool {
+        let file = self.as_raw_fd();
+        is_held(file, ON_ITS_WAY, Duration::ZERO) && is_held(file, LEAST, most)
+    }
+
     fn finish(&self) -> Result<()> {
         self.shutdown(Shutdown::Write)
     }
+}
+
+// Whether the system holds more of what was sent, after so long at most. How many bytes weren't
+// acknowledged can't be had: the calls that tell it, or that wait for them at a close, aren't among
+// the library's. But a connection is writable where a third of its room is free, so that is made small
+// first.
+fn is_held(file: RawFd, half: i32, most: Duration) -> bool {
+    let mut room = [0u8; 16];
+    room[..4].copy_from_slice(&half.to_ne_bytes());
+    if unsafe { setsockopt(file, SOL_SOCKET, SO_SNDBUF, &room, 4) } < 0 {
+        return false;
+    }
+    let mut watched = [pollfd {
+        fd: file,
+        events: POLLIN | POLLOUT,
+        revents: 0,
+    }];
+    let millis = i32::try_from(most.as_millis()).unwrap_or(i32::MAX);
+    poll(&mut watched, millis) >= 0 && watched[0].revents & POLLOUT == 0
 }
 
 /// A connection that is lent to a reader or a writer. What it gives and takes isn't told.
