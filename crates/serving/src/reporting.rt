@@ -1,4 +1,7 @@
 // What is told of a gate while its workers serve.
+ghost use Rattle.std.specs.Prelude.{◌≡◌};
+ghost use Rattle.serving.specs.Reports.{next_report};
+
 use clocks::Clock;
 use gate_port::GateView;
 use limit_laws::LAST_MOMENT;
@@ -85,7 +88,9 @@ where
 }
 
 /// When the next report comes: so long behind the last one, or behind now where that has gone by.
-fn after(last: u64, every: u64, now: u64) -> u64 {
+fn after(last: u64, every: u64, now: u64) -> u64
+    ensures { result ≡ next_report last every now }
+{
     let next = last.saturating_add(every);
     if next <= now {
         now.saturating_add(every)
