@@ -4,6 +4,8 @@
 #![tactic(auto)]
 
 #[cfg(test)]
+mod clocks_tests;
+#[cfg(test)]
 mod counted_io_tests;
 #[cfg(test)]
 mod sample_window_tests;
