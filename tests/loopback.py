@@ -1,5 +1,6 @@
 """A backend, gateways and their clients on loopback, for the tests of the built program."""
 import contextlib
+import os
 import pathlib
 import queue
 import re
@@ -37,11 +38,11 @@ def free_port():
 
 
 def read_all(client):
-    found = b""
+    pieces = []
     with contextlib.suppress(ConnectionResetError):
         while piece := client.recv(65536):
-            found += piece
-    return found
+            pieces.append(piece)
+    return b"".join(pieces)
 
 
 def read_head(client):
@@ -160,18 +161,20 @@ class Gateway:
                 return
 
     def start(self, program, room, backend, settings="", workers=1, each=1, words=(), listen="127.0.0.1", version=1,
-              front=()):
-        """`backend` is its port, or nothing for a gateway that forwards to itself; `front` runs the words behind it."""
+              front=(), behind="127.0.0.1", log_to=None, variables=None):
+        """`backend` is its port at the address `behind`, or nothing for a gateway that forwards to itself; `front` runs
+        the words behind it. With `log_to` its log goes there, and isn't read."""
         self.port, self.log, self.is_listening = free_port(), [], threading.Event()
         self.host = "127.0.0.1" if listen == "0.0.0.0" else listen
         path = pathlib.Path(room) / f"{self.port}.toml"
         top, _, tables = settings.partition("\n\n")
         path.write_text(f'version = {version}\nlisten = "{listen}:{self.port}"\n'
-                        f'backend = "127.0.0.1:{backend or self.port}"\n'
+                        f'backend = "{behind}:{backend or self.port}"\n'
                         f"{top}\n{tables or '[limit]' + chr(10) + 'kind = ' + chr(34) + 'fixed' + chr(34)}\n")
         given = ["serve", str(path), "--workers", str(workers), "--per-worker", str(each), *words]
-        self.process = subprocess.Popen([*front, program, *given], stdout=subprocess.PIPE, stderr=subprocess.PIPE,
-                                        text=True)
+        self.process = subprocess.Popen([*front, program, *given], stdout=subprocess.PIPE, text=True,
+                                        stderr=subprocess.PIPE if log_to is None else log_to,
+                                        env={**os.environ, **(variables or {})})
         self.process.owner = threading.current_thread()
         Gateway.running.append(self.process)
         self.reader = threading.Thread(target=self.read_log, daemon=True)
@@ -179,7 +182,7 @@ class Gateway:
         self.is_listening.wait(PATIENCE)
 
     def read_log(self):
-        for line in self.process.stderr:
+        for line in self.process.stderr or ():
             self.log.append(line.rstrip("\n"))
             if "listening" in line:
                 self.is_listening.set()

@@ -1,5 +1,6 @@
-// Refuses the allocation whose number is in REFUSED, and the thread whose number is in THREAD_REFUSED; with
-// COUNTED set, prints the number of allocations.
+// Refuses the allocation whose number is in REFUSED, the thread whose number is in THREAD_REFUSED, and the socket whose
+// number is in SOCKET_REFUSED, as a system does that has no descriptor free; with COUNTED set, prints the number of
+// allocations.
 #define _GNU_SOURCE
 #include <dlfcn.h>
 #include <errno.h>
@@ -42,6 +43,18 @@ int pthread_create(pthread_t *thread, const pthread_attr_t *how, void *(*run)(vo
     if (number && ++started == atoi(number))
         return EAGAIN;
     return inner(thread, how, run, given);
+}
+
+int socket(int domain, int type, int protocol)
+{
+    static int made;
+    int (*inner)(int, int, int) = dlsym(RTLD_NEXT, "socket");
+    const char *number = getenv("SOCKET_REFUSED");
+    if (number && ++made == atoi(number)) {
+        errno = ENFILE;
+        return -1;
+    }
+    return inner(domain, type, protocol);
 }
 
 __attribute__((destructor)) static void tell(void)

@@ -19,6 +19,8 @@ EARLY = {
 }
 # More behind an answer than buffers of the system hold.
 FLOOD = b"x" * 20_000_000
+# How often a gateway is stopped and goes on while the same reads and writes wait.
+STOPS = 12
 # How often a case is tried whose mistake shows in most of its tries.
 TRIES = 5
 
@@ -109,8 +111,8 @@ class Sockets:
             deaf.connect(("127.0.0.1", gate.port))
             deaf.sendall(b"GET /large HTTP/1.1\r\nHost: h\r\n\r\n")
             begun = deaf.recv(1)
-            for _ in range(3):
-                time.sleep(0.2)
+            for _ in range(STOPS):
+                time.sleep(0.1)
                 gate.process.send_signal(signal.SIGSTOP)
                 time.sleep(0.1)
                 gate.process.send_signal(signal.SIGCONT)

@@ -1,9 +1,16 @@
 """Cases of `tests/serve` on what the log tells while a gateway serves: reports, and troubles once a spell."""
+import contextlib
+import fcntl
+import os
+import pathlib
 import signal
+import socket
+import threading
 import time
 
-from loopback import BODY, PATIENCE, Gateway, Later, free_port
-from sockets import PLAIN, passed_on
+from loopback import BODY, PATIENCE, Gateway, Later, Scripted, free_port, read_head
+from sockets import MUCH, PLAIN, TRIES, passed_on
+from wires import local, reset
 
 REPORT = "[INFO  admission] report "
 UNREACHED = "[WARN  admission] the backend can't be reached "
@@ -25,6 +32,21 @@ def until(holds):
         if holds():
             return True
         time.sleep(0.05)
+    return False
+
+
+def troubles(gate, count):
+    """The warnings of a gateway's log, once there are so many."""
+    found = []
+    until(lambda: len([it for it in gate.log if "WARN" in it and "exceed" not in it]) >= count)
+    found += [it for it in gate.log if "WARN" in it and "exceed" not in it]
+    return found
+
+
+def waits_to_write(process):
+    """Whether a thread of a process waits for a pipe that takes no more."""
+    with contextlib.suppress(OSError):
+        return any("pipe" in it.read_text() for it in pathlib.Path(f"/proc/{process.pid}/task").glob("*/wchan"))
     return False
 
 
@@ -95,7 +117,109 @@ class Telling:
             self.judge(what, [f"{line}count={count} {why}" for count, why in zip((1, 30), cause)],
                        [it for it in log if it.startswith(line)])
 
+    def tells_each_trouble(self, backend):
+        """A trouble is told whatever else was told a moment ago; and one that doesn't come isn't."""
+        def breaks(client):
+            client.recv(1024)
+            reset(client)
+
+        scripted = Scripted(lambda client: backend.serve(client) if self.is_whole else breaks(client))
+        self.is_whole = True
+        gate = self.gateway(scripted, workers=1, each=1_000_000)
+        gate.ask(b"GET /garbage HTTP/1.1\r\nHost: h\r\n\r\n")
+        scripted.socket.shutdown(socket.SHUT_RDWR)
+        scripted.close()
+        gate.ask(PLAIN)
+        self.judge("troubles of two kinds", [f"{BROKEN}count=1 cause=malformed",
+                                             f"{UNREACHED}count=1 error=Connection refused (os error 111)"],
+                   troubles(gate, 2))
+        self.is_whole = False
+        scripted = Scripted(breaks)
+        gate = self.gateway(scripted)
+        gate.ask(b"POST / HTTP/1.1\r\nHost: h\r\nContent-Length: %d\r\n\r\n%s" % (len(MUCH), MUCH))
+        self.judge("a request that isn't taken", [f"{BROKEN}count=1 cause=closed before the request was written"],
+                   troubles(gate, 1))
+        scripted.close()
+
+    def counts_answers_that_nobody_reads(self, _):
+        """An answer of the gateway's own is reported also where its client has gone."""
+        held, release = threading.Event(), threading.Event()
+
+        def closes_late(client):
+            read_head(client)
+            held.set()
+            release.wait(PATIENCE)
+
+        scripted = Scripted(closes_late)
+        gate = self.gateway(scripted, each=1_000_000, words=("--report-seconds", "1"))
+        client = gate.connect()
+        client.sendall(PLAIN)
+        self.judge("one is at the backend", True, held.wait(PATIENCE))
+        reset(client)
+        release.set()
+        self.judge("a report of its answer", True, until(lambda: [it["502"] for it in reports(gate)][-1:] == ["1"]))
+        scripted.close()
+
+    def serves_beside_a_full_log(self, _):
+        """A log that takes no more holds whoever tells of a trouble, and no other worker."""
+        read_end, write_end = os.pipe()
+        fcntl.fcntl(write_end, fcntl.F_SETPIPE_SZ, 4096)
+        gate = Gateway(self.program, self.room, free_port(), workers=2, each=1_000_000, log_to=write_end)
+        told = b""
+        while b"listening" not in told and (piece := os.read(read_end, 4096)):
+            told += piece
+        os.set_blocking(write_end, False)
+        with contextlib.suppress(BlockingIOError):
+            while os.write(write_end, b"x" * 4096):
+                pass
+        os.set_blocking(write_end, True)
+        first = Later(gate.ask, PLAIN)
+        until(lambda: waits_to_write(gate.process))
+        others = [Later(gate.ask, b"GET / HTTP/1.1\r\n\r\n") for _ in range(3)]
+        self.judge("others meanwhile", [local(400)] * 3, [it.result() for it in others])
+        self.judge("who tells of it waits", None, first.found)
+        drain = Later(os.read, read_end, 65536)
+        self.judge("it is served behind that", local(502), first.result())
+        drain.result()
+        gate.process.kill()
+        os.close(read_end)
+        os.close(write_end)
+
+    def reports_in_time(self, backend):
+        """Nothing is reported before the first time has gone by, and the last worker's end ends the reports at once."""
+        took = []
+        for turn in range(TRIES):
+            gate = self.gateway(backend, words=("--report-seconds", "3600"))
+            begun = time.monotonic()
+            self.judge(f"one of a gateway that reports seldom, {turn}", passed_on(BODY), gate.ask(PLAIN))
+            self.judge(f"counters of a gateway that reports seldom, {turn}", {"admitted": 1, "success": 1},
+                       gate.ending())
+            took.append(time.monotonic() - begun)
+            self.judge(f"reports in its first hour, {turn}", [], reports(gate))
+        self.judge("it ended in less than a second", True, min(took) < 0.9)
+
+    def warns_of_descriptors(self, _):
+        """Whether workers exceed the descriptors is told by the limit that holds."""
+        for soft, count in ((135, 1), (136, 0)):
+            front = ("sh", "-c", f'ulimit -Sn {soft} && exec "$@"', "sh")
+            gate = Gateway(self.program, self.room, free_port(), "backlog = 0", workers=64, front=front)
+            wanted = ["[WARN  admission] workers exceed the descriptors: clients past them get no answer or 502 "
+                      f"descriptors={soft} wanted=136"] * count
+            self.judge(f"warnings at {soft} descriptors", wanted, [it for it in gate.log if "WARN" in it])
+
     def tells_of_descriptors(self, backend):
+        """That no descriptor was free for the backend is told as that, whosever the limit is."""
+        for what, how, error in (
+                ("of its own", {"front": ("sh", "-c", 'ulimit -Sn 5 && exec "$@"', "sh")},
+                 "Too many open files (os error 24)"),
+                ("of the system", {"variables": {"LD_PRELOAD": self.library, "SOCKET_REFUSED": "2"}},
+                 "Too many open files in system (os error 23)")):
+            gate = self.gateway(backend, each=1_000_000, **how)
+            self.judge(f"without a descriptor {what} for the backend", local(502), gate.ask(PLAIN))
+            self.judge(f"what is told of a descriptor {what}", [f"{NO_DESCRIPTOR}count=1 error={error}"],
+                       troubles(gate, 1))
+
+    def tells_of_clients_without_descriptors(self, backend):
         """That no descriptor was free is told, for clients and for the backend alike, and once."""
         front = ("sh", "-c", 'ulimit -Sn 6 && exec "$@"', "sh")
         gate = self.gateway(backend, workers=3, each=1_000_000, front=front, words=("--client-timeout-ms", "60000"))

@@ -1,0 +1,152 @@
+"""Cases of `tests/serve` on large bodies: a backend that answers before it reads, and a client that reads late."""
+import contextlib
+import itertools
+import pathlib
+import socket
+import time
+from concurrent.futures import ThreadPoolExecutor
+
+from loopback import FIVE, Scripted, read_all, read_head
+from sockets import PLAIN, passed_on, unbroken
+from telling import until
+from wires import local
+
+MEGABYTE = 1_000_000
+STEPS = range(1, 9)
+HOW = {False: "by a length", True: "in chunks"}
+# How much of a large answer is read at once.
+HALF = 2_500_000
+INTERIM = b"HTTP/1.1 103 Early Hints\r\nLink: </a>\r\n\r\n"
+
+
+def in_chunks(body):
+    return b"%x\r\n%s\r\n0\r\n\r\n" % (len(body), body)
+
+
+def post(count, is_chunked):
+    """A request with a body of so many bytes, by its length or in chunks."""
+    body = b"x" * count
+    coding, text = ((b"Transfer-Encoding: chunked", in_chunks(body)) if is_chunked else
+                    (b"Content-Length: %d" % count, body))
+    return b"POST /%d HTTP/1.1\r\nHost: h\r\n%s\r\n\r\n%s" % (count, coding, text)
+
+
+def answer(count, is_chunked):
+    """A response with such a body."""
+    body = b"y" * count
+    coding, text = ((b"Transfer-Encoding: chunked", in_chunks(body)) if is_chunked else
+                    (b"Content-Length: %d" % count, body))
+    return b"HTTP/1.1 200 OK\r\n%s\r\n\r\n%s" % (coding, text)
+
+
+def length_of(request):
+    """How many bytes the body of a request is to have, by its path."""
+    return int(request.split(b" ")[1][1:])
+
+
+def on_the_way(port, client):
+    """How many bytes of what was sent from a port the system holds, at both ends of a client's connection."""
+    here, held = client.getsockname()[1], 0
+    for line in pathlib.Path("/proc/net/tcp").read_text(encoding="ascii").splitlines()[1:]:
+        local_end, remote_end, _, queues = line.split()[1:5]
+        ends = tuple(int(it.rpartition(":")[2], 16) for it in (local_end, remote_end))
+        if ends in ((port, here), (here, port)):
+            held += int(queues.split(":")[ends[0] == here], 16)
+    return held
+
+
+def rests(process):
+    """Whether each thread of a process waits for something, or it has ended."""
+    states = set()
+    for it in pathlib.Path(f"/proc/{process.pid}/task").glob("*/stat"):
+        with contextlib.suppress(OSError):
+            states.add(it.read_text().rpartition(")")[2].split()[0])
+    return states <= set("SZX")
+
+
+class Large:
+    """Cases that a `Judge` with a `gateway` takes on; each is given a backend of its own."""
+
+    def answers_before_it_reads(self, _):
+        """A backend that writes a large answer before it reads a large request is read meanwhile: nobody waits."""
+        for is_chunked, reads_on in itertools.product((False, True), repeat=2):
+            def answers_first(client, is_chunked=is_chunked, reads_on=reads_on):
+                count = length_of(read_head(client))
+                client.sendall(answer(count, is_chunked))
+                if not reads_on:
+                    client.shutdown(socket.SHUT_WR)
+                read_all(client)
+
+            backend = Scripted(answers_first)
+            gate = self.gateway(backend, workers=8, each=2)
+            asked = [(step * MEGABYTE, sends_chunks) for step in STEPS for sends_chunks in (False, True)]
+            with ThreadPoolExecutor(8) as pool:
+                found = [*pool.map(lambda it: gate.ask(post(*it)), asked)]
+            what = f"{HOW[is_chunked]}, from a backend that {'reads on' if reads_on else 'ends'}"
+            for (count, sends_chunks), text in zip(asked, found):
+                name = f"{count} bytes up, {HOW[sends_chunks]}, and down, {what}"
+                self.judge(name, True, text == passed_on(b"y" * count))
+            self.judge(f"counters of answers {what}", {"admitted": 16, "success": 16}, gate.ending())
+            backend.close()
+
+    def is_told_that_no_more_comes(self, _):
+        """A backend that stops in its early answer, to wait for the rest of its request, is told that there is none."""
+        heard = []
+
+        def echoes(client):
+            count = length_of(read_head(client))
+            whole = answer(count, False)
+            client.sendall(whole[:-1])
+            heard.append(len(read_all(client)) < count)
+
+        backend = Scripted(echoes)
+        gate = self.gateway(backend, workers=2)
+        with ThreadPoolExecutor(2) as pool:
+            self.judge("answers that wait for their requests", [local(502)] * 2,
+                       [*pool.map(gate.ask, [post(8 * MEGABYTE, False)] * 2)])
+        self.judge("counters of what waits for its request", {"admitted": 2, "dropped": 2}, gate.ending())
+        self.judge("both were told", [True] * 2, heard)
+        backend.close()
+
+    def goes_on_behind_an_interim_response(self, _):
+        """An interim response is no answer: a backend that sends one, and reads on late, gets the whole request."""
+        given = []
+
+        def hints(client):
+            head = read_head(client)
+            client.sendall(INTERIM)
+            time.sleep(1.5)
+            left = length_of(head) - len(head.partition(b"\r\n\r\n")[2])
+            while left > 0 and (piece := client.recv(65536)):
+                left -= len(piece)
+            given.append(left)
+            client.sendall(answer(3, False))
+
+        backend = Scripted(hints)
+        gate = self.gateway(backend)
+        self.judge("behind an interim response", passed_on(b"yyy"), gate.ask(post(8 * MEGABYTE, False)))
+        self.judge("all of that request came", [0], given)
+        self.judge("counters behind an interim response", {"admitted": 1, "success": 1}, gate.ending())
+        backend.close()
+
+    def is_read_late(self, backend):
+        """A client that sends more while it still reads a large answer, which is written by then, gets all of it."""
+        gate = self.gateway(backend, workers=3)
+
+        def reads_late(_):
+            with socket.socket() as client:
+                # What isn't read lies with the gateway's system.
+                client.setsockopt(socket.SOL_SOCKET, socket.SO_RCVBUF, 65_536)
+                client.connect(("127.0.0.1", gate.port))
+                client.sendall(b"GET /five HTTP/1.1\r\nHost: h\r\n\r\n")
+                begun = client.recv(HALF, socket.MSG_WAITALL)
+                whole = len(passed_on(b"")) + len(str(FIVE)) - 1 + FIVE
+                is_written = until(lambda: len(begun) + on_the_way(gate.port, client) >= whole)
+                # Who doesn't linger has closed it then.
+                until(lambda: rests(gate.process))
+                found, why = unbroken(client, PLAIN) if is_written else (b"", "it isn't written")
+                return len((begun + found).partition(b"\r\n\r\n")[2]), why
+
+        with ThreadPoolExecutor(3) as pool:
+            self.judge("large answers that are read late", [(FIVE, None)] * 3, [*pool.map(reads_late, range(3))])
+        self.judge("counters of what is read late", {"admitted": 3, "success": 3}, gate.ending())

@@ -1,0 +1,92 @@
+"""Cases of `tests/serve` on what follows an answer: a client that sends more, goes on or stays, and a rest."""
+import resource
+import signal
+import socket
+import time
+
+from loopback import BODY, read_all
+from sockets import PLAIN, TRIES, passed_on, timed
+from wires import local
+
+# How often a case is tried that takes a while.
+FEW = 3
+NO_HOST = b"GET /plain HTTP/1.1\r\n\r\n"
+
+
+def breaks_behind(client):
+    """How a connection that was answered to its end breaks where its client sends more."""
+    for _ in range(2):
+        time.sleep(0.1)
+        try:
+            client.sendall(b"x")
+            if client.recv(1):
+                return "answered again"
+        except OSError as why:
+            return type(why).__name__
+    return None
+
+
+class Lingering:
+    """Cases that a `Judge` with a `gateway` takes on; each is given a backend of its own."""
+
+    def hears_what_was_read_ahead(self, backend):
+        """A client whose second request was read with its first may go on sending, and isn't reset."""
+        gate = self.gateway(backend, each=2)
+        with gate.connect() as client:
+            client.sendall(PLAIN + PLAIN)
+            self.judge("who sends two at once", passed_on(BODY), read_all(client))
+            self.judge("it may send more", None, breaks_behind(client))
+        self.judge("another one", passed_on(BODY), gate.ask(PLAIN))
+        self.judge("counters of who sends two at once", {"admitted": 2, "success": 2}, gate.ending())
+
+    def lingers_through_a_stop(self, backend):
+        """A gateway that is stopped and goes on while it lingers goes on lingering."""
+        gate = self.gateway(backend)
+        with gate.connect() as client:
+            client.sendall(NO_HOST)
+            self.judge("a request without a host", local(400), read_all(client))
+            for _ in range(3):
+                time.sleep(0.1)
+                gate.process.send_signal(signal.SIGSTOP)
+                time.sleep(0.1)
+                gate.process.send_signal(signal.SIGCONT)
+            self.judge("it may send more behind a stop", None, breaks_behind(client))
+        self.judge("counters of who was answered early", {}, gate.ending())
+
+    def lingers_no_longer_than_a_client_may(self, backend):
+        """The client's own time bounds how long it holds a worker, where that is less than two seconds."""
+        gate = self.gateway(backend, each=2 * TRIES, words=("--client-timeout-ms", "300"))
+        took = []
+        for _ in range(TRIES):
+            with gate.connect() as client:
+                client.sendall(NO_HOST)
+                self.judge("a request without a host", local(400), read_all(client))
+                answer, rest = timed(gate.ask, PLAIN)
+                self.judge("one behind it", passed_on(BODY), answer)
+                took.append(rest)
+        self.judge("it waited for less than two seconds", True, min(took) < 1.5)
+        self.judge("counters of short times", {"admitted": TRIES, "success": TRIES}, gate.ending())
+
+    def lingers_for_nobody_who_took_nothing(self, backend):
+        """Behind an answer that its client didn't take in time a worker serves the next one at once."""
+        gate = self.gateway(backend, each=2 * FEW, words=("--client-timeout-ms", "2000"))
+        took = []
+        for _ in range(FEW):
+            with socket.socket() as deaf:
+                deaf.setsockopt(socket.SOL_SOCKET, socket.SO_RCVBUF, 4096)
+                deaf.connect(("127.0.0.1", gate.port))
+                deaf.sendall(b"GET /large HTTP/1.1\r\nHost: h\r\n\r\n" + PLAIN)
+                begun = deaf.recv(1)
+                answer, rest = timed(gate.ask, PLAIN)
+                self.judge("one behind a deaf client", (b"H", passed_on(BODY)), (begun, answer))
+                took.append(rest)
+        self.judge("it waited for the deaf one's time alone", True, min(took) < 3.5)
+        self.judge("counters of deaf clients", {"admitted": 2 * FEW, "success": 2 * FEW}, gate.ending())
+
+    def rests_for_a_moment(self, backend):
+        """A connection that can't be had counts as one of a worker's, and the next is tried a moment later."""
+        gate = self.gateway(backend, each=100)
+        hard = resource.prlimit(gate.process.pid, resource.RLIMIT_NOFILE)[1]
+        resource.prlimit(gate.process.pid, resource.RLIMIT_NOFILE, (3, hard))
+        with gate.connect():
+            self.judge("counters of connections that can't be had", {}, gate.ending())
