@@ -1,2 +1,3 @@
 pub mod Greatest
 pub mod Decrease
+pub mod Increase

@@ -1,3 +1,4 @@
 pub mod AimdRules
 pub mod AimdLaws
 pub mod Falls
+pub mod Rises

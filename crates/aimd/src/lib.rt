@@ -3,11 +3,15 @@
 //! in Netflix's concurrency-limits (README); the rule is this project's own.
 //!
 //! Its rule is `specs/AimdRules.antt`, and each call's contract is that of [`limit_laws::Limit`] at
-//! that rule. What an operator may rely on whatever the samples stands on the functions of `laws`.
+//! that rule. What an operator may rely on stands on the functions of `laws`: how fast the limit
+//! falls at most, whatever the samples, and how fast it recovers where it is in use.
 #![tactic(auto)]
 
 mod aimd;
 mod laws;
 
 pub use aimd::Aimd;
-pub use laws::{decreases_to_the_greatest, falls_by_the_ratio_at_most, falls_no_faster_than_drops};
+pub use laws::{
+    decreases_to_the_greatest, falls_by_the_ratio_at_most, falls_no_faster_than_drops,
+    rises_by_one_a_sample,
+};

@@ -9,7 +9,7 @@ use Rattle.vegas.specs.VegasLaws.{next_follows}
 use Rattle.vegas.specs.Queues.{IsAtBase, NeverFallsAtTheBase}
 use Rattle.vegas.proofs.Least.{queue-at_base}
 
-raised : (s : VegasState) → 1 ≤ s.alpha → by_queue s 0 ≡ s.limit + 1
+pub raised : (s : VegasState) → 1 ≤ s.alpha → by_queue s 0 ≡ s.limit + 1
 raised s h = rw (lt-ltb 0 s.alpha h)
 
 by_use : (s : VegasState) (free : Bool) (n : ℕ) → n ≡ s.limit + 1 →

@@ -1,7 +1,8 @@
 -- What the rule means for an operator.
-use Rattle.std.specs.Prelude.{◌≡◌, ℕ, ◌-◌, ◌*◌, ◌≤◌, false, IfSome, All, List, ◌++◌, fold}
+use Rattle.std.specs.Prelude.{◌≡◌, ℕ, ◌+◌, ◌-◌, ◌*◌, ◌≤◌, ◌<◌, ◌⊎◌, false, Some, IfSome, All, List, ◌++◌, length, fold, min}
 use Rattle.limit_laws.specs.Facts.{SampleFacts}
 use Rattle.limit_laws.specs.Algorithm.{IsWithin}
+use Rattle.limit_laws.specs.Use.{AreInUse}
 use Rattle.vegas.specs.VegasRules.{VegasState, vegas_rules, vegas_next, queue}
 
 -- THE LAW of the queue: it is the least q with q * rtt ≥ limit * (rtt - base)
@@ -24,3 +25,16 @@ NeverFallsAtTheBase =
     1 ≤ s.alpha → IfSome s.base (λ b. b ≡ base) →
     All (IsAtBase base) (xs ++ ys) →
     (fold vegas_next s xs).limit ≤ (fold vegas_next s (xs ++ ys)).limit
+
+-- no sample of a list is a probe: none ever is, or the next probe comes after them
+abbrev pub HasNoProbe : VegasState → List SampleFacts → Type 0
+HasNoProbe s xs = (s.probe_every ≡ 0) ⊎ (s.count + length xs < s.probe_every)
+
+-- THE LAW of recovery: after n samples at the base with no probe among them, each of which found
+-- at least half of the limit in use, the limit is the lesser of the greatest and n more than it was
+abbrev pub RisesAtTheBase : Type 0
+RisesAtTheBase =
+    (s : VegasState) (base : ℕ) (xs : List SampleFacts) → IsWithin vegas_rules s →
+    1 ≤ s.alpha → s.base ≡ Some base → HasNoProbe s xs →
+    All (IsAtBase base) xs → AreInUse vegas_rules s xs →
+    (fold vegas_next s xs).limit ≡ min s.hi (s.limit + length xs)

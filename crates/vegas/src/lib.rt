@@ -11,5 +11,5 @@
 mod laws;
 mod vegas;
 
-pub use laws::{estimates_the_least_queue, never_falls_at_the_base};
+pub use laws::{estimates_the_least_queue, never_falls_at_the_base, rises_at_the_base};
 pub use vegas::Vegas;
