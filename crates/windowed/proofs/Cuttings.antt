@@ -7,6 +7,7 @@ use Rattle.limit_laws.specs.Facts.{SampleFacts}
 use Rattle.sample_window.specs.Totals.{most_samples}
 use Rattle.windowed.specs.WindowedRules.{WindowNumbers, is_kept, end_of}
 use Rattle.windowed.specs.Windows.{Input, Sampled, SetTo, Stretch, samples_of, kept_sample, inputs_of, window_samples, StaysOpen, IsWindow, AreWindows, due_after, due_after_all, CutsIntoWindows}
+use Rattle.windowed.specs.Learning.{CutsFromAnyMoment}
 
 -- the samples of a list and one more input
 pub samples_of_kept : (w : WindowNumbers) (before : List Input) (x : SampleFacts) →
@@ -118,7 +119,10 @@ cut w due before (Sampled x ∷ inputs) o = elim (cases_Bool (is_kept w x)) [
       ]
 ]
 
-pub cuts : CutsIntoWindows
-cuts w inputs =
-    let c = cut w 0 [] inputs (nothing_open w 0) in
+pub cuts_from : CutsFromAnyMoment
+cuts_from w due inputs =
+    let c = cut w due [] inputs (nothing_open w due) in
     (c.windows, (c.rest, record { whole = c.whole; each = c.each; none_after = c.none_after }))
+
+pub cuts : CutsIntoWindows
+cuts w inputs = cuts_from w 0 inputs

@@ -2,3 +2,4 @@ pub mod Totals
 pub mod Cuttings
 pub mod Steps
 pub mod Runs
+pub mod Learning

@@ -1,3 +1,4 @@
 pub mod WindowedRules
 pub mod WindowedLaws
 pub mod Windows
+pub mod Learning

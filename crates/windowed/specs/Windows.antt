@@ -70,19 +70,27 @@ abbrev pub AreWindows : WindowNumbers → ℕ → List Stretch → Type 0
 AreWindows w due [] = Unit {0}
 AreWindows w due (s ∷ windows) = IsWindow w due s × AreWindows w (due_after w s) windows
 
--- the inputs are cut into windows, the first of which is due at 0, and a rest that is still open
-pub record IsCutting (w : WindowNumbers) (inputs : List Input) (windows : List Stretch)
-    (rest : List Input) : Type 0 where
+-- the inputs are cut into windows, the first of which is due at this moment, and a rest that is
+-- still open
+pub record IsCuttingFrom (w : WindowNumbers) (due : ℕ) (inputs : List Input)
+    (windows : List Stretch) (rest : List Input) : Type 0 where
   pub whole : inputs ≡ flat_map inputs_of windows ++ rest
-  pub each : AreWindows w 0 windows
-  pub none_after : StaysOpen w (due_after_all w 0 windows) rest
+  pub each : AreWindows w due windows
+  pub none_after : StaysOpen w (due_after_all w due windows) rest
+
+-- the first window of all is due at 0
+abbrev pub IsCutting : WindowNumbers → List Input → List Stretch → List Input → Type 0
+IsCutting w inputs windows rest = IsCuttingFrom w 0 inputs windows rest
+
+-- the mean sample of a window
+abbrev pub window_mean : WindowNumbers → Stretch → SampleFacts
+window_mean w s = mean_sample (totals (window_samples w s)) s.last
 
 -- what a window hands on: its settings, and its mean sample where it has enough samples
 abbrev pub handed_on : WindowNumbers → Stretch → List Input
 handed_on w s =
     filter is_setting s.before
-    ++ (if nat_le w.size (length (window_samples w s))
-    then Sampled (mean_sample (totals (window_samples w s)) s.last) ∷ [] else [])
+    ++ (if nat_le w.size (length (window_samples w s)) then Sampled (window_mean w s) ∷ [] else [])
 
 -- THE LAW of cuttings: every list of inputs has one
 abbrev pub CutsIntoWindows : Type 0
