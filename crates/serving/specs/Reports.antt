@@ -5,7 +5,7 @@ use Rattle.std.specs.Prelude.{ℕ, ◌+◌, ◌-◌, ◌^◌, min, nat_le, if◌
 abbrev pub later : ℕ → ℕ → ℕ
 later moment every = min (moment + every) (2 ^ 64 - 1)
 
--- the report behind the last one: so long after it, and where that moment has gone by, so long after now
+-- the report behind the last one: so long after it, or after now where that moment has gone by
 abbrev pub next_report : ℕ → ℕ → ℕ → ℕ
 next_report last every now =
     if nat_le (later last every) now then later now every else later last every

@@ -13,8 +13,8 @@ use std::net::{Shutdown, TcpStream};
 use std::os::fd::{AsRawFd, RawFd};
 use std::time::Duration;
 
-/// Half of what the system may have taken of memory for what was sent, where nobody waits for it, in
-/// bytes: so much is on its way with the first window.
+/// Half of what the system may have taken of memory for what was sent, where nobody waits for it,
+/// in bytes: so much is on its way with the first window.
 const ON_ITS_WAY: i32 = 16_384;
 
 /// The same where it was more once: the system makes it some two kilobytes, which is the least.
@@ -87,8 +87,8 @@ impl Connection for TcpStream {
 
 // Whether the system holds more of what was sent, after so long at most. How many bytes weren't
 // acknowledged can't be had: the calls that tell it, or that wait for them at a close, aren't among
-// the library's. But a connection is writable where a third of its room is free, so that is made small
-// first.
+// the library's. But a connection is writable where a third of its room is free, so that is made
+// small first.
 fn is_held(file: RawFd, half: i32, most: Duration) -> bool {
     let mut room = [0u8; 16];
     room[..4].copy_from_slice(&half.to_ne_bytes());
