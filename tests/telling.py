@@ -123,9 +123,8 @@ class Telling:
             client.recv(1024)
             reset(client)
 
-        scripted = Scripted(lambda client: backend.serve(client) if self.is_whole else breaks(client))
-        self.is_whole = True
-        gate = self.gateway(scripted, workers=1, each=1_000_000)
+        scripted = Scripted(backend.serve)
+        gate = self.gateway(scripted, each=1_000_000)
         gate.ask(b"GET /garbage HTTP/1.1\r\nHost: h\r\n\r\n")
         scripted.socket.shutdown(socket.SHUT_RDWR)
         scripted.close()
@@ -133,7 +132,6 @@ class Telling:
         self.judge("troubles of two kinds", [f"{BROKEN}count=1 cause=malformed",
                                              f"{UNREACHED}count=1 error=Connection refused (os error 111)"],
                    troubles(gate, 2))
-        self.is_whole = False
         scripted = Scripted(breaks)
         gate = self.gateway(scripted)
         gate.ask(b"POST / HTTP/1.1\r\nHost: h\r\nContent-Length: %d\r\n\r\n%s" % (len(MUCH), MUCH))
