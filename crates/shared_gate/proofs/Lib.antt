@@ -1,4 +1,5 @@
 mod Closings
+mod Opened
 mod Reporting
 mod Rising
 mod Sequential

@@ -1,5 +1,7 @@
 // A gate with its passes.
-ghost use Rattle.std.specs.Prelude.{◌≡◌, IfOk, vec_len};
+ghost use Rattle.std.specs.Prelude.{◌≡◌, IfOk, OnOk, replicate, vec_len};
+ghost use Rattle.gate_journal.specs.Journal.{next_number};
+ghost use Rattle.shared_gate.specs.Calls.{pass_at};
 
 use crate::gate::SharedGate;
 use crate::naming::GateNaming;
@@ -10,9 +12,9 @@ use limit_laws::Limit;
 use std::alloc::{AllocError, Global};
 
 impl<L: Limit, M: GateNaming> SharedGate<L, M> {
-    /// A gate over a book, with so many passes, which are the last that the book gives. A book that
-    /// isn't sealed gives a million in all; where it gives fewer than are asked for, that is out of
-    /// memory too.
+    /// A gate over a book, with so many passes, which are the last that the book gives. No call was
+    /// made by any of them, and each has seen the numbers so far. A book that isn't sealed gives a
+    /// million in all; where it gives fewer than are asked for, that is out of memory too.
     pub fn open(
         alloc: Global,
         word: Word,
@@ -21,6 +23,8 @@ impl<L: Limit, M: GateNaming> SharedGate<L, M> {
     ) -> Result<(SharedGate<L, M>, Vec<Pass<M>>), AllocError>
         requires word { word ≡ M.word }
         ensures all { IfOk result (λ made. vec_len made.1 ≡ count) }
+        ensures passes { IfOk result (λ made.
+            made.1.items ≡ replicate count (pass_at (next_number book.journal) 0)) }
     {
         let passes = make_passes(alloc, &mut book, count)?;
         book.seal();
@@ -29,13 +33,14 @@ impl<L: Limit, M: GateNaming> SharedGate<L, M> {
     }
 }
 
-/// So many passes of a book that gives them.
+/// So many passes of a book that gives them. No step is made.
 fn make_passes<L: Limit, M: GateNaming>(
     alloc: Global,
     book: &mut Book<L, M>,
     count: usize,
 ) -> Result<Vec<gate_history::Pass<M>>, AllocError>
-    ensures all { IfOk result (λ passes. vec_len passes ≡ count) }
+    ensures passes { IfOk result (λ passes. passes.items ≡ replicate count 0) }
+    ensures journal { OnOk result (book.new.journal ≡ book.old.journal) }
 {
     let mut passes = Vec::with_capacity(alloc, count)?;
     for _ in 0..count {

@@ -1,10 +1,11 @@
-use Rattle.std.proofs.Common.{◌≡◌, ◌≤◌, vec_capacity}
-use Rattle.std.specs.Prelude.{vec_len}
+use Rattle.std.proofs.Common.{◌≡◌, ◌≤◌, replicate, vec_capacity}
 use Rattle.shared_gate.proofs.opening.make_passes.Given as goal
 
--- so many so far, and there is room for the others
+-- so many so far, by none of which a call was made, and there is room for the others; the journal
+-- stays
 abbrev pub invariant-loop : goal.invariant-loop
 invariant-loop g l = record {
-  made : vec_len l.passes ≡ l.counter;
+  made : l.passes.items ≡ replicate l.counter 0;
   room : l.count ≤ vec_capacity l.passes;
+  journal : l.book.journal ≡ l.fn.book.journal;
 }
