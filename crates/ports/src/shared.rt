@@ -2,8 +2,11 @@
 ghost use Rattle.std.specs.Prelude.{◌≡◌, ◌+◌, ◌≤◌, true, false, is_some, if◌then◌else◌};
 ghost use Rattle.shared_gate.specs.Calls.{Ends};
 ghost use Rattle.gate_port.specs.Asking.{ask_of};
+ghost use Rattle.ports.specs.declared.asked.Asked.TheVariants.{Nothing};
+ghost use Rattle.ports.specs.Asked.{IsAnswered, port_in};
 ghost use Rattle.ports.specs.Told.{IsTold};
 
+use crate::asked::Asked;
 use clocks::Clock;
 use gate_history::{Permit, Receipt};
 use gate_port::{Admission, GatePort, Why};
@@ -15,22 +18,23 @@ use std::marker::Model;
 use std::sync::Wait;
 use std::time::Clock as SystemClock;
 
-/// A port over a gate that threads share, with a pass of its own. It shows no entries. Contracts
-/// see its pass.
+/// A port over a gate that threads share, with a pass of its own. It shows no entries, and keeps
+/// the receipts of its last asking. Contracts see these and its pass.
 #[derive(Drop)]
 pub struct Port<'a, L: Limit, M: GateNaming, R, C> {
     rt: &'a R,
     gate: &'a SharedGate<L, M>,
     pass: Pass<M>,
+    asked: Asked<M>,
     clock: &'a C,
 }
 
 impl<'a, L: Limit, M: GateNaming, R, C> Model for Port<'a, L, M, R, C> {
-    ghost use Rattle.shared_gate.specs.Calls.{Pass};
+    ghost use Rattle.ports.specs.Asked.{Shared, port_in};
 
-    ghost Value = { Pass };
+    ghost Value = { Shared M };
 
-    ghost view = { λ p. p.pass };
+    ghost view = { λ p. port_in p.pass p.asked };
 
     ghost invariant = { λ p. Unit {0} };
 }
@@ -43,24 +47,33 @@ impl<'a, L: Limit, M: GateNaming, R, C> Port<'a, L, M, R, C> {
         pass: Pass<M>,
         clock: &'a C,
     ) -> Port<'a, L, M, R, C>
-        ensures { result ≡ pass }
+        ensures { result ≡ port_in pass Nothing }
     {
         Port {
             rt,
             gate,
             pass,
+            asked: Asked::Nothing,
             clock,
         }
     }
 
+    /// What the gate told of the last asking.
+    pub fn asked(&self) -> &Asked<M>
+        ensures { result.now ≡ self.now.asked }
+    {
+        &self.asked
+    }
+
     /// Its pass.
     pub fn into_pass(self) -> Pass<M>
-        ensures { result ≡ self.entry }
+        ensures { result ≡ self.entry.pass }
     {
         let Port {
             rt: _,
             gate: _,
             pass,
+            asked: _,
             clock: _,
         } = self;
         pass
@@ -71,34 +84,67 @@ impl<'a, L: Limit, M: GateNaming, R: Wait + SystemClock, C: Clock> Port<'a, L, M
     /// Asks without waiting.
     #[inline(always)]
     fn ask(&mut self, part: Part, bypass: bool, now: u64) -> Admission<Permit<M>>
-        ensures { IsTold self.old self.new
+        ensures told { IsTold self.old.pass self.new.pass
             (record { part = part; bypass = bypass; wait = false }) now result }
+        ensures answered { IsAnswered self.old.pass self.new.pass
+            (record { part = part; bypass = bypass; wait = false }) now self.new.asked result }
     {
         let pass = &mut self.pass;
-        match self.gate.acquire(self.rt, pass, part, bypass, false, now) {
-            Got::Admitted(_receipt, permit) => Admission::Admitted(permit),
-            Got::Bypassed(_receipt) => Admission::Bypassed,
-            Got::Full(_receipt) => Admission::Refused(Why::Full),
-            Got::BacklogFull(_receipt) => Admission::Refused(Why::BacklogFull),
+        let (asked, answer) = match self.gate.acquire(self.rt, pass, part, bypass, false, now) {
+            Got::Admitted(receipt, permit) => {
+                (Asked::Answered(receipt), Admission::Admitted(permit))
+            }
+            Got::Bypassed(receipt) => (Asked::Answered(receipt), Admission::Bypassed),
+            Got::Full(receipt) => (Asked::Answered(receipt), Admission::Refused(Why::Full)),
+            Got::BacklogFull(receipt) => {
+                (
+                    Asked::Answered(receipt),
+                    Admission::Refused(Why::BacklogFull),
+                )
+            }
             Got::Waiting(_receipt, _ticket) => unreachable!(),
-            Got::Exhausted(_spent) => Admission::Refused(Why::Exhausted),
-        }
+            Got::Exhausted(spent) => (Asked::Exhausted(spent), Admission::Refused(Why::Exhausted)),
+        };
+        self.asked = asked;
+        answer
     }
 
     /// Asks, and where there is no room waits until the deadline.
     fn ask_and_wait(&mut self, part: Part, now: u64, deadline: u64) -> Admission<Permit<M>>
-        ensures { IsTold self.old self.new
+        ensures told { IsTold self.old.pass self.new.pass
             (record { part = part; bypass = false; wait = true }) now result }
+        ensures answered { IsAnswered self.old.pass self.new.pass
+            (record { part = part; bypass = false; wait = true }) now self.new.asked result }
     {
         let (rt, pass, clock) = (self.rt, &mut self.pass, self.clock);
-        match self.gate.acquire_wait(rt, pass, part, now, clock, deadline) {
-            Waited::Admitted(_receipt, permit) => Admission::Admitted(permit),
-            Waited::Promoted(_first, _second, permit) => Admission::Admitted(permit),
-            Waited::TimedOut(_first, _second) => Admission::Refused(Why::TimedOut),
-            Waited::BacklogFull(_receipt) => Admission::Refused(Why::BacklogFull),
-            Waited::Lost(_first, _second) => Admission::Refused(Why::Lost),
-            Waited::Exhausted(_spent) => Admission::Refused(Why::Exhausted),
-        }
+        let (asked, answer) = match self.gate.acquire_wait(rt, pass, part, now, clock, deadline) {
+            Waited::Admitted(receipt, permit) => {
+                (Asked::Answered(receipt), Admission::Admitted(permit))
+            }
+            Waited::Promoted(first, second, permit) => {
+                (Asked::GaveUp(first, second), Admission::Admitted(permit))
+            }
+            Waited::TimedOut(first, second) => {
+                (
+                    Asked::GaveUp(first, second),
+                    Admission::Refused(Why::TimedOut),
+                )
+            }
+            Waited::BacklogFull(receipt) => {
+                (
+                    Asked::Answered(receipt),
+                    Admission::Refused(Why::BacklogFull),
+                )
+            }
+            Waited::Lost(first, second) => {
+                (Asked::waited(first, second), Admission::Refused(Why::Lost))
+            }
+            Waited::Exhausted(spent) => {
+                (Asked::Exhausted(spent), Admission::Refused(Why::Exhausted))
+            }
+        };
+        self.asked = asked;
+        answer
     }
 }
 
@@ -124,9 +170,12 @@ impl<'a, L: Limit, M: GateNaming, R: Wait + SystemClock, C: Clock> GatePort
         deadline: Option<u64>,
         now: u64,
     ) -> Admission<Permit<M>>
-        ensures told { IsTold self.old self.new (ask_of part bypass deadline) now
+        ensures told { IsTold self.old.pass self.new.pass (ask_of part bypass deadline) now
             result }
-        ensures few { self.new.count ≤ self.old.count + (if is_some deadline then 2 else 1) }
+        ensures answered { IsAnswered self.old.pass self.new.pass
+            (ask_of part bypass deadline) now self.new.asked result }
+        ensures few { self.new.pass.count
+            ≤ self.old.pass.count + (if is_some deadline then 2 else 1) }
     {
         match deadline {
             Some(until) if !bypass => self.ask_and_wait(part, now, until),
@@ -137,8 +186,9 @@ impl<'a, L: Limit, M: GateNaming, R: Wait + SystemClock, C: Clock> GatePort
     /// Ends a permit, in one call by the pass.
     #[inline(always)]
     fn end(&mut self, permit: Permit<M>, outcome: Outcome, now: u64) -> Receipt<M>
-        ensures told { Ends self.old self.new permit outcome now result }
-        ensures few { self.new.count ≤ self.old.count + 1 }
+        ensures told { Ends self.old.pass self.new.pass permit outcome now result }
+        ensures asked { self.new.asked ≡ self.old.asked }
+        ensures few { self.new.pass.count ≤ self.old.pass.count + 1 }
     {
         self.gate.end(self.rt, &mut self.pass, permit, outcome, now)
     }

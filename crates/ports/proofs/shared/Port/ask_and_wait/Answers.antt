@@ -1,5 +1,8 @@
 use Rattle.std.proofs.Common.{rules}
 use Rattle.ports.proofs.shared.Port.ask_and_wait.Goals as goal
 
-pub returns : goal.returns
-returns g c = search rules
+pub returns-clause-told : goal.returns-clause-told
+returns-clause-told g c = search rules
+
+pub returns-clause-answered : goal.returns-clause-answered
+returns-clause-answered g c = search rules

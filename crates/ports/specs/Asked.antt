@@ -1,0 +1,54 @@
+-- What a port over a shared gate keeps of an asking: the receipts of its calls.
+use Rattle.std.specs.Prelude.{◌≡◌, ℕ, Some, Result, Ok, Err}
+use Rattle.limiter_core.specs.declared.event.Event.TheVariants.{GiveUp}
+use Rattle.limiter_core.specs.declared.event.Reply.TheVariants.{Waiting}
+use Rattle.limiter_core.specs.declared.event.PermitFacts.{PermitFacts}
+use Rattle.gate_ledgers.specs.Told.{Told}
+use Rattle.gate_history.specs.Refusal.{Refusal}
+use Rattle.shared_gate.specs.Calls.{IsMissed, IsTold, IsUntold, Pass, since}
+use Rattle.gate_port.specs.declared.port.Why.TheVariants as why
+use Rattle.gate_port.specs.declared.port.Admission.{Admission}
+use Rattle.gate_port.specs.declared.port.Admission.TheVariants.{Refused}
+use Rattle.gate_port.specs.Asking.{Ask, acquire, says}
+use Rattle.ports.specs.declared.asked.Asked.{Asked}
+use Rattle.ports.specs.declared.asked.Asked.TheVariants as asked
+
+-- a port: its pass, and what it was told of its last asking
+pub record Shared (M : Type 0) : Type 0 where
+  pub pass : Pass
+  pub asked : Asked M
+
+-- a port with this pass that was told so
+abbrev pub port_in : {M : Type 0} → Pass → Asked M → Shared M
+port_in pass asked = record { pass = pass; asked = asked }
+
+-- an acquire that waited, and what its giving up was answered
+abbrev pub asked_by : {M : Type 0} → Told → Result Told Refusal → Asked M
+asked_by first (Ok second) = asked.GaveUp first second
+asked_by first (Err spent) = asked.Missed first spent
+
+-- the receipt of an acquire that waits
+abbrev pub IsQueued : Pass → Ask → ℕ → Told → Type 0
+IsQueued before ask now first =
+    IsTold before (since before first) (acquire ask now) first × (first.reply ≡ Waiting)
+
+-- THE RECEIPTS OF AN ASKING, from a pass before it to the pass after it, and what its caller is
+-- answered: that of an acquire of what was asked for, and what its reply says; or that of one that
+-- waits and that of the giving up of its number, and what the reply to this says; or a refusal of
+-- either, which gets nothing
+abbrev pub IsAnswered : {M : Type 0} → Pass → Pass → Ask → ℕ → Asked M → Admission PermitFacts
+    → Type 0
+IsAnswered before after ask now asked.Nothing answer = ⊥
+IsAnswered before after ask now (asked.Exhausted spent) answer =
+    IsUntold before after (acquire ask now) spent × (answer ≡ Refused why.Exhausted)
+IsAnswered before after ask now (asked.Answered receipt) answer =
+    IsTold before after (acquire ask now) receipt
+    × (says ask receipt.number now receipt.reply ≡ Some answer)
+IsAnswered before after ask now (asked.GaveUp first second) answer =
+    IsQueued before ask now first
+    × IsTold (since before first) after (GiveUp first.number) second
+    × (says ask first.number now second.reply ≡ Some answer)
+IsAnswered before after ask now (asked.Missed first spent) answer =
+    IsQueued before ask now first
+    × IsMissed before after first (GiveUp first.number) spent
+    × (answer ≡ Refused why.Lost)
