@@ -1,6 +1,8 @@
 // A run: the gate is made, called by two threads, and closed.
 ghost use Rattle.std.specs.Prelude.{◌≡◌, false, IfOk};
 ghost use Rattle.limiter_core.specs.declared.promote.Promote.TheVariants.{Newest};
+ghost use Rattle.aimd.specs.AimdRules.{aimd_rules};
+ghost use Rattle.gate_ledgers.specs.Course.{course_of};
 ghost use Rattle.gate_ledgers.specs.Names.{AreNamed, AreWhole};
 ghost use Rattle.gate_history.specs.Book.{made_as};
 ghost use Rattle.embedding.specs.Run.{IsAudited};
@@ -34,9 +36,9 @@ pub(crate) fn run<M: GateNaming + Send + Sync, R: Threads + Wait + SystemClock +
     requires promote { M.promote ≡ Newest }
     requires kept { M.kept ≡ 1000 }
     requires rolling { M.is_rolling ≡ false }
-    requires limit { M.limit ≡ limit.limit }
+    requires limit { M.limit ≡ course_of aimd_rules limit }
     ensures { IfOk result (λ history. IsAudited
-        (made_as table 10 Newest 1000 false limit.limit)
+        (made_as table 10 Newest 1000 false (course_of aimd_rules limit))
         history.opening.standing history.entries.items) }
 {
     let mut book = Book::begin(

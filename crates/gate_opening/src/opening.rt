@@ -3,6 +3,7 @@ ghost use Rattle.std.specs.Prelude.{◌≡◌, true, false, IfOk, vec_len};
 ghost use Rattle.limit_kinds.specs.AnyKinds.{any_rules};
 ghost use Rattle.limiter_core.specs.Limiter.{unasked};
 ghost use Rattle.gate_journal.specs.Journal.{opened};
+ghost use Rattle.gate_ledgers.specs.Course.{course_of};
 ghost use Rattle.gate_ledgers.specs.Names.{AreNamed, AreWhole};
 ghost use Rattle.gate_ledgers.specs.Places.{no_places};
 ghost use Rattle.gate_history.specs.Book.{book_in};
@@ -28,7 +29,7 @@ fn open_book<M: Naming>(
     requires promote { M.promote ≡ settings.now.promote }
     requires kept { M.kept ≡ settings.now.keep }
     requires rolling { M.is_rolling ≡ true }
-    requires limit { M.limit ≡ any_rules.limit settings.now.limit }
+    requires limit { M.limit ≡ course_of any_rules settings.now.limit }
     requires sound { AreSound settings.now }
     ensures { IfOk result (λ book. book ≡ book_in
         (opened (unasked settings.now.table settings.now.backlog settings.now.promote
@@ -70,7 +71,7 @@ pub fn open_gate<M: GateNaming>(
     requires promote { M.promote ≡ settings.now.promote }
     requires kept { M.kept ≡ settings.now.keep }
     requires rolling { M.is_rolling ≡ true }
-    requires limit { M.limit ≡ any_rules.limit settings.now.limit }
+    requires limit { M.limit ≡ course_of any_rules settings.now.limit }
     requires sound { AreSound settings.now }
     ensures all { IfOk result (λ made. vec_len made.1 ≡ count) }
 {

@@ -1,6 +1,8 @@
 // How many passes a book gives, and how many entries a journal may be asked to keep.
 ghost use Rattle.std.specs.Prelude.{◌≡◌, [], false};
 ghost use Rattle.limiter_core.specs.declared.promote.Promote.TheVariants.{Newest};
+ghost use Rattle.limit_laws.specs.FixedRules.{fixed_rules};
+ghost use Rattle.gate_ledgers.specs.Course.{course_of};
 ghost use Rattle.gate_ledgers.specs.Names.{AreNamed, AreWhole};
 
 use crate::books::book_over;
@@ -25,7 +27,7 @@ fn a_million_passes<N: Naming, R: Abort>(rt: &R, alloc: Global, blanks: Blanks)
     requires promote { N.promote ≡ Newest }
     requires kept { N.kept ≡ 1 }
     requires rolling { N.is_rolling ≡ false }
-    requires limit { N.limit ≡ 1 }
+    requires limit { N.limit ≡ course_of fixed_rules 1 }
 {
     let mut book = book_over::<N, R>(rt, alloc, 1, 1, false, blanks);
     for _ in 0..1_000_000 {
@@ -47,7 +49,7 @@ fn sealed<N: Naming, R: Abort>(rt: &R, alloc: Global, blanks: Blanks)
     requires promote { N.promote ≡ Newest }
     requires kept { N.kept ≡ 1 }
     requires rolling { N.is_rolling ≡ false }
-    requires limit { N.limit ≡ 1 }
+    requires limit { N.limit ≡ course_of fixed_rules 1 }
 {
     let mut book = book_over::<N, R>(rt, alloc, 1, 1, false, blanks);
     book.seal();

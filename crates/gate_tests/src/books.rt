@@ -2,6 +2,8 @@
 ghost use Rattle.std.specs.Prelude.{◌≡◌, ◌≤◌, []};
 ghost use Rattle.limiter_core.specs.declared.promote.Promote.TheVariants.{Newest};
 ghost use Rattle.gate_journal.specs.Journal.{most_kept};
+ghost use Rattle.limit_laws.specs.FixedRules.{fixed_rules};
+ghost use Rattle.gate_ledgers.specs.Course.{course_of};
 ghost use Rattle.gate_ledgers.specs.Names.{AreNamed, AreWhole};
 
 use gate_history::{Blanks, Book, Naming};
@@ -28,7 +30,7 @@ pub(crate) fn book_over<N: Naming, R: Abort>(
     requires promote { N.promote ≡ Newest }
     requires kept { N.kept ≡ kept }
     requires rolling { N.is_rolling ≡ is_rolling }
-    requires limit { N.limit ≡ permits }
+    requires limit { N.limit ≡ course_of fixed_rules permits }
     requires some_kept { 1 ≤ kept }
     requires few_kept { kept ≤ most_kept }
 {
@@ -54,7 +56,7 @@ pub(crate) fn book_with<L: Limit, N: Naming, R: Abort>(
     requires promote { N.promote ≡ promote }
     requires kept { N.kept ≡ kept }
     requires rolling { N.is_rolling ≡ is_rolling }
-    requires limit { N.limit ≡ L.rules.limit limit }
+    requires limit { N.limit ≡ course_of L.rules limit }
     requires some_kept { 1 ≤ kept }
     requires few_kept { kept ≤ most_kept }
 {

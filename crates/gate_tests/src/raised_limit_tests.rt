@@ -2,6 +2,8 @@
 // and by a reset. Who waits is woken at once, and doesn't find its permit as it looks by itself.
 ghost use Rattle.std.specs.Prelude.{◌≡◌, [], false};
 ghost use Rattle.limiter_core.specs.declared.promote.Promote.TheVariants.{All};
+ghost use Rattle.limit_laws.specs.SettableRules.{settable_from, settable_rules};
+ghost use Rattle.gate_ledgers.specs.Course.{course_of};
 ghost use Rattle.gate_ledgers.specs.Names.{AreNamed, AreWhole};
 
 use crate::books::book_with;
@@ -57,7 +59,7 @@ fn by_two_threads<M: GateNaming + Send + Sync, R: Threads + Wait + SystemClock +
     requires promote { M.promote ≡ All }
     requires kept { M.kept ≡ 1000000 }
     requires rolling { M.is_rolling ≡ false }
-    requires limit { M.limit ≡ 2 }
+    requires limit { M.limit ≡ course_of settable_rules (settable_from 1 2 10) }
 {
     let limit = Settable::new(1, 2, 10).expect(rt, "a limit");
     let book = book_with::<_, M, R>(rt, alloc, limit, Promote::All, 1_000_000, false, blanks);

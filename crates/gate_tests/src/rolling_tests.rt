@@ -1,6 +1,8 @@
 // Gates whose history rolls, through the lock: the worked rows by one pass.
 ghost use Rattle.std.specs.Prelude.{◌≡◌, [], true};
 ghost use Rattle.limiter_core.specs.declared.promote.Promote.TheVariants.{Newest};
+ghost use Rattle.limit_laws.specs.SettableRules.{settable_from, settable_rules};
+ghost use Rattle.gate_ledgers.specs.Course.{course_of};
 ghost use Rattle.gate_ledgers.specs.Names.{AreNamed, AreWhole};
 
 use crate::gates::{gate_by_one, new_word};
@@ -29,7 +31,7 @@ fn set_and_seen<M: GateNaming, R: Wait + Abort>(rt: &R, alloc: Global, blanks: B
     requires promote { M.promote ≡ Newest }
     requires kept { M.kept ≡ 2 }
     requires rolling { M.is_rolling ≡ true }
-    requires limit { M.limit ≡ 20 }
+    requires limit { M.limit ≡ course_of settable_rules (settable_from 1 20 100) }
 {
     let book = settable::<M, R>(rt, alloc, 1, 20, 100, blanks);
     let (gate, pass) = gate_by_one(rt, alloc, book, word);
@@ -63,7 +65,7 @@ fn set_and_reset<M: GateNaming, R: Wait + Abort>(rt: &R, alloc: Global, blanks: 
     requires promote { M.promote ≡ Newest }
     requires kept { M.kept ≡ 2 }
     requires rolling { M.is_rolling ≡ true }
-    requires limit { M.limit ≡ 10 }
+    requires limit { M.limit ≡ course_of settable_rules (settable_from 5 10 20) }
 {
     let book = settable::<M, R>(rt, alloc, 5, 10, 20, blanks);
     let (gate, pass) = gate_by_one(rt, alloc, book, word);
@@ -104,7 +106,7 @@ fn settable<M: Naming, R: Abort>(
     requires promote { M.promote ≡ Newest }
     requires kept { M.kept ≡ 2 }
     requires rolling { M.is_rolling ≡ true }
-    requires limit { M.limit ≡ first }
+    requires limit { M.limit ≡ course_of settable_rules (settable_from lo first hi) }
 {
     let limit = Settable::new(lo, first, hi).expect(rt, "a limit");
     let table = PartitionTable::unknown_only();

@@ -2,6 +2,8 @@
 // workers whose receipts are compared by number alone, and a telling while the lock is held.
 ghost use Rattle.std.specs.Prelude.{◌≡◌, [], true};
 ghost use Rattle.limiter_core.specs.declared.promote.Promote.TheVariants.{Newest};
+ghost use Rattle.limit_laws.specs.FixedRules.{fixed_rules};
+ghost use Rattle.gate_ledgers.specs.Course.{course_of};
 ghost use Rattle.gate_ledgers.specs.Names.{AreNamed, AreWhole};
 
 use crate::books::book_over;
@@ -61,7 +63,7 @@ fn by_two_passes<M: GateNaming + Send + Sync, R: Threads + Wait + Abort + Sync>(
     requires promote { M.promote ≡ Newest }
     requires kept { M.kept ≡ 1 }
     requires rolling { M.is_rolling ≡ true }
-    requires limit { M.limit ≡ 2 }
+    requires limit { M.limit ≡ course_of fixed_rules 2 }
 {
     let book = book_over::<M, R>(rt, alloc, 2, 1, true, blanks);
     let (gate, (one, two)) = gate_by_two(rt, alloc, book, word);
@@ -172,7 +174,7 @@ fn by_three_passes<M: GateNaming, R: Wait + SystemClock + Abort>(
     requires promote { M.promote ≡ Newest }
     requires kept { M.kept ≡ 1 }
     requires rolling { M.is_rolling ≡ true }
-    requires limit { M.limit ≡ 1 }
+    requires limit { M.limit ≡ course_of fixed_rules 1 }
 {
     let book = book_over::<M, R>(rt, alloc, 1, 1, true, blanks);
     let (gate, mut passes) = gate_by(rt, alloc, book, word, 3);

@@ -2,6 +2,8 @@
 ghost use Rattle.std.specs.Prelude.{◌≡◌, ◌≤◌, [], false};
 ghost use Rattle.limiter_core.specs.declared.promote.Promote.TheVariants.{Newest};
 ghost use Rattle.gate_journal.specs.Journal.{most_kept};
+ghost use Rattle.limit_laws.specs.FixedRules.{fixed_rules};
+ghost use Rattle.gate_ledgers.specs.Course.{course_of};
 ghost use Rattle.gate_ledgers.specs.Names.{AreNamed, AreWhole};
 
 use crate::books::book_over;
@@ -91,7 +93,7 @@ fn by_one_pass<M: GateNaming, R: Wait + Abort>(
     requires promote { M.promote ≡ Newest }
     requires kept { M.kept ≡ kept }
     requires rolling { M.is_rolling ≡ is_rolling }
-    requires limit { M.limit ≡ 1 }
+    requires limit { M.limit ≡ course_of fixed_rules 1 }
     requires some_kept { 1 ≤ kept }
     requires few_kept { kept ≤ most_kept }
 {
@@ -194,7 +196,7 @@ fn by_two_threads<M: GateNaming + Send + Sync, R: Threads + Wait + SystemClock +
     requires promote { M.promote ≡ Newest }
     requires kept { M.kept ≡ 1000000 }
     requires rolling { M.is_rolling ≡ false }
-    requires limit { M.limit ≡ 1 }
+    requires limit { M.limit ≡ course_of fixed_rules 1 }
 {
     let book = book_over::<M, R>(rt, alloc, 1, 1_000_000, false, blanks);
     let (gate, (one, two)) = gate_by_two(rt, alloc, book, word);

@@ -1,6 +1,8 @@
 // Waiting at a shared gate by clocks of several kinds, and a gate whose history is exhausted.
 ghost use Rattle.std.specs.Prelude.{◌≡◌, [], false};
 ghost use Rattle.limiter_core.specs.declared.promote.Promote.TheVariants.{Newest};
+ghost use Rattle.limit_laws.specs.FixedRules.{fixed_rules};
+ghost use Rattle.gate_ledgers.specs.Course.{course_of};
 ghost use Rattle.gate_ledgers.specs.Names.{AreNamed, AreWhole};
 
 use crate::books::book_over;
@@ -138,7 +140,7 @@ pub(crate) fn in_vain<M: GateNaming, R: Wait + SystemClock + Abort, C: Clock>(
     requires promote { M.promote ≡ Newest }
     requires kept { M.kept ≡ 1000 }
     requires rolling { M.is_rolling ≡ false }
-    requires limit { M.limit ≡ 1 }
+    requires limit { M.limit ≡ course_of fixed_rules 1 }
 {
     let book = book_over::<M, R>(rt, alloc, 1, 1_000, false, blanks);
     let (gate, pass) = gate_by_one(rt, alloc, book, word);
@@ -195,7 +197,7 @@ fn exhausted<M: GateNaming, R: Wait + SystemClock + Abort>(
     requires promote { M.promote ≡ Newest }
     requires kept { M.kept ≡ 2 }
     requires rolling { M.is_rolling ≡ false }
-    requires limit { M.limit ≡ 1 }
+    requires limit { M.limit ≡ course_of fixed_rules 1 }
 {
     let book = book_over::<M, R>(rt, alloc, 1, 2, false, blanks);
     let (gate, pass) = gate_by_one(rt, alloc, book, word);

@@ -2,6 +2,8 @@
 // give up. Real time is looked at here, so each bound has room to spare.
 ghost use Rattle.std.specs.Prelude.{◌≡◌, [], false};
 ghost use Rattle.limiter_core.specs.declared.promote.Promote.TheVariants.{Newest};
+ghost use Rattle.limit_laws.specs.FixedRules.{fixed_rules};
+ghost use Rattle.gate_ledgers.specs.Course.{course_of};
 ghost use Rattle.gate_ledgers.specs.Names.{AreNamed, AreWhole};
 
 use crate::books::book_over;
@@ -163,7 +165,7 @@ fn three_threads<M: GateNaming + Send + Sync, R: Threads + Wait + SystemClock + 
     requires promote { M.promote ≡ Newest }
     requires kept { M.kept ≡ 1000000 }
     requires rolling { M.is_rolling ≡ false }
-    requires limit { M.limit ≡ 1 }
+    requires limit { M.limit ≡ course_of fixed_rules 1 }
 {
     let book = book_over::<M, R>(rt, alloc, 1, 1_000_000, false, blanks);
     let (gate, mut passes) = gate_by(rt, alloc, book, word, 3);

@@ -9,6 +9,7 @@ use Rattle.partitions.specs.Table.{Row}
 use Rattle.limiter_core.specs.declared.event.Entry.{Entry}
 use Rattle.gate_journal.specs.Image.{Standing}
 use Rattle.limiter_core.specs.declared.promote.Promote.{Promote}
+use Rattle.gate_ledgers.specs.Course.{Change}
 use Rattle.gate_ledgers.specs.Told.{Told}
 use Rattle.gate_history.specs.Book.{Making, calls_of, is_call, made_as}
 use Rattle.gate_history.specs.Refusal.{Refusal}
@@ -43,7 +44,7 @@ is_loaded workers n text all Written summary same small whole run written =
 
 -- what is made so is this
 pub same_making : (m : Making) (rows : List Row) (room : ℕ) (promote : Promote) (kept : ℕ)
-    (is_rolling : Bool) (limit : ℕ)
+    (is_rolling : Bool) (limit : List Change → ℕ)
     → AreOf m rows room promote kept is_rolling limit
     → made_as rows room promote kept is_rolling limit ≡ m
 same_making m rows room promote kept is_rolling limit of = λ k. record {

@@ -7,6 +7,7 @@ use Rattle.partitions.specs.Table.{Row}
 use Rattle.limiter_core.specs.declared.event.Entry.{Entry}
 use Rattle.gate_journal.specs.Image.{Standing}
 use Rattle.limiter_core.specs.declared.promote.Promote.{Promote}
+use Rattle.gate_ledgers.specs.Course.{Change, course_of}
 use Rattle.gate_ledgers.specs.Told.{Told}
 use Rattle.gate_history.specs.Book.{Making, made_as}
 use Rattle.gate_history.specs.Refusal.{Refusal}
@@ -24,10 +25,10 @@ use Rattle.load_run.specs.Summary.{summary_of}
 abbrev pub making_of : ℕ → SettingFacts → Making
 making_of n settings =
     made_as settings.rows (room_of settings) (promote_of settings) (kept_of kept_entries settings)
-    settings.is_rolling (any_rules.limit (limit_of n settings))
+    settings.is_rolling (course_of any_rules (limit_of n settings))
 
 -- these are what is made so
-abbrev pub AreOf : Making → List Row → ℕ → Promote → ℕ → Bool → ℕ → Type 0
+abbrev pub AreOf : Making → List Row → ℕ → Promote → ℕ → Bool → (List Change → ℕ) → Type 0
 AreOf m rows room promote kept is_rolling limit =
     (rows ≡ m.rows) × (room ≡ m.room) × (promote ≡ m.promote) × (kept ≡ m.kept)
     × (is_rolling ≡ m.is_rolling) × (limit ≡ m.limit)

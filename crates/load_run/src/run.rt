@@ -1,6 +1,7 @@
 // A run of the calls of a trace, and its audit.
 ghost use Rattle.std.specs.Prelude.{◌≡◌, ◌≤◌, IfErr, IfOk, vec_len};
 ghost use Rattle.limit_laws.specs.Algorithm.{greatest_limit};
+ghost use Rattle.gate_ledgers.specs.Course.{course_of};
 ghost use Rattle.gate_ledgers.specs.Names.{AreNamed, AreWhole};
 ghost use Rattle.gate_history.specs.Book.{made_as};
 ghost use Rattle.script.specs.Settings.{kept_of, promote_of, room_of};
@@ -113,7 +114,7 @@ fn open_over<L: Limit, M: GateNaming>(
     requires promote { M.promote ≡ promote_of settings }
     requires kept { M.kept ≡ kept_of kept_entries settings }
     requires rolling { M.is_rolling ≡ settings.is_rolling }
-    requires limit { M.limit ≡ L.rules.limit limit }
+    requires limit { M.limit ≡ course_of L.rules limit }
     requires names { AreNamed M.calls M.place blanks }
     requires parts { AreWhole blanks }
     requires word { word ≡ M.word }
@@ -137,7 +138,7 @@ fn begin_book<L: Limit, M: Naming>(
     requires promote { M.promote ≡ promote_of settings }
     requires kept { M.kept ≡ kept_of kept_entries settings }
     requires rolling { M.is_rolling ≡ settings.is_rolling }
-    requires limit { M.limit ≡ L.rules.limit limit }
+    requires limit { M.limit ≡ course_of L.rules limit }
     requires names { AreNamed M.calls M.place blanks }
     requires parts { AreWhole blanks }
 {

@@ -1,6 +1,8 @@
 // A port over a gate that threads share, whose one permit is out.
 ghost use Rattle.std.specs.Prelude.{◌≡◌, [], false};
 ghost use Rattle.limiter_core.specs.declared.promote.Promote.TheVariants.{Newest};
+ghost use Rattle.limit_laws.specs.FixedRules.{fixed_rules};
+ghost use Rattle.gate_ledgers.specs.Course.{course_of};
 ghost use Rattle.gate_ledgers.specs.Names.{AreNamed, AreWhole};
 
 use crate::devices::{SECOND, Ticking};
@@ -8,7 +10,7 @@ use gate_history::{Blanks, Book, Naming};
 use limit_laws::Fixed;
 use limiter_core::{Outcome, Promote};
 use partitions::{Part, PartitionTable};
-use ports::{Admission, GatePort, Port, Why};
+use ports::{Admission, Asked, GatePort, Port, Why};
 use shared_gate::{GateNaming, Pass, SharedGate, Word};
 use std::alloc::Global;
 use std::marker::Brand;
@@ -31,7 +33,7 @@ fn open_book<N: Naming, R: Abort>(rt: &R, alloc: Global, blanks: Blanks) -> Book
     requires promote { N.promote ≡ Newest }
     requires kept { N.kept ≡ 100 }
     requires rolling { N.is_rolling ≡ false }
-    requires limit { N.limit ≡ 1 }
+    requires limit { N.limit ≡ course_of fixed_rules 1 }
 {
     let table = PartitionTable::unknown_only();
     let limit = Fixed::new(1).expect(rt, "a limit");
@@ -62,7 +64,7 @@ fn over_one_permit<N: GateNaming, R: Wait + SystemClock + Abort>(
     requires promote { N.promote ≡ Newest }
     requires kept { N.kept ≡ 100 }
     requires rolling { N.is_rolling ≡ false }
-    requires limit { N.limit ≡ 1 }
+    requires limit { N.limit ≡ course_of fixed_rules 1 }
 {
     let mut book = open_book::<N, R>(rt, alloc, blanks);
     let mut passes = Vec::new(alloc);
@@ -85,7 +87,9 @@ fn refuses<N: GateNaming, R: Wait + SystemClock + Abort>(
     match port.admit(Part::Unknown, false, None, 0) {
         Admission::Admitted(permit) => {
             check_refused(rt, &mut port, None, Why::Full);
+            assert!(rt; matches!(port.asked(), Asked::Answered(_)));
             check_refused(rt, &mut port, Some(9 * SECOND), Why::TimedOut);
+            assert!(rt; matches!(port.asked(), Asked::GaveUp(_, _)));
             port.end(permit, Outcome::Ignored, 9);
         }
         Admission::Bypassed => rt.abort(),

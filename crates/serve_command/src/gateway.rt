@@ -1,6 +1,7 @@
 // The gate of a configuration, and its workers.
 ghost use Rattle.std.specs.Prelude.{◌≡◌, ◌≤◌, true};
 ghost use Rattle.limit_kinds.specs.AnyKinds.{any_rules};
+ghost use Rattle.gate_ledgers.specs.Course.{course_of};
 ghost use Rattle.gate_ledgers.specs.Names.{AreNamed, AreWhole};
 ghost use Rattle.gate_config.specs.Settings.{AreSound};
 
@@ -73,7 +74,7 @@ where
     requires promote { M.promote ≡ settings.now.promote }
     requires kept { M.kept ≡ settings.now.keep }
     requires rolling { M.is_rolling ≡ true }
-    requires limit { M.limit ≡ any_rules.limit settings.now.limit }
+    requires limit { M.limit ≡ course_of any_rules settings.now.limit }
     requires sound { AreSound settings.now }
 {
     let (gate, passes) = open_gate::<M>(common.alloc, settings, blanks, word, workers)?;

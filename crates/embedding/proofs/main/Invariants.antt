@@ -1,5 +1,7 @@
 use Rattle.std.specs.Prelude.{false}
 use Rattle.limiter_core.specs.declared.promote.Promote.TheVariants.{Newest}
+use Rattle.aimd.specs.AimdRules.{aimd_rules}
+use Rattle.gate_ledgers.specs.Course.{course_of}
 use Rattle.gate_ledgers.specs.Names.{places_of}
 use Rattle.embedding.proofs.main.Given as goal
 
@@ -13,7 +15,7 @@ ghosts-run-M-Naming g a = record {
   promote = Newest;
   kept = 1000;
   is_rolling = false;
-  limit = a.limit.limit;
+  limit = course_of aimd_rules a.limit;
 }
 
 -- and the table of its word

@@ -1,6 +1,8 @@
 // A gate that rolled isn't accepted: two looks, of which one entry is kept.
 ghost use Rattle.std.specs.Prelude.{◌≡◌, [], true};
 ghost use Rattle.limiter_core.specs.declared.promote.Promote.TheVariants.{Newest};
+ghost use Rattle.limit_laws.specs.FixedRules.{fixed_rules};
+ghost use Rattle.gate_ledgers.specs.Course.{course_of};
 ghost use Rattle.gate_ledgers.specs.Names.{AreNamed, AreWhole};
 
 use super::handing::{Handing, are_handed_back, closed};
@@ -54,7 +56,7 @@ fn closes_rolled<M: GateNaming, R: Wait + Abort>(
     requires promote { M.promote ≡ Newest }
     requires kept { M.kept ≡ 1 }
     requires rolling { M.is_rolling ≡ true }
-    requires limit { M.limit ≡ 10 }
+    requires limit { M.limit ≡ course_of fixed_rules 10 }
 {
     let book = book_over::<M, R>(rt, alloc, 10, 1, true, blanks);
     let (gate, pass) = gate_by_one(rt, alloc, book, word);

@@ -1,6 +1,8 @@
 // Two threads make 100 acquires and 100 endings each, and their gate is accepted.
 ghost use Rattle.std.specs.Prelude.{◌≡◌, [], false};
 ghost use Rattle.limiter_core.specs.declared.promote.Promote.TheVariants.{Newest};
+ghost use Rattle.limit_laws.specs.FixedRules.{fixed_rules};
+ghost use Rattle.gate_ledgers.specs.Course.{course_of};
 ghost use Rattle.gate_ledgers.specs.Names.{AreNamed, AreWhole};
 
 use crate::books::book_over;
@@ -34,7 +36,7 @@ fn closes_two_threads<M: GateNaming + Send + Sync, R: Threads + Wait + Abort + S
     requires promote { M.promote ≡ Newest }
     requires kept { M.kept ≡ 1000 }
     requires rolling { M.is_rolling ≡ false }
-    requires limit { M.limit ≡ 10 }
+    requires limit { M.limit ≡ course_of fixed_rules 10 }
 {
     let book = book_over::<M, R>(rt, alloc, 10, 1_000, false, blanks);
     let (gate, (one, two)) = gate_by_two(rt, alloc, book, word);

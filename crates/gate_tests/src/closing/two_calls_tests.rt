@@ -2,6 +2,8 @@
 // lists come back.
 ghost use Rattle.std.specs.Prelude.{◌≡◌, [], false};
 ghost use Rattle.limiter_core.specs.declared.promote.Promote.TheVariants.{Newest};
+ghost use Rattle.limit_laws.specs.FixedRules.{fixed_rules};
+ghost use Rattle.gate_ledgers.specs.Course.{course_of};
 ghost use Rattle.gate_ledgers.specs.Names.{AreNamed, AreWhole};
 
 use super::handing::{Handing, are_handed_back, closed};
@@ -63,7 +65,7 @@ fn closes_two_calls<M: GateNaming, R: Wait + Abort>(
     requires promote { M.promote ≡ Newest }
     requires kept { M.kept ≡ 1000 }
     requires rolling { M.is_rolling ≡ false }
-    requires limit { M.limit ≡ 10 }
+    requires limit { M.limit ≡ course_of fixed_rules 10 }
 {
     let book = book_over::<M, R>(rt, alloc, 10, 1_000, false, blanks);
     let (gate, pass) = gate_by_one(rt, alloc, book, word);

@@ -1,9 +1,10 @@
 // Four threads make random calls of one gate: what they are told is what one thread is told.
 ghost use Rattle.std.specs.Prelude.{◌≡◌, ◌≤◌};
-ghost use Rattle.aimd.specs.AimdRules.{aimd_rules};
 ghost use Rattle.limiter_core.specs.Answer.{granted_at};
 ghost use Rattle.limiter_core.specs.Limiter.{gate_of, stands};
 ghost use Rattle.gate_journal.specs.Journal.{most_kept};
+ghost use Rattle.aimd.specs.AimdRules.{aimd_from, aimd_rules};
+ghost use Rattle.gate_ledgers.specs.Course.{course_of};
 ghost use Rattle.gate_ledgers.specs.Names.{AreNamed, AreWhole};
 
 use super::random_calls::{Caller, Told, call_at_random};
@@ -32,7 +33,7 @@ fn classes<R: Abort>(rt: &R, alloc: Global) -> PartitionTable {
 
 /// A limit of 1 to 5, which begins with 3.
 fn limit<R: Abort>(rt: &R) -> Aimd
-    ensures { aimd_rules.limit result ≡ 3 }
+    ensures { result ≡ aimd_from 1 3 5 900 1000000 }
 {
     Aimd::new(1, 3, 5, 900, 1_000_000).expect(rt, "a limit")
 }
@@ -105,7 +106,7 @@ fn told_by_four<M: GateNaming + Send + Sync, R: Threads + Wait + Abort + Sync>(
     requires promote { M.promote ≡ promote }
     requires kept { M.kept ≡ kept }
     requires rolling { M.is_rolling ≡ is_rolling }
-    requires limit { M.limit ≡ 3 }
+    requires limit { M.limit ≡ course_of aimd_rules (aimd_from 1 3 5 900 1000000) }
     requires some_kept { 1 ≤ kept }
     requires few_kept { kept ≤ most_kept }
 {
@@ -132,7 +133,7 @@ fn a_book<M: Naming, R: Abort>(
     requires promote { M.promote ≡ promote }
     requires kept { M.kept ≡ kept }
     requires rolling { M.is_rolling ≡ is_rolling }
-    requires limit { M.limit ≡ 3 }
+    requires limit { M.limit ≡ course_of aimd_rules (aimd_from 1 3 5 900 1000000) }
     requires some_kept { 1 ≤ kept }
     requires few_kept { kept ≤ most_kept }
 {

@@ -1,5 +1,7 @@
 use Rattle.std.specs.Prelude.{[], false}
 use Rattle.limiter_core.specs.declared.promote.Promote.TheVariants.{Newest}
+use Rattle.limit_laws.specs.FixedRules.{fixed_rules}
+use Rattle.gate_ledgers.specs.Course.{course_of}
 use Rattle.gate_ledgers.specs.Names.{places_of}
 use Rattle.gate_tests.proofs.book_tests.a_sealed_book_gives_no_pass.Given as goal
 
@@ -14,5 +16,5 @@ ghosts-sealed g a =
       promote = Newest;
       kept = 1;
       is_rolling = false;
-      limit = 1;
+      limit = course_of fixed_rules 1;
     }

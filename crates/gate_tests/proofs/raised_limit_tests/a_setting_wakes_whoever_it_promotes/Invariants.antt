@@ -1,5 +1,7 @@
 use Rattle.std.specs.Prelude.{[], false}
 use Rattle.limiter_core.specs.declared.promote.Promote.TheVariants.{All}
+use Rattle.limit_laws.specs.SettableRules.{settable_from, settable_rules}
+use Rattle.gate_ledgers.specs.Course.{course_of}
 use Rattle.gate_ledgers.specs.Names.{places_of}
 use Rattle.gate_tests.proofs.raised_limit_tests.a_setting_wakes_whoever_it_promotes.Given as goal
 
@@ -14,7 +16,7 @@ ghosts-by_two_threads-M-Naming g a =
       promote = All;
       kept = 1000000;
       is_rolling = false;
-      limit = 2;
+      limit = course_of settable_rules (settable_from 1 2 10);
     }
 
 -- and the table of its word

@@ -1,5 +1,7 @@
 use Rattle.std.specs.Prelude.{[], true}
 use Rattle.limiter_core.specs.declared.promote.Promote.TheVariants.{Newest}
+use Rattle.limit_laws.specs.SettableRules.{settable_from, settable_rules}
+use Rattle.gate_ledgers.specs.Course.{course_of}
 use Rattle.gate_ledgers.specs.Names.{places_of}
 use Rattle.gate_tests.proofs.rolling_tests.a_roll_keeps_the_algorithms_state.Given as goal
 
@@ -14,7 +16,7 @@ ghosts-set_and_seen-M-Naming g a =
       promote = Newest;
       kept = 2;
       is_rolling = true;
-      limit = 20;
+      limit = course_of settable_rules (settable_from 1 20 100);
     }
 
 -- and the table of its word

@@ -1,5 +1,7 @@
 use Rattle.std.specs.Prelude.{[], true}
 use Rattle.limiter_core.specs.declared.promote.Promote.TheVariants.{Newest}
+use Rattle.limit_laws.specs.FixedRules.{fixed_rules}
+use Rattle.gate_ledgers.specs.Course.{course_of}
 use Rattle.gate_ledgers.specs.Names.{places_of}
 use Rattle.gate_tests.proofs.seen_tests.what_is_told_is_seen.Given as goal
 
@@ -14,7 +16,7 @@ ghosts-by_two_passes-M-Naming g a =
       promote = Newest;
       kept = 1;
       is_rolling = true;
-      limit = 2;
+      limit = course_of fixed_rules 2;
     }
 
 -- and the table of its word

@@ -1,5 +1,7 @@
 use Rattle.std.specs.Prelude.{[], true}
 use Rattle.limiter_core.specs.declared.promote.Promote.TheVariants.{Newest}
+use Rattle.limit_laws.specs.FixedRules.{fixed_rules}
+use Rattle.gate_ledgers.specs.Course.{course_of}
 use Rattle.gate_ledgers.specs.Names.{places_of}
 use Rattle.gate_tests.proofs.shared_gate_tests.a_roll_keeps_who_waits_and_what_lies_granted.Given as goal
 
@@ -14,7 +16,7 @@ ghosts-by_one_pass-M-Naming g a =
       promote = Newest;
       kept = 1;
       is_rolling = true;
-      limit = 1;
+      limit = course_of fixed_rules 1;
     }
 
 -- and the table of its word

@@ -1,5 +1,7 @@
 use Rattle.std.specs.Prelude.{[], false}
 use Rattle.limiter_core.specs.declared.promote.Promote.TheVariants.{Newest}
+use Rattle.limit_laws.specs.FixedRules.{fixed_rules}
+use Rattle.gate_ledgers.specs.Course.{course_of}
 use Rattle.gate_ledgers.specs.Names.{places_of}
 use Rattle.gate_tests.proofs.waiting_tests.an_exhausted_gate_answers_what_is_owed.Given as goal
 
@@ -14,7 +16,7 @@ ghosts-exhausted-M-Naming g a =
       promote = Newest;
       kept = 2;
       is_rolling = false;
-      limit = 1;
+      limit = course_of fixed_rules 1;
     }
 
 -- and the table of its word

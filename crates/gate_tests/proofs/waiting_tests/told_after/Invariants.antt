@@ -1,5 +1,7 @@
 use Rattle.std.specs.Prelude.{[], false}
 use Rattle.limiter_core.specs.declared.promote.Promote.TheVariants.{Newest}
+use Rattle.limit_laws.specs.FixedRules.{fixed_rules}
+use Rattle.gate_ledgers.specs.Course.{course_of}
 use Rattle.gate_ledgers.specs.Names.{places_of}
 use Rattle.gate_tests.proofs.waiting_tests.told_after.Given as goal
 
@@ -14,7 +16,7 @@ ghosts-in_vain-M-Naming g a =
       promote = Newest;
       kept = 1000;
       is_rolling = false;
-      limit = 1;
+      limit = course_of fixed_rules 1;
     }
 
 -- and the table of its word

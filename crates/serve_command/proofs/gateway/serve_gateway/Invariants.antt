@@ -1,5 +1,6 @@
 use Rattle.std.specs.Prelude.{true}
 use Rattle.limit_kinds.specs.AnyKinds.{any_rules}
+use Rattle.gate_ledgers.specs.Course.{course_of}
 use Rattle.gate_ledgers.specs.Names.{places_of}
 use Rattle.serve_command.proofs.gateway.serve_gateway.Given as goal
 
@@ -15,7 +16,7 @@ ghosts-serve_named-M-Naming g a =
       promote = settings.promote;
       kept = settings.keep;
       is_rolling = true;
-      limit = any_rules.limit settings.limit;
+      limit = course_of any_rules settings.limit;
     }
 
 -- and the table of its word

@@ -1,5 +1,7 @@
 use Rattle.std.specs.Prelude.{[], true}
 use Rattle.limiter_core.specs.declared.promote.Promote.TheVariants.{Newest}
+use Rattle.limit_laws.specs.FixedRules.{fixed_rules}
+use Rattle.gate_ledgers.specs.Course.{course_of}
 use Rattle.gate_ledgers.specs.Names.{places_of}
 use Rattle.gate_tests.proofs.closing.rolled_tests.a_gate_that_rolled_is_not_accepted.Given as goal
 
@@ -14,7 +16,7 @@ ghosts-closes_rolled-M-Naming g a =
       promote = Newest;
       kept = 1;
       is_rolling = true;
-      limit = 10;
+      limit = course_of fixed_rules 10;
     }
 
 -- and the table of its word

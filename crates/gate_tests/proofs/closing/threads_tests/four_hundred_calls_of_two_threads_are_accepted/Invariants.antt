@@ -1,5 +1,7 @@
 use Rattle.std.specs.Prelude.{[], false}
 use Rattle.limiter_core.specs.declared.promote.Promote.TheVariants.{Newest}
+use Rattle.limit_laws.specs.FixedRules.{fixed_rules}
+use Rattle.gate_ledgers.specs.Course.{course_of}
 use Rattle.gate_ledgers.specs.Names.{places_of}
 use Rattle.gate_tests.proofs.closing.threads_tests.four_hundred_calls_of_two_threads_are_accepted.Given as goal
 
@@ -14,7 +16,7 @@ ghosts-closes_two_threads-M-Naming g a =
       promote = Newest;
       kept = 1000;
       is_rolling = false;
-      limit = 10;
+      limit = course_of fixed_rules 10;
     }
 
 -- and the table of its word

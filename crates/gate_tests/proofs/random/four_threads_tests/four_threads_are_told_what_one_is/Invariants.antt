@@ -1,5 +1,7 @@
 use Rattle.std.specs.Prelude.{false}
 use Rattle.limiter_core.specs.declared.promote.Promote.TheVariants.{Newest}
+use Rattle.aimd.specs.AimdRules.{aimd_from, aimd_rules}
+use Rattle.gate_ledgers.specs.Course.{course_of}
 use Rattle.gate_ledgers.specs.Names.{places_of}
 use Rattle.gate_tests.proofs.random.four_threads_tests.four_threads_are_told_what_one_is.Given as goal
 
@@ -14,7 +16,7 @@ ghosts-told_by_four-M-Naming g a =
       promote = Newest;
       kept = 1000000;
       is_rolling = false;
-      limit = 3;
+      limit = course_of aimd_rules (aimd_from 1 3 5 900 1000000);
     }
 
 -- and the table of its word
