@@ -5,6 +5,7 @@ ghost use Rattle.aimd.specs.AimdRules.{aimd_rules};
 ghost use Rattle.gate_ledgers.specs.Course.{course_of};
 ghost use Rattle.gate_ledgers.specs.Names.{AreNamed, AreWhole};
 ghost use Rattle.gate_history.specs.Book.{made_as};
+ghost use Rattle.shared_gate.specs.Log.{CallsLegal};
 ghost use Rattle.embedding.specs.Run.{IsAudited};
 
 use crate::caller::Caller;
@@ -37,11 +38,12 @@ pub(crate) fn run<M: GateNaming + Send + Sync, R: Threads + Wait + SystemClock +
     requires kept { M.kept ≡ 1000 }
     requires rolling { M.is_rolling ≡ false }
     requires limit { M.limit ≡ course_of aimd_rules limit }
+    requires legal { CallsLegal aimd_rules table 10 Newest limit M.legal }
     ensures { IfOk result (λ history. IsAudited
         (made_as table 10 Newest 1000 false (course_of aimd_rules limit))
         history.opening.standing history.entries.items) }
 {
-    let mut book = Book::begin(
+    let book = Book::begin(
         alloc,
         limit,
         table,
@@ -51,16 +53,7 @@ pub(crate) fn run<M: GateNaming + Send + Sync, R: Threads + Wait + SystemClock +
         false,
         blanks,
     )?;
-    let (Some(one), Some(two)) = (book.pass(), book.pass()) else {
-        unreachable!()
-    };
-    book.seal();
-    let (gate, mut passes) = SharedGate::<Aimd, M>::new(
-        alloc,
-        word,
-        book,
-        vec![in alloc; one, two]?,
-    )?;
+    let (gate, mut passes) = SharedGate::<Aimd, M>::open(alloc, word, book, 2)?;
     let (Some(two), Some(one)) = (passes.pop(), passes.pop()) else {
         unreachable!()
     };

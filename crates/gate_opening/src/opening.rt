@@ -8,6 +8,7 @@ ghost use Rattle.gate_ledgers.specs.Names.{AreNamed, AreWhole};
 ghost use Rattle.gate_ledgers.specs.Places.{no_places};
 ghost use Rattle.gate_history.specs.Book.{book_in};
 ghost use Rattle.gate_config.specs.Settings.{AreSound};
+ghost use Rattle.shared_gate.specs.Log.{CallsLegal};
 
 use gate_config::{AnyLimit, Settings};
 use gate_history::{Blanks, Book, Naming};
@@ -73,6 +74,8 @@ pub fn open_gate<M: GateNaming>(
     requires rolling { M.is_rolling ≡ true }
     requires limit { M.limit ≡ course_of any_rules settings.now.limit }
     requires sound { AreSound settings.now }
+    requires legal { CallsLegal any_rules settings.now.table settings.now.backlog
+        settings.now.promote settings.now.limit M.legal }
     ensures all { IfOk result (λ made. vec_len made.1 ≡ count) }
 {
     let book = open_book::<M>(alloc, settings, blanks)?;

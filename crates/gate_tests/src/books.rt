@@ -1,7 +1,7 @@
 // A book over a few permits.
 ghost use Rattle.std.specs.Prelude.{◌≡◌, ◌≤◌, []};
 ghost use Rattle.limiter_core.specs.declared.promote.Promote.TheVariants.{Newest};
-ghost use Rattle.gate_journal.specs.Journal.{most_kept};
+ghost use Rattle.gate_journal.specs.Journal.{most_kept, next_number};
 ghost use Rattle.limit_laws.specs.FixedRules.{fixed_rules};
 ghost use Rattle.gate_ledgers.specs.Course.{course_of};
 ghost use Rattle.gate_ledgers.specs.Names.{AreNamed, AreWhole};
@@ -33,6 +33,7 @@ pub(crate) fn book_over<N: Naming, R: Abort>(
     requires limit { N.limit ≡ course_of fixed_rules permits }
     requires some_kept { 1 ≤ kept }
     requires few_kept { kept ≤ most_kept }
+    ensures { next_number result.journal ≡ 0 }
 {
     let limit = Fixed::new(permits).expect(rt, "a limit");
     book_with(rt, alloc, limit, Promote::Newest, kept, is_rolling, blanks)
@@ -59,6 +60,7 @@ pub(crate) fn book_with<L: Limit, N: Naming, R: Abort>(
     requires limit { N.limit ≡ course_of L.rules limit }
     requires some_kept { 1 ≤ kept }
     requires few_kept { kept ≤ most_kept }
+    ensures { next_number result.journal ≡ 0 }
 {
     let table = PartitionTable::unknown_only();
     Book::begin(alloc, limit, table, 100, promote, kept, is_rolling, blanks).expect(rt, "memory")

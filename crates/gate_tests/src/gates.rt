@@ -1,7 +1,9 @@
 // Gates over books, with the words beside their locks.
 ghost use Rattle.std.specs.Prelude.{◌≡◌};
+ghost use Rattle.gate_journal.specs.Journal.{next_number};
+ghost use Rattle.shared_gate.specs.Log.{CallsAllLegal};
 
-use gate_history::{Book, Naming};
+use gate_history::Book;
 use limit_laws::Limit;
 use shared_gate::{GateNaming, Pass, SharedGate, Word};
 use std::alloc::Global;
@@ -12,58 +14,47 @@ pub(crate) fn new_word<R: Abort>(rt: &R, alloc: Global) -> Word {
     Word::new(alloc).expect(rt, "memory for a word")
 }
 
-/// So many passes of a book.
-fn passes_of<L: Limit, M: Naming, R: Abort>(
-    rt: &R,
-    alloc: Global,
-    book: &mut Book<L, M>,
-    count: usize,
-) -> Vec<gate_history::Pass<M>> {
-    let mut passes = Vec::new(alloc);
-    for _ in 0..count {
-        let pass = book.pass().expect(rt, "a pass");
-        passes.push(pass).expect(rt, "memory for a pass");
-    }
-    passes
-}
-
-/// A gate over a book, with so many passes.
+/// A gate over a book of which nothing was asked, with so many passes.
 pub(crate) fn gate_by<L: Limit, M: GateNaming, R: Abort>(
     rt: &R,
     alloc: Global,
-    mut book: Book<L, M>,
+    book: Book<L, M>,
     word: Word,
     count: usize,
 ) -> (SharedGate<L, M>, Vec<Pass<M>>)
-    requires { word ≡ M.word }
+    requires word { word ≡ M.word }
+    requires unasked { next_number book.journal ≡ 0 }
+    requires legal { CallsAllLegal M.legal }
 {
-    let passes = passes_of(rt, alloc, &mut book, count);
-    book.seal();
-    SharedGate::new(alloc, word, book, passes).expect(rt, "memory for a gate")
+    SharedGate::open(alloc, word, book, count).expect(rt, "memory for a gate")
 }
 
-/// A gate over a book, with one pass.
+/// A gate over such a book, with one pass.
 pub(crate) fn gate_by_one<L: Limit, M: GateNaming, R: Abort>(
     rt: &R,
     alloc: Global,
     book: Book<L, M>,
     word: Word,
 ) -> (SharedGate<L, M>, Pass<M>)
-    requires { word ≡ M.word }
+    requires word { word ≡ M.word }
+    requires unasked { next_number book.journal ≡ 0 }
+    requires legal { CallsAllLegal M.legal }
 {
     let (gate, mut passes) = gate_by(rt, alloc, book, word, 1);
     let pass = passes.pop().expect(rt, "a pass");
     (gate, pass)
 }
 
-/// A gate over a book, with two passes.
+/// A gate over such a book, with two passes.
 pub(crate) fn gate_by_two<L: Limit, M: GateNaming, R: Abort>(
     rt: &R,
     alloc: Global,
     book: Book<L, M>,
     word: Word,
 ) -> (SharedGate<L, M>, (Pass<M>, Pass<M>))
-    requires { word ≡ M.word }
+    requires word { word ≡ M.word }
+    requires unasked { next_number book.journal ≡ 0 }
+    requires legal { CallsAllLegal M.legal }
 {
     let (gate, mut passes) = gate_by(rt, alloc, book, word, 2);
     let two = passes.pop().expect(rt, "a pass");

@@ -5,6 +5,7 @@ ghost use Rattle.limiter_core.specs.declared.promote.Promote.TheVariants.{All};
 ghost use Rattle.limit_laws.specs.SettableRules.{settable_from, settable_rules};
 ghost use Rattle.gate_ledgers.specs.Course.{course_of};
 ghost use Rattle.gate_ledgers.specs.Names.{AreNamed, AreWhole};
+ghost use Rattle.shared_gate.specs.Log.{CallsAllLegal};
 
 use crate::books::book_with;
 use crate::gates::{gate_by_two, new_word};
@@ -54,6 +55,7 @@ fn by_two_threads<M: GateNaming + Send + Sync, R: Threads + Wait + SystemClock +
     requires names { AreNamed M.calls M.place blanks }
     requires parts { AreWhole blanks }
     requires word { word ≡ M.word }
+    requires legal { CallsAllLegal M.legal }
     requires rows { M.rows ≡ [] }
     requires room { M.room ≡ 100 }
     requires promote { M.promote ≡ All }

@@ -2,8 +2,10 @@
 ghost use Rattle.std.specs.Prelude.{◌≡◌, [], true};
 ghost use Rattle.limiter_core.specs.declared.promote.Promote.TheVariants.{Newest};
 ghost use Rattle.limit_laws.specs.SettableRules.{settable_from, settable_rules};
+ghost use Rattle.gate_journal.specs.Journal.{next_number};
 ghost use Rattle.gate_ledgers.specs.Course.{course_of};
 ghost use Rattle.gate_ledgers.specs.Names.{AreNamed, AreWhole};
+ghost use Rattle.shared_gate.specs.Log.{CallsAllLegal};
 
 use crate::gates::{gate_by_one, new_word};
 use crate::shared_gate_tests::admitted;
@@ -26,6 +28,7 @@ fn set_and_seen<M: GateNaming, R: Wait + Abort>(rt: &R, alloc: Global, blanks: B
     requires names { AreNamed M.calls M.place blanks }
     requires parts { AreWhole blanks }
     requires word { word ≡ M.word }
+    requires legal { CallsAllLegal M.legal }
     requires rows { M.rows ≡ [] }
     requires room { M.room ≡ 100 }
     requires promote { M.promote ≡ Newest }
@@ -60,6 +63,7 @@ fn set_and_reset<M: GateNaming, R: Wait + Abort>(rt: &R, alloc: Global, blanks: 
     requires names { AreNamed M.calls M.place blanks }
     requires parts { AreWhole blanks }
     requires word { word ≡ M.word }
+    requires legal { CallsAllLegal M.legal }
     requires rows { M.rows ≡ [] }
     requires room { M.room ≡ 100 }
     requires promote { M.promote ≡ Newest }
@@ -107,6 +111,7 @@ fn settable<M: Naming, R: Abort>(
     requires kept { M.kept ≡ 2 }
     requires rolling { M.is_rolling ≡ true }
     requires limit { M.limit ≡ course_of settable_rules (settable_from lo first hi) }
+    ensures { next_number result.journal ≡ 0 }
 {
     let limit = Settable::new(lo, first, hi).expect(rt, "a limit");
     let table = PartitionTable::unknown_only();

@@ -5,6 +5,7 @@ ghost use Rattle.limiter_core.specs.declared.promote.Promote.TheVariants.{Newest
 ghost use Rattle.limit_laws.specs.FixedRules.{fixed_rules};
 ghost use Rattle.gate_ledgers.specs.Course.{course_of};
 ghost use Rattle.gate_ledgers.specs.Names.{AreNamed, AreWhole};
+ghost use Rattle.shared_gate.specs.Log.{CallsAllLegal};
 
 use crate::books::book_over;
 use crate::callers::{Caller, by_two_threads};
@@ -58,6 +59,7 @@ fn by_two_passes<M: GateNaming + Send + Sync, R: Threads + Wait + Abort + Sync>(
     requires names { AreNamed M.calls M.place blanks }
     requires parts { AreWhole blanks }
     requires word { word ≡ M.word }
+    requires legal { CallsAllLegal M.legal }
     requires rows { M.rows ≡ [] }
     requires room { M.room ≡ 100 }
     requires promote { M.promote ≡ Newest }
@@ -169,6 +171,7 @@ fn by_three_passes<M: GateNaming, R: Wait + SystemClock + Abort>(
     requires names { AreNamed M.calls M.place blanks }
     requires parts { AreWhole blanks }
     requires word { word ≡ M.word }
+    requires legal { CallsAllLegal M.legal }
     requires rows { M.rows ≡ [] }
     requires room { M.room ≡ 100 }
     requires promote { M.promote ≡ Newest }

@@ -5,6 +5,7 @@ ghost use Rattle.gate_journal.specs.Journal.{most_kept};
 ghost use Rattle.limit_laws.specs.FixedRules.{fixed_rules};
 ghost use Rattle.gate_ledgers.specs.Course.{course_of};
 ghost use Rattle.gate_ledgers.specs.Names.{AreNamed, AreWhole};
+ghost use Rattle.shared_gate.specs.Log.{CallsAllLegal};
 
 use crate::books::book_over;
 use crate::gates::{gate_by_one, gate_by_two, new_word};
@@ -88,6 +89,7 @@ fn by_one_pass<M: GateNaming, R: Wait + Abort>(
     requires names { AreNamed M.calls M.place blanks }
     requires parts { AreWhole blanks }
     requires word { word ≡ M.word }
+    requires legal { CallsAllLegal M.legal }
     requires rows { M.rows ≡ [] }
     requires room { M.room ≡ 100 }
     requires promote { M.promote ≡ Newest }
@@ -191,6 +193,7 @@ fn by_two_threads<M: GateNaming + Send + Sync, R: Threads + Wait + SystemClock +
     requires names { AreNamed M.calls M.place blanks }
     requires parts { AreWhole blanks }
     requires word { word ≡ M.word }
+    requires legal { CallsAllLegal M.legal }
     requires rows { M.rows ≡ [] }
     requires room { M.room ≡ 100 }
     requires promote { M.promote ≡ Newest }

@@ -4,6 +4,7 @@ ghost use Rattle.limiter_core.specs.declared.promote.Promote.TheVariants.{Newest
 ghost use Rattle.limit_laws.specs.FixedRules.{fixed_rules};
 ghost use Rattle.gate_ledgers.specs.Course.{course_of};
 ghost use Rattle.gate_ledgers.specs.Names.{AreNamed, AreWhole};
+ghost use Rattle.shared_gate.specs.Log.{CallsAllLegal};
 
 use crate::books::book_over;
 use crate::gates::{gate_by_one, new_word};
@@ -135,6 +136,7 @@ pub(crate) fn in_vain<M: GateNaming, R: Wait + SystemClock + Abort, C: Clock>(
     requires names { AreNamed M.calls M.place blanks }
     requires parts { AreWhole blanks }
     requires word { word ≡ M.word }
+    requires legal { CallsAllLegal M.legal }
     requires rows { M.rows ≡ [] }
     requires room { M.room ≡ 100 }
     requires promote { M.promote ≡ Newest }
@@ -192,6 +194,7 @@ fn exhausted<M: GateNaming, R: Wait + SystemClock + Abort>(
     requires names { AreNamed M.calls M.place blanks }
     requires parts { AreWhole blanks }
     requires word { word ≡ M.word }
+    requires legal { CallsAllLegal M.legal }
     requires rows { M.rows ≡ [] }
     requires room { M.room ≡ 100 }
     requires promote { M.promote ≡ Newest }

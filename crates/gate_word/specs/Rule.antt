@@ -1,49 +1,62 @@
--- The rule of a word: what its seats know, and how each step changes that.
-use Rattle.std.specs.Prelude.{◌≡◌, ℕ, ◌≤◌, max, List, [], ◌∷◌, true, false}
+-- The rule of a log: what its seats know, and how each step changes that.
+use Rattle.std.specs.Prelude.{◌≡◌, ℕ, List, [], ◌∷◌, ◌++◌, length, true, false}
 use mathlib.Core.Option.{some}
+use mathlib.Core.List.{IsPrefix}
 use lib.ListN.{get_elem?}
 use Rattle.atomic_table.specs.Table.{Me, Step}
 use Rattle.gate_word.specs.declared.rule.View.{View}
 
--- what the keeper knows: the word, and the greatest number that it took in
-abbrev pub keeper_view : ℕ → ℕ → View
-keeper_view word note = record { keeps = true; number = word; note = note }
+module _ {E : Type 0} where
+  -- what the keeper knows: the log, and what it noted of a reader's
+  abbrev pub keeper_view : List E → List E → View E
+  keeper_view log note = record { keeps = true; log = log; note = note }
 
--- what a reader knows: a number that the word has reached
-abbrev pub reader_view : ℕ → View
-reader_view seen = record { keeps = false; number = seen; note = 0 }
+  -- what a reader knows: a beginning of the log, and what it noted of another's
+  abbrev pub reader_view : List E → List E → View E
+  reader_view log note = record { keeps = false; log = log; note = note }
 
--- a view is at most the word; the keeper's is the one at its seat, and equals the word
-abbrev pub Fits : ℕ → ℕ → ℕ → View → Type 0
-Fits word seat by v =
-    (v.number ≤ word) × (v.note ≤ word) × (v.keeps ≡ true → (by ≡ seat) × (v.number ≡ word))
+  -- of two beginnings of one list, the longer
+  abbrev pub longer : List E → List E → List E
+  longer [] ys = ys
+  longer (x ∷ xs) [] = x ∷ xs
+  longer (x ∷ xs) (y ∷ ys) = x ∷ longer xs ys
 
--- one view is the keeper's, and each fits
-pub record KeptAt (word : ℕ) (views : List View) : Type 0 where
-  pub seat : ℕ
-  pub keeper : (v : View) × (get_elem? views seat ≡ some v) × (v.keeps ≡ true)
-  pub all : (by : ℕ) (v : View) → get_elem? views by ≡ some v → Fits word seat by v
+  -- a view has beginnings of the log; the keeper's is the one at its seat, and has it all
+  abbrev pub Fits : List E → ℕ → ℕ → View E → Type 0
+  Fits log seat by v =
+      IsPrefix v.log log × IsPrefix v.note log
+      × (v.keeps ≡ true → (by ≡ seat) × (v.log ≡ log))
 
--- THE RULE: there is one word, one view is the keeper's and equals it, each other is at most it
-abbrev pub Kept : List ℕ → List View → Type 0
-Kept words views = (word : ℕ) × (words ≡ word ∷ []) × KeptAt word views
+  -- one view is the keeper's, and each fits
+  pub record KeptAt (log : List E) (views : List (View E)) : Type 0 where
+    pub seat : ℕ
+    pub keeper : (v : View E) × (get_elem? views seat ≡ some v) × (v.keeps ≡ true)
+    pub all : (by : ℕ) (v : View E) → get_elem? views by ≡ some v → Fits log seat by v
 
--- a reader read the word, which was no less than what it knew
-abbrev pub Read : Step ℕ → Me ℕ View → ℕ → Me ℕ View → Type 0
-Read s v found w = (w ≡ (reader_view found, v.1)) × (v.0.number ≤ found)
+  -- THE RULE: there is one log, one view is the keeper's and has it all, each other has a
+  -- beginning of it. The word is the log's length
+  abbrev pub Kept : List ℕ → List (View E) → Type 0
+  Kept words views = (log : List E) × (words ≡ length log ∷ []) × KeptAt log views
 
--- the keeper raised the word, and what it had taken in was at most the word before
-abbrev pub Raised : Step ℕ → Me ℕ View → ℕ → Me ℕ View → Type 0
-Raised s v found w = (w ≡ (keeper_view s.first 0, v.1)) × (v.0.note ≤ v.0.number)
+  -- the keeper added these entries, and what it had noted was a beginning of the log before
+  abbrev pub Raised : List E → Step ℕ → Me ℕ (View E) → ℕ → Me ℕ (View E) → Type 0
+  Raised added s v found w =
+      (w ≡ (keeper_view (v.0.log ++ added) [], v.1)) × IsPrefix v.0.note v.0.log
 
--- what a seat tells another
-abbrev pub note_of : View → View
-note_of v = reader_view v.number
+  -- the keeper compared what it had noted with the log, which began with that
+  abbrev pub Compared : Step ℕ → Me ℕ (View E) → ℕ → Me ℕ (View E) → Type 0
+  Compared s v found w = (w ≡ (keeper_view v.0.log [], v.1)) × IsPrefix v.0.note v.0.log
 
--- a reader that took in what another knows
-abbrev pub learnt : View → View → View
-learnt v w = reader_view (max v.number w.number)
+  -- a reader took in what it had noted: of that and what it knew, one begins the other
+  abbrev pub Took : Step ℕ → Me ℕ (View E) → ℕ → Me ℕ (View E) → Type 0
+  Took s v found w =
+      (w ≡ (reader_view (longer v.0.log v.0.note) [], v.1))
+      × IsPrefix v.0.log (longer v.0.log v.0.note) × IsPrefix v.0.note (longer v.0.log v.0.note)
 
--- the keeper that took in what another knows
-abbrev pub compared : View → View → View
-compared v w = record { keeps = v.keeps; number = v.number; note = max v.note w.number }
+  -- what a seat tells another
+  abbrev pub note_of : View E → View E
+  note_of v = reader_view v.log []
+
+  -- a seat that noted what another knows
+  abbrev pub noted : View E → View E → View E
+  noted v w = record { keeps = v.keeps; log = v.log; note = w.log }

@@ -1,5 +1,5 @@
--- What contracts see of a word and of those who know it.
-use Rattle.std.specs.Prelude.{◌≡◌, ℕ, []}
+-- What contracts see of a log and of those who know it.
+use Rattle.std.specs.Prelude.{◌≡◌, List, []}
 use Rattle.atomic_table.specs.Seated.{TableId}
 
 -- the name of no table
@@ -18,12 +18,7 @@ no_table = record {
 abbrev pub IsTable : TableId → Type 0
 IsTable table = (table.words ≡ 1) × (table.slots ≡ 0)
 
--- the keeper: whose table, and the word
-pub record Keeping : Type 0 where
+-- who knows a log: of which table, and what of the log. A keeper knows all, a reader a beginning
+pub record Knows (E : Type 0) : Type 0 where
   pub table : TableId
-  pub word : ℕ
-
--- a reader: of which table, and the last number that it read or was told
-pub record Reading : Type 0 where
-  pub table : TableId
-  pub seen : ℕ
+  pub log : List E

@@ -1,10 +1,10 @@
-//! The word of a gate: one number beside a lock, which whoever holds the lock raises and every
-//! caller may read without it.
+//! A log beside a lock: a list of entries that only grows, which exists in proofs alone.
 //!
-//! The [`Keeper`] lies under the lock and knows the word exactly. Each caller has a [`Reader`],
-//! which knows a number that the word has reached. A step raises the word by both, so that the
-//! reader's number before is at most the word, and its number after is at least the raised word.
-//! One reader may be told what another knows, without the lock.
+//! The [`Keeper`] lies under the lock and knows the log exactly. Each caller has a [`Reader`],
+//! which knows a beginning of it. A raise adds entries that the caller picks, and the reader knows
+//! the log then; its beginning before was one of the log before. One reader may be told what
+//! another knows, without the lock: of two beginnings, one begins the other. What stands at run
+//! time is the log's length, the number of the next entry.
 #![tactic(auto)]
 
 mod rule;
@@ -12,6 +12,6 @@ mod seats;
 mod steps;
 mod word;
 
-pub use rule::{Compares, Learns, Raises, Reads, Rises, Tells, View};
+pub use rule::{Added, Compares, Notes, Raises, Rises, Takes, Tells, View};
 pub use seats::{Keeper, Reader};
 pub use word::{SharedWord, Word};

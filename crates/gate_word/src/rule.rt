@@ -1,49 +1,77 @@
-// The rule of the word, and the steps that keep it.
+// The rule of the log, and the steps that keep it.
 use atomic_table::{Join, Play, Split, TableRule};
+use std::collections::LinkedList;
+use std::marker::{Brand, PhantomData};
 
 /// What a seat of the table knows. No value of it is made.
-pub struct View {
+pub struct View<E> {
     /// Whether it is the keeper's.
     pub keeps: bool,
-    /// The word for the keeper, and for a reader a number that the word has reached.
-    pub number: u64,
-    /// The greatest number that the keeper took in from readers, to compare it with the word.
-    pub note: u64,
+    /// The log for the keeper, and for a reader a beginning of it.
+    pub log: LinkedList<E>,
+    /// A beginning that was taken in from another seat, to compare it with the log.
+    pub note: LinkedList<E>,
 }
 
-/// There is one word; one view is the keeper's and equals it, and each other is at most the word.
+/// One view is the keeper's and has the whole log, each other has a beginning of it, and the word
+/// is the log's length: the number of the next entry.
 pub struct Rises;
 
-impl TableRule<u64, View, ()> for Rises {
+impl<E> TableRule<u64, View<E>, ()> for Rises {
+    ghost use Rattle.std.specs.Prelude.{[]};
     ghost use Rattle.gate_word.specs.Rule.{keeper_view, Kept};
 
-    ghost holds = { λ _ s. Kept s.words s.views };
+    ghost holds = { λ key s. Kept s.words s.views };
 
-    ghost first = { λ _. keeper_view 0 0 };
+    ghost first = { λ _. keeper_view [] [] };
 }
 
-/// A load of the word by a reader.
-pub struct Reads;
+/// The entries that a raise adds. Each call of it picks them.
+pub trait Added<E> {
+    ghost use Rattle.std.specs.Prelude.{List};
 
-impl Play<u64, View> for Reads {
-    ghost use Rattle.gate_word.specs.Rule.{Read};
-
-    ghost then = { Read };
+    ghost added: { List E };
 }
 
-/// The keeper raises the word.
-pub struct Raises;
+impl<E> Added<E> for Brand {
+    ghost use Rattle.std.specs.Prelude.{[]};
 
-impl Play<u64, View> for Raises {
+    ghost added = { [] };
+}
+
+/// The keeper raises the log by these entries.
+pub struct Raises<G> {
+    of: PhantomData<G>,
+}
+
+impl<E, G: Added<E>> Play<u64, View<E>> for Raises<G> {
     ghost use Rattle.gate_word.specs.Rule.{Raised};
 
-    ghost then = { Raised };
+    ghost then = { Raised G.added };
 }
 
-/// A new seat that knows the number of another.
+/// The keeper compares what it noted with the log.
+pub struct Compares;
+
+impl<E> Play<u64, View<E>> for Compares {
+    ghost use Rattle.gate_word.specs.Rule.{Compared};
+
+    ghost then = { Compared };
+}
+
+/// A reader takes in what it noted.
+pub struct Takes;
+
+impl<E> Play<u64, View<E>> for Takes {
+    ghost use Rattle.gate_word.specs.Rule.{Took};
+
+    ghost then = { Took };
+}
+
+/// A new seat that knows what another does.
 pub struct Tells;
 
-impl Split<View> for Tells {
+impl<E> Split<View<E>> for Tells {
     ghost use Rattle.gate_word.specs.Rule.{note_of};
 
     ghost left = { λ v. v };
@@ -51,24 +79,14 @@ impl Split<View> for Tells {
     ghost right = { note_of };
 }
 
-/// A reader takes in the number of another seat, which is spent.
-pub struct Learns;
+/// A seat notes what another knows, which is spent.
+pub struct Notes;
 
-impl Join<View> for Learns {
-    ghost use Rattle.gate_word.specs.Rule.{learnt, reader_view};
+impl<E> Join<View<E>> for Notes {
+    ghost use Rattle.std.specs.Prelude.{[]};
+    ghost use Rattle.gate_word.specs.Rule.{noted, reader_view};
 
-    ghost both = { learnt };
+    ghost both = { noted };
 
-    ghost spent = { reader_view 0 };
-}
-
-/// The keeper takes in the number of another seat, which is spent, to compare it with the word.
-pub struct Compares;
-
-impl Join<View> for Compares {
-    ghost use Rattle.gate_word.specs.Rule.{compared, reader_view};
-
-    ghost both = { compared };
-
-    ghost spent = { reader_view 0 };
+    ghost spent = { reader_view [] [] };
 }

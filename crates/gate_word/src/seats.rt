@@ -1,54 +1,41 @@
-// Who knows the word.
-ghost use Rattle.std.specs.Prelude.{◌≡◌};
-
+// Who knows the log.
 use crate::steps::Seat;
 use std::marker::Model;
 
-/// What lies under the lock: it knows the word exactly. Contracts see the name of the table and the
-/// word.
+/// What lies under the lock: it knows the log exactly. Contracts see the name of the table and the
+/// log.
 #[derive(Drop)]
-pub struct Keeper {
-    pub(crate) seat: Seat,
-    pub(crate) word: u64,
+pub struct Keeper<E> {
+    pub(crate) seat: Seat<E>,
 }
 
-impl Model for Keeper {
+impl<E> Model for Keeper<E> {
     ghost use Rattle.std.specs.Prelude.{◌≡◌, []};
     ghost use Rattle.gate_word.specs.Rule.{keeper_view};
-    ghost use Rattle.gate_word.specs.Seats.{Keeping};
+    ghost use Rattle.gate_word.specs.Seats.{Knows};
 
-    ghost Value = { Keeping };
+    ghost Value = { Knows E };
 
-    ghost view = { λ k. record { table = k.seat.table_id; word = k.word } };
+    ghost view = { λ k. record { table = k.seat.table_id; log = k.seat.me.0.log } };
 
-    ghost invariant = { λ k. k.seat.me ≡ (keeper_view k.word 0, []) };
+    ghost invariant = { λ k. k.seat.me ≡ (keeper_view k.seat.me.0.log [], []) };
 }
 
-/// What a caller has: it knows a number that the word has reached. Contracts see the name of the
-/// table and the number.
+/// What a caller has: it knows a beginning of the log. Contracts see the name of the table and what
+/// it knows.
 #[derive(Drop)]
-pub struct Reader {
-    pub(crate) seat: Seat,
-    pub(crate) seen: u64,
+pub struct Reader<E> {
+    pub(crate) seat: Seat<E>,
 }
 
-impl Model for Reader {
+impl<E> Model for Reader<E> {
     ghost use Rattle.std.specs.Prelude.{◌≡◌, []};
     ghost use Rattle.gate_word.specs.Rule.{reader_view};
-    ghost use Rattle.gate_word.specs.Seats.{Reading};
+    ghost use Rattle.gate_word.specs.Seats.{Knows};
 
-    ghost Value = { Reading };
+    ghost Value = { Knows E };
 
-    ghost view = { λ r. record { table = r.seat.table_id; seen = r.seen } };
+    ghost view = { λ r. record { table = r.seat.table_id; log = r.seat.me.0.log } };
 
-    ghost invariant = { λ r. r.seat.me ≡ (reader_view r.seen, []) };
-}
-
-impl Reader {
-    /// The last word that it read or was told.
-    pub fn seen(&self) -> u64
-        ensures { result ≡ self.now.seen }
-    {
-        self.seen
-    }
+    ghost invariant = { λ r. r.seat.me ≡ (reader_view r.seat.me.0.log [], []) };
 }

@@ -1,84 +1,88 @@
 // Each step over seats alone.
-ghost use Rattle.std.specs.Prelude.{◌≡◌, ◌≤◌, [], true};
-ghost use Rattle.gate_word.specs.Rule.{keeper_view, reader_view, compared};
+ghost use Rattle.std.specs.Prelude.{◌≡◌, ◌++◌, [], true, length};
+ghost use mathlib.Core.List.{IsPrefix};
+ghost use Rattle.gate_word.specs.Rule.{keeper_view, reader_view, longer, noted};
 
-use crate::rule::{Compares, Learns, Raises, Reads, Rises, Tells, View};
+use crate::rule::{Added, Compares, Notes, Raises, Rises, Takes, Tells, View};
 use atomic_table::Table;
 use std::alloc::Global;
 
-pub(crate) type Seat = atomic_table::Seat<u64, View>;
+pub(crate) type Seat<E> = atomic_table::Seat<u64, View<E>>;
 
-pub(crate) type WordTable = Table<u64, View, (), Rises, Global>;
+pub(crate) type WordTable<E> = Table<u64, View<E>, (), Rises, Global>;
 
-pub(crate) type Shared = atomic_table::Shared<u64, View, (), Rises>;
+pub(crate) type Shared<E> = atomic_table::Shared<u64, View<E>, (), Rises>;
 
-/// A new seat that knows the number of this one.
+/// A new seat that knows what this one does.
 #[inline(always)]
-pub(crate) fn told_by(shared: &Shared, seat: &mut Seat) -> Seat
+pub(crate) fn told_by<E>(shared: &Shared<E>, seat: &mut Seat<E>) -> Seat<E>
     requires table { seat.old.table_id ≡ shared.now.table_id }
     requires word { shared.now.table_id.words ≡ 1 }
     ensures table { seat.new.table_id ≡ seat.old.table_id }
     ensures same { seat.new.me ≡ seat.old.me }
     ensures told_table { result.table_id ≡ seat.old.table_id }
-    ensures told { result.me ≡ (reader_view seat.old.me.0.number, []) }
+    ensures told { result.me ≡ (reader_view seat.old.me.0.log [], []) }
 {
     shared.split_seat::<Tells>(seat)
 }
 
-/// A reader's seat loads the word.
+/// A seat notes what another knows, which is spent.
 #[inline(always)]
-pub(crate) fn look(shared: &Shared, seat: &mut Seat) -> u64
+pub(crate) fn note<E>(shared: &Shared<E>, seat: &mut Seat<E>, other: Seat<E>)
     requires table { seat.old.table_id ≡ shared.now.table_id }
+    requires other_table { other.table_id ≡ shared.now.table_id }
     requires word { shared.now.table_id.words ≡ 1 }
-    requires reader { seat.old.me ≡ (reader_view seat.old.me.0.number, []) }
+    requires other { other.me ≡ (reader_view other.me.0.log [], []) }
     ensures table { seat.new.table_id ≡ seat.old.table_id }
-    ensures reader { seat.new.me ≡ (reader_view result, []) }
-    ensures own { seat.old.me.0.number ≤ result }
+    ensures seat { seat.new.me ≡ (noted seat.old.me.0 other.me.0, seat.old.me.1) }
 {
-    shared.load::<Reads>(seat, 0)
+    shared.join_seat::<Notes>(seat, other);
 }
 
-/// A reader's seat takes in a number, and then loads the word.
+/// A reader's seat takes in what another knows, which is spent.
 #[inline(always)]
-pub(crate) fn learn(shared: &Shared, seat: &mut Seat, note: Seat) -> u64
+pub(crate) fn learn<E>(shared: &Shared<E>, seat: &mut Seat<E>, other: Seat<E>)
     requires table { seat.old.table_id ≡ shared.now.table_id }
-    requires note_table { note.table_id ≡ shared.now.table_id }
+    requires other_table { other.table_id ≡ shared.now.table_id }
     requires word { shared.now.table_id.words ≡ 1 }
-    requires reader { seat.old.me ≡ (reader_view seat.old.me.0.number, []) }
-    requires note { note.me ≡ (reader_view note.me.0.number, []) }
+    requires reader { seat.old.me ≡ (reader_view seat.old.me.0.log [], []) }
+    requires other { other.me ≡ (reader_view other.me.0.log [], []) }
     ensures table { seat.new.table_id ≡ seat.old.table_id }
-    ensures reader { seat.new.me ≡ (reader_view result, []) }
-    ensures own { seat.old.me.0.number ≤ result }
-    ensures note { note.me.0.number ≤ result }
+    ensures reader { seat.new.me ≡ (reader_view (longer seat.old.me.0.log other.me.0.log) [], []) }
+    ensures own { IsPrefix seat.old.me.0.log (longer seat.old.me.0.log other.me.0.log) }
+    ensures told { IsPrefix other.me.0.log (longer seat.old.me.0.log other.me.0.log) }
 {
-    shared.join_seat::<Learns>(seat, note);
-    look(shared, seat)
+    note(shared, seat, other);
+    shared.load::<Takes>(seat, 0);
 }
 
-/// The keeper's seat takes in the number of another, which is spent.
+/// The keeper's seat takes in what another knows, which is spent: it was a beginning of the log.
 #[inline(always)]
-pub(crate) fn compare(shared: &Shared, keeper: &mut Seat, other: Seat)
+pub(crate) fn compare<E>(shared: &Shared<E>, keeper: &mut Seat<E>, other: Seat<E>)
     requires table { keeper.old.table_id ≡ shared.now.table_id }
     requires other_table { other.table_id ≡ shared.now.table_id }
     requires word { shared.now.table_id.words ≡ 1 }
-    requires other { other.me ≡ (reader_view other.me.0.number, []) }
+    requires keeper { keeper.old.me ≡ (keeper_view keeper.old.me.0.log [], []) }
+    requires other { other.me ≡ (reader_view other.me.0.log [], []) }
     ensures table { keeper.new.table_id ≡ keeper.old.table_id }
-    ensures keeper { keeper.new.me ≡ (compared keeper.old.me.0 other.me.0, keeper.old.me.1) }
+    ensures keeper { keeper.new.me ≡ (keeper_view keeper.old.me.0.log [], []) }
+    ensures begins { IsPrefix other.me.0.log keeper.old.me.0.log }
 {
-    shared.join_seat::<Compares>(keeper, other);
+    note(shared, keeper, other);
+    shared.load::<Compares>(keeper, 0);
 }
 
-/// The keeper's seat stores the word, and what it took in was at most the word before.
+/// The keeper's seat adds the picked entries, and what it noted was a beginning of the log before.
 #[inline(always)]
-pub(crate) fn lift(shared: &Shared, keeper: &mut Seat, next: u64)
+pub(crate) fn lift<E, G: Added<E>>(shared: &Shared<E>, keeper: &mut Seat<E>, next: u64)
     requires table { keeper.old.table_id ≡ shared.now.table_id }
     requires word { shared.now.table_id.words ≡ 1 }
     requires keeps { keeper.old.me.0.keeps ≡ true }
     requires alone { keeper.old.me.1 ≡ [] }
-    requires up { keeper.old.me.0.number ≤ next }
+    requires next { next ≡ length (keeper.old.me.0.log ++ G.added) }
     ensures table { keeper.new.table_id ≡ keeper.old.table_id }
-    ensures keeper { keeper.new.me ≡ (keeper_view next 0, []) }
-    ensures notes { keeper.old.me.0.note ≤ keeper.old.me.0.number }
+    ensures keeper { keeper.new.me ≡ (keeper_view (keeper.old.me.0.log ++ G.added) [], []) }
+    ensures noted { IsPrefix keeper.old.me.0.note keeper.old.me.0.log }
 {
-    shared.store::<Raises>(keeper, 0, next);
+    shared.store::<Raises<G>>(keeper, 0, next);
 }

@@ -1,19 +1,21 @@
-// A word, and the calls of those who share it.
-ghost use Rattle.std.specs.Prelude.{◌≡◌, ◌≤◌};
+// A log, and the calls of those who share it.
+ghost use Rattle.std.specs.Prelude.{◌≡◌, ◌⊎◌, ◌++◌, [], length};
+ghost use mathlib.Core.List.{IsPrefix};
 
+use crate::rule::Added;
 use crate::seats::{Keeper, Reader};
-use crate::steps::{Seat, WordTable, compare, learn, lift, look, told_by};
+use crate::steps::{Seat, WordTable, compare, learn, lift, note, told_by};
 use std::alloc::{AllocError, Global};
 use std::marker::Model;
 
-/// A word at 0 that nobody shares yet. Contracts see the name of its table.
+/// An empty log that nobody shares yet. Contracts see the name of its table.
 #[derive(Drop)]
-pub struct Word {
-    table: WordTable,
-    seat: Seat,
+pub struct Word<E> {
+    table: WordTable<E>,
+    seat: Seat<E>,
 }
 
-impl Model for Word {
+impl<E> Model for Word<E> {
     ghost use Rattle.std.specs.Prelude.{◌≡◌, []};
     ghost use Rattle.atomic_table.specs.Seated.{TableId};
     ghost use Rattle.gate_word.specs.Rule.{keeper_view};
@@ -24,33 +26,33 @@ impl Model for Word {
     ghost view = { λ w. w.table.shared.table_id };
 
     ghost invariant = { λ w. IsTable w.table.shared.table_id
-        × (w.seat.table_id ≡ w.table.shared.table_id) × (w.seat.me ≡ (keeper_view 0 0, [])) };
+        × (w.seat.table_id ≡ w.table.shared.table_id) × (w.seat.me ≡ (keeper_view [] [], [])) };
 }
 
-impl Word {
-    /// A word at 0. Fails where memory for it can't be had.
-    pub fn new(alloc: Global) -> Result<Word, AllocError> {
+impl<E> Word<E> {
+    /// An empty log. Fails where memory for its word can't be had.
+    pub fn new(alloc: Global) -> Result<Word<E>, AllocError> {
         let (table, seat) = WordTable::of_words(alloc, &[0], &())?;
         Ok(Word { table, seat })
     }
 
-    /// The word that threads share, and its keeper.
-    pub fn share(self) -> (SharedWord, Keeper)
+    /// The log that threads share, and its keeper.
+    pub fn share(self) -> (SharedWord<E>, Keeper<E>)
         ensures shared { result.0 ≡ self }
-        ensures keeper { result.1 ≡ record { table = self; word = 0 } }
+        ensures keeper { result.1 ≡ record { table = self; log = [] } }
     {
         let Word { table, seat } = self;
-        (SharedWord { table }, Keeper { seat, word: 0 })
+        (SharedWord { table }, Keeper { seat })
     }
 }
 
-/// A word that threads share. Contracts see the name of its table.
+/// A log that threads share. Contracts see the name of its table.
 #[derive(Drop)]
-pub struct SharedWord {
-    table: WordTable,
+pub struct SharedWord<E> {
+    table: WordTable<E>,
 }
 
-impl Model for SharedWord {
+impl<E> Model for SharedWord<E> {
     ghost use Rattle.atomic_table.specs.Seated.{TableId};
     ghost use Rattle.gate_word.specs.Seats.{IsTable};
 
@@ -61,74 +63,67 @@ impl Model for SharedWord {
     ghost invariant = { λ w. IsTable w.table.shared.table_id };
 }
 
-impl SharedWord {
-    /// Raises the word without a reader.
-    pub fn begin(&self, keeper: &mut Keeper, next: u64)
+impl<E> SharedWord<E> {
+    /// A new reader, who knows the log as it stands.
+    pub fn reader(&self, keeper: &mut Keeper<E>) -> Reader<E>
         requires table { keeper.old.table ≡ self.now }
-        requires up { keeper.old.word ≤ next }
-        ensures { keeper.new ≡ record { table = keeper.old.table; word = next } }
-    {
-        lift(&self.table.shared, &mut keeper.seat, next);
-        keeper.word = next;
-    }
-
-    /// A new reader, who knows the word as it stands.
-    pub fn reader(&self, keeper: &mut Keeper) -> Reader
-        requires table { keeper.old.table ≡ self.now }
-        ensures reader { result ≡ record { table = self.now; seen = keeper.old.word } }
+        ensures reader { result ≡ keeper.old }
         ensures same { keeper.new ≡ keeper.old }
     {
         let seat = told_by(&self.table.shared, &mut keeper.seat);
-        Reader {
-            seat,
-            seen: keeper.word,
-        }
+        Reader { seat }
     }
 
-    /// Raises the word, and shows the reader the raised word: what the reader had seen was at most
-    /// the word, and what it has seen now is at least the raised one.
+    /// Adds the picked entries, of which `about` tells. What the reader knew was a beginning of the
+    /// log before, and now it knows the log.
     #[inline(always)]
-    pub fn raise(&self, keeper: &mut Keeper, reader: &mut Reader, next: u64)
+    pub fn raise<X, G: Added<E>>(
+        &self,
+        keeper: &mut Keeper<E>,
+        reader: &mut Reader<E>,
+        _about: &X,
+        next: u64,
+    )
         requires table { keeper.old.table ≡ self.now }
         requires reader_table { reader.old.table ≡ self.now }
-        requires up { keeper.old.word ≤ next }
-        ensures keeper { keeper.new ≡ record { table = keeper.old.table; word = next } }
+        requires next { next ≡ length (keeper.old.log ++ G.added) }
+        ensures keeper { keeper.new
+            ≡ record { table = keeper.old.table; log = keeper.old.log ++ G.added } }
         ensures table { reader.new.table ≡ reader.old.table }
-        ensures before { reader.old.seen ≤ keeper.old.word }
-        ensures after { next ≤ reader.new.seen }
+        ensures reader { reader.new.log ≡ keeper.new.log }
+        ensures before { IsPrefix reader.old.log keeper.old.log }
     {
         let shared = &self.table.shared;
-        look(shared, &mut reader.seat);
-        let note = told_by(shared, &mut reader.seat);
-        compare(shared, &mut keeper.seat, note);
-        lift(shared, &mut keeper.seat, next);
-        keeper.word = next;
-        let note = told_by(shared, &mut keeper.seat);
-        reader.seen = learn(shared, &mut reader.seat, note);
+        let told = told_by(shared, &mut reader.seat);
+        note(shared, &mut keeper.seat, told);
+        lift::<E, G>(shared, &mut keeper.seat, next);
+        let told = told_by(shared, &mut keeper.seat);
+        learn(shared, &mut reader.seat, told);
     }
 
-    /// Lets a reader know what another has seen.
-    pub fn tell(&self, reader: &mut Reader, other: &mut Reader)
+    /// Lets a reader know what another knows: the longer of the two beginnings, which the other
+    /// begins.
+    pub fn tell(&self, reader: &mut Reader<E>, other: &mut Reader<E>)
         requires table { reader.old.table ≡ self.now }
         requires other_table { other.old.table ≡ self.now }
         ensures table { reader.new.table ≡ reader.old.table }
-        ensures told { other.old.seen ≤ reader.new.seen }
-        ensures kept { reader.old.seen ≤ reader.new.seen }
+        ensures told { IsPrefix other.old.log reader.new.log }
+        ensures kept { IsPrefix reader.old.log reader.new.log }
+        ensures one { (reader.new.log ≡ reader.old.log) ⊎ (reader.new.log ≡ other.old.log) }
         ensures other { other.new ≡ other.old }
     {
-        let note = told_by(&self.table.shared, &mut other.seat);
-        reader.seen = learn(&self.table.shared, &mut reader.seat, note);
+        let told = told_by(&self.table.shared, &mut other.seat);
+        learn(&self.table.shared, &mut reader.seat, told);
     }
 
-    /// Takes a reader back, which had seen at most the word.
-    pub fn take_back(&self, keeper: &mut Keeper, reader: Reader)
+    /// Takes a reader back, which knew a beginning of the log.
+    pub fn take_back(&self, keeper: &mut Keeper<E>, reader: Reader<E>)
         requires table { keeper.old.table ≡ self.now }
         requires reader_table { reader.table ≡ self.now }
-        ensures seen { reader.seen ≤ keeper.old.word }
+        ensures begins { IsPrefix reader.log keeper.old.log }
         ensures same { keeper.new ≡ keeper.old }
     {
-        let Reader { seat, seen: _ } = reader;
+        let Reader { seat } = reader;
         compare(&self.table.shared, &mut keeper.seat, seat);
-        lift(&self.table.shared, &mut keeper.seat, keeper.word);
     }
 }

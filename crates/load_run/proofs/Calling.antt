@@ -106,13 +106,13 @@ module _ (M : Type 0) (before after : Pass) (a : Arrival) (first : Told) (r : Re
   makes_lost second is =
       let w = subst (λ (x : Result Told Refusal).
       Waits {M = M} before after a.part a.at (Lost first x)) is told in
-      makes_two a first second reply.Lost (asks_waiting a waiting w.0.0.event) w.0.1
-      w.1.event w.2 refl
+      makes_two a first second reply.Lost (asks_waiting a waiting w.1.0.event) w.1.1
+      w.2.event w.3 refl
 
   pub makes_stuck : (spent : Refusal) → IsSpent spent.held spent.kept spent.is_rolling spent.next
       → r ≡ Err spent → Makes a (first ∷ []) (spent ∷ [])
   makes_stuck spent why is =
       let w = subst (λ (x : Result Told Refusal).
       Waits {M = M} before after a.part a.at (Lost first x)) is told in
-      stuck first spent (asks_waiting a waiting w.0.0.event) w.0.1
-      (record { event = w.1.event; spent = why })
+      stuck first spent (asks_waiting a waiting w.1.0.event) w.1.1
+      (record { event = w.2.event; spent = why })

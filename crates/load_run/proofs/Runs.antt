@@ -1,20 +1,25 @@
 -- What is written of a run.
-use Rattle.std.proofs.Common.{◌≡◌, ℕ, ◌≤◌, Bool, List, None, Result, Err, IfErr, length, subst, sym, arith, refl}
+use Rattle.std.proofs.Common.{◌≡◌, ℕ, ◌≤◌, Bool, List, [], None, Result, Ok, Err, IfErr, IfOk, length, drop}
+use Rattle.std.proofs.Common.{ap, subst, sym, arith, refl}
 use Rattle.std.specs.Prelude.{Vec}
 use Rattle.std.specs.declared.alloc.Global.{Global}
-use Rattle.std.proofs.lemmas.List.Sums.{count_by-le-length}
+use Rattle.std.proofs.lemmas.List.Elements.{All-nil}
+use mathlib.Core.List.{IsPrefix}
 use Rattle.limit_kinds.specs.declared.kinds.AnyLimit.{AnyLimit}
 use Rattle.limit_kinds.specs.AnyKinds.{any_rules}
 use Rattle.partitions.specs.Table.{Row}
 use Rattle.limiter_core.specs.declared.event.Entry.{Entry}
 use Rattle.gate_journal.specs.Image.{Standing}
 use Rattle.limiter_core.specs.declared.promote.Promote.{Promote}
+use Rattle.limiter_core.specs.Limiter.{unasked}
+use Rattle.gate_journal.specs.Journal.{opened}
 use Rattle.gate_ledgers.specs.Course.{Change}
 use Rattle.gate_ledgers.specs.Told.{Told}
-use Rattle.gate_history.specs.Book.{Making, calls_of, is_call, made_as}
+use Rattle.gate_history.specs.Book.{Making, made_as}
 use Rattle.gate_history.specs.Refusal.{Refusal}
 use Rattle.audit.specs.declared.cause.Cause.{Cause}
 use Rattle.audit.specs.declared.cause.Cause.TheVariants as cause
+use Rattle.shared_gate.specs.Calls.{Pass}
 use Rattle.shared_gate.specs.Closing.{IsKept}
 use Rattle.script.specs.Settings.{SettingFacts}
 use Rattle.load_driver.specs.Limits.{most_script}
@@ -85,19 +90,25 @@ is_unaccepted workers n settings arrivals kept spent m cause made many work reje
 
 -- an audit without memory says nothing of its history
 pub is_rejected_unread : (m : Making) (opening : Standing AnyLimit) (base : ℕ)
-    (entries : List Entry) (kept : List (Vec Told Global))
+    (entries : List Entry) (kept : List (Vec Told Global)) → base ≡ 0
     → IsKept any_rules m opening base entries → IsRejected m kept cause.Memory
-is_rejected_unread m opening base entries kept legal = record {
+is_rejected_unread m opening base entries kept zero_base legal = record {
   opening = opening;
   base = base;
   entries = entries;
-  calls = 0;
+  passes = [];
   legal = legal;
   fails = record {
-    book = calls_of entries;
+    log = entries;
+    end = record {
+      origin = opening;
+      unasked = legal.unasked zero_base;
+      legal = legal.legal;
+      long = omega (arith, zero_base);
+      ends = ap (λ (n : ℕ). drop n entries) zero_base;
+    };
+    begun = All-nil (λ (pass : Pass). IsPrefix pass.log entries);
     enough = omega arith;
-    few = omega (arith, count_by-le-length is_call entries);
-    whole = λ zero_base. refl;
     first = tt;
   };
 }
@@ -110,3 +121,17 @@ pub audit_stops : {A : Type 0} (workers n : ℕ) (settings : SettingFacts) (arri
 audit_stops {A} workers n settings arrivals told cause is unaccepted =
     subst (λ (r : Result A LoadFault). IfErr r (StopsRun workers n settings arrivals)) (sym is)
     unaccepted
+
+-- a journal that opens with what is made of these opens with what is made of those
+pub opened_alike : {S : Type 0} (state : S) {rows rows' : List Row} {room room' : ℕ}
+    {promote promote' : Promote} {kept kept' : ℕ} {rolls rolls' : Bool} → rows ≡ rows'
+    → room ≡ room' → promote ≡ promote' → kept ≡ kept' → rolls ≡ rolls'
+    → opened (unasked rows room promote state) kept rolls
+    ≡ opened (unasked rows' room' promote' state) kept' rolls'
+opened_alike state a b c d e = rw (a, b, c, d, e) refl
+
+-- a fact of what is answered
+pub on_ok : {A E : Type 0} (P Q : A → Type 0) → ((a : A) → P a → Q a) → (r : Result A E)
+    → IfOk r P → IfOk r Q
+on_ok P Q f (Ok a) p = f a p
+on_ok P Q f (Err e) p = tt

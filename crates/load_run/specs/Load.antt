@@ -13,6 +13,7 @@ use Rattle.gate_history.specs.Book.{Making, made_as}
 use Rattle.gate_history.specs.Refusal.{Refusal}
 use Rattle.audit.specs.declared.cause.Cause.{Cause}
 use Rattle.audit.specs.Accepted.{IsHistoryOf}
+use Rattle.shared_gate.specs.Calls.{Pass}
 use Rattle.shared_gate.specs.Closing.{FailsBy, IsKept}
 use Rattle.script.specs.Settings.{SettingFacts, kept_of, limit_of, promote_of, room_of}
 use Rattle.load_driver.specs.Limits.{kept_entries}
@@ -60,9 +61,9 @@ pub record IsRejected (m : Making) (kept : List (Vec Told Global)) (cause : Caus
   pub opening : Standing AnyLimit
   pub base : ℕ
   pub entries : List Entry
-  pub calls : ℕ
+  pub passes : List Pass
   pub legal : IsKept any_rules m opening base entries
-  pub fails : FailsBy calls base entries kept cause
+  pub fails : FailsBy any_rules m passes base entries kept cause
 
 -- a run that isn't accepted: the workers made such lists
 pub record IsUnaccepted (workers n : ℕ) (settings : SettingFacts) (arrivals : List Arrival)

@@ -1,10 +1,14 @@
 // A run of the calls of a trace, and its audit.
 ghost use Rattle.std.specs.Prelude.{◌≡◌, ◌≤◌, IfErr, IfOk, vec_len};
 ghost use Rattle.limit_laws.specs.Algorithm.{greatest_limit};
+ghost use Rattle.limit_kinds.specs.AnyKinds.{any_rules};
+ghost use Rattle.limiter_core.specs.Limiter.{unasked};
+ghost use Rattle.gate_journal.specs.Journal.{opened};
 ghost use Rattle.gate_ledgers.specs.Course.{course_of};
 ghost use Rattle.gate_ledgers.specs.Names.{AreNamed, AreWhole};
 ghost use Rattle.gate_history.specs.Book.{made_as};
-ghost use Rattle.script.specs.Settings.{kept_of, promote_of, room_of};
+ghost use Rattle.shared_gate.specs.Log.{CallsLegal};
+ghost use Rattle.script.specs.Settings.{kept_of, limit_of, promote_of, room_of};
 ghost use Rattle.load_driver.specs.Limits.{kept_entries};
 ghost use Rattle.load_run.specs.Driver.{StopsRun};
 ghost use Rattle.load_run.specs.Load.{AreOf, IsAccepted, IsRejected, IsRun, making_of};
@@ -58,6 +62,8 @@ where
     requires names { AreNamed M.calls M.place blanks }
     requires parts { AreWhole blanks }
     requires word { word ≡ M.word }
+    requires legal { CallsLegal any_rules settings.rows (room_of settings) (promote_of settings)
+        (limit_of crew.limit settings) M.legal }
     ensures run { IfOk result (IsRun crew.workers crew.limit settings.entry arrivals.items) }
     ensures stops { IfErr result
         (StopsRun crew.workers crew.limit settings.entry arrivals.items) }
@@ -93,6 +99,8 @@ fn open_gate<M: GateNaming>(
     requires names { AreNamed M.calls M.place blanks }
     requires parts { AreWhole blanks }
     requires word { word ≡ M.word }
+    requires legal { CallsLegal any_rules settings.rows (room_of settings) (promote_of settings)
+        (limit_of crew.limit settings) M.legal }
     ensures { IfOk result (λ opened. vec_len opened.1 ≡ crew.workers) }
 {
     let limit = settings.limit(crew.limit);
@@ -118,6 +126,8 @@ fn open_over<L: Limit, M: GateNaming>(
     requires names { AreNamed M.calls M.place blanks }
     requires parts { AreWhole blanks }
     requires word { word ≡ M.word }
+    requires legal { CallsLegal L.rules settings.rows (room_of settings) (promote_of settings) limit
+        M.legal }
     ensures { IfOk result (λ opened. vec_len opened.1 ≡ workers) }
 {
     let book = begin_book::<L, M>(alloc, blanks, settings, limit)?;
@@ -141,6 +151,9 @@ fn begin_book<L: Limit, M: Naming>(
     requires limit { M.limit ≡ course_of L.rules limit }
     requires names { AreNamed M.calls M.place blanks }
     requires parts { AreWhole blanks }
+    ensures { IfOk result (λ book. book.journal ≡
+        opened (unasked settings.entry.rows (room_of settings.entry) (promote_of settings.entry)
+        limit) (kept_of kept_entries settings.entry) settings.entry.is_rolling) }
 {
     let room = settings.room();
     let promote = settings.promote();

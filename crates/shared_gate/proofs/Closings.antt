@@ -1,6 +1,7 @@
 -- Why a closed gate's audit fails, by its book and its history.
-use Rattle.std.proofs.Common.{◌≡◌, ℕ, ◌≤◌, List, length, sym, ap, ◌∙◌, subst, arith}
-use Rattle.std.specs.Prelude.{Vec}
+use Rattle.std.proofs.Common.{◌≡◌, ℕ, zero, suc, ◌+◌, ◌≤◌, List, [], ◌∷◌, ◌++◌, length, drop}
+use Rattle.std.proofs.Common.{refl, sym, ap, ◌∙◌, subst, arith, length-append}
+use Rattle.std.specs.Prelude.{IfErr, IfOk, Result, Ok, Err, Vec}
 use Rattle.std.specs.declared.alloc.Global.{Global}
 use Rattle.limit_laws.specs.Algorithm.{Algorithm}
 use Rattle.limiter_core.specs.declared.event.Entry.{Entry}
@@ -15,7 +16,8 @@ use Rattle.audit.specs.declared.cause.Cause.{Cause}
 use Rattle.audit.specs.declared.judge.Calls.{Calls}
 use Rattle.audit.specs.Accepted.{IsHistoryOf}
 use Rattle.audit.specs.Verdict.{audited, IsFirstCause}
-use Rattle.shared_gate.specs.Closing.{FailsBy, IsKept, limiter_of}
+use Rattle.shared_gate.specs.Closing.{IsEndOf, IsKept, limiter_of}
+use Rattle.shared_gate.specs.Log.{IsBehind}
 
 -- the book's journal as a value of its own
 pub record IsHistoryIn {S : Type 0} (b : Book S) (base : ℕ) (entries : List Entry) : Type 0 where
@@ -29,36 +31,64 @@ is_history_in {S} b j base entries same first all = record {
   all = all ∙ ap (λ (k : Journal S). k.entries) same;
 }
 
-pub fails_by : {S : Type 0} (rules : Algorithm S) (b : Book S) (calls : Calls) (base : ℕ)
-    (entries shown : List Entry) (kept lists : List (Vec Told Global)) (cause : Cause)
-    → Agrees rules b → IsHistoryIn b base entries → calls.book ≡ b.tally.calls
-    → calls.sum ≤ calls.book → shown ≡ entries → lists ≡ kept
-    → IsFirstCause (audited calls base shown lists) cause
-    → FailsBy calls.sum base entries kept cause
-fails_by rules b calls base entries shown kept lists cause agrees is counted enough same lent
-    first =
+drop_seam : {A : Type 0} (xs ys : List A) (k : ℕ) → k ≡ length xs → drop k (xs ++ ys) ≡ ys
+drop_seam [] ys zero e = refl
+drop_seam [] ys (suc k) e = absurd (omega arith)
+drop_seam (x ∷ xs) ys zero e = absurd (omega arith)
+drop_seam (x ∷ xs) ys (suc k) e = drop_seam xs ys k (omega arith)
+
+-- the journal of a book behind a log is the end of that
+pub is_end_of : {S : Type 0} (rules : Algorithm S) (m : Making) (legal : List Entry → Type 0)
+    (log : List Entry) (b : Book S) (base : ℕ) (entries : List Entry)
+    → IsBehind rules m.limit legal log b → b.journal.rows ≡ m.rows → b.journal.room ≡ m.room
+    → b.journal.promote ≡ m.promote → IsHistoryIn b base entries
+    → IsEndOf rules m log base entries
+is_end_of {S} rules m legal log b base entries behind of_rows of_room rule is =
+    let same_gate : gate rules b.journal ≡ limiter_of rules m =
+    (λ k. record { rules = rules; rows = of_rows k; room = of_room k; promote = rule k }) in
+    let parts : log ≡ behind.earlier ++ entries =
+    behind.ends ∙ ap (λ (h : List Entry). behind.earlier ++ h) (sym is.all) in
+    let at : base ≡ length behind.earlier = is.first ∙ behind.first in
     record {
-      book = calls.book;
-      enough = enough;
-      few = omega (arith, counted, agrees.few, is.first, ap (λ (h : List Entry). length h) is.all);
-      whole =
-          λ zero_base.
-          counted ∙ agrees.calls (sym is.first ∙ zero_base)
-          ∙ ap (λ (h : List Entry). calls_of h) (sym is.all);
-      first =
-          subst (λ (h : List Entry). IsFirstCause (audited calls base h kept) cause) same
-          (subst (λ (ls : List (Vec Told Global)). IsFirstCause (audited calls base shown ls) cause)
-          lent first);
+      origin = behind.origin;
+      unasked = behind.unasked;
+      legal =
+          subst (λ (g : Gate S). IsLegal g (image_of behind.origin) log) same_gate
+          behind.stretch.whole;
+      long = omega (
+        arith,
+        at,
+        ap (λ (h : List Entry). length h) parts,
+        length-append behind.earlier entries,
+      );
+      ends =
+          ap (λ (h : List Entry). drop base h) parts ∙ drop_seam behind.earlier entries base at;
     }
 
+-- where that begins with number 0 it is the log
+pub is_all : {S : Type 0} (rules : Algorithm S) (m : Making) (log : List Entry) (base : ℕ)
+    (entries : List Entry) → IsEndOf rules m log base entries → base ≡ 0 → entries ≡ log
+is_all rules m log base entries end first =
+    sym end.ends ∙ ap (λ (n : ℕ). drop n log) first
+
+-- the first cause of what was shown is that of what was handed in
+pub first_of : (calls : Calls) (counted base : ℕ) (entries shown : List Entry)
+    (kept lists : List (Vec Told Global)) (cause : Cause) → calls.book ≡ counted
+    → shown ≡ entries → lists ≡ kept → IsFirstCause (audited calls base shown lists) cause
+    → IsFirstCause (audited (record { book = counted; sum = calls.sum }) base entries kept) cause
+first_of calls counted base entries shown kept lists cause is same lent first =
+    let same_calls : calls ≡ record { book = counted; sum = calls.sum } =
+    (λ k. record { book = is k; sum = calls.sum }) in
+    subst (λ (cs : Calls). IsFirstCause (audited cs base entries kept) cause) same_calls
+    (subst (λ (h : List Entry). IsFirstCause (audited calls base h kept) cause) same
+    (subst (λ (ls : List (Vec Told Global)). IsFirstCause (audited calls base shown ls) cause)
+    lent first))
+
 -- an accepted history has the calls of the passes
-pub has_the_calls : {S : Type 0} (rules : Algorithm S) (b : Book S) (calls : Calls) (base : ℕ)
-    (entries : List Entry) → Agrees rules b → IsHistoryIn b base entries
-    → calls.book ≡ b.tally.calls → calls.book ≡ calls.sum → base ≡ 0
-    → calls.sum ≡ calls_of entries
-has_the_calls rules b calls base entries agrees is counted all zero_base =
-    sym all ∙ counted ∙ agrees.calls (sym is.first ∙ zero_base)
-    ∙ ap (λ (h : List Entry). calls_of h) (sym is.all)
+pub has_the_calls : (calls : Calls) (log entries : List Entry) → calls.book ≡ calls_of log
+    → calls.book ≡ calls.sum → entries ≡ log → calls.sum ≡ calls_of entries
+has_the_calls calls log entries counted all is =
+    sym all ∙ counted ∙ ap (λ (h : List Entry). calls_of h) (sym is)
 
 -- it is accepted as it was shown
 pub is_accepted : (entries shown : List Entry) (kept lists : List (Vec Told Global))
@@ -105,3 +135,14 @@ is_kept {S} rules m b j o base entries legal sound of_rows of_room rule rolling 
           (subst (λ (h : Gate S). IsLegal h (opening b.journal) b.journal.entries) same_gate
           legal));
     }
+
+-- facts of what is answered, and of what is faulted
+pub on_ok : {A E : Type 0} (P Q : A → Type 0) → ((a : A) → P a → Q a) → (r : Result A E)
+    → IfOk r P → IfOk r Q
+on_ok P Q f (Ok a) p = f a p
+on_ok P Q f (Err e) p = tt
+
+pub on_err : {A E : Type 0} (P P' Q : E → Type 0) → ((e : E) → P e → P' e → Q e)
+    → (r : Result A E) → IfErr r P → IfErr r P' → IfErr r Q
+on_err P P' Q f (Ok a) p q = tt
+on_err P P' Q f (Err e) p q = f e p q

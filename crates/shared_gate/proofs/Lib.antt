@@ -1,6 +1,11 @@
+mod Beginnings
+mod Behind
 mod Closings
+mod Gathering
 mod Opened
+mod Promoted
 mod Reporting
 mod Rising
+mod Running
 mod Sequential
 pub mod Telling

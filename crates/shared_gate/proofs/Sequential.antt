@@ -29,7 +29,7 @@ joined (y ∷ xs) ys (suc n) x here = elim (joined xs ys n x here) [
 ]
 
 -- a list, cut at one of its items
-cut : {X : Type 0} (xs : List X) (n : ℕ) (x : X) → slice_get xs n ≡ Some x
+pub cut : {X : Type 0} (xs : List X) (n : ℕ) (x : X) → slice_get xs n ≡ Some x
     → take n xs ++ x ∷ drop (suc n) xs ≡ xs
 cut [] n x here = absurd (none-some x here)
 cut (y ∷ xs) zero x here = ap (λ z. z ∷ xs) (sym (same_Some y x here))

@@ -1,8 +1,9 @@
 -- What a step tells, without what it did under the lock.
 use Rattle.std.proofs.Common.{◌≡◌, ℕ, ◌+◌, ◌<◌, ◌≤◌, ◌==◌, ltb, ltb-true, nat_lt, Bool, true, false}
-use Rattle.std.proofs.Common.{◌||◌, cond, List, [], ◌∷◌, length, Option, None, Some}
+use Rattle.std.proofs.Common.{◌||◌, cond, List, [], ◌∷◌, ◌++◌, length, Option, None, Some}
 use Rattle.std.proofs.Common.{Result, Ok, Err, is_some, find, count_by}
-use Rattle.std.proofs.Common.{refl, sym, ap, subst, arith, true≢false, length-append}
+use Rattle.std.proofs.Common.{refl, sym, ap, ◌∙◌, subst, arith, true≢false, length-append}
+use mathlib.Core.List.{IsPrefix}
 use Rattle.std.specs.List.{list_any}
 use Rattle.std.proofs.lemmas.Bool.{ltb-false}
 use Rattle.std.proofs.lemmas.List.Sums.{sum_by-cons}
@@ -21,12 +22,10 @@ use Rattle.limiter_core.specs.declared.event.Entry.{Entry}
 use Rattle.limiter_core.specs.declared.event.Entry.TheVariants.{Call, Promotion}
 use Rattle.limiter_core.specs.declared.event.PermitFacts.{PermitFacts}
 use Rattle.limiter_core.specs.History.{Gate, Image, permit_of, total}
-use Rattle.limiter_core.specs.Answer.{counting, granted_of, granted_or, has_room, promoted}
+use Rattle.limiter_core.specs.Answer.{counting, granted_of, granted_or, has_room}
 use Rattle.limiter_core.specs.Answer.{queued, reply_to, set_reply, waits}
 use Rattle.limiter_core.specs.Bound.{IsSound}
 use Rattle.gate_journal.specs.Journal.{Journal, answered, gate, image, is_over, next_number}
-use Rattle.gate_journal.specs.Journal.{opening}
-use Rattle.gate_journal.specs.Rolling.{continued, ready, rolls, standing}
 use Rattle.gate_ledgers.specs.Told.{Told}
 use Rattle.gate_history.specs.declared.step.Handed.{Handed}
 use Rattle.gate_history.specs.declared.step.Handed.TheVariants as handed
@@ -39,6 +38,8 @@ use Rattle.gate_history.specs.Steps.{IsDone, IsExhausted, Steps}
 use Rattle.gate_history.specs.Refusal.{Refusal}
 use Rattle.shared_gate.specs.Answers.{Answers, HandsBack}
 use Rattle.shared_gate.specs.Calls.{Changes, HandsNothing, Pass, Tells, plainly}
+use Rattle.shared_gate.proofs.Beginnings.{prefix_length}
+use Rattle.shared_gate.proofs.Promoted.{follow, follow_none, own}
 
 -- what is known of a step, of the answer that it gave
 pub steps_as : {S : Type 0} {N : Type 0} (rules : Algorithm S) (old new : Book S)
@@ -222,46 +223,43 @@ back rules j (SetLimit n now) spent = for_nothing (HandsBack (SetLimit n now)) t
 back rules j (Reset now) spent = for_nothing (HandsBack (Reset now)) tt
 back rules j (Look part) spent = for_nothing (HandsBack (Look part)) tt
 
--- the next number stays where the journal rolls, and rises by the answer to an event
-module _ {S : Type 0} (rules : Algorithm S) (j : Journal S) (e : Event) where
-  next_stays : (b : Bool)
-      → (cond b (standing rules j) j.opening).next + length (cond b [] j.entries) ≡ next_number j
-  next_stays true = omega arith
-  next_stays false = refl
-
-  pub rises : next_number j < next_number (continued rules j e)
-  rises = omega (
-    arith,
-    next_stays (rolls j),
-    length-append (ready rules j).entries (answered rules (ready rules j) e),
-  )
-
--- WHAT A STEP TELLS that is done, where the pass had seen no more than the next number, and has
--- seen the next number now
+-- WHAT A STEP TELLS that is done, where the pass knew a beginning of the log before it, and knows
+-- the log after it
 pub tells : {S M : Type 0} (rules : Algorithm S) (old new : Book S) (before after : Pass)
-    (e : Event)
-    (told : Told) (got : Handed M) → IsSound (gate rules old.journal) (image rules old.journal)
+    (e : Event) (told : Told) (got : Handed M) (log : List Entry)
+    → IsSound (gate rules old.journal) (image rules old.journal)
     → IsDone rules old new before.count after.count e told got
-    → before.seen ≤ next_number old.journal → next_number new.journal ≤ after.seen
-    → Tells before after e (Done told got)
-tells {S} {M} rules old new before after e told got sound did known now =
+    → next_number old.journal ≡ length log → IsPrefix before.log log
+    → after.log ≡ log ++ answered rules old.journal e → Tells before after e (Done told got)
+tells {S} {M} rules old new before after e told got log sound did number begins longer =
     let j : Journal S = old.journal in
-    let follow : List Entry = promoted (gate rules j) (opening j) j.entries e in
-    let own : Reply = counting (length follow) (reply_to (gate rules j) (image rules j) e) in
-    let same : own ≡ told.reply =
-    ap (λ (o : Option Entry). reply_of told.reply (entry_or (Call e own) o)) (sym did.reply) in
-    let up : next_number j < next_number new.journal =
-    subst (λ (v : Journal S). next_number j < next_number v) (sym did.journal) (rises rules j e)
-    in (
+    let behind : List Entry = follow rules j e in
+    let replied : Reply = own rules j e in
+    let same : replied ≡ told.reply =
+    ap (λ (o : Option Entry). reply_of told.reply (entry_or (Call e replied) o)) (sym did.reply) in
+    let stands : after.log ≡ log ++ Call e told.reply ∷ behind =
+    longer ∙ ap (λ (r : Reply). log ++ Call e r ∷ behind) same in (
       record {
         event = did.event;
         counted = did.counted;
         ahead = did.ahead;
-        unseen = omega (arith, did.number, known);
-        seen = omega (arith, did.number, up, now);
+        found = log;
+        promoted = behind;
+        begins = begins;
+        number = did.number ∙ number;
+        stands = stands;
+        alone = follow_none rules j e;
+        unseen = omega (arith, did.number, number, prefix_length before.log log begins);
+        seen = omega (
+          arith,
+          did.number,
+          number,
+          ap (λ (h : List Entry). length h) stands,
+          length-append log (Call e told.reply ∷ behind),
+        );
       },
       subst (λ (r : Reply). given_by got ≡ given told.number e r → Answers told.number e r got) same
-          (reply_fits (gate rules j) (image rules j) sound M told.number did.number (length follow)
+          (reply_fits (gate rules j) (image rules j) sound M told.number did.number (length behind)
           e got)
           did.gives,
     )
@@ -270,11 +268,11 @@ tells {S} {M} rules old new before after e told got sound did known now =
 pub tells_spent : {S M : Type 0} (rules : Algorithm S) (old new : Book S) (before after : Pass)
     (e : Event) (refusal : Refusal) (got : Handed M)
     → IsExhausted rules old new before.count after.count e refusal got
-    → after.seen ≡ before.seen → Tells before after e (Exhausted refusal got)
+    → after.log ≡ before.log → Tells before after e (Exhausted refusal got)
 tells_spent rules old new before after e refusal got did same = (
   record {
     event = did.event;
-    same = λ i. record { count = did.uncounted i; seen = same i };
+    same = λ i. record { count = did.uncounted i; log = same i };
   },
   back rules old.journal e did.exhausted got did.gives,
 )

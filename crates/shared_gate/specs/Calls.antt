@@ -1,12 +1,17 @@
 -- What the calls of a shared gate tell.
 use Rattle.std.specs.Prelude.{◌≡◌, ℕ, ◌+◌, ◌≤◌, ◌<◌, Bool, true, false, Result, Ok, Err}
+use Rattle.std.specs.Prelude.{List, [], ◌∷◌, ◌++◌, length}
+use mathlib.Core.List.{IsPrefix}
 use Rattle.partitions.specs.declared.part.Part.{Part}
 use Rattle.limiter_core.specs.declared.event.Event.{Event}
 use Rattle.limiter_core.specs.declared.event.Event.TheVariants.{Acquire, End, Claim, GiveUp}
+use Rattle.limiter_core.specs.declared.event.Entry.{Entry}
+use Rattle.limiter_core.specs.declared.event.Entry.TheVariants.{Call}
 use Rattle.limiter_core.specs.declared.event.Outcome.{Outcome}
 use Rattle.limiter_core.specs.declared.event.PermitFacts.{PermitFacts}
 use Rattle.limiter_core.specs.declared.event.Reply.TheVariants as reply
 use Rattle.gate_ledgers.specs.Told.{Told}
+use Rattle.gate_history.specs.Book.{calls_of}
 use Rattle.gate_history.specs.declared.step.Handed.TheVariants as handed
 use Rattle.gate_history.specs.declared.step.Step.{Step}
 use Rattle.gate_history.specs.declared.step.Step.TheVariants as step
@@ -21,40 +26,39 @@ use Rattle.shared_gate.specs.declared.answers.GaveUp.{GaveUp}
 use Rattle.shared_gate.specs.declared.answers.GaveUp.TheVariants as gave_up
 use Rattle.shared_gate.specs.Answers.{Answers, HandsBack, IsOf, IsOwn, WasGranted}
 
--- a pass: how many calls were made by it, and a number that all entries so far that it knows of
--- are below
+-- a pass: how many calls were made by it, and the beginning of the gate's log that it knows
 pub record Pass : Type 0 where
   pub count : ℕ
-  pub seen : ℕ
+  pub log : List Entry
 
--- a pass that made so many calls and has seen so much
-abbrev pub pass_at : ℕ → ℕ → Pass
-pass_at seen count = record { count = count; seen = seen }
+-- a number that all entries that it knows of are below
+abbrev pub seen_by : Pass → ℕ
+seen_by pass = length pass.log
 
--- the receipt is of this event; the call is counted on the pass, and its number is no less than the
--- pass's calls before it. No number that the pass had seen is as great, and now it has seen it
+-- a pass that made so many calls, and knows of no entry
+abbrev pub pass_of : ℕ → Pass
+pass_of count = record { count = count; log = [] }
+
+-- TOLD: the receipt is of this event; the call is counted on the pass, and its number is no less
+-- than the pass's calls before it. Its entry stands at that number, behind all that the pass knew
+-- before; only those whom it promoted come behind it, and the pass knows all that now
 pub record IsTold (before after : Pass) (e : Event) (receipt : Told) : Type 0 where
   pub event : receipt.event ≡ e
   pub counted : after.count ≡ before.count + 1
   pub ahead : before.count ≤ receipt.number
-  pub unseen : before.seen ≤ receipt.number
-  pub seen : receipt.number < after.seen
+  pub found : List Entry
+  pub promoted : List Entry
+  pub begins : IsPrefix before.log found
+  pub number : receipt.number ≡ length found
+  pub stands : after.log ≡ found ++ Call e receipt.reply ∷ promoted
+  pub alone : calls_of promoted ≡ 0
+  pub unseen : seen_by before ≤ receipt.number
+  pub seen : receipt.number < seen_by after
 
 -- the refusal is of this event, and the pass is as before
 pub record IsUntold (before after : Pass) (e : Event) (refusal : Refusal) : Type 0 where
   pub event : refusal.event ≡ e
   pub same : after ≡ before
-
--- a pass that has just got a receipt has seen this much at least
-abbrev pub since : Pass → Told → Pass
-since pass receipt = record { count = pass.count + 1; seen = receipt.number + 1 }
-
--- the refusal is of this event, and behind the receipt nothing more is counted
-pub record IsMissed (before after : Pass) (first : Told) (e : Event) (refusal : Refusal)
-    : Type 0 where
-  pub event : refusal.event ≡ e
-  pub counted : after.count ≡ before.count + 1
-  pub seen : first.number < after.seen
 
 -- a step, without what it did under the lock
 abbrev pub Tells : {M : Type 0} → Pass → Pass → Event → Step M → Type 0
@@ -64,10 +68,9 @@ Tells before after e (step.Exhausted refusal handed) =
     IsUntold before after e refusal × HandsBack e handed
 
 -- the receipt of an acquire that waits
-abbrev pub IsQueued : Pass → Part → ℕ → Told → Type 0
-IsQueued before part now receipt =
-    IsTold before (since before receipt) (Acquire part false true now) receipt
-    × (receipt.reply ≡ reply.Waiting)
+abbrev pub IsQueued : Pass → Pass → Part → ℕ → Told → Type 0
+IsQueued before after part now receipt =
+    IsTold before after (Acquire part false true now) receipt × (receipt.reply ≡ reply.Waiting)
 
 -- an acquire
 abbrev pub Gets : {M : Type 0} → Pass → Pass → Part → Bool → Bool → ℕ → Got M → Type 0
@@ -90,7 +93,8 @@ Gets before after part bypass wait now (got.Waiting receipt ticket) =
 Gets before after part bypass wait now (got.Exhausted spent) =
     IsUntold before after (Acquire part bypass wait now) spent
 
--- an acquire that may wait: an acquire with `wait`, and where that waits a giving up of its number
+-- an acquire that may wait: an acquire with `wait`, and where that waits a giving up of its number,
+-- by the pass as it was left then
 abbrev pub Waits : {M : Type 0} → Pass → Pass → Part → ℕ → Waited M → Type 0
 Waits {M} before after part now (waited.Admitted receipt permit) =
     Gets {M = M} before after part false true now (got.Admitted receipt permit)
@@ -99,18 +103,19 @@ Waits {M} before after part now (waited.BacklogFull receipt) =
 Waits before after part now (waited.Exhausted spent) =
     IsUntold before after (Acquire part false true now) spent
 Waits before after part now (waited.Promoted first second permit) =
-    IsQueued before part now first
-    × IsTold (since before first) after (GiveUp first.number) second
+    (mid : Pass) × IsQueued before mid part now first
+    × IsTold mid after (GiveUp first.number) second
     × WasGranted second.number first.number second.reply permit
 Waits before after part now (waited.TimedOut first second) =
-    IsQueued before part now first
-    × IsTold (since before first) after (GiveUp first.number) second
+    (mid : Pass) × IsQueued before mid part now first
+    × IsTold mid after (GiveUp first.number) second
     × (second.reply ≡ reply.TimedOut) × (first.number < second.number)
 Waits before after part now (waited.Lost first (Ok second)) =
-    IsQueued before part now first
-    × IsTold (since before first) after (GiveUp first.number) second × (second.reply ≡ reply.Lost)
+    (mid : Pass) × IsQueued before mid part now first
+    × IsTold mid after (GiveUp first.number) second × (second.reply ≡ reply.Lost)
 Waits before after part now (waited.Lost first (Err spent)) =
-    IsQueued before part now first × IsMissed before after first (GiveUp first.number) spent
+    (mid : Pass) × IsQueued before mid part now first
+    × IsUntold mid after (GiveUp first.number) spent
 
 -- an ending
 abbrev pub Ends : Pass → Pass → PermitFacts → Outcome → ℕ → Told → Type 0

@@ -1,5 +1,6 @@
 -- What a gate tells as it is closed.
-use Rattle.std.specs.Prelude.{◌≡◌, ℕ, ◌+◌, ◌≤◌, false, List, Vec, length, sum_by}
+use Rattle.std.specs.Prelude.{◌≡◌, ℕ, ◌+◌, ◌≤◌, false, List, Vec, All, drop, length, sum_by}
+use mathlib.Core.List.{IsPrefix}
 use Rattle.std.specs.declared.alloc.Global.{Global}
 use Rattle.limit_laws.specs.Algorithm.{Algorithm}
 use Rattle.limiter_core.specs.declared.event.Entry.{Entry}
@@ -33,13 +34,24 @@ pub record IsKept {S : Type 0} (rules : Algorithm S) (m : Making) (o : Standing 
   pub sound : IsSound (limiter_of rules m) (image_of o)
   pub legal : IsLegal (limiter_of rules m) (image_of o) entries
 
--- why an audit fails, where the passes that were handed in made so many calls: the cause is the
--- first that applies to the history and the lists, by the calls of all passes. Those are no fewer,
--- no more than the numbers given out, and the history's calls where that is whole
-pub record FailsBy (sum base : ℕ) (entries : List Entry) (kept : List (Vec Told Global))
-    (cause : Cause) : Type 0 where
-  pub book : ℕ
-  pub enough : sum ≤ book
-  pub few : book ≤ base + length entries
-  pub whole : base ≡ 0 → book ≡ calls_of entries
-  pub first : IsFirstCause (audited (record { book = book; sum = sum }) base entries kept) cause
+-- the history is the end of a gate's log, from the number of its first entry on: all entries since
+-- nothing was asked, which are legal
+pub record IsEndOf {S : Type 0} (rules : Algorithm S) (m : Making) (log : List Entry) (base : ℕ)
+    (entries : List Entry) : Type 0 where
+  pub origin : Standing S
+  pub unasked : IsUnasked rules m.limit origin
+  pub legal : IsLegal (limiter_of rules m) (image_of origin) log
+  pub long : length log ≡ base + length entries
+  pub ends : drop base log ≡ entries
+
+-- why an audit fails, where these passes were handed in: the cause is the first that applies to the
+-- history and the lists, by the calls of the gate's log. Of that each pass knew a beginning, the
+-- history is its end, and it has no fewer calls than were made by the passes
+pub record FailsBy {S : Type 0} (rules : Algorithm S) (m : Making) (passes : List Pass) (base : ℕ)
+    (entries : List Entry) (kept : List (Vec Told Global)) (cause : Cause) : Type 0 where
+  pub log : List Entry
+  pub end : IsEndOf rules m log base entries
+  pub begun : All (λ pass. IsPrefix pass.log log) passes
+  pub enough : calls_by passes ≤ calls_of log
+  pub first : IsFirstCause
+      (audited (record { book = calls_of log; sum = calls_by passes }) base entries kept) cause

@@ -1,13 +1,16 @@
 // The audit of a gate that is closed.
-ghost use Rattle.std.specs.Prelude.{◌≡◌, ◌+◌, ◌≤◌, IfOk, IfErr, length};
+ghost use Rattle.std.specs.Prelude.{◌≡◌, ◌≤◌, All, IfOk, IfErr};
+ghost use mathlib.Core.List.{IsPrefix};
 ghost use Rattle.audit.specs.Accepted.{IsHistoryOf};
+ghost use Rattle.audit.specs.Verdict.{audited, IsFirstCause};
 ghost use Rattle.gate_history.specs.Book.{calls_of, made_as};
-ghost use Rattle.shared_gate.specs.Closing.{FailsBy, IsKept, calls_by};
+ghost use Rattle.shared_gate.specs.Closing.{IsEndOf, IsKept, calls_by};
 
 use crate::naming::GateNaming;
 use crate::pass::Pass;
+use crate::sealed::Sealed;
 use audit::{Calls, Cause, verdict};
-use gate_history::{Book, History, Naming, Receipt};
+use gate_history::{Book, Entry, History, Naming, Receipt};
 use gate_word::{Keeper, SharedWord};
 use limit_laws::Limit;
 use std::alloc::Global;
@@ -23,11 +26,11 @@ pub struct AuditFault<L: Limit, M: Naming> {
     pub kept: Vec<Vec<Receipt<M>>>,
 }
 
-/// The calls by all passes of a book, and by these, whose readers are taken back.
+/// The calls by all passes of a book, and by these, each of which knew a beginning of the log.
 pub(crate) fn count_calls<L: Limit, M: GateNaming>(
     book: &mut Book<L, M>,
-    word: &SharedWord,
-    keeper: &mut Keeper,
+    word: &SharedWord<Entry>,
+    keeper: &mut Keeper<Entry>,
     passes: Vec<Pass<M>>,
 ) -> Calls
     requires word { word.now ≡ M.word }
@@ -35,11 +38,17 @@ pub(crate) fn count_calls<L: Limit, M: GateNaming>(
     ensures book { result.book ≡ book.old.tally.calls }
     ensures sum { result.sum ≡ calls_by passes.items }
     ensures enough { result.sum ≤ result.book }
+    ensures begun { All (λ pass. IsPrefix pass.log keeper.old.log) passes.items }
     ensures same { book.new ≡ book.old }
+    ensures keeper { keeper.new ≡ keeper.old }
 {
     let mut returned = book.none_returned();
     for pass in passes {
-        let Pass { pass, reader } = pass;
+        let Pass {
+            pass,
+            reader,
+            seen: _,
+        } = pass;
         word.take_back(keeper, reader);
         book.take_back(&mut returned, pass);
     }
@@ -49,29 +58,34 @@ pub(crate) fn count_calls<L: Limit, M: GateNaming>(
     }
 }
 
-/// The history of a book, where it is that of the calls of just these receipts.
-pub(crate) fn judge<L: Limit, M: Naming>(
+/// The history of what lay under a lock, where it is that of the calls of just these receipts.
+pub(crate) fn judge<L: Limit, M: GateNaming>(
     alloc: Global,
-    book: Book<L, M>,
+    sealed: Sealed<L, M>,
     calls: Calls,
     kept: Vec<Vec<Receipt<M>>>,
 ) -> Result<History<L>, AuditFault<L, M>>
-    requires book { calls.book ≡ book.tally.calls }
-    requires enough { calls.sum ≤ calls.book }
+    requires book { calls.book ≡ calls_of sealed }
     ensures whole { IfOk result (λ history. history.base ≡ 0) }
     ensures legal { IfOk result (λ history. IsKept L.rules
         (made_as M.rows M.room M.promote M.kept M.is_rolling M.limit)
         history.opening.standing history.base history.entries.items) }
+    ensures log { IfOk result (λ history. history.entries.items ≡ sealed) }
     ensures counted { IfOk result (λ history. calls.sum ≡ calls_of history.entries.items) }
     ensures accepted { IfOk result (λ history.
         IsHistoryOf history.entries.items kept.items) }
-    ensures first { IfErr result (λ fault. FailsBy calls.sum
-        fault.history.base fault.history.entries.items fault.kept.items fault.cause) }
+    ensures end { IfErr result (λ fault. IsEndOf L.rules
+        (made_as M.rows M.room M.promote M.kept M.is_rolling M.limit)
+        sealed fault.history.base fault.history.entries.items) }
+    ensures first { IfErr result (λ fault. IsFirstCause
+        (audited (record { book = calls_of sealed; sum = calls.sum })
+        fault.history.base fault.history.entries.items fault.kept.items) fault.cause) }
     ensures history { IfErr result (λ fault. IsKept L.rules
         (made_as M.rows M.room M.promote M.kept M.is_rolling M.limit)
         fault.history.opening.standing fault.history.base fault.history.entries.items) }
     ensures kept { IfErr result (λ fault. fault.kept ≡ kept) }
 {
+    let Sealed { book, keeper: _ } = sealed;
     book.invariant();
     let history = book.into_journal().into_history();
     match verdict(alloc, calls, history.base, &history.entries, &kept) {

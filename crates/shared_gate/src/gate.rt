@@ -1,25 +1,30 @@
 // A gate that threads share.
-ghost use Rattle.std.specs.Prelude.{◌≡◌, ◌≤◌, true, IfOk, IfErr, map};
+ghost use Rattle.std.specs.Prelude.{◌≡◌, true, All, IfOk, IfErr, map};
+ghost use mathlib.Core.List.{IsPrefix};
 ghost use Rattle.limiter_core.specs.declared.event.Event.TheVariants.{SetLimit, Reset, Look};
-ghost use Rattle.gate_port.specs.Report.{IsReportOf};
 ghost use Rattle.audit.specs.Accepted.{IsHistoryOf};
-ghost use Rattle.gate_journal.specs.Journal.{next_number};
+ghost use Rattle.gate_journal.specs.Journal.{gate, next_number, opening};
 ghost use Rattle.gate_history.specs.Book.{calls_of, made_as};
 ghost use Rattle.gate_history.specs.Handing.{IsChange};
 ghost use Rattle.gate_history.specs.Steps.{event_of};
 ghost use Rattle.shared_gate.specs.Calls.{Tells, Gets, Waits, Claims, GivesUp, Ends, Changes};
-ghost use Rattle.shared_gate.specs.Calls.{HandsNothing, pass_at, plainly};
-ghost use Rattle.shared_gate.specs.Closing.{FailsBy, IsKept, calls_by, limiter_of};
+ghost use Rattle.shared_gate.specs.Calls.{HandsNothing, pass_of, plainly};
+ghost use Rattle.shared_gate.specs.Closing.{FailsBy, IsKept, calls_by};
+ghost use Rattle.shared_gate.specs.Log.{MeansAtLeast};
+ghost use Rattle.shared_gate.specs.Reported.{IsReportOf};
 
 use crate::answers::{Claimed, GaveUp, Got, Waited};
 use crate::closing::{AuditFault, count_calls, judge};
 use crate::naming::GateNaming;
 use crate::pass::{Pass, with_readers};
 use crate::sealed::Sealed;
+use crate::word::Word;
 use clocks::Clock;
-use gate_history::{Book, Call, Handed, History, Naming, Permit, Receipt, Spent, Step, Ticket};
+use gate_history::{
+    Book, Call, Entry, Handed, History, Naming, Permit, Receipt, Spent, Step, Ticket,
+};
 use gate_port::Report;
-use gate_word::{SharedWord, Word};
+use gate_word::SharedWord;
 use limit_laws::Limit;
 use limiter_core::{Counters, Outcome, Reply};
 use partitions::Part;
@@ -40,15 +45,15 @@ const SHORTEST_PAUSE: u64 = 1_000_000;
 #[derive(Drop)]
 pub struct SharedGate<L: Limit, M: GateNaming> {
     book: Mutex<Sealed<L, M>>,
-    word: SharedWord,
+    pub(crate) word: SharedWord<Entry>,
     freed: Condvar,
     ghost named: { word ≡ M.word },
 }
 
 impl<L: Limit, M: GateNaming> SharedGate<L, M> {
-    /// A gate over a sealed book, with a word beside its lock. The passes of the book come back in
-    /// their places, with the calls that were made by them; each has seen the numbers so far. Fails
-    /// where memory for them can't be had, which drops the book and the passes.
+    /// A gate over a sealed book of which nothing was asked, with a word beside its lock. The
+    /// passes of the book come back in their places, with the calls that were made by them; none
+    /// knows of an entry. Fails where memory for them can't be had, which drops book and passes.
     pub fn new(
         alloc: Global,
         word: Word,
@@ -57,11 +62,12 @@ impl<L: Limit, M: GateNaming> SharedGate<L, M> {
     ) -> Result<(SharedGate<L, M>, Vec<Pass<M>>), AllocError>
         requires word { word ≡ M.word }
         requires sealed { book.is_sealed ≡ true }
-        ensures passes { IfOk result (λ made.
-            made.1.items ≡ map (pass_at (next_number book.journal)) passes.items) }
+        requires unasked { next_number book.journal ≡ 0 }
+        requires legal { MeansAtLeast (gate L.rules book.journal) (opening book.journal) M.legal }
+        ensures passes { IfOk result (λ made. made.1.items ≡ map pass_of passes.items) }
     {
+        book.invariant();
         let (word, mut keeper) = word.share();
-        word.begin(&mut keeper, book.journal().number());
         let passes = with_readers(alloc, &word, &mut keeper, passes)?;
         let gate = SharedGate {
             book: Mutex::new(Sealed { book, keeper }),
@@ -71,25 +77,12 @@ impl<L: Limit, M: GateNaming> SharedGate<L, M> {
         Ok((gate, passes))
     }
 
-    /// One step of the book under the lock. Where that is done, the word is raised to the next
-    /// number before the lock is free.
+    /// One step of the book under the lock.
     #[inline(always)]
     fn step(&self, rt: &impl Wait, pass: &mut Pass<M>, call: Call<M>) -> Step<M>
         ensures { Tells pass.old pass.new (event_of call) result }
     {
-        let mut locked = self.book.lock(rt);
-        let sealed = &mut *locked;
-        sealed.book.journal().invariant();
-        let step = sealed.book.step(&mut pass.pass, call);
-        match &step {
-            Step::Done(_, _) => {
-                let next = sealed.book.journal().number();
-                self.word.raise(&mut sealed.keeper, &mut pass.reader, next);
-            }
-            Step::Exhausted(_, _) => {}
-        }
-        drop(locked);
-        step
+        self.book.lock(rt).step(&self.word, pass, call)
     }
 
     /// How many replies, promotions and outcomes of each kind there were so far.
@@ -100,8 +93,8 @@ impl<L: Limit, M: GateNaming> SharedGate<L, M> {
     /// What stands at one moment, and the counters so far. It makes no step of the history, and
     /// takes no memory.
     pub fn report(&self, rt: &impl Wait) -> Report
-        ensures { IsReportOf (limiter_of L.rules
-            (made_as M.rows M.room M.promote M.kept M.is_rolling M.limit)) result }
+        ensures { IsReportOf L.rules
+            (made_as M.rows M.room M.promote M.kept M.is_rolling M.limit) result }
     {
         self.book.lock(rt).report()
     }
@@ -334,7 +327,10 @@ impl<L: Limit, M: GateNaming> SharedGate<L, M> {
             calls_by passes.items ≡ calls_of history.entries.items) }
         ensures accepted { IfOk result (λ history.
             IsHistoryOf history.entries.items kept.items) }
-        ensures first { IfErr result (λ fault. FailsBy (calls_by passes.items)
+        ensures begun { IfOk result (λ history.
+            All (λ pass. IsPrefix pass.log history.entries.items) passes.items) }
+        ensures first { IfErr result (λ fault. FailsBy L.rules
+            (made_as M.rows M.room M.promote M.kept M.is_rolling M.limit) passes.items
             fault.history.base fault.history.entries.items fault.kept.items fault.cause) }
         ensures history { IfErr result (λ fault. IsKept L.rules
             (made_as M.rows M.room M.promote M.kept M.is_rolling M.limit)
@@ -351,18 +347,7 @@ impl<L: Limit, M: GateNaming> SharedGate<L, M> {
             mut keeper,
         } = book.into_inner();
         let calls = count_calls(&mut book, &word, &mut keeper, passes);
-        judge(alloc, book, calls, kept)
-    }
-
-    /// Lets a pass see what another has seen: its receipts from here on have greater numbers than
-    /// those that the other got before. It takes no lock.
-    pub fn told(&self, pass: &mut Pass<M>, other: &mut Pass<M>)
-        ensures told { other.old.seen ≤ pass.new.seen }
-        ensures kept { pass.old.seen ≤ pass.new.seen }
-        ensures count { pass.new.count ≡ pass.old.count }
-        ensures other { other.new ≡ other.old }
-    {
-        self.word.tell(&mut pass.reader, &mut other.reader);
+        judge(alloc, Sealed { book, keeper }, calls, kept)
     }
 
     /// A call that hands nothing out.

@@ -1,20 +1,22 @@
 // A gate with its passes.
 ghost use Rattle.std.specs.Prelude.{◌≡◌, IfOk, OnOk, replicate, vec_len};
-ghost use Rattle.gate_journal.specs.Journal.{next_number};
-ghost use Rattle.shared_gate.specs.Calls.{pass_at};
+ghost use Rattle.gate_journal.specs.Journal.{gate, next_number, opening};
+ghost use Rattle.shared_gate.specs.Calls.{pass_of};
+ghost use Rattle.shared_gate.specs.Log.{MeansAtLeast};
 
 use crate::gate::SharedGate;
 use crate::naming::GateNaming;
 use crate::pass::Pass;
+use crate::word::Word;
 use gate_history::Book;
-use gate_word::Word;
 use limit_laws::Limit;
 use std::alloc::{AllocError, Global};
 
 impl<L: Limit, M: GateNaming> SharedGate<L, M> {
-    /// A gate over a book, with so many passes, which are the last that the book gives. No call was
-    /// made by any of them, and each has seen the numbers so far. A book that isn't sealed gives a
-    /// million in all; where it gives fewer than are asked for, that is out of memory too.
+    /// A gate over a book of which nothing was asked, with so many passes, which are the last that
+    /// the book gives. No call was made by any of them, and none knows of an entry. A book that
+    /// isn't sealed gives a million in all; where it gives fewer than are asked for, that is out of
+    /// memory too.
     pub fn open(
         alloc: Global,
         word: Word,
@@ -22,9 +24,11 @@ impl<L: Limit, M: GateNaming> SharedGate<L, M> {
         count: usize,
     ) -> Result<(SharedGate<L, M>, Vec<Pass<M>>), AllocError>
         requires word { word ≡ M.word }
+        requires unasked { next_number book.journal ≡ 0 }
+        requires legal { MeansAtLeast (gate L.rules book.journal) (opening book.journal) M.legal }
         ensures all { IfOk result (λ made. vec_len made.1 ≡ count) }
         ensures passes { IfOk result (λ made.
-            made.1.items ≡ replicate count (pass_at (next_number book.journal) 0)) }
+            made.1.items ≡ replicate count (pass_of 0)) }
     {
         let passes = make_passes(alloc, &mut book, count)?;
         book.seal();

@@ -1,31 +1,74 @@
 // What lies under the lock.
-ghost use Rattle.std.specs.Prelude.{◌≡◌, true};
-ghost use Rattle.gate_port.specs.Report.{IsReportOf};
-ghost use Rattle.gate_journal.specs.Journal.{next_number};
+ghost use Rattle.std.specs.Prelude.{◌≡◌};
 ghost use Rattle.gate_history.specs.Book.{made_as};
-ghost use Rattle.shared_gate.specs.Closing.{limiter_of};
+ghost use Rattle.gate_history.specs.Steps.{event_of};
+ghost use Rattle.shared_gate.specs.Calls.{Tells};
+ghost use Rattle.shared_gate.specs.Reported.{IsReportOf};
 
 use crate::naming::GateNaming;
-use gate_history::Book;
+use crate::pass::Pass;
+use gate_history::{Book, Call, Entry, Journal, Step};
+use gate_journal::rolling_runs_are_legal;
 use gate_port::{Report, report_of};
-use gate_word::Keeper;
+use gate_word::{Keeper, SharedWord};
 use limit_laws::Limit;
+use limiter_core::counters_add_up;
+use std::marker::{Brand, Model};
 
-/// A book that gives no more passes, and the keeper of the word, which is its next number.
+/// A book that gives no more passes, and the keeper of the log of all its entries. Contracts see
+/// the log.
 #[derive(Drop)]
 pub(crate) struct Sealed<L: Limit, M: GateNaming> {
     pub(crate) book: Book<L, M>,
-    pub(crate) keeper: Keeper,
-    ghost is_sealed: { book.is_sealed ≡ true },
-    ghost named: { keeper.table ≡ M.word },
-    ghost word: { keeper.word ≡ next_number book.journal },
+    pub(crate) keeper: Keeper<Entry>,
+}
+
+impl<L: Limit, M: GateNaming> Model for Sealed<L, M> {
+    ghost use Rattle.std.specs.Prelude.{◌≡◌, List, true};
+    ghost use Rattle.limiter_core.specs.declared.event.Entry.{Entry};
+    ghost use Rattle.shared_gate.specs.Log.{IsBehind};
+
+    ghost Value = { List Entry };
+
+    ghost view = { λ s. s.keeper.log };
+
+    ghost invariant = { λ s. (s.keeper.table ≡ M.word) × (s.book.is_sealed ≡ true)
+        × IsBehind L.rules M.limit M.legal s.keeper.log s.book };
 }
 
 impl<L: Limit, M: GateNaming> Sealed<L, M> {
-    /// What stands.
+    /// One step of the book. Where that is done, its entries are added to the log, which the pass
+    /// knows then.
+    #[inline(always)]
+    pub(crate) fn step(
+        &mut self,
+        word: &SharedWord<Entry>,
+        pass: &mut Pass<M>,
+        call: Call<M>,
+    ) -> Step<M>
+        requires { word.now ≡ M.word }
+        ensures { Tells pass.old pass.new (event_of call) result }
+    {
+        rolling_runs_are_legal::<L>();
+        counters_add_up();
+        self.book.journal().invariant();
+        let step = self.book.step(&mut pass.pass, call);
+        match &step {
+            Step::Done(_, _) => {
+                let journal = self.book.journal();
+                let next = journal.number();
+                word.raise::<Journal<L>, Brand>(&mut self.keeper, &mut pass.reader, journal, next);
+                pass.seen = next;
+            }
+            Step::Exhausted(_, _) => {}
+        }
+        step
+    }
+
+    /// What stands, and what was counted by then.
     pub(crate) fn report(&self) -> Report
-        ensures { IsReportOf (limiter_of L.rules
-            (made_as M.rows M.room M.promote M.kept M.is_rolling M.limit)) result }
+        ensures { IsReportOf L.rules
+            (made_as M.rows M.room M.promote M.kept M.is_rolling M.limit) result }
     {
         self.book.invariant();
         let journal = self.book.journal();

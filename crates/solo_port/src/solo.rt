@@ -75,10 +75,12 @@ impl<L: Limit, N: Naming> GatePort for SoloPort<L, N> {
 
     type Receipt = Receipt<N>;
 
-    ghost use Rattle.std.specs.Prelude.{Some};
+    ghost use Rattle.std.specs.Prelude.{None, Some};
     ghost use Rattle.solo_port.specs.Solo.{shown_of};
 
     ghost shown = { λ p. Some (shown_of p.book.journal) };
+
+    ghost known = { λ p. None };
 
     ghost facts = { λ p. p };
 

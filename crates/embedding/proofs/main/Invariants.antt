@@ -3,6 +3,7 @@ use Rattle.limiter_core.specs.declared.promote.Promote.TheVariants.{Newest}
 use Rattle.aimd.specs.AimdRules.{aimd_rules}
 use Rattle.gate_ledgers.specs.Course.{course_of}
 use Rattle.gate_ledgers.specs.Names.{places_of}
+use Rattle.shared_gate.specs.Log.{IsLegalFrom}
 use Rattle.embedding.proofs.main.Given as goal
 
 -- the ledgers that were just made, and what the gate is made with
@@ -18,6 +19,9 @@ ghosts-run-M-Naming g a = record {
   limit = course_of aimd_rules a.limit;
 }
 
--- and the table of its word
+-- and the table of its word; legal is what its limiter may be asked and answer
 abbrev pub ghosts-run-M-GateNaming : goal.ghosts-run-M-GateNaming
-ghosts-run-M-GateNaming g a = record { word = a.word }
+ghosts-run-M-GateNaming g a = record {
+  word = a.word;
+  legal = IsLegalFrom aimd_rules a.table 10 Newest a.limit;
+}

@@ -5,6 +5,7 @@ ghost use Rattle.limiter_core.specs.declared.promote.Promote.TheVariants.{Newest
 ghost use Rattle.limit_laws.specs.FixedRules.{fixed_rules};
 ghost use Rattle.gate_ledgers.specs.Course.{course_of};
 ghost use Rattle.gate_ledgers.specs.Names.{AreNamed, AreWhole};
+ghost use Rattle.shared_gate.specs.Log.{CallsAllLegal};
 
 use super::handing::{Handing, are_handed_back, closed};
 use crate::books::book_over;
@@ -60,6 +61,7 @@ fn closes_two_calls<M: GateNaming, R: Wait + Abort>(
     requires names { AreNamed M.calls M.place blanks }
     requires parts { AreWhole blanks }
     requires word { word ≡ M.word }
+    requires legal { CallsAllLegal M.legal }
     requires rows { M.rows ≡ [] }
     requires room { M.room ≡ 100 }
     requires promote { M.promote ≡ Newest }

@@ -2,10 +2,11 @@
 ghost use Rattle.std.specs.Prelude.{◌≡◌, ◌≤◌};
 ghost use Rattle.limiter_core.specs.Answer.{granted_at};
 ghost use Rattle.limiter_core.specs.Limiter.{gate_of, stands};
-ghost use Rattle.gate_journal.specs.Journal.{most_kept};
+ghost use Rattle.gate_journal.specs.Journal.{most_kept, next_number};
 ghost use Rattle.aimd.specs.AimdRules.{aimd_from, aimd_rules};
 ghost use Rattle.gate_ledgers.specs.Course.{course_of};
 ghost use Rattle.gate_ledgers.specs.Names.{AreNamed, AreWhole};
+ghost use Rattle.shared_gate.specs.Log.{CallsAllLegal};
 
 use super::random_calls::{Caller, Told, call_at_random};
 use crate::gates::{gate_by, new_word};
@@ -101,6 +102,7 @@ fn told_by_four<M: GateNaming + Send + Sync, R: Threads + Wait + Abort + Sync>(
     requires names { AreNamed M.calls M.place blanks }
     requires parts { AreWhole blanks }
     requires word { word ≡ M.word }
+    requires legal { CallsAllLegal M.legal }
     requires rows { M.rows ≡ table }
     requires room { M.room ≡ 2 }
     requires promote { M.promote ≡ promote }
@@ -136,6 +138,7 @@ fn a_book<M: Naming, R: Abort>(
     requires limit { M.limit ≡ course_of aimd_rules (aimd_from 1 3 5 900 1000000) }
     requires some_kept { 1 ≤ kept }
     requires few_kept { kept ≤ most_kept }
+    ensures { next_number result.journal ≡ 0 }
 {
     let limit = limit(rt);
     Book::begin(alloc, limit, table, ROOM, promote, kept, is_rolling, blanks).expect(rt, "memory")

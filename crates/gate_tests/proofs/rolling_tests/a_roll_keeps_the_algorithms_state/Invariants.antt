@@ -19,6 +19,6 @@ ghosts-set_and_seen-M-Naming g a =
       limit = course_of settable_rules (settable_from 1 20 100);
     }
 
--- and the table of its word
+-- and the table of its word; each log is called legal
 abbrev pub ghosts-set_and_seen-M-GateNaming : goal.ghosts-set_and_seen-M-GateNaming
-ghosts-set_and_seen-M-GateNaming g a = record { word = a.word }
+ghosts-set_and_seen-M-GateNaming g a = record { word = a.word; legal = λ log. Unit {0} }

@@ -19,6 +19,6 @@ ghosts-by_two_threads-M-Naming g a =
       limit = course_of fixed_rules 1;
     }
 
--- and the table of its word
+-- and the table of its word; each log is called legal
 abbrev pub ghosts-by_two_threads-M-GateNaming : goal.ghosts-by_two_threads-M-GateNaming
-ghosts-by_two_threads-M-GateNaming g a = record { word = a.word }
+ghosts-by_two_threads-M-GateNaming g a = record { word = a.word; legal = λ log. Unit {0} }

@@ -19,6 +19,6 @@ ghosts-exhausted-M-Naming g a =
       limit = course_of fixed_rules 1;
     }
 
--- and the table of its word
+-- and the table of its word; each log is called legal
 abbrev pub ghosts-exhausted-M-GateNaming : goal.ghosts-exhausted-M-GateNaming
-ghosts-exhausted-M-GateNaming g a = record { word = a.word }
+ghosts-exhausted-M-GateNaming g a = record { word = a.word; legal = λ log. Unit {0} }

@@ -1,13 +1,12 @@
-use Rattle.std.proofs.Common.{arith, ap}
+use Rattle.std.proofs.Common.{arith, ap, ◌∙◌}
 use Rattle.gate_word.proofs.Moves.{compares}
 use Rattle.gate_word.proofs.steps.compare.Goals as goal
 
-pub join_seat-requires : goal.join_seat-requires
-join_seat-requires c =
+pub load-requires : goal.load-requires
+load-requires g c =
+    let e = c.note.ensures in
     let r = c.requires in (
-      r.table,
-      r.other_table,
-      ap (λ m. m.1) r.other,
+      e.table ∙ r.table,
       omega (arith, r.word),
-      compares _ _ _ _ (ap (λ m. m.0.keeps) r.other),
+      compares _ _ _ (ap (λ m. m.0.keeps) e.seat ∙ ap (λ m. m.0.keeps) r.keeper),
     )

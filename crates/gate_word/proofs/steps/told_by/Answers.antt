@@ -3,5 +3,5 @@ use Rattle.gate_word.proofs.Moves.{tells}
 use Rattle.gate_word.proofs.steps.told_by.Goals as goal
 
 pub split_seat-requires : goal.split_seat-requires
-split_seat-requires c =
+split_seat-requires g c =
     (c.requires.table, omega (arith, c.requires.word), tells _ _)

@@ -14,15 +14,15 @@ pub returns-in-Promoted : goal.returns-in-Promoted
 returns-in-Promoted g c =
     makes_promoted c.args.arrival c.in-Promoted.first c.in-Promoted.second
     c.finish-in-Promoted.result c.in-Promoted.permit
-    (asks_waiting c.args.arrival c.requires c.in-Promoted.ensures.0.0.event)
-    c.in-Promoted.ensures.0.1 c.in-Promoted.ensures.1.event c.in-Promoted.ensures.2.0
-    c.in-Promoted.ensures.2.1 c.finish-in-Promoted.ensures
+    (asks_waiting c.args.arrival c.requires c.in-Promoted.ensures.1.0.event)
+    c.in-Promoted.ensures.1.1 c.in-Promoted.ensures.2.event c.in-Promoted.ensures.3.0
+    c.in-Promoted.ensures.3.1 c.finish-in-Promoted.ensures
 
 pub returns-in-TimedOut : goal.returns-in-TimedOut
 returns-in-TimedOut g c =
     makes_two c.args.arrival c.in-TimedOut.first c.in-TimedOut.second TimedOut
-    (asks_waiting c.args.arrival c.requires c.in-TimedOut.ensures.0.0.event)
-    c.in-TimedOut.ensures.0.1 c.in-TimedOut.ensures.1.event c.in-TimedOut.ensures.2 refl
+    (asks_waiting c.args.arrival c.requires c.in-TimedOut.ensures.1.0.event)
+    c.in-TimedOut.ensures.1.1 c.in-TimedOut.ensures.2.event c.in-TimedOut.ensures.3 refl
 
 pub returns-in-BacklogFull : goal.returns-in-BacklogFull
 returns-in-BacklogFull g c =

@@ -1,5 +1,17 @@
-use Rattle.std.proofs.Common.{◌∙◌, sym}
+use Rattle.std.proofs.Common.{ap, ◌∙◌, sym}
+use Rattle.gate_history.specs.Book.{Book}
+use Rattle.load_run.proofs.Runs.{on_ok, opened_alike}
 use Rattle.load_run.proofs.run.begin_book.Goals as goal
+
+-- so the book is one over the settings
+pub returns : goal.returns
+returns g c =
+    on_ok _ _
+    (λ book is.
+    ap (λ (b : Book g.row.L.Denot). b.journal) is
+    ∙ opened_alike c.args.limit c.into_table-table.ensures c.room-room.ensures.value
+    c.promote-promote.ensures c.kept-kept.ensures.value c.is_rolling-is_rolling.ensures)
+    c.begin.result c.begin.ensures
 
 -- the settings are those that the ledgers' names are given by
 pub begin-requires : goal.begin-requires

@@ -29,4 +29,5 @@ returns-then-all_fit-clause-accepted g c =
     }
 
 pub returns-in-Ok-clause-rejected : goal.returns-in-Ok-clause-rejected
-returns-in-Ok-clause-rejected g c = is_rejected_unread _ _ _ _ _ c.in-Ok.ensures.legal
+returns-in-Ok-clause-rejected g c =
+    is_rejected_unread _ _ _ _ _ c.in-Ok.ensures.whole c.in-Ok.ensures.legal

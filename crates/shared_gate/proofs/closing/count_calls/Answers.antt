@@ -1,5 +1,49 @@
-use Rattle.std.proofs.Common.{rules}
+use Rattle.std.proofs.Common.{rules, ◌≡◌, ℕ, List, [], ◌∷◌, All, ap, arith, sym, ◌∙◌, subst}
+use Rattle.std.proofs.lemmas.Iterator.Adapters.{YieldsList-from_vec}
+use Rattle.std.proofs.lemmas.Iterator.Consumers.{YieldsList-end}
+use Rattle.std.proofs.lemmas.List.{map-id}
+use Rattle.std.proofs.lemmas.List.Sums.{sum_by-append, sum_by-cons}
+use Rattle.std.proofs.lemmas.List.Elements.{All-nil}
+use mathlib.Core.List.{IsPrefix}
+use Rattle.shared_gate.specs.Calls.{Pass}
+use Rattle.shared_gate.proofs.Gathering.{all_behind}
 use Rattle.shared_gate.proofs.closing.count_calls.Goals as goal
+
+abbrev count : Pass → ℕ
+count pass = pass.count
+
+pub loop-pass-init : goal.loop-pass-init
+loop-pass-init g c = record {
+  sum = search rules;
+  few = search rules;
+  book = search rules;
+  keeper = search rules;
+  begun = All-nil (λ (pass : Pass). IsPrefix pass.log c.args.keeper.now.log);
+}
+
+pub loop-pass-preserved : goal.loop-pass-preserved
+loop-pass-preserved g c = record {
+  sum = omega (
+    arith,
+    c.loop-pass.invariant.sum,
+    c.take_back-in-loop-pass.ensures.sum,
+    sum_by-append count c.loop-pass.yielded (c.in-Some.pass ∷ []),
+    sum_by-cons count c.in-Some.pass [],
+    ap count c.pass.view_is,
+  );
+  few = search rules;
+  book = search rules;
+  keeper = search rules;
+  begun =
+      all_behind (λ (pass : Pass). IsPrefix pass.log c.args.keeper.now.log)
+      c.loop-pass.yielded c.in-Some.pass c.loop-pass.invariant.begun
+      (subst (λ (pass : Pass). IsPrefix pass.log c.args.keeper.now.log) c.pass.view_is
+      (subst (λ k. IsPrefix c.pass.inside.reader.log k.log) c.loop-pass.invariant.keeper
+      c.take_back.ensures.begins));
+}
+
+pub take_back-requires-clause-table : goal.take_back-requires-clause-table
+take_back-requires-clause-table g c = search rules
 
 pub returns-clause-book : goal.returns-clause-book
 returns-clause-book g c = search rules
@@ -7,5 +51,19 @@ returns-clause-book g c = search rules
 pub returns-clause-enough : goal.returns-clause-enough
 returns-clause-enough g c = search rules
 
+pub returns-clause-begun : goal.returns-clause-begun
+returns-clause-begun g c =
+    let end =
+    YieldsList-end (YieldsList-from_vec c.args.passes.items (search rules) (search rules))
+    c.loop-pass.yielded c.loop-pass.pass-iterator c.loop-pass.yielded_by c.next.result
+    c.next.new.self c.in-None.is c.next.ensures.steps in
+    let all : c.loop-pass.yielded ≡ c.args.passes.items =
+    sym (map-id c.loop-pass.yielded) ∙ end.0 in
+    subst (λ (passes : List Pass). All (λ (pass : Pass). IsPrefix pass.log c.args.keeper.now.log)
+    passes) all c.loop-pass.invariant.begun
+
 pub returns-clause-same : goal.returns-clause-same
 returns-clause-same g c = search rules
+
+pub returns-clause-keeper : goal.returns-clause-keeper
+returns-clause-keeper g c = search rules

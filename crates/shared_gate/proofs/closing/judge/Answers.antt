@@ -1,5 +1,8 @@
-use Rattle.std.proofs.Common.{refl}
-use Rattle.shared_gate.proofs.Closings.{fails_by, has_the_calls, is_accepted, is_history_in, is_kept}
+use Rattle.std.proofs.Common.{ap, sym, subst, ◌≡◌, ◌∙◌}
+use Rattle.gate_history.specs.Book.{Making, made_as}
+use Rattle.shared_gate.specs.Closing.{IsEndOf}
+use Rattle.shared_gate.proofs.Closings.{first_of, has_the_calls, is_accepted, is_all, is_end_of}
+use Rattle.shared_gate.proofs.Closings.{is_history_in, is_kept}
 use Rattle.shared_gate.proofs.closing.judge.Goals as goal
 
 pub returns-in-None-clause-whole : goal.returns-in-None-clause-whole
@@ -7,7 +10,7 @@ returns-in-None-clause-whole g c = c.in-None.ensures.none.whole
 
 pub returns-in-None-clause-legal : goal.returns-in-None-clause-legal
 returns-in-None-clause-legal g c =
-    is_kept g.L.Limit.rules _ c.args.book c.into_journal.result
+    is_kept g.L.Limit.rules _ c.sealed.inside.book c.into_journal.result
     c.into_history-history.result.opening.standing c.into_history-history.result.base
     c.into_history-history.result.entries.items c.invariant.ensures.legal c.invariant.ensures.sound
     c.invariant.ensures.rows c.invariant.ensures.room c.invariant.ensures.promote
@@ -17,14 +20,28 @@ returns-in-None-clause-legal g c =
     c.into_history-history.ensures.opening c.into_history-history.ensures.base
     c.into_history-history.ensures.entries
 
+pub returns-in-None-clause-log : goal.returns-in-None-clause-log
+returns-in-None-clause-log g c =
+    let names = g.M.Naming in
+    let m : Making =
+    made_as names.rows names.room names.promote names.kept names.is_rolling names.limit in
+    is_all g.L.Limit.rules m c.args.sealed c.into_history-history.result.base
+    c.into_history-history.result.entries.items
+    (subst (λ log. IsEndOf g.L.Limit.rules m log c.into_history-history.result.base
+    c.into_history-history.result.entries.items) c.sealed.view_is
+    (is_end_of g.L.Limit.rules m g.M.GateNaming.legal c.sealed.inside.keeper.log
+    c.sealed.inside.book c.into_history-history.result.base
+    c.into_history-history.result.entries.items c.sealed.invariant.2 c.invariant.ensures.rows
+    c.invariant.ensures.room c.invariant.ensures.promote
+    (is_history_in c.sealed.inside.book c.into_journal.result c.into_history-history.result.base
+    c.into_history-history.result.entries.items c.into_journal.ensures
+    c.into_history-history.ensures.base c.into_history-history.ensures.entries)))
+    c.in-None.ensures.none.whole
+
 pub returns-in-None-clause-counted : goal.returns-in-None-clause-counted
 returns-in-None-clause-counted g c =
-    has_the_calls g.L.Limit.rules c.args.book c.args.calls c.into_history-history.result.base
-    c.into_history-history.result.entries.items c.invariant.ensures.agrees
-    (is_history_in c.args.book c.into_journal.result c.into_history-history.result.base
-    c.into_history-history.result.entries.items c.into_journal.ensures
-    c.into_history-history.ensures.base c.into_history-history.ensures.entries)
-    c.requires.book c.in-None.ensures.none.passes c.in-None.ensures.none.whole
+    has_the_calls c.args.calls c.args.sealed c.into_history-history.result.entries.items
+    c.requires.book c.in-None.ensures.none.passes (returns-in-None-clause-log g c)
 
 pub returns-in-None-clause-accepted : goal.returns-in-None-clause-accepted
 returns-in-None-clause-accepted g c =
@@ -32,30 +49,31 @@ returns-in-None-clause-accepted g c =
     c.args.kept.items c.deref-2.result.now c.deref.ensures.value c.deref-2.ensures.value
     c.in-None.ensures.accepted
 
-pub returns-in-None-clause-first : goal.returns-in-None-clause-first
-returns-in-None-clause-first g c = tt
+pub returns-clause-end : goal.returns-clause-end
+returns-clause-end g c =
+    let names = g.M.Naming in
+    let m : Making =
+    made_as names.rows names.room names.promote names.kept names.is_rolling names.limit in
+    subst (λ log. IsEndOf g.L.Limit.rules m log c.into_history-history.result.base
+    c.into_history-history.result.entries.items) c.sealed.view_is
+    (is_end_of g.L.Limit.rules m g.M.GateNaming.legal c.sealed.inside.keeper.log
+    c.sealed.inside.book c.into_history-history.result.base
+    c.into_history-history.result.entries.items c.sealed.invariant.2 c.invariant.ensures.rows
+    c.invariant.ensures.room c.invariant.ensures.promote
+    (is_history_in c.sealed.inside.book c.into_journal.result c.into_history-history.result.base
+    c.into_history-history.result.entries.items c.into_journal.ensures
+    c.into_history-history.ensures.base c.into_history-history.ensures.entries))
 
-pub returns-in-None-clause-history : goal.returns-in-None-clause-history
-returns-in-None-clause-history g c = tt
+pub returns-clause-first : goal.returns-clause-first
+returns-clause-first g c =
+    first_of c.args.calls _ c.into_history-history.result.base
+    c.into_history-history.result.entries.items c.deref.result.now c.args.kept.items
+    c.deref-2.result.now c.in-Some.cause c.requires.book c.deref.ensures.value
+    c.deref-2.ensures.value c.in-Some.ensures.first
 
-pub returns-in-None-clause-kept : goal.returns-in-None-clause-kept
-returns-in-None-clause-kept g c = tt
-
-pub returns-in-Some-clause-whole : goal.returns-in-Some-clause-whole
-returns-in-Some-clause-whole g c = tt
-
-pub returns-in-Some-clause-legal : goal.returns-in-Some-clause-legal
-returns-in-Some-clause-legal g c = tt
-
-pub returns-in-Some-clause-counted : goal.returns-in-Some-clause-counted
-returns-in-Some-clause-counted g c = tt
-
-pub returns-in-Some-clause-accepted : goal.returns-in-Some-clause-accepted
-returns-in-Some-clause-accepted g c = tt
-
-pub returns-in-Some-clause-history : goal.returns-in-Some-clause-history
-returns-in-Some-clause-history g c =
-    is_kept g.L.Limit.rules _ c.args.book c.into_journal.result
+pub returns-clause-history : goal.returns-clause-history
+returns-clause-history g c =
+    is_kept g.L.Limit.rules _ c.sealed.inside.book c.into_journal.result
     c.into_history-history.result.opening.standing c.into_history-history.result.base
     c.into_history-history.result.entries.items c.invariant.ensures.legal c.invariant.ensures.sound
     c.invariant.ensures.rows c.invariant.ensures.room c.invariant.ensures.promote
@@ -64,17 +82,3 @@ returns-in-Some-clause-history g c =
     c.invariant.ensures.agrees c.into_journal.ensures
     c.into_history-history.ensures.opening c.into_history-history.ensures.base
     c.into_history-history.ensures.entries
-
-pub returns-in-Some-clause-kept : goal.returns-in-Some-clause-kept
-returns-in-Some-clause-kept g c = refl
-
-pub returns-in-Some-clause-first : goal.returns-in-Some-clause-first
-returns-in-Some-clause-first g c =
-    fails_by g.L.Limit.rules c.args.book c.args.calls c.into_history-history.result.base
-    c.into_history-history.result.entries.items c.deref.result.now c.args.kept.items
-    c.deref-2.result.now c.in-Some.cause c.invariant.ensures.agrees
-    (is_history_in c.args.book c.into_journal.result c.into_history-history.result.base
-    c.into_history-history.result.entries.items c.into_journal.ensures
-    c.into_history-history.ensures.base c.into_history-history.ensures.entries)
-    c.requires.book c.requires.enough c.deref.ensures.value c.deref-2.ensures.value
-    c.in-Some.ensures.first

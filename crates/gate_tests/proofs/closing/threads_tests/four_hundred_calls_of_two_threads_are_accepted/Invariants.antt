@@ -19,6 +19,6 @@ ghosts-closes_two_threads-M-Naming g a =
       limit = course_of fixed_rules 10;
     }
 
--- and the table of its word
+-- and the table of its word; each log is called legal
 abbrev pub ghosts-closes_two_threads-M-GateNaming : goal.ghosts-closes_two_threads-M-GateNaming
-ghosts-closes_two_threads-M-GateNaming g a = record { word = a.word }
+ghosts-closes_two_threads-M-GateNaming g a = record { word = a.word; legal = λ log. Unit {0} }

@@ -19,6 +19,6 @@ ghosts-told_by_four-M-Naming g a =
       limit = course_of aimd_rules (aimd_from 1 3 5 900 1000000);
     }
 
--- and the table of its word
+-- and the table of its word; each log is called legal
 abbrev pub ghosts-told_by_four-M-GateNaming : goal.ghosts-told_by_four-M-GateNaming
-ghosts-told_by_four-M-GateNaming g a = record { word = a.word }
+ghosts-told_by_four-M-GateNaming g a = record { word = a.word; legal = λ log. Unit {0} }

@@ -11,13 +11,14 @@ pub returns-in-Exhausted : goal.returns-in-Exhausted
 returns-in-Exhausted g c = search rules
 
 pub returns-in-Granted : goal.returns-in-Granted
-returns-in-Granted g c = search rules
+returns-in-Granted g c = (c.acquire.new.pass, search rules, search rules, search rules)
 
 pub returns-in-TimedOut : goal.returns-in-TimedOut
-returns-in-TimedOut g c = search rules
+returns-in-TimedOut g c =
+    (c.acquire.new.pass, search rules, search rules, search rules, search rules)
 
 pub returns-in-Lost : goal.returns-in-Lost
-returns-in-Lost g c = search rules
+returns-in-Lost g c = (c.acquire.new.pass, search rules, search rules, search rules)
 
 pub returns-in-Exhausted-give_up : goal.returns-in-Exhausted-give_up
-returns-in-Exhausted-give_up g c = search rules
+returns-in-Exhausted-give_up g c = (c.acquire.new.pass, search rules, search rules)

@@ -1,4 +1,10 @@
-use Rattle.std.proofs.Common.{rules}
+use Rattle.std.proofs.Common.{rules, ℕ, List, All, ap, arith, sym, subst}
+use mathlib.Core.List.{IsPrefix}
+use Rattle.limiter_core.specs.declared.event.Entry.{Entry}
+use Rattle.audit.specs.Verdict.{audited, IsFirstCause}
+use Rattle.gate_history.specs.Book.{calls_of}
+use Rattle.shared_gate.specs.Calls.{Pass}
+use Rattle.shared_gate.proofs.Closings.{on_err, on_ok}
 use Rattle.shared_gate.proofs.gate.SharedGate.close.Goals as goal
 
 pub returns-clause-whole : goal.returns-clause-whole
@@ -13,8 +19,46 @@ returns-clause-counted g c = search rules
 pub returns-clause-accepted : goal.returns-clause-accepted
 returns-clause-accepted g c = search rules
 
+pub returns-clause-begun : goal.returns-clause-begun
+returns-clause-begun g c =
+    let counted = c.count_calls-calls.ensures in
+    let log : List Entry = c.count_calls-calls.new.keeper.log in
+    let begun : All (λ (pass : Pass). IsPrefix pass.log log) c.args.passes.items =
+    subst (λ k. All (λ (pass : Pass). IsPrefix pass.log k.log) c.args.passes.items)
+    (sym counted.keeper) counted.begun in
+    on_ok _ _
+    (λ history is.
+    subst (λ (l : List Entry). All (λ (pass : Pass). IsPrefix pass.log l) c.args.passes.items)
+    (sym is) begun)
+    c.judge.result c.judge.ensures.log
+
 pub returns-clause-first : goal.returns-clause-first
-returns-clause-first g c = search rules
+returns-clause-first g c =
+    let counted = c.count_calls-calls.ensures in
+    let log : List Entry = c.count_calls-calls.new.keeper.log in
+    let begun : All (λ (pass : Pass). IsPrefix pass.log log) c.args.passes.items =
+    subst (λ k. All (λ (pass : Pass). IsPrefix pass.log k.log) c.args.passes.items)
+    (sym counted.keeper) counted.begun in
+    let behind = c.book.invariant.2 in
+    on_err _ _ _
+    (λ fault end first. record {
+      log = log;
+      end = end;
+      begun = begun;
+      enough = omega (
+        arith,
+        counted.enough,
+        counted.sum,
+        counted.book,
+        behind.calls,
+        ap (λ k. calls_of k.log) counted.keeper,
+      );
+      first =
+          subst (λ (sum : ℕ).
+          IsFirstCause (audited (record { book = calls_of log; sum = sum }) fault.history.base
+          fault.history.entries.items fault.kept.items) fault.cause) counted.sum first;
+    })
+    c.judge.result c.judge.ensures.end c.judge.ensures.first
 
 pub returns-clause-history : goal.returns-clause-history
 returns-clause-history g c = search rules

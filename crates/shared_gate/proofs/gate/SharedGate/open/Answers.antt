@@ -1,15 +1,23 @@
-use Rattle.std.proofs.Common.{rules, ◌≡◌, ◌∙◌, ℕ, List, ap, map}
-use Rattle.gate_journal.specs.Journal.{next_number}
-use Rattle.shared_gate.specs.Calls.{pass_at}
-use Rattle.shared_gate.proofs.Opened.{seen_alike}
+use Rattle.std.proofs.Common.{rules, ◌≡◌, ap, map, sym, subst, ◌∙◌}
+use Rattle.gate_journal.specs.Journal.{Journal, gate, next_number, opening}
+use Rattle.shared_gate.specs.Calls.{pass_of}
+use Rattle.shared_gate.specs.Log.{MeansAtLeast}
+use Rattle.shared_gate.proofs.Opened.{made_alike}
 use Rattle.shared_gate.proofs.gate.SharedGate.open.Goals as goal
+
+pub new-requires-clause-unasked : goal.new-requires-clause-unasked
+new-requires-clause-unasked g c =
+    let stays : c.seal.new.self.journal ≡ c.args.book.journal = search rules in
+    ap next_number stays ∙ c.requires.unasked
+
+pub new-requires-clause-legal : goal.new-requires-clause-legal
+new-requires-clause-legal g c =
+    let stays : c.seal.new.self.journal ≡ c.args.book.journal = search rules in
+    subst (λ (j : Journal g.row.L.Denot).
+    MeansAtLeast (gate g.L.Limit.rules j) (opening j) g.M.GateNaming.legal) (sym stays)
+    c.requires.legal
 
 pub returns-clause-passes : goal.returns-clause-passes
 returns-clause-passes g c =
-    let next : ℕ = next_number c.args.book.journal in
-    let stays : next_number c.seal.new.self.journal ≡ next = search rules in
-    let passes : List ℕ = c.in_ok-passes.passes.items in
-    c.in_ok-gate.ensures.passes
-    ∙ ap (λ (seen : ℕ). map (pass_at seen) passes) stays
-    ∙ ap (map (pass_at next)) c.in_ok-passes.ensures.passes
-    ∙ seen_alike next c.args.count
+    c.in_ok-gate.ensures.passes ∙ ap (map pass_of) c.in_ok-passes.ensures.passes
+    ∙ made_alike c.args.count

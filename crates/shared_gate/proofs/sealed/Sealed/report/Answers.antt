@@ -1,19 +1,29 @@
-use Rattle.std.proofs.Common.{◌∙◌, ap}
+use Rattle.std.proofs.Common.{◌≡◌, ◌∙◌, ap, subst}
+use Rattle.limiter_core.specs.Bound.{IsSound}
+use Rattle.limiter_core.specs.Counting.{counters_after}
 use Rattle.gate_history.specs.Book.{made_as}
-use Rattle.gate_journal.specs.Journal.{Journal}
+use Rattle.gate_journal.specs.Journal.{Journal, gate, image}
 use Rattle.shared_gate.proofs.Reporting.{reported}
 use Rattle.shared_gate.proofs.sealed.Sealed.report.Goals as goal
 
--- what stands is that of the book's own journal, which is made as the names say
+-- what stands and was counted is that of the book's own journal, which is made as the names say
 pub returns : goal.returns
 returns g c =
     let names = g.M.Naming in
+    let rules = g.L.Limit.rules in
+    let own = c.core.result.now in
     let same = c.journal-journal.ensures in
-    reported g.L.Limit.rules
+    reported rules
     (made_as names.rows names.room names.promote names.kept names.is_rolling names.limit)
-    c.journal-journal.result.now c.core.result.now c.report_of.result
-    (ap (λ (j : Journal g.row.L.Denot). j.rows) same ∙ c.invariant.ensures.rows)
-    (ap (λ (j : Journal g.row.L.Denot). j.room) same ∙ c.invariant.ensures.room)
-    (ap (λ (j : Journal g.row.L.Denot). j.promote) same ∙ c.invariant.ensures.promote)
-    c.core.ensures.rows c.core.ensures.room c.core.ensures.promote c.core.ensures.stands
-    c.invariant-2.ensures.sound c.report_of.ensures
+    g.M.GateNaming.legal c.self.inside.keeper.log c.self.inside.book own c.report_of.result
+    c.self.invariant.2
+    c.invariant.ensures.rows c.invariant.ensures.room c.invariant.ensures.promote
+    (c.core.ensures.rows ∙ ap (λ (j : Journal g.row.L.Denot). j.rows) same)
+    (c.core.ensures.room ∙ ap (λ (j : Journal g.row.L.Denot). j.room) same)
+    (c.core.ensures.promote ∙ ap (λ (j : Journal g.row.L.Denot). j.promote) same)
+    (c.core.ensures.stands ∙ ap (λ (j : Journal g.row.L.Denot). image rules j) same)
+    (c.core.ensures.counters
+    ∙ ap (λ (j : Journal g.row.L.Denot). counters_after j.opening.counters j.entries) same)
+    (subst (λ (j : Journal g.row.L.Denot). IsSound (gate rules j) (image rules j)) same
+    c.invariant-2.ensures.sound)
+    c.report_of.ensures

@@ -1,0 +1,31 @@
+-- Beginnings of a list, and what stands in them.
+use Rattle.std.proofs.Common.{◌≡◌, ℕ, zero, suc, ◌≤◌, List, [], ◌∷◌, ◌++◌, length, Some, slice_get}
+use Rattle.std.proofs.Common.{refl, ap, sym, ◌∙◌, arith, append_assoc, length-append}
+use Rattle.std.proofs.lemmas.List.{append-nil}
+use mathlib.Core.List.{IsPrefix}
+
+module _ {A : Type 0} where
+  pub prefix_self : (xs : List A) → IsPrefix xs xs
+  prefix_self xs = ([], append-nil xs)
+
+  pub prefix_trans : (xs ys zs : List A) → IsPrefix xs ys → IsPrefix ys zs → IsPrefix xs zs
+  prefix_trans xs ys zs p q =
+      (p.0 ++ q.0, sym (append_assoc xs p.0 q.0) ∙ (ap (λ w. w ++ q.0) p.1 ∙ q.1))
+
+  pub prefix_length : (xs ys : List A) → IsPrefix xs ys → length xs ≤ length ys
+  prefix_length xs ys p = omega (arith, sym (ap length p.1) ∙ length-append xs p.0)
+
+  -- what stands in a beginning stands in the whole, at the same place
+  pub prefix_get : (xs ys : List A) (k : ℕ) (x : A) → IsPrefix xs ys
+      → slice_get xs k ≡ Some x → slice_get ys k ≡ Some x
+  prefix_get [] ys k x p h = absurd cc
+  prefix_get (y ∷ xs) [] k x p h = absurd (cc (p.1))
+  prefix_get (y ∷ xs) (z ∷ ys) zero x p h = cc (p.1, h)
+  prefix_get (y ∷ xs) (z ∷ ys) (suc k) x p h = prefix_get xs ys k x (p.0, cc (p.1)) h
+
+  pub at_seam : (xs : List A) (x : A) (ys : List A) (k : ℕ) → k ≡ length xs
+      → slice_get (xs ++ x ∷ ys) k ≡ Some x
+  at_seam [] x ys zero e = refl
+  at_seam [] x ys (suc k) e = absurd (omega arith)
+  at_seam (y ∷ xs) x ys zero e = absurd (omega arith)
+  at_seam (y ∷ xs) x ys (suc k) e = at_seam xs x ys k (omega arith)
