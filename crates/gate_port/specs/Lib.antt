@@ -1,4 +1,5 @@
 pub mod Asking
 pub mod Ending
+pub mod Log
 pub mod Report
 pub mod Shown

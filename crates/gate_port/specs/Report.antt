@@ -1,11 +1,10 @@
 -- What is told of a gate at one moment.
-use Rattle.std.specs.Prelude.{◌≡◌, List, [], ◌∷◌, length, map}
+use Rattle.std.specs.Prelude.{List, [], ◌∷◌, length, map}
 use Rattle.partitions.specs.declared.part.Part.{Part}
 use Rattle.partitions.specs.declared.part.Part.TheVariants.{Known, Unknown}
 use Rattle.partitions.specs.Table.{place_of, share}
 use Rattle.limiter_core.specs.declared.counters.Counters.{Counters}
 use Rattle.limiter_core.specs.History.{Gate, Image, limit, total}
-use Rattle.limiter_core.specs.Bound.{IsSound}
 use Rattle.gate_port.specs.declared.report.Report.{Report}
 
 -- the partitions that are told of, the unknown one last
@@ -24,8 +23,3 @@ report_in g i counters = record {
   shares = map (λ part. share g.rows (place_of g.rows part) (limit g i)) told_parts;
   counters = counters;
 }
-
--- it is the report of something sound that stands in this gate, with some counters
-abbrev pub IsReportOf : {S : Type 0} → Gate S → Report → Type 0
-IsReportOf g report = (i : Image _) × (counters : Counters)
-    × IsSound g i × (report ≡ report_in g i counters)

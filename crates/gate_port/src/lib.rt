@@ -2,8 +2,9 @@
 //!
 //! [`GatePort`] is all that an exchange knows of a gate: one call that asks and one that ends.
 //! `specs/Asking.antt` and `specs/Ending.antt` say which entries a call adds where entries are
-//! shown, and what its caller is told by them. A [`GateView`] gives a [`Report`] of what stands in
-//! a gate, as `specs/Report.antt` has it.
+//! shown, and what its caller is told by them; `specs/Log.antt` says where they stand in a log of
+//! which a beginning is known, with others' calls between. A [`GateView`] gives a [`Report`] of
+//! what stands in a gate, as `specs/Report.antt` has it.
 #![tactic(auto)]
 
 mod port;

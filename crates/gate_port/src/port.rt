@@ -1,6 +1,7 @@
 // Where permits are asked for and ended.
 ghost use Rattle.gate_port.specs.Asking.{Admits};
 ghost use Rattle.gate_port.specs.Ending.{Ends};
+ghost use Rattle.gate_port.specs.Log.{AdmitsIn, EndsIn};
 
 use limiter_core::Outcome;
 use partitions::Part;
@@ -30,8 +31,9 @@ pub enum Admission<P> {
     Refused(Why),
 }
 
-/// A place where permits are asked for and ended. It may show its history's entries. Every moment
-/// is in nanoseconds; one above 2^62 is taken as 2^62.
+/// A place where permits are asked for and ended. It may show its history's entries; one whose gate
+/// others ask too may tell what it knows of the gate's log. Every moment is in nanoseconds; one
+/// above 2^62 is taken as 2^62.
 pub trait GatePort {
     /// The right to be in flight. It must be ended.
     type Permit;
@@ -39,12 +41,16 @@ pub trait GatePort {
     /// What is told of an ending.
     type Receipt: Drop;
 
-    ghost use Rattle.std.specs.Prelude.{Option};
+    ghost use Rattle.std.specs.Prelude.{Option, List};
+    ghost use Rattle.limiter_core.specs.declared.event.Entry.{Entry};
     ghost use Rattle.limiter_core.specs.declared.event.PermitFacts.{PermitFacts};
     ghost use Rattle.gate_port.specs.Shown.{Shown};
 
     /// The entries, where they are shown.
     ghost shown: { Self → Option Shown };
+
+    /// The beginning of the gate's log that it knows, where it knows one.
+    ghost known: { Self → Option (List Entry) };
 
     /// The facts of a permit.
     ghost facts: { Self.Permit → PermitFacts };
@@ -59,9 +65,13 @@ pub trait GatePort {
         deadline: Option<u64>,
         now: u64,
     ) -> Admission<Self::Permit>
-        ensures { Admits part bypass deadline now (shown self.old) (shown self.new) facts result };
+        ensures entries { Admits part bypass deadline now (shown self.old) (shown self.new) facts
+            result }
+        ensures log { AdmitsIn part bypass deadline now (known self.old) (known self.new) facts
+            result };
 
     /// Ends a permit with an outcome.
     fn end(&mut self, permit: Self::Permit, outcome: Outcome, now: u64) -> Self::Receipt
-        ensures { Ends (facts permit) outcome now (shown self.old) (shown self.new) };
+        ensures entries { Ends (facts permit) outcome now (shown self.old) (shown self.new) }
+        ensures log { EndsIn (facts permit) outcome now (known self.old) (known self.new) };
 }

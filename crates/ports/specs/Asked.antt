@@ -5,7 +5,7 @@ use Rattle.limiter_core.specs.declared.event.Reply.TheVariants.{Waiting}
 use Rattle.limiter_core.specs.declared.event.PermitFacts.{PermitFacts}
 use Rattle.gate_ledgers.specs.Told.{Told}
 use Rattle.gate_history.specs.Refusal.{Refusal}
-use Rattle.shared_gate.specs.Calls.{IsMissed, IsTold, IsUntold, Pass, since}
+use Rattle.shared_gate.specs.Calls.{IsTold, IsUntold, Pass}
 use Rattle.gate_port.specs.declared.port.Why.TheVariants as why
 use Rattle.gate_port.specs.declared.port.Admission.{Admission}
 use Rattle.gate_port.specs.declared.port.Admission.TheVariants.{Refused}
@@ -28,14 +28,14 @@ asked_by first (Ok second) = asked.GaveUp first second
 asked_by first (Err spent) = asked.Missed first spent
 
 -- the receipt of an acquire that waits
-abbrev pub IsQueued : Pass → Ask → ℕ → Told → Type 0
-IsQueued before ask now first =
-    IsTold before (since before first) (acquire ask now) first × (first.reply ≡ Waiting)
+abbrev pub IsQueued : Pass → Pass → Ask → ℕ → Told → Type 0
+IsQueued before after ask now first =
+    IsTold before after (acquire ask now) first × (first.reply ≡ Waiting)
 
 -- THE RECEIPTS OF AN ASKING, from a pass before it to the pass after it, and what its caller is
 -- answered: that of an acquire of what was asked for, and what its reply says; or that of one that
--- waits and that of the giving up of its number, and what the reply to this says; or a refusal of
--- either, which gets nothing
+-- waits and, by the pass as it was left then, that of the giving up of its number, and what the
+-- reply to this says; or a refusal of either, which gets nothing
 abbrev pub IsAnswered : {M : Type 0} → Pass → Pass → Ask → ℕ → Asked M → Admission PermitFacts
     → Type 0
 IsAnswered before after ask now asked.Nothing answer = ⊥
@@ -45,10 +45,10 @@ IsAnswered before after ask now (asked.Answered receipt) answer =
     IsTold before after (acquire ask now) receipt
     × (says ask receipt.number now receipt.reply ≡ Some answer)
 IsAnswered before after ask now (asked.GaveUp first second) answer =
-    IsQueued before ask now first
-    × IsTold (since before first) after (GiveUp first.number) second
+    (mid : Pass) × IsQueued before mid ask now first
+    × IsTold mid after (GiveUp first.number) second
     × (says ask first.number now second.reply ≡ Some answer)
 IsAnswered before after ask now (asked.Missed first spent) answer =
-    IsQueued before ask now first
-    × IsMissed before after first (GiveUp first.number) spent
+    (mid : Pass) × IsQueued before mid ask now first
+    × IsUntold mid after (GiveUp first.number) spent
     × (answer ≡ Refused why.Lost)

@@ -3,7 +3,7 @@ use Rattle.std.specs.Prelude.{◌≡◌, ◌⊎◌, ℕ, ◌+◌, ◌<◌, ◌�
 use Rattle.limit_laws.specs.Facts.{moment}
 use Rattle.limiter_core.specs.declared.event.PermitFacts.{PermitFacts}
 use Rattle.limiter_core.specs.History.{permit_of}
-use Rattle.shared_gate.specs.Calls.{Pass}
+use Rattle.shared_gate.specs.Calls.{Pass, seen_by}
 use Rattle.gate_port.specs.declared.port.Why.TheVariants as why
 use Rattle.gate_port.specs.declared.port.Admission.{Admission}
 use Rattle.gate_port.specs.declared.port.Admission.TheVariants.{Admitted, Bypassed, Refused}
@@ -15,7 +15,8 @@ IsOwn ask now permit = permit ≡ permit_of permit.number ask.part (moment now) 
 
 -- so many calls were made by the pass, which has seen greater numbers since
 abbrev pub Makes : ℕ → Pass → Pass → Type 0
-Makes calls before after = (after.count ≡ before.count + calls) × (before.seen < after.seen)
+Makes calls before after =
+    (after.count ≡ before.count + calls) × (seen_by before < seen_by after)
 
 -- WHAT IS TOLD of an asking, from a pass before it to the pass after it: one call, or after waiting
 -- a second one; none where the history is exhausted. A permit's number is no less than the calls
@@ -23,7 +24,7 @@ Makes calls before after = (after.count ≡ before.count + calls) × (before.see
 abbrev pub IsTold : Pass → Pass → Ask → ℕ → Admission PermitFacts → Type 0
 IsTold before after ask now (Admitted permit) =
     (ask.bypass ≡ false) × (before.count ≤ permit.number)
-    × (before.seen ≤ permit.number) × (permit.number < after.seen)
+    × (seen_by before ≤ permit.number) × (permit.number < seen_by after)
     × ((Makes 1 before after × IsOwn ask now permit)
     ⊎ (Makes 2 before after × (ask.wait ≡ true)))
 IsTold before after ask now Bypassed = Makes 1 before after × (ask.bypass ≡ true)

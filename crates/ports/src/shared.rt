@@ -1,7 +1,8 @@
 // A port over a gate that threads share.
-ghost use Rattle.std.specs.Prelude.{◌≡◌, ◌+◌, ◌≤◌, true, false, is_some, if◌then◌else◌};
+ghost use Rattle.std.specs.Prelude.{◌≡◌, ◌+◌, ◌≤◌, Some, true, false, is_some, if◌then◌else◌};
 ghost use Rattle.shared_gate.specs.Calls.{Ends};
 ghost use Rattle.gate_port.specs.Asking.{ask_of};
+ghost use Rattle.gate_port.specs.Log.{AdmitsIn, EndsIn};
 ghost use Rattle.ports.specs.declared.asked.Asked.TheVariants.{Nothing};
 ghost use Rattle.ports.specs.Asked.{IsAnswered, port_in};
 ghost use Rattle.ports.specs.Told.{IsTold};
@@ -18,8 +19,9 @@ use std::marker::Model;
 use std::sync::Wait;
 use std::time::Clock as SystemClock;
 
-/// A port over a gate that threads share, with a pass of its own. It shows no entries, and keeps
-/// the receipts of its last asking. Contracts see these and its pass.
+/// A port over a gate that threads share, with a pass of its own. It shows no entries; what it
+/// knows of the gate's log is what its pass knows, and it keeps the receipts of its last asking.
+/// Contracts see these and its pass.
 #[derive(Drop)]
 pub struct Port<'a, L: Limit, M: GateNaming, R, C> {
     rt: &'a R,
@@ -154,9 +156,11 @@ impl<'a, L: Limit, M: GateNaming, R: Wait + SystemClock, C: Clock> GatePort
 
     type Receipt = Receipt<M>;
 
-    ghost use Rattle.std.specs.Prelude.{None};
+    ghost use Rattle.std.specs.Prelude.{None, Some};
 
     ghost shown = { λ p. None };
+
+    ghost known = { λ p. Some p.pass.log };
 
     ghost facts = { λ p. p };
 
@@ -174,6 +178,8 @@ impl<'a, L: Limit, M: GateNaming, R: Wait + SystemClock, C: Clock> GatePort
             result }
         ensures answered { IsAnswered self.old.pass self.new.pass
             (ask_of part bypass deadline) now self.new.asked result }
+        ensures log { AdmitsIn part bypass deadline now (Some self.old.pass.log)
+            (Some self.new.pass.log) (λ permit. permit) result }
         ensures few { self.new.pass.count
             ≤ self.old.pass.count + (if is_some deadline then 2 else 1) }
     {
@@ -187,6 +193,8 @@ impl<'a, L: Limit, M: GateNaming, R: Wait + SystemClock, C: Clock> GatePort
     #[inline(always)]
     fn end(&mut self, permit: Permit<M>, outcome: Outcome, now: u64) -> Receipt<M>
         ensures told { Ends self.old.pass self.new.pass permit outcome now result }
+        ensures log { EndsIn permit outcome now (Some self.old.pass.log)
+            (Some self.new.pass.log) }
         ensures asked { self.new.asked ≡ self.old.asked }
         ensures few { self.new.pass.count ≤ self.old.pass.count + 1 }
     {
