@@ -1,6 +1,5 @@
 // Connections whose limits can't be set, whose calls are interrupted, and how long each call may
 // take; and a flush through a buffer.
-ghost use Rattle.std.specs.Io.{ReadsAtMost, WritesAtMost};
 
 use crate::counted_io_tests::valve_of;
 use clocks::Clock;
@@ -9,7 +8,7 @@ use std::alloc::Global;
 use std::cell::Cell;
 use std::io::{Error, ErrorKind, Read, Result, Write};
 use std::time::Duration;
-use timed_io::{Connection, Lent, TimedReader, TimedWriter, Uninterrupted};
+use timed_io::{Connection, Inlet, Lent, Outlet, TimedReader, TimedWriter, Uninterrupted};
 
 /// A connection that gives and takes one byte a call, once it was interrupted so often. It keeps
 /// how long the last call may wait, unless that fails.
@@ -52,18 +51,6 @@ impl Fake {
 }
 
 impl Connection for Fake {
-    fn receive(&self, buf: &mut [u8]) -> Result<usize>
-        ensures { ReadsAtMost result buf.new }
-    {
-        self.call(buf.len()).map(|count| count.min(buf.len()))
-    }
-
-    fn send(&self, buf: &[u8]) -> Result<usize>
-        ensures { WritesAtMost result buf.now }
-    {
-        self.call(buf.len()).map(|count| count.min(buf.len()))
-    }
-
     fn limit_reads(&self, most: Duration) -> Result<()> {
         self.limit(most)
     }
@@ -82,6 +69,30 @@ impl Connection for Fake {
 
     fn finish(&self) -> Result<()> {
         Ok(())
+    }
+}
+
+/// An end of it, which tells no bytes.
+#[derive(Clone, Copy)]
+struct End {}
+
+impl Inlet<Fake> for End {
+    ghost use Rattle.std.specs.Prelude.{None};
+
+    ghost remaining = { λ _. None };
+
+    fn receive(&mut self, stream: &Fake, buf: &mut [u8]) -> Result<usize> {
+        stream.call(buf.len()).map(|count| count.min(buf.len()))
+    }
+}
+
+impl Outlet<Fake> for End {
+    ghost use Rattle.std.specs.Prelude.{None};
+
+    ghost contents = { λ _. None };
+
+    fn send(&mut self, stream: &Fake, buf: &[u8]) -> Result<usize> {
+        stream.call(buf.len()).map(|count| count.min(buf.len()))
     }
 }
 
@@ -112,8 +123,8 @@ impl Clock for Ticking {
 /// Where no limit can be set, nothing is read, and nothing written.
 fn calls_without_limits() -> u64 {
     let (fake, clock) = (fake_of(false, 0), fresh_ticking());
-    let mut reader = TimedReader::new(Lent::new(&fake), &clock, 5 * SECOND);
-    let mut writer = TimedWriter::new(Lent::new(&fake), &clock, 5 * SECOND);
+    let mut reader = TimedReader::new(Lent::new(&fake, End {}), &clock, 5 * SECOND);
+    let mut writer = TimedWriter::new(Lent::new(&fake, End {}), &clock, 5 * SECOND);
     let is_read = reader.read(&mut [0u8; 4]).is_ok();
     let is_written = writer.write(b"four").is_ok();
     if is_read || is_written {
@@ -130,8 +141,8 @@ fn a_call_that_cannot_be_limited_is_not_made(rt: HostRuntime) {
 /// How many seconds four reads, and four writes, may wait, by a second's look each.
 fn seconds_left(is_reading: bool) -> [u64; 4] {
     let (fake, clock) = (fake_of(true, 0), fresh_ticking());
-    let mut reader = TimedReader::new(Lent::new(&fake), &clock, 4 * SECOND);
-    let mut writer = TimedWriter::new(Lent::new(&fake), &clock, 4 * SECOND);
+    let mut reader = TimedReader::new(Lent::new(&fake, End {}), &clock, 4 * SECOND);
+    let mut writer = TimedWriter::new(Lent::new(&fake, End {}), &clock, 4 * SECOND);
     let mut found = [9; 4];
     for place in &mut found {
         let outcome = if is_reading {
@@ -156,14 +167,22 @@ fn each_call_waits_for_what_is_left(rt: HostRuntime) {
 /// What a read and a write give that are interrupted five times, and how often each was called.
 fn read_through(seconds: u64) -> (Option<usize>, u64) {
     let (fake, clock) = (fake_of(true, 5), fresh_ticking());
-    let timed = TimedReader::new(Lent::new(&fake), &clock, seconds.saturating_mul(SECOND));
+    let timed = TimedReader::new(
+        Lent::new(&fake, End {}),
+        &clock,
+        seconds.saturating_mul(SECOND),
+    );
     let found = Uninterrupted::new(timed).read(&mut [0u8; 4]).ok();
     (found, fake.calls.get())
 }
 
 fn written_through(seconds: u64) -> (Option<usize>, u64) {
     let (fake, clock) = (fake_of(true, 5), fresh_ticking());
-    let timed = TimedWriter::new(Lent::new(&fake), &clock, seconds.saturating_mul(SECOND));
+    let timed = TimedWriter::new(
+        Lent::new(&fake, End {}),
+        &clock,
+        seconds.saturating_mul(SECOND),
+    );
     let found = Uninterrupted::new(timed).write(b"four").ok();
     (found, fake.calls.get())
 }

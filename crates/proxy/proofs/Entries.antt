@@ -1,5 +1,5 @@
 -- What the calls of one exchange add together to the entries of a port.
-use Rattle.std.proofs.Common.{◌≡◌, ℕ, ◌+◌, ◌≤◌, List, [], ◌++◌, length, Bool, true, false, Option}
+use Rattle.std.proofs.Common.{◌≡◌, ℕ, ◌+◌, ◌≤◌, List, [], ◌++◌, Bool, true, false, Option}
 use Rattle.std.proofs.Common.{Some, None, is_some, cond, append_assoc, append-nil, refl, sym, ap}
 use Rattle.std.proofs.Common.{◌∙◌, subst, arith}
 use Rattle.limiter_core.specs.declared.event.Outcome.{Outcome}
@@ -10,12 +10,13 @@ use Rattle.gate_config.specs.declared.settings.Settings.{Settings}
 use Rattle.gate_port.specs.declared.port.Admission.{Admission}
 use Rattle.gate_port.specs.declared.port.Admission.TheVariants as admission
 use Rattle.gate_port.specs.declared.port.Why.{Why}
-use Rattle.gate_port.specs.Asking.{Admits, Ask, IsAsked, told}
+use Rattle.gate_port.specs.Asking.{Admits, Ask, IsAsked, ask_of, told}
 use Rattle.gate_port.specs.Ending.{Ends, IsEnding}
+use Rattle.gate_port.specs.Log.{AdmitsIn, EndsIn, Grows, IsAskedIn, IsEndedIn}
 use Rattle.gate_port.specs.Shown.{Adds, Shown}
 use Rattle.backend.specs.declared.answer.Answer.{Answer}
 use Rattle.proxy.specs.declared.told.Verdict.TheVariants as verdict
-use Rattle.proxy.specs.Settling.{Serves, asked_for}
+use Rattle.proxy.specs.Settling.{Serves, ServesIn, asked_for}
 use Rattle.proxy.specs.Table.{outcome_of}
 
 -- one stretch of entries, and then another
@@ -64,19 +65,41 @@ waits_so true until deadline is = ap is_some is
 waits_so false until deadline is = ap is_some is
 
 -- a permit is asked for as the settings say
+asks_so : {P : Type 0} (s : Settings) (class class' : Class) (deadline : Option ℕ) (until : ℕ)
+    (facts : P → PermitFacts) (answer a : Admission P)
+    → deadline ≡ cond s.wait (Some until) None → answer ≡ a → class ≡ class'
+    → (Q : Ask → Admission PermitFacts → Type 0)
+    → Q (ask_of class.part class.bypass deadline) (told facts answer)
+    → Q (asked_for s class') (told facts a)
+asks_so {P} s class class' deadline until facts answer a waits is same Q p =
+    let asked : Class → Bool → Admission P → Type 0 =
+    λ (k : Class) (w : Bool) (x : Admission P).
+    Q (record { part = k.part; bypass = k.bypass; wait = cond k.bypass false w }) (told facts x) in
+    subst (λ (k : Class). asked k s.wait a) same
+    (subst (λ (x : Admission P). asked class s.wait x) is
+    (subst (λ (w : Bool). asked class w answer) (waits_so s.wait until deadline waits) p))
+
 pub asks : {P : Type 0} (s : Settings) (class class' : Class) (deadline : Option ℕ) (until now : ℕ)
     (old new : Option Shown) (facts : P → PermitFacts) (answer a : Admission P)
     → deadline ≡ cond s.wait (Some until) None → answer ≡ a → class ≡ class'
     → Admits class.part class.bypass deadline now old new facts answer
     → Adds old new (λ before added. IsAsked (asked_for s class') before now added (told facts a))
-asks {P} s class class' deadline until now old new facts answer a waits is same p =
-    let asked : Class → Bool → Admission P → Type 0 =
-    λ (k : Class) (w : Bool) (x : Admission P). Adds old new (λ before added.
-    IsAsked (record { part = k.part; bypass = k.bypass; wait = cond k.bypass false w })
-    before now added (told facts x)) in
-    subst (λ (k : Class). asked k s.wait a) same
-    (subst (λ (x : Admission P). asked class s.wait x) is
-    (subst (λ (w : Bool). asked class w answer) (waits_so s.wait until deadline waits) p))
+asks s class class' deadline until now old new facts answer a waits is same p =
+    asks_so s class class' deadline until facts answer a waits is same
+    (λ (ask : Ask) (x : Admission PermitFacts).
+    Adds old new (λ before added. IsAsked ask before now added x)) p
+
+-- and so it is in a log
+pub asks_in : {P : Type 0} (s : Settings) (class class' : Class) (deadline : Option ℕ)
+    (until now : ℕ) (old new : Option (List Entry)) (facts : P → PermitFacts)
+    (answer a : Admission P)
+    → deadline ≡ cond s.wait (Some until) None → answer ≡ a → class ≡ class'
+    → AdmitsIn class.part class.bypass deadline now old new facts answer
+    → Grows old new (λ before after. IsAskedIn (asked_for s class') before now after (told facts a))
+asks_in s class class' deadline until now old new facts answer a waits is same p =
+    asks_so s class class' deadline until facts answer a waits is same
+    (λ (ask : Ask) (x : Admission PermitFacts).
+    Grows old new (λ before after. IsAskedIn ask before now after x)) p
 
 module _ (ask : Ask) (now : ℕ) where
   -- who was admitted is asked for, and then ended
@@ -84,31 +107,30 @@ module _ (ask : Ask) (now : ℕ) where
       (outcome : Outcome) (end : ℕ)
       → Adds old mid (λ before added. IsAsked ask before now added (admission.Admitted permit))
       → outcome ≡ outcome_of answer → Ends permit outcome end mid new
-      → Adds old new (Serves ask verdict.Admitted (Some answer))
+      → Adds old new (Serves ask verdict.Admitted (Some answer) now end)
   serves_admitted old mid new permit answer outcome end p same q =
       adds_then old mid new (λ s a. IsAsked ask s now a (admission.Admitted permit))
-      (IsEnding permit (outcome_of answer) end) (Serves ask verdict.Admitted (Some answer)) p
+      (IsEnding permit (outcome_of answer) end)
+      (Serves ask verdict.Admitted (Some answer) now end) p
       (subst (λ (o : Outcome). Ends permit o end mid new) same q)
       (λ (s : Shown) (a b : List Entry) asked ended. record {
-        now = now;
         asked = a;
         ended = b;
         admission = admission.Admitted permit;
         both = refl;
         asking = asked;
         verdict = refl;
-        ending = (end, ended);
+        ending = ended;
       })
 
   -- nobody else is ended
-  pub serves_bypassed : (old new : Option Shown) (answer : Answer)
+  pub serves_bypassed : (old new : Option Shown) (answer : Answer) (end : ℕ)
       → Adds old new (λ before added. IsAsked ask before now added admission.Bypassed)
-      → Adds old new (Serves ask verdict.Bypassed (Some answer))
-  serves_bypassed old new answer p =
+      → Adds old new (Serves ask verdict.Bypassed (Some answer) now end)
+  serves_bypassed old new answer end p =
       adds_map old new (λ s a. IsAsked ask s now a admission.Bypassed)
-      (Serves ask verdict.Bypassed (Some answer)) p
+      (Serves ask verdict.Bypassed (Some answer) now end) p
       (λ (s : Shown) (a : List Entry) asked. record {
-        now = now;
         asked = a;
         ended = [];
         admission = admission.Bypassed;
@@ -118,18 +140,79 @@ module _ (ask : Ask) (now : ℕ) where
         ending = refl;
       })
 
-  pub serves_refused : (old new : Option Shown) (why : Why)
+  pub serves_refused : (old new : Option Shown) (why : Why) (end : ℕ)
       → Adds old new (λ before added. IsAsked ask before now added (admission.Refused why))
-      → Adds old new (Serves ask (verdict.Refused why) None)
-  serves_refused old new why p =
+      → Adds old new (Serves ask (verdict.Refused why) None now end)
+  serves_refused old new why end p =
       adds_map old new (λ s a. IsAsked ask s now a (admission.Refused why))
-      (Serves ask (verdict.Refused why) None) p
+      (Serves ask (verdict.Refused why) None now end) p
       (λ (s : Shown) (a : List Entry) asked. record {
-        now = now;
         asked = a;
         ended = [];
         admission = admission.Refused why;
         both = sym (append-nil a);
+        asking = asked;
+        verdict = refl;
+        ending = refl;
+      })
+
+-- one stretch of a log, and then another
+grows_then : (old mid new : Option (List Entry)) (P Q R : List Entry → List Entry → Type 0)
+    → Grows old mid P → Grows mid new Q
+    → ((a b c : List Entry) → P a b → Q b c → R a c) → Grows old new R
+grows_then None mid new P Q R p q f = tt
+grows_then (Some o) None new P Q R p q f = absurd p
+grows_then (Some o) (Some m) None P Q R p q f = absurd q
+grows_then (Some o) (Some m) (Some n) P Q R p q f = f o m n p q
+
+grows_map : (old new : Option (List Entry)) (P R : List Entry → List Entry → Type 0)
+    → Grows old new P → ((a b : List Entry) → P a b → R a b) → Grows old new R
+grows_map None new P R p f = tt
+grows_map (Some o) None P R p f = absurd p
+grows_map (Some o) (Some n) P R p f = f o n p
+
+module _ (ask : Ask) (now : ℕ) where
+  pub logs_admitted : (old mid new : Option (List Entry)) (permit : PermitFacts) (answer : Answer)
+      (outcome : Outcome) (end : ℕ)
+      → Grows old mid (λ before after. IsAskedIn ask before now after (admission.Admitted permit))
+      → outcome ≡ outcome_of answer → EndsIn permit outcome end mid new
+      → Grows old new (ServesIn ask verdict.Admitted (Some answer) now end)
+  logs_admitted old mid new permit answer outcome end p same q =
+      grows_then old mid new (λ a b. IsAskedIn ask a now b (admission.Admitted permit))
+      (IsEndedIn permit (outcome_of answer) end)
+      (ServesIn ask verdict.Admitted (Some answer) now end) p
+      (subst (λ (o : Outcome). EndsIn permit o end mid new) same q)
+      (λ (a b c : List Entry) asked ended. record {
+        mid = b;
+        admission = admission.Admitted permit;
+        asking = asked;
+        verdict = refl;
+        ending = ended;
+      })
+
+  pub logs_bypassed : (old new : Option (List Entry)) (answer : Answer) (end : ℕ)
+      → Grows old new (λ before after. IsAskedIn ask before now after admission.Bypassed)
+      → Grows old new (ServesIn ask verdict.Bypassed (Some answer) now end)
+  logs_bypassed old new answer end p =
+      grows_map old new (λ a b. IsAskedIn ask a now b admission.Bypassed)
+      (ServesIn ask verdict.Bypassed (Some answer) now end) p
+      (λ (a b : List Entry) asked. record {
+        mid = b;
+        admission = admission.Bypassed;
+        asking = asked;
+        verdict = refl;
+        ending = refl;
+      })
+
+  pub logs_refused : (old new : Option (List Entry)) (why : Why) (end : ℕ)
+      → Grows old new (λ before after. IsAskedIn ask before now after (admission.Refused why))
+      → Grows old new (ServesIn ask (verdict.Refused why) None now end)
+  logs_refused old new why end p =
+      grows_map old new (λ a b. IsAskedIn ask a now b (admission.Refused why))
+      (ServesIn ask (verdict.Refused why) None now end) p
+      (λ (a b : List Entry) asked. record {
+        mid = b;
+        admission = admission.Refused why;
         asking = asked;
         verdict = refl;
         ending = refl;

@@ -1,9 +1,11 @@
 -- What an exchange is.
 use Rattle.std.specs.Prelude.{◌≡◌, ℕ, List, Option, None, Some, Result, Ok, Err, IsErrOf}
+use Rattle.clocks.specs.Looks.{Looked}
 use Rattle.counted_io.specs.declared.counted.Counted.{Counted}
 use Rattle.counted_io.specs.Causes.{IsWriteCause}
 use Rattle.counted_io.specs.Counted.{inner_of}
 use Rattle.counted_io.specs.Effects.{Wrote}
+use Rattle.limiter_core.specs.declared.event.Entry.{Entry}
 use Rattle.message_reading.specs.Reading.{HasFailed}
 use Rattle.wire.specs.declared.fault.WireFault.{WireFault}
 use Rattle.wire.specs.declared.fault.WireFault.TheVariants as fault
@@ -19,54 +21,71 @@ use Rattle.proxy.specs.declared.told.Verdict.TheVariants as verdict
 use Rattle.proxy.specs.Settling.{IsSettled, class_by}
 use Rattle.proxy.specs.Table.{is_sent_own, outcome_at, sent_status, sent_text}
 
+-- the bytes that a reader has left or that a writer holds, where they are known
+abbrev pub Bytes : Type 0
+Bytes = Option (List ℕ)
+
+abbrev pub known : Bytes → Bytes
+known bytes = bytes
+
+-- a reader or a writer by its counts and by what is known of its bytes
+abbrev pub told_by : {T : Type 0} → (T → Bytes) → Counted T → Counted Bytes
+told_by bytes c = record {
+  inner = bytes c.inner;
+  calls = c.calls;
+  flushes = c.flushes;
+  failures = c.failures;
+  is_flushed = c.is_flushed;
+}
+
 -- what an exchange finds and leaves: the client's two ends, the gate's entries where they are
--- shown, how many requests the backend was given, and which where it shows them
-pub record World (R W : Type 0) : Type 0 where
-  pub reader : Counted R
-  pub writer : Counted W
+-- shown, what is known of its log where that is told, the looks at the clock, how many requests the
+-- backend was given, and which where it shows them
+pub record World : Type 0 where
+  pub reader : Counted Bytes
+  pub writer : Counted Bytes
   pub shown : Option Shown
+  pub known : Option (List Entry)
+  pub looks : Looked Answer
   pub count : ℕ
   pub log : Option (List Forwarded)
 
 -- READ: the request that the reader's bytes begin with, or the fault that comes first in them,
 -- with what was said to the client meanwhile; a fault of the reader, of too many reads, or of the
 -- writer has its cause
-pub record IsRead {R W : Type 0} (remaining : R → Option (List ℕ)) (contents : W → Option (List ℕ))
-    (reader reader' : Counted R) (writer writer' : Counted W) (read : Result Request WireFault)
+pub record IsRead (reader reader' writer writer' : Counted Bytes) (read : Result Request WireFault)
     : Type 0 where
-  pub bytes : Reads remaining reader reader' (λ (request : Request). request) IsRequest read
+  pub bytes : Reads known reader reader' (λ (request : Request). request) IsRequest read
   pub said : (IsErrOf read fault.Write → ⊥)
-      → Said (remaining (inner_of reader)) (contents (inner_of writer))
-      (contents (inner_of writer')) read
+      → Said (inner_of reader) (inner_of writer) (inner_of writer') read
   pub failed : IsErrOf read fault.Read → HasFailed reader reader'
   pub used_up : IsErrOf read fault.TurnLimit → IsUsedUp reader reader'
   pub unsaid : IsErrOf read fault.Write → IsWriteCause writer writer'
 
--- after a fault of reading the gate isn't asked and nothing is forwarded; else what was read is
--- settled
-abbrev pub Deals : {R W : Type 0} → Settings → World R W → World R W
-    → Result Request WireFault → Option Answer → Exchange → Type 0
+-- after a fault of reading the gate isn't asked, no clock is looked at and nothing is forwarded;
+-- else what was read is settled
+abbrev pub Deals : Settings → World → World → Result Request WireFault → Option Answer → Exchange
+    → Type 0
 Deals s old new (Err f) answer x =
     (x.class ≡ None) × (x.admission ≡ verdict.NotAsked) × (answer ≡ None)
     × (new.shown ≡ old.shown) × (new.count ≡ old.count) × (new.log ≡ old.log)
+    × (new.looks ≡ old.looks) × (new.known ≡ old.known)
 Deals s old new (Ok request) answer x =
     (x.class ≡ Some (class_by s request))
-    × IsSettled s request old.shown new.shown old.count new.count old.log new.log
-    (class_by s request) x.admission answer
+    × IsSettled s request old.shown new.shown old.known new.known old.looks new.looks
+    old.count new.count old.log new.log (class_by s request) x.admission answer
 
 -- AN EXCHANGE: something is read, and dealt with; what is told of it, and without a fault of
 -- writing what is written to the client, is by the table of answers. A fault of writing as
 -- something was read is reported as such
-pub record IsExchange {R W : Type 0} (remaining : R → Option (List ℕ))
-    (contents : W → Option (List ℕ)) (s : Settings) (old new : World R W) (x : Exchange)
-    : Type 0 where
+pub record IsExchange (s : Settings) (old new : World) (x : Exchange) : Type 0 where
   pub read : Result Request WireFault
-  pub asked : Counted W
+  pub asked : Counted Bytes
   pub answer : Option Answer
-  pub reading : IsRead remaining contents old.reader new.reader old.writer asked read
+  pub reading : IsRead old.reader new.reader old.writer asked read
   pub deals : Deals s old new read answer x
   pub status : x.answer ≡ sent_status read answer
   pub own : x.is_own ≡ is_sent_own read answer
   pub outcome : x.outcome ≡ outcome_at answer
-  pub text : x.written_fault ≡ None → Wrote contents asked new.writer (sent_text read answer)
+  pub text : x.written_fault ≡ None → Wrote known asked new.writer (sent_text read answer)
   pub unasked : IsErrOf read fault.Write → x.written_fault ≡ Some fault.Write

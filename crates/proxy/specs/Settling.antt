@@ -1,7 +1,8 @@
 -- What becomes of a request that was read, at the gate and at the backend.
-use Rattle.std.specs.Prelude.{◌≡◌, ◌≢◌, ℕ, List, [], ◌++◌, Bool, true, false, Option, None, Some}
-use Rattle.std.specs.Prelude.{is_some, if◌then◌else◌}
+use Rattle.std.specs.Prelude.{◌≡◌, ◌≢◌, ℕ, ◌≤◌, List, [], ◌++◌, Bool, true, false, Option, None}
+use Rattle.std.specs.Prelude.{Some, is_some, if◌then◌else◌}
 use Rattle.counted_io.specs.Count.{raised}
+use Rattle.clocks.specs.Looks.{Looked, looked}
 use Rattle.limiter_core.specs.declared.event.Entry.{Entry}
 use Rattle.limiter_core.specs.declared.event.PermitFacts.{PermitFacts}
 use Rattle.message_parts.specs.declared.request.Request.{Request}
@@ -12,6 +13,7 @@ use Rattle.gate_port.specs.declared.port.Admission.{Admission}
 use Rattle.gate_port.specs.declared.port.Admission.TheVariants as admission
 use Rattle.gate_port.specs.Asking.{Ask, IsAsked}
 use Rattle.gate_port.specs.Ending.{IsEnding}
+use Rattle.gate_port.specs.Log.{Grows, IsAskedIn, IsEndedIn}
 use Rattle.gate_port.specs.Shown.{Adds, Shown}
 use Rattle.backend.specs.declared.answer.Answer.{Answer}
 use Rattle.backend.specs.Forwards.{Forwarded, Logs}
@@ -49,28 +51,54 @@ abbrev pub IsForwarded : Option (List Forwarded) → Option (List Forwarded) →
 IsForwarded old new request None = new ≡ old
 IsForwarded old new request (Some answer) = Logs old new request answer
 
--- an admitted permit is ended with the answer's outcome, and nobody else ends anything
-abbrev pub Closes : Admission PermitFacts → Option Answer → List Entry → Type 0
-Closes (admission.Admitted permit) (Some answer) ended =
-    (now : ℕ) × IsEnding permit (outcome_of answer) now ended
-Closes (admission.Admitted permit) None ended = ⊥
-Closes _ answer ended = ended ≡ []
+-- LOOKS AT THE CLOCK: one, which tells when it is asked for; and where it is admitted one more,
+-- made once this answer of the backend's is known, which tells when its permit is ended
+abbrev pub looks_of : Verdict → Option Answer → ℕ → ℕ → Looked Answer → Looked Answer
+looks_of verdict.Admitted answer now end old = looked (looked old now None) end answer
+looks_of _ answer now end old = looked old now None
 
--- THE ENTRIES of one asking where this was shown before, and of the ending of what it got
-pub record Serves (ask : Ask) (said : Verdict) (answer : Option Answer) (old : Shown)
+-- an admitted permit is ended with the answer's outcome, and nobody else ends anything
+abbrev pub Closes : Admission PermitFacts → Option Answer → ℕ → List Entry → Type 0
+Closes (admission.Admitted permit) (Some answer) end ended =
+    IsEnding permit (outcome_of answer) end ended
+Closes (admission.Admitted permit) None end ended = ⊥
+Closes _ answer end ended = ended ≡ []
+
+-- THE ENTRIES of one asking at this moment, where this was shown before, and of the ending of what
+-- it got
+pub record Serves (ask : Ask) (said : Verdict) (answer : Option Answer) (now end : ℕ) (old : Shown)
     (added : List Entry) : Type 0 where
-  pub now : ℕ
   pub asked : List Entry
   pub ended : List Entry
   pub admission : Admission PermitFacts
   pub both : added ≡ asked ++ ended
   pub asking : IsAsked ask old now asked admission
   pub verdict : said ≡ verdict_of admission
-  pub ending : Closes admission answer ended
+  pub ending : Closes admission answer end ended
+
+-- and the same in a log: an admitted permit's ending stands in it, and nothing else is added
+abbrev pub ClosesIn : Admission PermitFacts → Option Answer → ℕ → List Entry → List Entry → Type 0
+ClosesIn (admission.Admitted permit) (Some answer) end old new =
+    IsEndedIn permit (outcome_of answer) end old new
+ClosesIn (admission.Admitted permit) None end old new = ⊥
+ClosesIn _ answer end old new = new ≡ old
+
+-- IN A LOG of which this was known: one asking at this moment, and behind it the ending of what it
+-- got, with others' calls between
+pub record ServesIn (ask : Ask) (said : Verdict) (answer : Option Answer) (now end : ℕ)
+    (old new : List Entry) : Type 0 where
+  pub mid : List Entry
+  pub admission : Admission PermitFacts
+  pub asking : IsAskedIn ask old now mid admission
+  pub verdict : said ≡ verdict_of admission
+  pub ending : ClosesIn admission answer end mid new
 
 -- SETTLED: what was read is asked for by its class; it is forwarded once where it is let through,
--- and else not at all; and the gate's entries, where they are shown, are those of this
+-- and else not at all; and the gate's entries, where they are shown or its log is known, are those
+-- of this, at the moments that the clock told at just these looks, of which none tells less than
+-- the one before
 pub record IsSettled (s : Settings) (request : Request) (shown shown' : Option Shown)
+    (known known' : Option (List Entry)) (looks looks' : Looked Answer)
     (count count' : ℕ) (log log' : Option (List Forwarded))
     (class : Class) (said : Verdict) (answer : Option Answer) : Type 0 where
   pub class_is : class ≡ class_by s request
@@ -78,4 +106,11 @@ pub record IsSettled (s : Settings) (request : Request) (shown shown' : Option S
   pub answered : is_some answer ≡ is_through said
   pub asked : said ≢ verdict.NotAsked
   pub forwarded : IsForwarded log log' request answer
-  pub entries : Adds shown shown' (Serves (asked_for s (class_by s request)) said answer)
+  pub now : ℕ
+  pub end : ℕ
+  pub looked : looks' ≡ looks_of said answer now end looks
+  pub since : looks.latest ≤ now
+  pub later : now ≤ end
+  pub entries : Adds shown shown' (Serves (asked_for s (class_by s request)) said answer now end)
+  pub logged : Grows known known'
+      (ServesIn (asked_for s (class_by s request)) said answer now end)

@@ -1,16 +1,16 @@
 // An exchange.
 ghost use Rattle.std.specs.Prelude.{◌≡◌, ◌⊎◌, None, Some, IfSome, is_some, true};
 ghost use Rattle.counted_io.specs.Causes.{IsWriteCause};
-ghost use Rattle.counted_io.specs.Counted.{is_flushed};
+ghost use Rattle.counted_io.specs.Counted.{failures_of, is_flushed};
 ghost use Rattle.counted_io.specs.Effects.{Wrote};
 ghost use Rattle.proxy.specs.Table.{fault_status, local_or_nothing};
-ghost use Rattle.proxy.specs.Exchanges.{IsExchange};
+ghost use Rattle.proxy.specs.Exchanges.{IsExchange, told_by};
 
 use crate::replying::{fault_status, is_own, reply, reply_status};
 use crate::settling::{outcome_at, settle};
 use crate::told::{Exchange, Verdict};
-use backend::Backend;
-use clocks::Clock;
+use backend::{Answer, Backend};
+use clocks::{Clock, Looks};
 use counted_io::Counted;
 use gate_config::Settings;
 use gate_port::GatePort;
@@ -23,36 +23,43 @@ use wire::{WireFault, read_request};
 /// through, ends its permit, and answers the client.
 ///
 /// After a fault of reading the gate isn't asked and nothing is forwarded; the client gets the
-/// fault's own status, or after `Read`, `Write` and `TurnLimit` nothing. Where the client is
-/// answered and no write fails, a flush comes last. `written_fault` comes only where the writer
-/// failed; by then an admitted permit is ended.
+/// fault's own status, or after `Read`, `Write` and `TurnLimit` nothing. The clock is looked at as
+/// the gate is asked, and where a permit was got once more as the backend has answered. Where the
+/// client is answered and no write fails, a flush comes last. `written_fault` comes only where the
+/// writer failed; by then an admitted permit is ended.
 pub fn exchange<P: GatePort, B: Backend, C: Clock, R: BufRead, W: Write>(
     alloc: Global,
     port: &mut P,
     backend: &mut B,
     settings: &Settings,
-    clock: &C,
+    looks: &mut Looks<'_, C, Answer>,
     reader: &mut Counted<R>,
     writer: &mut Counted<W>,
 ) -> Exchange
-    ensures exchanged { IsExchange R.remaining W.contents settings.now
+    ensures exchanged { IsExchange settings.now
         (record {
-          reader = reader.old;
-          writer = writer.old;
+          reader = told_by R.remaining reader.old;
+          writer = told_by W.contents writer.old;
           shown = P.shown port.old;
+          known = P.known port.old;
+          looks = looks.old;
           count = B.forwarded backend.old;
           log = B.shown backend.old;
         })
         (record {
-          reader = reader.new;
-          writer = writer.new;
+          reader = told_by R.remaining reader.new;
+          writer = told_by W.contents writer.new;
           shown = P.shown port.new;
+          known = P.known port.new;
+          looks = looks.new;
           count = B.forwarded backend.new;
           log = B.shown backend.new;
         })
         result }
     ensures flushed { result.written_fault ≡ None → is_some result.answer ≡ true
         → is_flushed writer.new ≡ true }
+    ensures unfailing { result.written_fault ≡ None →
+        failures_of writer.new ≡ failures_of writer.old }
     ensures written { IfSome result.written_fault (λ fault.
         (fault ≡ WireFault.Write) × IsWriteCause writer.old writer.new) }
 {
@@ -60,7 +67,7 @@ pub fn exchange<P: GatePort, B: Backend, C: Clock, R: BufRead, W: Write>(
         Ok(request) => request,
         Err(fault) => return unread(fault, writer),
     };
-    let settled = settle(port, backend, settings, clock, &request);
+    let settled = settle(port, backend, settings, looks, &request);
     let written_fault = reply(writer, &settled.answer, &request.method);
     Exchange {
         class: Some(settled.class),
@@ -83,6 +90,8 @@ fn unread<W: Write>(fault: WireFault, writer: &mut Counted<W>) -> Exchange
         (local_or_nothing (fault_status fault)) }
     ensures flushed { result.written_fault ≡ None → is_some result.answer ≡ true
         → is_flushed writer.new ≡ true }
+    ensures unfailing { result.written_fault ≡ None →
+        failures_of writer.new ≡ failures_of writer.old }
     ensures written { IfSome result.written_fault (λ written. (written ≡ WireFault.Write)
         × ((fault ≡ WireFault.Write) ⊎ IsWriteCause writer.old writer.new)) }
     ensures untouched { fault ≡ WireFault.Write → writer.new ≡ writer.old }

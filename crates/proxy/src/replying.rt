@@ -1,7 +1,7 @@
 // What the client gets.
 ghost use Rattle.std.specs.Prelude.{◌≡◌, ◌≤◌, None, OnOk, OnErr, IfSome, true};
 ghost use Rattle.counted_io.specs.Causes.{IsWriteCause};
-ghost use Rattle.counted_io.specs.Counted.{is_flushed};
+ghost use Rattle.counted_io.specs.Counted.{failures_of, is_flushed};
 ghost use Rattle.counted_io.specs.Effects.{Wrote};
 ghost use Rattle.proxy.specs.Table.{fault_status, is_own, reply_status, reply_text};
 
@@ -53,6 +53,7 @@ pub(crate) fn reply<W: Write>(
     ensures all { result ≡ None →
         Wrote W.contents writer.old writer.new (reply_text method.now answer.now) }
     ensures flushed { result ≡ None → is_flushed writer.new ≡ true }
+    ensures unfailing { result ≡ None → failures_of writer.new ≡ failures_of writer.old }
     ensures failed { IfSome result (λ fault.
         (fault ≡ WireFault.Write) × IsWriteCause writer.old writer.new) }
 {
@@ -72,6 +73,7 @@ fn write_reply<W: Write>(
     ensures all { OnOk result
         (Wrote W.contents writer.old writer.new (reply_text method.now answer.now)) }
     ensures flushed { OnOk result (is_flushed writer.new ≡ true) }
+    ensures unfailing { OnOk result (failures_of writer.new ≡ failures_of writer.old) }
     ensures failed { OnErr result (IsWriteCause writer.old writer.new) }
 {
     match answer {

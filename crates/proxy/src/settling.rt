@@ -6,7 +6,7 @@ ghost use Rattle.proxy.specs.Settling.{IsSettled};
 use crate::told::Verdict;
 use backend::{Answer, Backend};
 use classifier::{Class, classify};
-use clocks::Clock;
+use clocks::{Clock, Looks};
 use gate_config::Settings;
 use gate_port::{Admission, GatePort};
 use limit_laws::LAST_MOMENT;
@@ -74,19 +74,22 @@ pub(crate) fn settle<P: GatePort, B: Backend, C: Clock>(
     port: &mut P,
     backend: &mut B,
     settings: &Settings,
-    clock: &C,
+    looks: &mut Looks<'_, C, Answer>,
     request: &Request,
 ) -> Settled
     ensures { IsSettled settings.now request.now (P.shown port.old) (P.shown port.new)
-        (B.forwarded backend.old) (B.forwarded backend.new) (B.shown backend.old)
-        (B.shown backend.new) result.class result.admission result.answer }
+        (P.known port.old) (P.known port.new) looks.old looks.new
+        (B.forwarded backend.old) (B.forwarded backend.new)
+        (B.shown backend.old) (B.shown backend.new)
+        result.class result.admission result.answer }
 {
     let class = classify(&settings.rules, &settings.table, request);
-    let now = clock.now();
+    let now = looks.look();
     match port.admit(class.part, class.bypass, deadline(settings, now), now) {
         Admission::Admitted(permit) => {
             let answer = backend.forward(request);
-            let _receipt = port.end(permit, outcome(&answer), clock.now());
+            let end = looks.look_knowing(&answer);
+            let _receipt = port.end(permit, outcome(&answer), end);
             Settled {
                 class,
                 admission: Verdict::Admitted,

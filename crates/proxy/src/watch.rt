@@ -6,7 +6,10 @@ use std::io::Error;
 
 /// What hears of exchanges and of the gate that they ask, from each thread that carries them out.
 pub trait Watch {
-    /// An exchange has ended.
+    /// A client was accepted: the worker whose thread this is serves it now.
+    fn accepted(&self);
+
+    /// That worker's exchange has ended, and it is free for another client.
     fn ended(&self, exchange: &Exchange);
 
     /// A connection couldn't be accepted, for this cause.

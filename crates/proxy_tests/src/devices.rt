@@ -125,6 +125,8 @@ impl GatePort for Watched {
 
     ghost shown = { λ _. None };
 
+    ghost known = { λ _. None };
+
     ghost facts = { λ permit. permit };
 
     fn admit(

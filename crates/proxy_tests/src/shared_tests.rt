@@ -2,8 +2,10 @@
 ghost use Rattle.std.specs.Prelude.{◌≡◌, [], false};
 ghost use Rattle.limiter_core.specs.declared.promote.Promote.TheVariants.{Newest};
 ghost use Rattle.limit_laws.specs.FixedRules.{fixed_rules};
+ghost use Rattle.gate_journal.specs.Journal.{next_number};
 ghost use Rattle.gate_ledgers.specs.Course.{course_of};
 ghost use Rattle.gate_ledgers.specs.Names.{AreNamed, AreWhole};
+ghost use Rattle.shared_gate.specs.Log.{CallsAllLegal};
 
 use crate::devices::{SECOND, Ticking};
 use gate_history::{Blanks, Book, Naming};
@@ -34,6 +36,7 @@ fn open_book<N: Naming, R: Abort>(rt: &R, alloc: Global, blanks: Blanks) -> Book
     requires kept { N.kept ≡ 100 }
     requires rolling { N.is_rolling ≡ false }
     requires limit { N.limit ≡ course_of fixed_rules 1 }
+    ensures { next_number result.journal ≡ 0 }
 {
     let table = PartitionTable::unknown_only();
     let limit = Fixed::new(1).expect(rt, "a limit");
@@ -59,6 +62,7 @@ fn over_one_permit<N: GateNaming, R: Wait + SystemClock + Abort>(
     requires names { AreNamed N.calls N.place blanks }
     requires parts { AreWhole blanks }
     requires word { word ≡ N.word }
+    requires legal { CallsAllLegal N.legal }
     requires rows { N.rows ≡ [] }
     requires room { N.room ≡ 100 }
     requires promote { N.promote ≡ Newest }
@@ -66,12 +70,8 @@ fn over_one_permit<N: GateNaming, R: Wait + SystemClock + Abort>(
     requires rolling { N.is_rolling ≡ false }
     requires limit { N.limit ≡ course_of fixed_rules 1 }
 {
-    let mut book = open_book::<N, R>(rt, alloc, blanks);
-    let mut passes = Vec::new(alloc);
-    let pass = book.pass().expect(rt, "a pass");
-    passes.push(pass).expect(rt, "memory for a pass");
-    book.seal();
-    let made = SharedGate::new(alloc, word, book, passes);
+    let book = open_book::<N, R>(rt, alloc, blanks);
+    let made = SharedGate::open(alloc, word, book, 1);
     let (gate, mut passes) = made.expect(rt, "memory for a gate");
     refuses(rt, &gate, passes.pop().expect(rt, "a pass"));
 }

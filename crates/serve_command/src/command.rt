@@ -134,7 +134,7 @@ where
     };
     log_listening(rt, alloc, settings, service.workers);
     let clock = ProgramClock::start(rt);
-    let watch = Watcher::new(rt, alloc);
+    let watch = Watcher::new(rt, alloc, service.workers);
     let common = WorkerSettings {
         listener: &front,
         source: text,

@@ -4,6 +4,7 @@ ghost use Rattle.limit_kinds.specs.AnyKinds.{any_rules};
 ghost use Rattle.gate_ledgers.specs.Course.{course_of};
 ghost use Rattle.gate_ledgers.specs.Names.{AreNamed, AreWhole};
 ghost use Rattle.gate_config.specs.Settings.{AreSound};
+ghost use Rattle.shared_gate.specs.Log.{CallsLegal};
 
 use clocks::Clock;
 use gate_config::Settings;
@@ -39,6 +40,8 @@ where
     S: Source + Sync,
     W: Watch + BackendWatch + Sync,
     L::Stream: Send + Sync,
+    L::From: Send + Sync,
+    L::To: Send + Sync,
     R::Stream: Send + Sync,
     R::Listener: Send + Sync,
     requires sound { AreSound settings.now }
@@ -64,6 +67,8 @@ where
     S: Source + Sync,
     W: Watch + BackendWatch + Sync,
     L::Stream: Send + Sync,
+    L::From: Send + Sync,
+    L::To: Send + Sync,
     R::Stream: Send + Sync,
     R::Listener: Send + Sync,
     requires names { AreNamed M.calls M.place blanks }
@@ -76,6 +81,8 @@ where
     requires rolling { M.is_rolling ≡ true }
     requires limit { M.limit ≡ course_of any_rules settings.now.limit }
     requires sound { AreSound settings.now }
+    requires legal { CallsLegal any_rules settings.now.table settings.now.backlog
+        settings.now.promote settings.now.limit M.legal }
 {
     let (gate, passes) = open_gate::<M>(common.alloc, settings, blanks, word, workers)?;
     serve_through(rt, common, settings, &gate, passes)
@@ -99,11 +106,13 @@ where
     S: Source + Sync,
     W: Watch + BackendWatch + Sync,
     L::Stream: Send + Sync,
+    L::From: Send + Sync,
+    L::To: Send + Sync,
     R::Stream: Send + Sync,
     R::Listener: Send + Sync,
 {
     let ports = make_ports(rt, common.alloc, gate, common.clock, passes)?;
-    serve(rt, common, settings, &View::new(rt, gate), ports)?;
+    let _left = serve(rt, common, settings, &View::new(rt, gate), ports)?;
     Ok(gate.counters(rt))
 }
 

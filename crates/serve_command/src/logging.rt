@@ -11,8 +11,12 @@ use std::alloc::Global;
 use std::fs::Files;
 use std::net::SocketAddrV4;
 
-/// Logs a warning where as many as may be in flight or wait exceed the workers, since who comes
-/// while all workers are taken waits unseen in the system's accept queue, and isn't refused; one
+/// The most workers.
+const MOST_WORKERS: u64 = 64;
+
+/// Logs a warning where as many as may be in flight or wait exceed the workers, with how many are
+/// wanted, since who comes while all workers are taken waits unseen in the system's accept queue,
+/// and isn't refused; one
 /// where the workers may want more descriptors than the system gives; one where the backend is this
 /// gateway itself, since each request would then take one worker after the other; and at last where
 /// clients are listened for, by how many workers, and the kind of limit.
@@ -26,8 +30,9 @@ pub(crate) fn log_listening<R: Files + Log>(
 {
     let inside = most_inside(settings);
     if inside > u64::from(workers) {
-        warn!(rt; target: "admission", inside, workers;
-            "limit, shares and backlog exceed the workers: callers past them wait unseen");
+        let wanted = inside.saturating_add(1).min(MOST_WORKERS);
+        warn!(rt; target: "admission", inside, workers, wanted;
+            "limit, shares and backlog exceed the workers: past these nobody is served or refused");
     }
     log_descriptors(rt, alloc, workers);
     let address = settings.listen.socket();
@@ -49,7 +54,7 @@ fn log_descriptors<R: Files + Log>(rt: &R, alloc: Global, workers: u32) {
     };
     if descriptors < wanted {
         warn!(rt; target: "admission", descriptors, wanted;
-            "workers exceed the descriptors: clients past them get no answer or 502");
+            "too few descriptors for the workers: requests are answered 502, or not at all");
     }
 }
 

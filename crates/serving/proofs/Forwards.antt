@@ -10,17 +10,14 @@ use Rattle.proxy.specs.Exchanges.{Deals, IsExchange, World}
 use Rattle.proxy.specs.Settling.{is_through}
 
 -- what was dealt with was forwarded once where it was let through
-pub dealt_once : {R W : Type 0} (s : Settings) (old new : World R W)
-    (read : Result Request WireFault) (answer : Option Answer) (x : Exchange)
-    → Deals s old new read answer x
+dealt_once : (s : Settings) (old new : World) (read : Result Request WireFault)
+    (answer : Option Answer) (x : Exchange) → Deals s old new read answer x
     → new.count ≡ (if is_through x.admission then raised old.count else old.count)
 dealt_once s old new (Err f) answer x deals =
     deals.4 ∙ sym (ap (λ said. if is_through said then raised old.count else old.count) deals.1)
 dealt_once s old new (Ok request) answer x deals = deals.1.counted
 
 -- so an exchange is forwarded once where it was let through
-pub exchanged_once : {R W : Type 0} (remaining : R → Option (List ℕ))
-    (contents : W → Option (List ℕ)) (s : Settings) (old new : World R W) (x : Exchange)
-    → IsExchange remaining contents s old new x
+pub exchanged_once : (s : Settings) (old new : World) (x : Exchange) → IsExchange s old new x
     → new.count ≡ (if is_through x.admission then raised old.count else old.count)
-exchanged_once remaining contents s old new x is = dealt_once s old new is.read is.answer x is.deals
+exchanged_once s old new x is = dealt_once s old new is.read is.answer x is.deals

@@ -1,1 +1,4 @@
-mod Forwards
+pub mod All
+pub mod Forwards
+pub mod Runs
+pub mod Told

@@ -1,2 +1,7 @@
+pub mod Doors
 pub mod Faults
 pub mod Reports
+pub mod Served
+pub mod Turns
+pub mod Visits
+pub mod Workers

@@ -1,18 +1,27 @@
 //! Workers that serve clients through the ports of one gate.
 //!
-//! [`serve`] runs a worker for each port, each on a thread of its own with a backend and buffers of
-//! its own. A worker accepts its connections one after the other and serves each by one exchange of
-//! `proxy`, over readers and writers that last as long as a client may take (`timed_io`). Which
-//! gate it is isn't known here. Of threads and sockets nothing is promised here but safety: what an
+//! [`serve`] runs a worker for each port, each on a thread with a [`Door`], a backend and buffers
+//! of its own. A worker takes one turn after the other: a client is accepted, served by one
+//! exchange of `proxy`, over readers and writers that last as long as it may take (`timed_io`), and
+//! let go; or none is to be had. Its contract is `specs/Turns.antt`: for each client one exchange,
+//! and nothing else is asked of the gate or forwarded. Which gate it is isn't known here. What an
 //! exchange does is said in `proxy`, and what a port does in `gate_port`.
+//!
+//! Of a socket nothing tells what came and went; a door in memory may show its visits
+//! (`specs/Visits.antt`), and then each client's bytes are those of its exchange. Nothing is
+//! promised of how long a call takes, nor that a client comes at all.
 #![tactic(auto)]
 
+mod doors;
 mod fault;
+mod hands;
 mod lingering;
 mod reporting;
 mod workers;
 mod working;
 
+pub use doors::{Accepts, Door};
 pub use fault::ServeFault;
+pub use hands::{Ended, Left};
 pub use workers::serve;
-pub use working::{Buffers, Source, WorkerSettings, work};
+pub use working::{Buffers, Source, Tally, WorkerSettings, work};

@@ -4,7 +4,7 @@ use lent_io::ReadBuffer;
 use proxy::Exchange;
 use std::io::Read;
 use std::time::Duration;
-use timed_io::{Connection, Lent, TimedReader, Uninterrupted};
+use timed_io::{Connection, Inlet, Lent, TimedReader, Uninterrupted};
 
 /// How long a client may go on sending behind its answer, in nanoseconds.
 const LONGEST: u64 = 2_000_000_000;
@@ -17,17 +17,18 @@ const MOST_READS: u32 = 65_536;
 /// or for so many nanoseconds, two seconds at most. A connection that is closed with bytes unread,
 /// or before what comes is read, is reset, and the client may lose the answer with it (RFC 9112,
 /// section 9.6). Until it has taken its answer is waited for as long at most.
-pub(crate) fn linger<T: Connection, C: Clock>(
+pub(crate) fn linger<T: Connection, I: Inlet<T> + Copy, C: Clock>(
     served: &Exchange,
     ahead: &ReadBuffer,
     stream: &T,
+    from: I,
     clock: &C,
     most: u64,
 ) {
     let most = most.min(LONGEST);
     let is_answered = served.answer.is_some() && served.written_fault.is_none();
     if is_answered && has_more(served, ahead, stream, most) && stream.finish().is_ok() {
-        drop_rest(stream, clock, most);
+        drop_rest(stream, from, clock, most);
     }
 }
 
@@ -41,8 +42,13 @@ fn has_more<T: Connection>(served: &Exchange, ahead: &ReadBuffer, stream: &T, mo
 }
 
 /// Reads and drops what comes, up to its end or for so many nanoseconds.
-fn drop_rest<T: Connection, C: Clock>(stream: &T, clock: &C, most: u64) {
-    let timed = TimedReader::new(Lent::new(stream), clock, most);
+fn drop_rest<T: Connection, I: Inlet<T> + Copy, C: Clock>(
+    stream: &T,
+    from: I,
+    clock: &C,
+    most: u64,
+) {
+    let timed = TimedReader::new(Lent::new(stream, from), clock, most);
     let mut reader = Uninterrupted::new(timed);
     let mut dropped = [0u8; 4096];
     for _ in 0..MOST_READS {

@@ -1,9 +1,14 @@
 // Workers that serve through one gate.
-ghost use Rattle.std.specs.Prelude.{◌≡◌, ◌≤◌, ◌+◌, IfOk, vec_len};
+ghost use Rattle.std.specs.Prelude.{◌≡◌, [], IfOk};
+ghost use Rattle.std.specs.List.{AllZip, list_all};
+ghost use Rattle.serving.specs.Workers.{AreWithin, Begins, HasRun, HasWorked};
+ghost use Rattle.serving.specs.Workers.{ended_in, has_begun, workers_in};
 
+use crate::doors::{Accepts, Door};
 use crate::fault::ServeFault;
-use crate::reporting::{Present, report_all};
-use crate::working::{Buffers, Source, WorkerSettings, work};
+use crate::hands::{Context, Hand, Left, Worker};
+use crate::reporting::Present;
+use crate::working::{Buffers, Source, WorkerSettings};
 use backend::Backend;
 use clocks::Clock;
 use gate_config::Settings;
@@ -14,24 +19,25 @@ use std::net::Net;
 use std::sync::Wait;
 use std::thread::Threads;
 use std::time::Clock as SystemClock;
-use tasks::{Task, run_tasks};
+use tasks::run_tasks;
 use tcp_backend::{BackendWatch, TcpBackend};
 use timed_io::Listener;
 
-/// Serves clients by one worker for each port, each on a thread of its own with a connection of its
-/// own to the backend of the settings, until all have ended. Where reports are wanted one more
-/// thread has them of the gate: it is started last, once all workers were.
+/// Serves clients by one worker for each port, each on a thread of its own with a door, and with a
+/// connection of its own to the backend of the settings, until all have ended; and tells what they
+/// left, in the order of the ports. Where reports are wanted one more thread has them of the gate:
+/// it is started last, once all workers were, and tells what it left first.
 ///
 /// The settings are those that the workers' source gives. `Memory` comes before any worker is
 /// started, or where one had none for its settings, once all have ended; `Thread` once those that
 /// were started have.
-pub fn serve<R, G, P, L, C, S, W>(
-    rt: &R,
-    common: &WorkerSettings<'_, L, C, S, W>,
+pub fn serve<'l, R, G, P, L, C, S, W>(
+    rt: &'l R,
+    common: &WorkerSettings<'l, L, C, S, W>,
     settings: &Settings,
     gate: &G,
     ports: Vec<P>,
-) -> Result<(), ServeFault>
+) -> Result<Vec<Left<Door<'l, L, W>, P, TcpBackend<&'l R, &'l W>>>, ServeFault>
 where
     R: Net + Threads + Wait + SystemClock + Sync,
     G: GateView + Sync,
@@ -43,222 +49,129 @@ where
     P::Permit: Send,
     P::Receipt: Send,
     L::Stream: Send + Sync,
+    L::From: Send + Sync,
+    L::To: Send + Sync,
     R::Stream: Send + Sync,
     R::Listener: Send + Sync,
+    ensures { IfOk result (λ lefts.
+        AllZip (HasRun S.gives P.shown P.known common.now) ports.items (ended_in lefts.items)) }
 {
-    let backends = make_backends(rt, common, settings, ports.len())?;
-    serve_by(rt, common, gate, ports, backends)
+    let workers = make_workers(rt, common, settings, ports)?;
+    serve_by(rt, common, gate, workers)
 }
 
-/// So many backends at the address of the settings.
-fn make_backends<'r, R: Net, L, C, S, W>(
-    rt: &'r R,
-    common: &WorkerSettings<'r, L, C, S, W>,
+/// A worker for each port, with a door, and with a backend at the address of the settings.
+fn make_workers<'l, R: Net, P: Drop, L, C, S, W>(
+    rt: &'l R,
+    common: &WorkerSettings<'l, L, C, S, W>,
     settings: &Settings,
-    count: usize,
-) -> Result<Vec<TcpBackend<&'r R, &'r W>>, ServeFault>
-    ensures all { IfOk result (λ backends. vec_len backends ≡ count) }
+    ports: Vec<P>,
+) -> Result<Vec<Worker<Door<'l, L, W>, P, TcpBackend<&'l R, &'l W>>>, ServeFault>
+    ensures { IfOk result (λ workers. AllZip Begins ports.items workers.items) }
 {
     let (alloc, watch) = (common.alloc, common.watch);
-    let mut backends = Vec::with_capacity(alloc, count)?;
-    for _ in 0..count {
-        let backend = TcpBackend::new(rt, alloc, settings.backend.socket(), watch)?;
-        backends.push_reserved(backend);
+    let address = settings.backend.socket();
+    let mut workers = Vec::with_capacity(alloc, ports.len())?;
+    for port in ports {
+        let worker = Worker {
+            door: Door::new(common.listener, watch),
+            port,
+            backend: TcpBackend::new(rt, alloc, address, watch)?,
+            buffers: Buffers::new(alloc)?,
+        };
+        workers.push_reserved(worker);
     }
-    Ok(backends)
+    Ok(workers)
 }
 
-/// Serves clients by one worker for each port and backend. Which backend it is isn't told apart
-/// here.
-fn serve_by<R, G, P, L, B, C, S, W>(
+/// Serves clients by these workers. Which doors and backends they have isn't told apart here.
+fn serve_by<R, G, A, P, B, L, C, S, W>(
     rt: &R,
     common: &WorkerSettings<'_, L, C, S, W>,
     gate: &G,
-    ports: Vec<P>,
-    backends: Vec<B>,
-) -> Result<(), ServeFault>
+    workers: Vec<Worker<A, P, B>>,
+) -> Result<Vec<Left<A, P, B>>, ServeFault>
 where
     R: Threads + Wait + SystemClock + Sync,
     G: GateView + Sync,
+    A: Accepts + Send + Drop,
     P: GatePort + Send + Drop,
-    L: Listener + Sync,
     B: Backend + Send + Drop,
+    L: Sync,
     C: Clock + Sync,
     S: Source + Sync,
     W: Watch + Sync,
     P::Permit: Send,
     P::Receipt: Send,
-    L::Stream: Send + Sync,
+    A::Stream: Send + Sync,
+    A::From: Send + Sync,
+    A::To: Send + Sync,
+    ensures { IfOk result (λ lefts. AllZip (HasWorked A.given A.failed A.closed A.visits P.shown
+        P.known B.forwarded B.shown S.gives S.lacks common.now.source.now common.now.per_worker)
+        workers.items (ended_in lefts.items)) }
 {
     let context = Context {
         rt,
         common,
         gate,
-        present: Present::new(backends.len()),
+        present: Present::new(workers.len()),
     };
-    let reporters = make_reporter(common.alloc, &context, common.report_every_ns)?;
-    let hands = add_workers(common.alloc, &context, reporters, ports, backends)?;
-    let began = run_tasks(rt, common.alloc, hands)?;
-    if began.iter().all(|it| *it) {
-        Ok(())
-    } else {
-        Err(ServeFault::Memory)
+    let hands = make_hands(common.alloc, &context, common.report_every_ns, workers)?;
+    let lefts = run_tasks(rt, common.alloc, hands)?;
+    if !have_begun(&lefts) {
+        return Err(ServeFault::Memory);
     }
+    Ok(lefts)
 }
 
-/// The gate, as its workers find it.
-#[derive(Drop)]
-struct Context<'a, R, G, L, C, S, W> {
-    rt: &'a R,
-    common: &'a WorkerSettings<'a, L, C, S, W>,
-    gate: &'a G,
-    present: Present,
-}
-
-/// Whoever has a thread, in a context: a worker, or who reports every so many nanoseconds.
-#[derive(Drop)]
-enum Hand<'a, P, B, X> {
-    Reporter(&'a X, u64),
-    Worker(&'a X, Worker<P, B>),
-}
-
-/// What a worker owns.
-#[derive(Drop)]
-struct Worker<P, B> {
-    port: P,
-    backend: B,
-    buffers: Buffers,
-}
-
-/// Whoever reports every so many nanoseconds, where that is wanted.
-fn make_reporter<'a, P: Drop, B: Drop, X>(
+/// Whoever reports every so many nanoseconds, where that is wanted, and the workers.
+fn make_hands<'a, A: Drop, P: Drop, B: Drop, X>(
     alloc: Global,
     context: &'a X,
     every: Option<u64>,
-) -> Result<Vec<Hand<'a, P, B, X>>, AllocError> {
-    let mut hands = Vec::new(alloc);
-    if let Some(every) = every {
-        hands.push(Hand::Reporter(context, every))?;
-    }
-    Ok(hands)
-}
-
-/// Adds a worker for each backend, with a port each.
-fn add_workers<'a, P: Drop, B: Drop, X>(
-    alloc: Global,
-    context: &'a X,
-    mut hands: Vec<Hand<'a, P, B, X>>,
-    ports: Vec<P>,
-    backends: Vec<B>,
-) -> Result<Vec<Hand<'a, P, B, X>>, AllocError>
-    ensures all { IfOk result (λ added. vec_len added ≡ vec_len hands.entry + vec_len backends) }
+    workers: Vec<Worker<A, P, B>>,
+) -> Result<Vec<Hand<'a, A, P, B, X>>, AllocError>
+    ensures all { IfOk result (λ hands. workers_in hands.items ≡ workers.items) }
+    ensures within { IfOk result (λ hands. AreWithin context.now hands.items) }
 {
-    hands.reserve(backends.len())?;
-    let mut ports = ports.into_iter();
-    for backend in backends {
-        let Some(port) = ports.next() else {
-            return Err(AllocError);
-        };
-        let worker = make_worker(alloc, port, backend)?;
+    let mut hands = make_reporter(alloc, context, every)?;
+    hands.reserve(workers.len())?;
+    for worker in workers {
         hands.push_reserved(Hand::Worker(context, worker));
     }
     Ok(hands)
 }
 
-/// A worker with new buffers.
-fn make_worker<P: Drop, B: Drop>(
+/// Whoever reports, where that is wanted.
+fn make_reporter<'a, A: Drop, P: Drop, B: Drop, X>(
     alloc: Global,
-    port: P,
-    backend: B,
-) -> Result<Worker<P, B>, AllocError> {
-    let buffers = Buffers::new(alloc)?;
-    Ok(Worker {
-        port,
-        backend,
-        buffers,
-    })
+    context: &'a X,
+    every: Option<u64>,
+) -> Result<Vec<Hand<'a, A, P, B, X>>, AllocError>
+    ensures none { IfOk result (λ hands. workers_in hands.items ≡ []) }
+    ensures within { IfOk result (λ hands. AreWithin context.now hands.items) }
+{
+    let mut hands = Vec::new(alloc);
+    let Some(every) = every else {
+        return Ok(hands);
+    };
+    hands.push(Hand::Reporter(context, every))?;
+    Ok(hands)
 }
 
-impl<'a, R, G, P, L, B, C, S, W> Task for Hand<'a, P, B, Context<'a, R, G, L, C, S, W>>
-where
-    R: Wait + SystemClock + Sync,
-    G: GateView + Sync,
-    P: GatePort + Send + Drop,
-    L: Listener + Sync,
-    B: Backend + Send + Drop,
-    C: Clock + Sync,
-    S: Source + Sync,
-    W: Watch + Sync,
+/// Whether all who had a thread had the memory to begin.
+fn have_begun<A, P, B>(lefts: &[Left<A, P, B>]) -> bool
+    ensures { result ≡ list_all has_begun lefts.now }
 {
-    // Whether it had the memory to begin.
-    type Done = bool;
+    lefts.iter().all(|left| has_begun(left))
+}
 
-    fn run(self) -> bool {
-        match self {
-            Hand::Reporter(context, every) => run_reports(context, every).is_ok(),
-            Hand::Worker(context, worker) => {
-                let ran = run_one(context, worker);
-                context.present.leave(context.rt);
-                ran.is_ok()
-            }
-        }
+/// Whether one had.
+fn has_begun<A, P, B>(left: &Left<A, P, B>) -> bool
+    ensures { result ≡ has_begun left.now }
+{
+    match left {
+        Left::Unbegun => false,
+        Left::Reported | Left::Worked(_) => true,
     }
-}
-
-/// The reports, with the names of settings of its own.
-fn run_reports<R, G, L, C, S, W>(
-    context: &Context<'_, R, G, L, C, S, W>,
-    every: u64,
-) -> Result<(), AllocError>
-where
-    R: Wait + SystemClock,
-    G: GateView,
-    C: Clock,
-    S: Source,
-    W: Watch,
-{
-    let common = context.common;
-    let settings = common.source.settings(common.alloc)?;
-    report_all(
-        context.rt,
-        &context.present,
-        context.gate,
-        &settings.table,
-        common.clock,
-        common.watch,
-        every,
-    );
-    Ok(())
-}
-
-/// One worker's whole run, over settings of its own.
-fn run_one<R, G, P, L, B, C, S, W>(
-    context: &Context<'_, R, G, L, C, S, W>,
-    worker: Worker<P, B>,
-) -> Result<(), AllocError>
-where
-    R: Wait + SystemClock,
-    P: GatePort + Drop,
-    L: Listener,
-    B: Backend + Drop,
-    C: Clock,
-    S: Source,
-    W: Watch,
-{
-    let common = context.common;
-    let settings = common.source.settings(common.alloc)?;
-    let Worker {
-        mut port,
-        mut backend,
-        mut buffers,
-    } = worker;
-    work(
-        context.rt,
-        common,
-        &settings,
-        &mut port,
-        &mut backend,
-        &mut buffers,
-    );
-    Ok(())
 }

@@ -1,22 +1,24 @@
 // What one worker does.
-ghost use Rattle.std.specs.Prelude.{◌≡◌, ◌≤◌, ◌+◌, if◌then◌else◌, IfOk};
-ghost use Rattle.counted_io.specs.Count.{raised};
+ghost use Rattle.std.specs.Prelude.{◌≡◌, ◌≤◌, ◌+◌, false, IfOk, OnErr};
+ghost use Rattle.counted_io.specs.Count.{count_end};
 ghost use Rattle.gate_config.specs.declared.settings.Settings.{Settings as SettingsValue};
-ghost use Rattle.proxy.specs.Settling.{is_through};
+ghost use Rattle.serving.specs.Served.{IsServed, told_where};
+ghost use Rattle.serving.specs.Turns.{IsRun};
 
+use crate::doors::Accepts;
 use crate::lingering::linger;
 use backend::Backend;
-use clocks::Clock;
+use clocks::{Clock, Looks};
 use counted_io::Counted;
 use gate_config::Settings;
 use gate_port::GatePort;
 use lent_io::{BufferedRead, BufferedWrite, ReadBuffer, WriteBuffer};
-use proxy::{Exchange, Watch, exchange};
+use proxy::{Exchange, exchange};
 use std::alloc::{AllocError, Global};
-use std::io::{BufRead, Write};
 use std::thread;
 use std::time::{Clock as SystemClock, Duration};
-use timed_io::{Connection, Lent, Listener, TimedReader, TimedWriter, Uninterrupted};
+use timed_io::{Arrival, Connection, Inlet, Lent, Outlet, TimedReader, TimedWriter, Uninterrupted};
+use wire::WireFault;
 
 /// How many bytes are read or written at once.
 const PIECE: usize = 16_384;
@@ -48,9 +50,13 @@ pub trait Source {
     // Settings that it gives.
     ghost gives: { Self → SettingsValue → Type 0 };
 
+    // What it is that it had no memory for them.
+    ghost lacks: { Self → Type 0 };
+
     /// Settings of one's own. It fails only out of memory.
     fn settings(&self, alloc: Global) -> Result<Settings, AllocError>
-        ensures { IfOk result (gives self.now) };
+        ensures given { IfOk result (gives self.now) }
+        ensures lacking { OnErr result (lacks self.now) };
 }
 
 /// What all workers of a gateway share, and what each of them is asked to do.
@@ -74,96 +80,170 @@ pub struct WorkerSettings<'a, L, C, S, W> {
     pub alloc: Global,
 }
 
-/// Accepts `per_worker` connections, one after the other, and serves each by one exchange. A
-/// connection that can't be had counts as one, and the next one is tried a while later: what was
-/// missing, such as a free descriptor, isn't there at once. None is forwarded twice. The settings
-/// are some that the workers' source gives; the watch hears of each.
-pub fn work<R, P, B, C, L, S, W>(
+/// What came of a worker's turns.
+#[derive(Clone, Copy)]
+pub struct Tally {
+    /// How many clients it had.
+    pub accepted: u64,
+    /// How often none was to be had.
+    pub unaccepted: u64,
+}
+
+/// Takes `per_worker` turns, or fewer where the door is found closed. In each a client is accepted,
+/// served by one exchange and let go; or none was to be had, and then nothing is forwarded, and the
+/// next turn comes a while later: what was missing, such as a free descriptor, isn't there at once.
+/// The settings are some that the workers' source gives.
+pub fn work<R, A, P, B, C, L, S, W>(
     rt: &R,
     common: &WorkerSettings<'_, L, C, S, W>,
     settings: &Settings,
+    door: &mut A,
     port: &mut P,
     backend: &mut B,
     buffers: &mut Buffers,
-)
+) -> Tally
 where
     R: SystemClock,
+    A: Accepts,
     P: GatePort,
     B: Backend,
     C: Clock,
-    L: Listener,
     S: Source,
-    W: Watch,
     requires settings { S.gives common.now.source.now settings.now }
-    ensures once { B.forwarded backend.new ≤ B.forwarded backend.old + common.now.per_worker }
+    ensures run { IsRun settings.now common.now.per_worker
+        (record {
+          given = A.given door.old;
+          failed = A.failed door.old;
+          closed = A.closed door.old;
+          visits = A.visits door.old;
+          back = record {
+            shown = P.shown port.old;
+            known = P.known port.old;
+            count = B.forwarded backend.old;
+            log = B.shown backend.old;
+          };
+        })
+        (record {
+          given = A.given door.new;
+          failed = A.failed door.new;
+          closed = A.closed door.new;
+          visits = A.visits door.new;
+          back = record {
+            shown = P.shown port.new;
+            known = P.known port.new;
+            count = B.forwarded backend.new;
+            log = B.shown backend.new;
+          };
+        })
+        result }
+    ensures bounded { common.now.per_worker ≤ count_end }
+    ensures turns { result.accepted + result.unaccepted ≤ common.now.per_worker }
+    ensures whole { A.closed door.new ≡ false →
+        result.accepted + result.unaccepted ≡ common.now.per_worker }
+    ensures once { B.forwarded backend.new ≤ B.forwarded backend.old + result.accepted }
+    ensures given { A.given door.old + common.now.per_worker ≤ count_end →
+        A.given door.new ≡ A.given door.old + result.accepted }
+    ensures failed { A.failed door.old + common.now.per_worker ≤ count_end →
+        A.failed door.new ≡ A.failed door.old + result.unaccepted }
 {
+    let mut tally = Tally {
+        accepted: 0,
+        unaccepted: 0,
+    };
     for _ in 0..common.per_worker {
-        match common.listener.accept() {
-            Ok(stream) => {
-                let served = serve_client(common, settings, &stream, port, backend, buffers);
-                common.watch.ended(&served);
+        match door.accept() {
+            Ok(client) => {
+                let (client, served) = serve_client(
+                    common, settings, client, port, backend, buffers,
+                );
+                door.close(client, &served);
+                tally.accepted += 1;
             }
-            Err(error) => {
-                common.watch.unaccepted(&error);
+            Err(_) => {
+                tally.unaccepted += 1;
+                if door.is_closed() {
+                    return tally;
+                }
                 thread::sleep(rt, Duration::from_millis(WITHOUT_A_CLIENT));
             }
         }
     }
+    tally
 }
 
-/// Serves one client over its connection, by readers and writers that last as long as it may take.
-/// It is forwarded once where its request was let through, and else not at all. Where it is
-/// answered before its whole request was read, or has sent more than that, what it still sends is
-/// dropped, so that it gets to read the answer. A signal that cuts a read or a write short changes
-/// nothing.
-fn serve_client<T: Connection, P: GatePort, B: Backend, C: Clock, L, S, W>(
+/// Serves one client by one exchange over the two ends of its connection, which last as long as it
+/// may take. Where it is answered before its whole request was read, or has sent more than that,
+/// what it still sends is dropped, so that it gets to read the answer. A signal that cuts a read or
+/// a write short changes nothing.
+fn serve_client<T, I, O, P, B, C, L, S, W>(
     common: &WorkerSettings<'_, L, C, S, W>,
     settings: &Settings,
-    stream: &T,
+    client: Arrival<T, I, O>,
     port: &mut P,
     backend: &mut B,
     buffers: &mut Buffers,
-) -> Exchange
-    ensures forwarded { B.forwarded backend.new ≡ (if is_through result.admission
-        then raised (B.forwarded backend.old) else B.forwarded backend.old) }
-{
-    let (clock, time) = (common.clock, common.client_timeout_ns);
-    let from = TimedReader::new(Lent::new(stream), clock, time);
-    let to = TimedWriter::new(Lent::new(stream), clock, time);
-    let reader = BufferedRead::new(Uninterrupted::new(from), &mut buffers.ahead);
-    let writer = BufferedWrite::new(Uninterrupted::new(to), &mut buffers.behind);
-    let served = exchange_over(common, settings, port, backend, reader, writer);
-    linger(&served, &buffers.ahead, stream, clock, time);
-    served
-}
-
-/// One exchange over a reader and a writer, whatever they are.
-fn exchange_over<R, O, P, B, C, L, S, W>(
-    common: &WorkerSettings<'_, L, C, S, W>,
-    settings: &Settings,
-    port: &mut P,
-    backend: &mut B,
-    from: R,
-    to: O,
-) -> Exchange
+) -> (Arrival<T, I, O>, Exchange)
 where
-    R: BufRead + Drop,
-    O: Write + Drop,
+    T: Connection,
+    I: Inlet<T> + Copy,
+    O: Outlet<T> + Copy,
     P: GatePort,
     B: Backend,
     C: Clock,
-    ensures forwarded { B.forwarded backend.new ≡ (if is_through result.admission
-        then raised (B.forwarded backend.old) else B.forwarded backend.old) }
+    ensures { IsServed settings.now (I.remaining client.from) (O.contents client.to)
+        (O.contents result.0.to)
+        (record {
+          shown = P.shown port.old;
+          known = P.known port.old;
+          count = B.forwarded backend.old;
+          log = B.shown backend.old;
+        })
+        (record {
+          shown = P.shown port.new;
+          known = P.known port.new;
+          count = B.forwarded backend.new;
+          log = B.shown backend.new;
+        })
+        result.1 }
 {
-    let mut reader = Counted::new(from);
-    let mut writer = Counted::new(to);
-    exchange(
+    let (clock, time) = (common.clock, common.client_timeout_ns);
+    let Arrival { stream, from, to } = client;
+    let timed = TimedReader::new(Lent::new(&stream, from), clock, time);
+    let buffered = BufferedRead::new(Uninterrupted::new(timed), &mut buffers.ahead);
+    let mut reader = Counted::new(buffered);
+    let timed = TimedWriter::new(Lent::new(&stream, to), clock, time);
+    let buffered = BufferedWrite::new(Uninterrupted::new(timed), &mut buffers.behind);
+    let mut writer = Counted::new(buffered);
+    let mut looks = Looks::new(clock);
+    let served = exchange(
         common.alloc,
         port,
         backend,
         settings,
-        common.clock,
+        &mut looks,
         &mut reader,
         &mut writer,
-    )
+    );
+    let from = reader.inner().inner().inner().inner().end();
+    let is_sent = writer.inner().is_sent();
+    let to = writer.inner().inner().inner().inner().end();
+    let served = told_where(is_sent, served);
+    linger(&served, &buffers.ahead, &stream, from, clock, time);
+    (Arrival { stream, from, to }, served)
+}
+
+// What is told of an exchange, by whether all that was written was sent. Without a fault of writing
+// it was, by a flush; but that a flush sends all is in no clause of std's.
+fn told_where(is_sent: bool, served: Exchange) -> Exchange
+    ensures { result ≡ told_where is_sent served }
+{
+    let written_fault = if is_sent {
+        served.written_fault
+    } else {
+        Some(WireFault::Write)
+    };
+    Exchange {
+        written_fault,
+        ..served
+    }
 }

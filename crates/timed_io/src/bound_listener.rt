@@ -1,13 +1,23 @@
 // Clients over TCP.
-use crate::listener::Listener;
+use crate::ends::Untold;
+use crate::listener::{Arrival, Listener};
+use libc::net::{POLLIN, SHUT_RD, listen, poll, shutdown};
+use libc::types::pollfd;
 use std::io::Result;
 use std::net::{Net, SocketAddr, TcpListener, TcpStream};
-use std::os::fd::AsFd;
+use std::os::fd::{AsFd, AsRawFd, RawFd};
+use std::sync::atomic::{AtomicBool, Ordering};
+use std::thread;
+use std::time::{Clock, Duration};
+
+/// From one look for connections that wait to the next, in milliseconds.
+const TURN: u64 = 1;
 
 /// Clients over TCP.
 #[derive(Drop)]
 pub struct BoundListener {
     listener: TcpListener,
+    open: AtomicBool,
 }
 
 impl BoundListener {
@@ -18,15 +28,60 @@ impl BoundListener {
         let queue = mio::net::TcpListener::bind(rt, address)?;
         let listener = TcpListener::from(queue.as_fd().try_clone_to_owned()?);
         listener.set_nonblocking(false)?;
-        Ok(BoundListener { listener })
+        Ok(BoundListener {
+            listener,
+            open: AtomicBool::new(true),
+        })
     }
 }
 
 impl Listener for BoundListener {
     type Stream = TcpStream;
 
-    fn accept(&self) -> Result<TcpStream> {
+    type From = Untold;
+
+    type To = Untold;
+
+    fn accept(&self) -> Result<Arrival<TcpStream, Untold, Untold>> {
         let (stream, _) = self.listener.accept()?;
-        Ok(stream)
+        Ok(Arrival {
+            stream,
+            from: Untold {},
+            to: Untold {},
+        })
     }
+
+    fn is_open(&self) -> bool {
+        self.open.load(Ordering::SeqCst)
+    }
+
+    // Only the first time: a socket that was shut down would listen anew.
+    fn close<R: Clock>(&self, rt: &R, most: Duration) {
+        if self.open.swap(false, Ordering::SeqCst) {
+            let file = self.listener.as_raw_fd();
+            listen(file, 0);
+            await_empty(rt, file, most);
+            shutdown(file, SHUT_RD);
+        }
+    }
+}
+
+/// Waits until no connection waits to be accepted, for so long at most.
+fn await_empty<R: Clock>(rt: &R, file: RawFd, most: Duration) {
+    for _ in 0..most.as_millis() / u128::from(TURN) {
+        if !has_waiting(file) {
+            return;
+        }
+        thread::sleep(rt, Duration::from_millis(TURN));
+    }
+}
+
+/// Whether a connection waits to be accepted.
+fn has_waiting(file: RawFd) -> bool {
+    let mut watched = [pollfd {
+        fd: file,
+        events: POLLIN,
+        revents: 0,
+    }];
+    poll(&mut watched, 0) > 0 && watched[0].revents & POLLIN != 0
 }

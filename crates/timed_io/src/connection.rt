@@ -1,14 +1,16 @@
 // Connections that several may read and write, each by a loan.
 ghost use Rattle.std.specs.Duration.{as_nanos};
-ghost use Rattle.std.specs.Io.{ReadsAtMost, WritesAtMost};
+ghost use Rattle.std.specs.Prelude.{◌≡◌};
+ghost use Rattle.timed_io.specs.Lent.{end_of};
 
+use crate::ends::{Inlet, Outlet};
 use crate::reading::LimitedRead;
 use crate::writing::LimitedWrite;
 use libc::net::{
     MSG_DONTWAIT, MSG_PEEK, POLLIN, POLLOUT, SO_SNDBUF, SOL_SOCKET, poll, recv, setsockopt,
 };
 use libc::types::pollfd;
-use std::io::{Read, Result, Write};
+use std::io::Result;
 use std::net::{Shutdown, TcpStream};
 use std::os::fd::{AsRawFd, RawFd};
 use std::time::Duration;
@@ -20,16 +22,9 @@ const ON_ITS_WAY: i32 = 16_384;
 /// The same where it was more once: the system makes it some two kilobytes, which is the least.
 const LEAST: i32 = 1;
 
-/// A connection, as a socket is one: reading and writing it doesn't change its owner's value.
+/// A connection, as a socket is one: reading and writing it doesn't change its owner's value, so
+/// what is known of its bytes is kept at its two ends.
 pub trait Connection {
-    /// One read.
-    fn receive(&self, buf: &mut [u8]) -> Result<usize>
-        ensures { ReadsAtMost result buf.new };
-
-    /// One write.
-    fn send(&self, buf: &[u8]) -> Result<usize>
-        ensures { WritesAtMost result buf.now };
-
     /// From now on a read waits for no longer than this, which is more than nothing.
     fn limit_reads(&self, most: Duration) -> Result<()>;
 
@@ -50,16 +45,6 @@ pub trait Connection {
 }
 
 impl Connection for TcpStream {
-    fn receive(&self, buf: &mut [u8]) -> Result<usize> {
-        let mut stream = self;
-        Read::read(&mut stream, buf)
-    }
-
-    fn send(&self, buf: &[u8]) -> Result<usize> {
-        let mut stream = self;
-        Write::write(&mut stream, buf)
-    }
-
     fn limit_reads(&self, most: Duration) -> Result<()> {
         self.set_read_timeout(Some(most))
     }
@@ -104,49 +89,62 @@ fn is_held(file: RawFd, half: i32, most: Duration) -> bool {
     poll(&mut watched, millis) >= 0 && watched[0].revents & POLLOUT == 0
 }
 
-/// A connection that is lent to a reader or a writer. What it gives and takes isn't told.
+/// A connection that is lent to a reader or a writer, with the end of it that is read or written.
 #[derive(Drop)]
-pub struct Lent<'s, S> {
+pub struct Lent<'s, S, E> {
     connection: &'s S,
+    end: E,
     allowed: Duration,
 }
 
-impl<'s, S: Connection> Lent<'s, S> {
-    /// The connection on loan, of which nothing was read or written yet.
-    pub fn new(connection: &'s S) -> Lent<'s, S> {
+impl<'s, S: Connection, E> Lent<'s, S, E> {
+    /// The connection on loan, and its end.
+    pub fn new(connection: &'s S, end: E) -> Lent<'s, S, E>
+        ensures { end_of result ≡ end }
+    {
         Lent {
             connection,
+            end,
             allowed: Duration::ZERO,
         }
     }
 }
 
-impl<'s, S: Connection> LimitedRead for Lent<'s, S> {
-    ghost use Rattle.std.specs.Prelude.{None};
-    ghost use Rattle.std.specs.Duration.{as_nanos};
+impl<'s, S, E: Copy> Lent<'s, S, E> {
+    /// The end, as it is now.
+    pub fn end(&self) -> E
+        ensures { result ≡ end_of self.now }
+    {
+        self.end
+    }
+}
 
-    ghost remaining = { λ _. None };
+impl<'s, S: Connection, E: Inlet<S>> LimitedRead for Lent<'s, S, E> {
+    ghost use Rattle.std.specs.Duration.{as_nanos};
+    ghost use Rattle.timed_io.specs.Lent.{end_of};
+
+    ghost remaining = { λ lent. E.remaining (end_of lent) };
 
     ghost allowed = { λ lent. as_nanos lent.allowed };
 
     fn read_within(&mut self, most: Duration, buf: &mut [u8]) -> Result<usize> {
         self.allowed = most;
         self.connection.limit_reads(most)?;
-        self.connection.receive(buf)
+        self.end.receive(self.connection, buf)
     }
 }
 
-impl<'s, S: Connection> LimitedWrite for Lent<'s, S> {
-    ghost use Rattle.std.specs.Prelude.{None};
+impl<'s, S: Connection, E: Outlet<S>> LimitedWrite for Lent<'s, S, E> {
     ghost use Rattle.std.specs.Duration.{as_nanos};
+    ghost use Rattle.timed_io.specs.Lent.{end_of};
 
-    ghost contents = { λ _. None };
+    ghost contents = { λ lent. E.contents (end_of lent) };
 
     ghost allowed = { λ lent. as_nanos lent.allowed };
 
     fn write_within(&mut self, most: Duration, buf: &[u8]) -> Result<usize> {
         self.allowed = most;
         self.connection.limit_writes(most)?;
-        self.connection.send(buf)
+        self.end.send(self.connection, buf)
     }
 }

@@ -1,7 +1,9 @@
 //! Where clients come from, and the time that each may take.
 //!
-//! A [`Listener`] gives one connection after another; a [`BoundListener`] is one over TCP. That a
-//! connection is a client's own is the system's word: contracts say nothing of it.
+//! A [`Listener`] gives one connection after another, each with two ends: an [`Inlet`], which may
+//! tell what is still to come, and an [`Outlet`], which may tell what was written. A
+//! [`BoundListener`] is one over TCP; the ends of a socket tell nothing. That a connection is a
+//! client's own is the system's word: contracts say nothing of it.
 //!
 //! [`TimedReader`] and [`TimedWriter`] go round what reads and writes a connection. All reads of a
 //! request together, and all writes of an answer up to its flush, each have so long, counted from
@@ -14,6 +16,7 @@
 mod bound_listener;
 mod connection;
 mod countdown;
+mod ends;
 mod listener;
 mod reading;
 mod uninterrupted;
@@ -22,7 +25,8 @@ mod writing;
 pub use bound_listener::BoundListener;
 pub use connection::{Connection, Lent};
 pub use countdown::Countdown;
-pub use listener::Listener;
+pub use ends::{Inlet, Outlet, Untold};
+pub use listener::{Arrival, Listener};
 pub use reading::{LimitedRead, TimedReader};
 pub use uninterrupted::Uninterrupted;
 pub use writing::{LimitedWrite, TimedWriter};

@@ -1,12 +1,44 @@
 // Where connections come from.
+ghost use Rattle.std.specs.Prelude.{◌≡◌, [], IfOk, IfSome};
+
 use crate::connection::Connection;
+use crate::ends::{Inlet, Outlet};
 use std::io::Result;
+use std::time::{Clock, Duration};
+
+/// A client who came.
+#[derive(Drop)]
+pub struct Arrival<S, F, T> {
+    /// Its connection.
+    pub stream: S,
+    /// The end that is read.
+    pub from: F,
+    /// The end that is written.
+    pub to: T,
+}
 
 /// Where connections come from. Several threads may ask it at once.
 pub trait Listener {
     /// A client's connection, which is closed where its value ends.
     type Stream: Connection + Drop;
 
-    /// Waits for the next connection; the fault is the system's, where there was none to be had.
-    fn accept(&self) -> Result<Self::Stream>;
+    /// The end of it that is read.
+    type From: Inlet<Self::Stream> + Copy;
+
+    /// The end of it that is written.
+    type To: Outlet<Self::Stream> + Copy;
+
+    /// Waits for the next client, to whom nothing was written yet; the fault is the system's, where
+    /// there was none to be had. Once it is closed, nobody waits.
+    fn accept(&self) -> Result<Arrival<Self::Stream, Self::From, Self::To>>
+        ensures unwritten { IfOk result (λ client.
+            IfSome (Self.To.contents client.to) (λ written. written ≡ [])) };
+
+    /// Whether connections may still come: it hasn't been closed. Where it has been, one that waits
+    /// may still be had.
+    fn is_open(&self) -> bool;
+
+    /// Closes it for good, with all who wait in `accept`. Connections that wait are still accepted,
+    /// for so long at most; it returns once there are none, and whoever connects then is refused.
+    fn close<R: Clock>(&self, rt: &R, most: Duration);
 }

@@ -1,10 +1,11 @@
-use Rattle.std.proofs.Common.{◌≡◌, ℕ, ◌<◌, ◌⊎◌, IfSome, None, Some, Result, Ok, Err, ap, is_ok, refl}
-use Rattle.std.proofs.Common.{subst, true≢false}
+use Rattle.std.proofs.Common.{◌≡◌, ◌∙◌, ℕ, ◌<◌, ◌⊎◌, IfSome, None, Some, Result, Ok, Err, ap, is_ok}
+use Rattle.std.proofs.Common.{is_some, refl, subst, sym, true≢false}
 use Rattle.counted_io.specs.Count.{count_end}
 use Rattle.counted_io.specs.Counted.{failures_of}
 use Rattle.message_parts.specs.declared.request.Request.{Request}
 use Rattle.wire.specs.declared.fault.WireFault.{WireFault}
 use Rattle.wire.specs.declared.fault.WireFault.TheVariants.{Write}
+use Rattle.proxy.specs.Exchanges.{told_by}
 use Rattle.proxy.proofs.exchanging.exchange.Goals as goal
 
 -- the fault of a result that has one
@@ -15,7 +16,7 @@ fault_in (Err fault) = fault
 pub returns-in-Err-clause-exchanged : goal.returns-in-Err-clause-exchanged
 returns-in-Err-clause-exchanged g c = record {
   read = Err c.in-Err.fault;
-  asked = c.read_request.new.writer;
+  asked = told_by g.W.Write.contents c.read_request.new.writer;
   answer = None;
   reading = record {
     bytes = c.in-Err.ensures.request;
@@ -24,7 +25,7 @@ returns-in-Err-clause-exchanged g c = record {
     used_up = c.in-Err.ensures.turns;
     unsaid = c.in-Err.ensures.write;
   };
-  deals = (c.unread.ensures.class, c.unread.ensures.admission, refl, refl, refl, refl);
+  deals = (c.unread.ensures.class, c.unread.ensures.admission, refl, refl, refl, refl, refl, refl);
   status = c.unread.ensures.answer;
   own = c.unread.ensures.own;
   outcome = c.unread.ensures.outcome;
@@ -35,7 +36,7 @@ returns-in-Err-clause-exchanged g c = record {
 pub returns-clause-exchanged : goal.returns-clause-exchanged
 returns-clause-exchanged g c = record {
   read = Ok c.in-Ok.request;
-  asked = c.read_request.new.writer;
+  asked = told_by g.W.Write.contents c.read_request.new.writer;
   answer = c.settle-settled.result.answer;
   reading = record {
     bytes = c.in-Ok.ensures.request;
@@ -52,7 +53,13 @@ returns-clause-exchanged g c = record {
       answered = c.settle-settled.ensures.answered;
       asked = c.settle-settled.ensures.asked;
       forwarded = c.settle-settled.ensures.forwarded;
+      now = c.settle-settled.ensures.now;
+      end = c.settle-settled.ensures.end;
+      looked = c.settle-settled.ensures.looked;
+      since = c.settle-settled.ensures.since;
+      later = c.settle-settled.ensures.later;
       entries = c.settle-settled.ensures.entries;
+      logged = c.settle-settled.ensures.logged;
     },
   );
   status = ap Some c.reply_status.ensures;
@@ -69,3 +76,13 @@ returns-clause-written g c =
     ⊎ (failures_of c.reply-written_fault.new.writer ≡ count_end))))
     (c.in-Ok.ensures.unfailing (λ same. true≢false (ap is_ok same)))
     c.reply-written_fault.ensures.failed
+
+pub returns-in-Err-clause-unfailing : goal.returns-in-Err-clause-unfailing
+returns-in-Err-clause-unfailing g c = λ none.
+    c.unread.ensures.unfailing none ∙ c.in-Err.ensures.unfailing (λ same.
+    true≢false (ap is_some (sym (c.unread.ensures.told (ap fault_in same)) ∙ none)))
+
+pub returns-clause-unfailing : goal.returns-clause-unfailing
+returns-clause-unfailing g c = λ none.
+    c.reply-written_fault.ensures.unfailing none
+    ∙ c.in-Ok.ensures.unfailing (λ same. true≢false (ap is_ok same))

@@ -1,6 +1,7 @@
 use Rattle.std.proofs.Common.{rules, refl}
 use Rattle.proxy.specs.Settling.{class_by}
-use Rattle.proxy.proofs.Entries.{asks, serves_admitted, serves_bypassed, serves_refused}
+use Rattle.proxy.proofs.Entries.{asks, asks_in, logs_admitted, logs_bypassed, logs_refused}
+use Rattle.proxy.proofs.Entries.{serves_admitted, serves_bypassed, serves_refused}
 use Rattle.proxy.proofs.settling.settle.Goals as goal
 
 pub returns-in-Admitted : goal.returns-in-Admitted
@@ -10,13 +11,25 @@ returns-in-Admitted g c = record {
   answered = refl;
   asked = search rules;
   forwarded = search rules;
+  now = c.look-now.result;
+  end = c.look_knowing-end.result;
+  looked = search rules;
+  since = search rules;
+  later = search rules;
   entries = serves_admitted _ _ _ _ _ _ _ _ _
       (asks c.args.settings.now c.classify-class.result
       (class_by c.args.settings.now c.args.request.now)
-      c.deadline.result _ c.now-now.result _ _ g.P.GatePort.facts c.admit.result _
-      c.deadline.ensures c.in-Admitted.is c.classify-class.ensures c.admit.ensures)
+      c.deadline.result _ c.look-now.result _ _ g.P.GatePort.facts c.admit.result _
+      c.deadline.ensures c.in-Admitted.is c.classify-class.ensures c.admit.ensures.entries)
       c.outcome.ensures
-      c.end-receipt.ensures;
+      c.end-receipt.ensures.entries;
+  logged = logs_admitted _ _ _ _ _ _ _ _ _
+      (asks_in c.args.settings.now c.classify-class.result
+      (class_by c.args.settings.now c.args.request.now)
+      c.deadline.result _ c.look-now.result _ _ g.P.GatePort.facts c.admit.result _
+      c.deadline.ensures c.in-Admitted.is c.classify-class.ensures c.admit.ensures.log)
+      c.outcome.ensures
+      c.end-receipt.ensures.log;
 }
 
 pub returns-in-Bypassed : goal.returns-in-Bypassed
@@ -26,11 +39,21 @@ returns-in-Bypassed g c = record {
   answered = refl;
   asked = search rules;
   forwarded = search rules;
-  entries = serves_bypassed _ _ _ _ _
+  now = c.look-now.result;
+  end = c.look-now.result;
+  looked = search rules;
+  since = search rules;
+  later = search rules;
+  entries = serves_bypassed _ _ _ _ _ _
       (asks c.args.settings.now c.classify-class.result
       (class_by c.args.settings.now c.args.request.now)
-      c.deadline.result _ c.now-now.result _ _ g.P.GatePort.facts c.admit.result _
-      c.deadline.ensures c.in-Bypassed.is c.classify-class.ensures c.admit.ensures);
+      c.deadline.result _ c.look-now.result _ _ g.P.GatePort.facts c.admit.result _
+      c.deadline.ensures c.in-Bypassed.is c.classify-class.ensures c.admit.ensures.entries);
+  logged = logs_bypassed _ _ _ _ _ _
+      (asks_in c.args.settings.now c.classify-class.result
+      (class_by c.args.settings.now c.args.request.now)
+      c.deadline.result _ c.look-now.result _ _ g.P.GatePort.facts c.admit.result _
+      c.deadline.ensures c.in-Bypassed.is c.classify-class.ensures c.admit.ensures.log);
 }
 
 pub returns-in-Refused : goal.returns-in-Refused
@@ -40,9 +63,19 @@ returns-in-Refused g c = record {
   answered = refl;
   asked = search rules;
   forwarded = search rules;
-  entries = serves_refused _ _ _ _ _
+  now = c.look-now.result;
+  end = c.look-now.result;
+  looked = search rules;
+  since = search rules;
+  later = search rules;
+  entries = serves_refused _ _ _ _ _ _
       (asks c.args.settings.now c.classify-class.result
       (class_by c.args.settings.now c.args.request.now)
-      c.deadline.result _ c.now-now.result _ _ g.P.GatePort.facts c.admit.result _
-      c.deadline.ensures c.in-Refused.is c.classify-class.ensures c.admit.ensures);
+      c.deadline.result _ c.look-now.result _ _ g.P.GatePort.facts c.admit.result _
+      c.deadline.ensures c.in-Refused.is c.classify-class.ensures c.admit.ensures.entries);
+  logged = logs_refused _ _ _ _ _ _
+      (asks_in c.args.settings.now c.classify-class.result
+      (class_by c.args.settings.now c.args.request.now)
+      c.deadline.result _ c.look-now.result _ _ g.P.GatePort.facts c.admit.result _
+      c.deadline.ensures c.in-Refused.is c.classify-class.ensures c.admit.ensures.log);
 }

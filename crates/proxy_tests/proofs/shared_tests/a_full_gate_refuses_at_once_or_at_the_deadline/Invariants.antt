@@ -19,6 +19,6 @@ ghosts-over_one_permit-N-Naming g a =
       limit = course_of fixed_rules 1;
     }
 
--- and the table of its word
+-- and the table of its word; each log is called legal
 abbrev pub ghosts-over_one_permit-N-GateNaming : goal.ghosts-over_one_permit-N-GateNaming
-ghosts-over_one_permit-N-GateNaming g a = record { word = a.word }
+ghosts-over_one_permit-N-GateNaming g a = record { word = a.word; legal = λ log. Unit {0} }

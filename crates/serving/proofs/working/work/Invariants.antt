@@ -1,7 +1,35 @@
-use Rattle.std.proofs.Common.{◌≤◌, ◌+◌}
+use Rattle.std.proofs.Common.{◌≡◌, ◌+◌}
+use Rattle.serving.proofs.Runs.{Took}
 use Rattle.serving.proofs.working.work.Given as goal
 
--- each connection so far was forwarded at most once
+-- so many turns so far
 abbrev pub invariant-loop : goal.invariant-loop
-invariant-loop g l =
-    g.B.Backend.forwarded l.backend ≤ g.B.Backend.forwarded l.fn.backend + l.counter
+invariant-loop g l = record {
+  took : Took l.settings l.counter
+      (record {
+        given = g.A.Accepts.given l.fn.door;
+        failed = g.A.Accepts.failed l.fn.door;
+        closed = g.A.Accepts.closed l.fn.door;
+        visits = g.A.Accepts.visits l.fn.door;
+        back = record {
+          shown = g.P.GatePort.shown l.fn.port;
+          known = g.P.GatePort.known l.fn.port;
+          count = g.B.Backend.forwarded l.fn.backend;
+          log = g.B.Backend.shown l.fn.backend;
+        };
+      })
+      (record {
+        given = g.A.Accepts.given l.door;
+        failed = g.A.Accepts.failed l.door;
+        closed = g.A.Accepts.closed l.door;
+        visits = g.A.Accepts.visits l.door;
+        back = record {
+          shown = g.P.GatePort.shown l.port;
+          known = g.P.GatePort.known l.port;
+          count = g.B.Backend.forwarded l.backend;
+          log = g.B.Backend.shown l.backend;
+        };
+      })
+      l.tally;
+  turns : l.tally.accepted + l.tally.unaccepted ≡ l.counter;
+}

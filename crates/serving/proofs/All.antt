@@ -1,0 +1,166 @@
+-- Many workers.
+use Rattle.std.proofs.Common.{◌≡◌, ◌∙◌, ℕ, ◌+◌, ◌≤◌, Bool, true, false, List, [], ◌∷◌, ◌++◌}
+use Rattle.std.proofs.Common.{Option, None, Result, Ok, Err, IfOk, ap, sym, subst, refl, arith}
+use Rattle.std.proofs.Common.{true≢false}
+use Rattle.std.specs.List.{AllZip, list_all}
+use Rattle.counted_io.specs.Count.{count_end}
+use Rattle.gate_config.specs.declared.settings.Settings.{Settings}
+use Rattle.limiter_core.specs.declared.event.Entry.{Entry}
+use Rattle.gate_port.specs.Shown.{Shown}
+use Rattle.backend.specs.Forwards.{Forwarded}
+use Rattle.tcp_backend.specs.declared.connecting.TcpBackend.{TcpBackend}
+use Rattle.tcp_backend.specs.Connecting.{count_of}
+use Rattle.serving.specs.declared.doors.Door.{Door}
+use Rattle.serving.specs.declared.hands.Context.{Context}
+use Rattle.serving.specs.declared.hands.Ended.{Ended}
+use Rattle.serving.specs.declared.hands.Hand.{Hand}
+use Rattle.serving.specs.declared.hands.Hand.TheVariants as hand
+use Rattle.serving.specs.declared.hands.Left.{Left}
+use Rattle.serving.specs.declared.hands.Left.TheVariants as left
+use Rattle.serving.specs.declared.hands.Worker.{Worker}
+use Rattle.serving.specs.declared.working.WorkerSettings.{WorkerSettings}
+use Rattle.serving.specs.Doors.{failed_of, given_of, is_closed}
+use Rattle.serving.specs.Turns.{IsRun, Place}
+use Rattle.serving.specs.Visits.{Visits}
+use Rattle.serving.specs.Workers.{AreWithin, Begins, HasRun, HasWorked, Makes}
+use Rattle.serving.specs.Workers.{ended_in, has_begun, workers_in}
+
+-- one more at the end of two lists
+pub one_more : {X Y : Type 0} (R : X → Y → Type 0) (xs : List X) (ys : List Y) (x : X) (y : Y)
+    → AllZip R xs ys → R x y → AllZip R (xs ++ x ∷ []) (ys ++ y ∷ [])
+one_more R [] [] x y all own = (own, tt)
+one_more R [] (z ∷ zs) x y all own = absurd all
+one_more R (w ∷ ws) [] x y all own = absurd all
+one_more R (w ∷ ws) (z ∷ zs) x y all own = (all.0, one_more R ws zs x y all.1 own)
+
+-- one more worker among some hands
+pub one_worker : {A P B X : Type 0} (hands : List (Hand A P B X)) (h : Hand A P B X)
+    (w : Worker A P B) → workers_in (h ∷ []) ≡ w ∷ []
+    → workers_in (hands ++ h ∷ []) ≡ workers_in hands ++ w ∷ []
+one_worker [] h w same = same
+one_worker (hand.Reporter context every ∷ hands) h w same = one_worker hands h w same
+one_worker {A} {P} {B} (hand.Worker context worker ∷ hands) h w same =
+    ap (λ (ws : List (Worker A P B)). worker ∷ ws) (one_worker hands h w same)
+
+pub one_within : {A P B X : Type 0} (x : X) (hands : List (Hand A P B X)) (h : Hand A P B X)
+    → AreWithin x hands → AreWithin x (h ∷ []) → AreWithin x (hands ++ h ∷ [])
+one_within x [] h all own = own
+one_within x (hand.Reporter context every ∷ hands) h all own =
+    (all.0, one_within x hands h all.1 own)
+one_within x (hand.Worker context worker ∷ hands) h all own =
+    (all.0, one_within x hands h all.1 own)
+
+pub on_ok : {T E : Type 0} (r : Result T E) (P Q : T → Type 0) → IfOk r P
+    → ((v : T) → P v → Q v) → IfOk r Q
+on_ok (Ok v) P Q p f = f v p
+on_ok (Err e) P Q p f = tt
+
+module _ {A P B S R G L C W : Type 0} (given failed : A → ℕ) (closed : A → Bool)
+    (visits : A → Option Visits) (shown : P → Option Shown) (known : P → Option (List Entry))
+    (forwarded : B → ℕ) (log : B → Option (List Forwarded)) (gives : S → Settings → Type 0) (lacks : S → Type 0)
+    (x : Context R G L C S W) where
+  abbrev Worked : Worker A P B → Ended A P B → Type 0
+  Worked = HasWorked given failed closed visits shown known forwarded log gives lacks
+      x.common.now.source.now x.common.now.per_worker
+
+  worked_in : (hands : List (Hand A P B (Context R G L C S W))) (lefts : List (Left A P B))
+      → AllZip (Makes given failed closed visits shown known forwarded log gives lacks) hands lefts
+      → AreWithin x hands → list_all has_begun lefts ≡ true
+      → AllZip Worked (workers_in hands) (ended_in lefts)
+  worked_in [] [] made within begun = tt
+  worked_in [] (l ∷ ls) made within begun = absurd made
+  worked_in (h ∷ hs) [] made within begun = absurd made
+  worked_in (hand.Reporter context every ∷ hs) (left.Unbegun ∷ ls) made within begun =
+      absurd (true≢false (sym begun))
+  worked_in (hand.Reporter context every ∷ hs) (left.Reported ∷ ls) made within begun =
+      worked_in hs ls made.1 within.1 begun
+  worked_in (hand.Reporter context every ∷ hs) (left.Worked ended ∷ ls) made within begun =
+      absurd made.0
+  worked_in (hand.Worker context worker ∷ hs) (left.Unbegun ∷ ls) made within begun =
+      absurd (true≢false (sym begun))
+  worked_in (hand.Worker context worker ∷ hs) (left.Reported ∷ ls) made within begun =
+      absurd made.0
+  worked_in (hand.Worker context worker ∷ hs) (left.Worked ended ∷ ls) made within begun = (
+    subst (λ (c : Context R G L C S W). HasWorked given failed closed visits shown known
+        forwarded log gives lacks c.common.now.source.now c.common.now.per_worker worker ended) within.0 made.0,
+    worked_in hs ls made.1 within.1 begun,
+  )
+
+  -- what the workers leave, where all hands began in the same context
+  pub all_worked : (workers : List (Worker A P B))
+      (hands : List (Hand A P B (Context R G L C S W))) (lefts : List (Left A P B))
+      → workers_in hands ≡ workers
+      → AllZip (Makes given failed closed visits shown known forwarded log gives lacks) hands lefts
+      → AreWithin x hands → list_all has_begun lefts ≡ true
+      → AllZip Worked workers (ended_in lefts)
+  all_worked workers hands lefts same made within begun =
+      subst (λ (ws : List (Worker A P B)). AllZip Worked ws (ended_in lefts)) same
+      (worked_in hands lefts made within begun)
+
+-- what stands at a worker's end, or at its start
+abbrev from : {P : Type 0} → (P → Option Shown) → (P → Option (List Entry)) → ℕ → ℕ → Bool → P → ℕ
+    → Place
+from shown known given failed closed port count = record {
+  given = given;
+  failed = failed;
+  closed = closed;
+  visits = None;
+  back = record { shown = shown port; known = known port; count = count; log = None };
+}
+
+module _ {R L C S W V P : Type 0} (gives : S → Settings → Type 0) (lacks : S → Type 0)
+    (shown : P → Option Shown) (known : P → Option (List Entry))
+    (common : WorkerSettings L C S W) where
+  abbrev Did : Worker (Door L W) P (TcpBackend R V) → Ended (Door L W) P (TcpBackend R V) → Type 0
+  Did = HasWorked given_of failed_of is_closed (λ _. None) shown known count_of (λ _. None) gives
+      lacks common.source.now common.per_worker
+
+  ran : (port : P) (worker : Worker (Door L W) P (TcpBackend R V))
+      (ended : Ended (Door L W) P (TcpBackend R V))
+      → Begins port worker → Did worker ended → HasRun gives shown known common port ended
+  ran port worker ended begins did =
+      let s = did.settings in
+      let most = common.per_worker in
+      let given = given_of worker.door in
+      let failed = failed_of worker.door in
+      let closed = is_closed worker.door in
+      let count = count_of worker.backend in
+      let end = from shown known (given_of ended.door) (failed_of ended.door) (is_closed ended.door)
+      ended.port (count_of ended.backend) in
+      let tally = ended.tally in
+      let run : IsRun s most (from shown known 0 0 false port 0) end tally =
+      subst (λ (n : ℕ). IsRun s most (from shown known 0 0 false port n) end tally) begins.unused
+      (subst (λ (p : P). IsRun s most (from shown known 0 0 false p count) end tally) begins.port_is
+      (subst (λ (b : Bool). IsRun s most (from shown known 0 0 b worker.port count) end tally)
+      begins.unclosed
+      (subst (λ (n : ℕ). IsRun s most (from shown known 0 n closed worker.port count) end tally)
+      begins.failed
+      (subst (λ (n : ℕ). IsRun s most (from shown known n failed closed worker.port count) end tally)
+      begins.given did.run)))) in
+      let no_given = begins.given in
+      let no_failed = begins.failed in
+      let unused = begins.unused in
+      let bounded = did.bounded in
+      let accepted = did.accepted (omega arith) in
+      let unaccepted = did.unaccepted (omega arith) in
+      let once = did.once in
+      record {
+        settings = s;
+        are_given = did.are_given;
+        run = run;
+        accepted = omega arith;
+        unaccepted = omega arith;
+        once = omega arith;
+        turns = did.turns;
+        whole = did.whole;
+      }
+
+  pub all_ran : (ports : List P) (workers : List (Worker (Door L W) P (TcpBackend R V)))
+      (ended : List (Ended (Door L W) P (TcpBackend R V))) → AllZip Begins ports workers
+      → AllZip Did workers ended → AllZip (HasRun gives shown known common) ports ended
+  all_ran [] [] [] p q = tt
+  all_ran [] [] (e ∷ es) p q = absurd q
+  all_ran [] (w ∷ ws) es p q = absurd p
+  all_ran (b ∷ bs) [] es p q = absurd p
+  all_ran (b ∷ bs) (w ∷ ws) [] p q = absurd q
+  all_ran (b ∷ bs) (w ∷ ws) (e ∷ es) p q = (ran b w e p.0 q.0, all_ran bs ws es p.1 q.1)

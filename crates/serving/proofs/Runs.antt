@@ -1,0 +1,264 @@
+-- One turn more, and what a run comes to.
+use Rattle.std.proofs.Common.{◌≡◌, ◌∙◌, ℕ, ◌+◌, ◌≤◌, Bool, true, false, List, [], ◌∷◌, ◌++◌}
+use Rattle.std.proofs.Common.{length, length-append, Option, None, Some, ap, sym, subst, refl}
+use Rattle.std.proofs.Common.{append_assoc, append-nil, arith, if◌then◌else◌, zero-add, add-zero}
+use Rattle.counted_io.specs.Count.{count_end, raised}
+use Rattle.limiter_core.specs.declared.event.Entry.{Entry}
+use Rattle.gate_config.specs.declared.settings.Settings.{Settings}
+use Rattle.gate_port.specs.Shown.{Shown}
+use Rattle.backend.specs.Forwards.{Forwarded}
+use Rattle.proxy.specs.declared.told.Exchange.{Exchange}
+use Rattle.proxy.specs.Exchanges.{Bytes}
+use Rattle.proxy.specs.Settling.{is_through}
+use Rattle.serving.specs.declared.working.Tally.{Tally}
+use Rattle.serving.specs.Served.{Back, IsServed}
+use Rattle.serving.specs.Turns.{AreServed, AreTaken, IsRun, Missing, Place, Serving, Shows, Turn}
+use Rattle.serving.specs.Turns.{events_of, failed_by, given_by, missed, sent_by, served}
+use Rattle.serving.specs.Visits.{Arrives, Closed, Closes, Event, Missed, Misses, Opened, Visits}
+use Rattle.serving.proofs.Forwards.{exchanged_once}
+
+-- what stands behind a worker at a port and a backend
+abbrev pub back_of : {P B : Type 0} → (P → Option Shown) → (P → Option (List Entry)) → (B → ℕ)
+    → (B → Option (List Forwarded)) → P → B → Back
+back_of shown known forwarded log port backend = record {
+  shown = shown port;
+  known = known port;
+  count = forwarded backend;
+  log = log backend;
+}
+
+served_more : (ts : List Turn) (t : Turn) → served (ts ++ t ∷ []) ≡ served ts + served (t ∷ [])
+served_more [] t = sym (zero-add (served (t ∷ [])))
+served_more (Missing ∷ ts) t = served_more ts t
+served_more (Serving sent written told ∷ ts) t = let same = served_more ts t in omega arith
+
+missed_more : (ts : List Turn) (t : Turn) → missed (ts ++ t ∷ []) ≡ missed ts + missed (t ∷ [])
+missed_more [] t = sym (zero-add (missed (t ∷ [])))
+missed_more (Missing ∷ ts) t = let same = missed_more ts t in omega arith
+missed_more (Serving sent written told ∷ ts) t = missed_more ts t
+
+given_more : (ts : List Turn) (t : Turn) (n : ℕ)
+    → given_by (ts ++ t ∷ []) n ≡ given_by (t ∷ []) (given_by ts n)
+given_more [] t n = refl
+given_more (Missing ∷ ts) t n = given_more ts t n
+given_more (Serving sent written told ∷ ts) t n = given_more ts t (raised n)
+
+failed_more : (ts : List Turn) (t : Turn) (n : ℕ)
+    → failed_by (ts ++ t ∷ []) n ≡ failed_by (t ∷ []) (failed_by ts n)
+failed_more [] t n = refl
+failed_more (Missing ∷ ts) t n = failed_more ts t (raised n)
+failed_more (Serving sent written told ∷ ts) t n = failed_more ts t n
+
+sent_more : (ts : List Turn) (t : Turn) → sent_by (ts ++ t ∷ []) ≡ sent_by ts ++ sent_by (t ∷ [])
+sent_more [] t = refl
+sent_more (Missing ∷ ts) t = sent_more ts t
+sent_more (Serving sent written told ∷ ts) t =
+    ap (λ (xs : List Bytes). sent ∷ xs) (sent_more ts t)
+
+events_more : (ts : List Turn) (t : Turn)
+    → events_of (ts ++ t ∷ []) ≡ events_of ts ++ events_of (t ∷ [])
+events_more [] t = refl
+events_more (Missing ∷ ts) t = ap (λ (xs : List Event). Missed ∷ xs) (events_more ts t)
+events_more (Serving sent written told ∷ ts) t =
+    ap (λ (xs : List Event). Opened sent ∷ Closed written told ∷ xs) (events_more ts t)
+
+all_served : (s : Settings) (ts : List Turn) (t : Turn) (old mid new : Back)
+    → AreServed s ts old mid → AreServed s (t ∷ []) mid new → AreServed s (ts ++ t ∷ []) old new
+all_served s [] t old mid new same one =
+    subst (λ (b : Back). AreServed s (t ∷ []) b new) same one
+all_served s (Missing ∷ ts) t old mid new all one = all_served s ts t old mid new all one
+all_served s (Serving sent written told ∷ ts) t old mid new all one =
+    (all.0, all.1, all.2, all.3, all_served s ts t all.1 mid new all.4 one)
+
+all_shown : (ts : List Turn) (t : Turn) (old mid new : Option Visits) → Shows ts old mid
+    → Shows (t ∷ []) mid new → Shows (ts ++ t ∷ []) old new
+all_shown ts t None mid None p q = tt
+all_shown ts t (Some o) mid None p q = tt
+all_shown ts t None None (Some n) p q = absurd q
+all_shown ts t None (Some m) (Some n) p q = absurd p
+all_shown ts t (Some o) None (Some n) p q = absurd q
+all_shown ts t (Some o) (Some m) (Some n) p q = (
+  p.0 ∙ ap (λ (xs : List Bytes). sent_by ts ++ xs) q.0
+      ∙ sym (append_assoc (sent_by ts) (sent_by (t ∷ [])) n.coming)
+      ∙ ap (λ (xs : List Bytes). xs ++ n.coming) (sym (sent_more ts t)),
+  q.1 ∙ ap (λ (xs : List Event). xs ++ events_of (t ∷ [])) p.1
+      ∙ append_assoc o.log (events_of ts) (events_of (t ∷ []))
+      ∙ ap (λ (xs : List Event). o.log ++ xs) (sym (events_more ts t)),
+)
+
+pub missing_shown : (old new : Option Visits) → Misses old new → Shows (Missing ∷ []) old new
+missing_shown None None p = tt
+missing_shown (Some o) None p = tt
+missing_shown None (Some n) p = absurd p
+missing_shown (Some o) (Some n) p = (sym p.0, p.1)
+
+pub serving_shown : (old mid new : Option Visits) (sent written : Bytes) (told : Exchange)
+    → Arrives old mid sent → Closes mid new written told
+    → Shows (Serving sent written told ∷ []) old new
+serving_shown None mid None sent written told p q = tt
+serving_shown (Some o) mid None sent written told p q = tt
+serving_shown None None (Some n) sent written told p q = absurd q
+serving_shown None (Some m) (Some n) sent written told p q = absurd p
+serving_shown (Some o) None (Some n) sent written told p q = absurd q
+serving_shown (Some o) (Some m) (Some n) sent written told p q = (
+  p.0 ∙ ap (λ (xs : List Bytes). sent ∷ xs) (sym q.0),
+  q.1 ∙ ap (λ (xs : List Event). xs ++ Closed written told ∷ []) p.1
+      ∙ append_assoc o.log (Opened sent ∷ []) (Closed written told ∷ []),
+)
+
+nothing_shown : (visits : Option Visits) → Shows [] visits visits
+nothing_shown None = tt
+nothing_shown (Some s) = (refl, sym (append-nil s.log))
+
+-- so many turns were taken so far
+pub record Took (s : Settings) (count : ℕ) (old new : Place) (tally : Tally) : Type 0 where
+  pub turns : List Turn
+  pub taken : AreTaken s turns old new tally
+  pub many : length turns ≡ count
+
+-- none was
+pub begins : (s : Settings) (place : Place)
+    → Took s 0 place place (record { accepted = 0; unaccepted = 0 })
+begins s place = record {
+  turns = [];
+  taken = record {
+    accepted = refl;
+    unaccepted = refl;
+    given = refl;
+    failed = refl;
+    exchanges = refl;
+    shown = nothing_shown place.visits;
+  };
+  many = refl;
+}
+
+-- one more was
+pub goes_on : (s : Settings) (count : ℕ) (old mid new : Place) (before after : Tally) (t : Turn)
+    → Took s count old mid before
+    → after.accepted ≡ before.accepted + served (t ∷ [])
+    → after.unaccepted ≡ before.unaccepted + missed (t ∷ [])
+    → new.given ≡ given_by (t ∷ []) mid.given → new.failed ≡ failed_by (t ∷ []) mid.failed
+    → AreServed s (t ∷ []) mid.back new.back → Shows (t ∷ []) mid.visits new.visits
+    → Took s (count + 1) old new after
+goes_on s count old mid new before after t took accepted unaccepted given failed exchanges shown =
+    let turns = took.turns in
+    record {
+      turns = turns ++ t ∷ [];
+      taken = record {
+        accepted = accepted ∙ ap (λ (n : ℕ). n + served (t ∷ [])) took.taken.accepted
+            ∙ sym (served_more turns t);
+        unaccepted = unaccepted ∙ ap (λ (n : ℕ). n + missed (t ∷ [])) took.taken.unaccepted
+            ∙ sym (missed_more turns t);
+        given = given ∙ ap (given_by (t ∷ [])) took.taken.given
+            ∙ sym (given_more turns t old.given);
+        failed = failed ∙ ap (failed_by (t ∷ [])) took.taken.failed
+            ∙ sym (failed_more turns t old.failed);
+        exchanges = all_served s turns t old.back mid.back new.back took.taken.exchanges exchanges;
+        shown = all_shown turns t old.visits mid.visits new.visits took.taken.shown shown;
+      };
+      many = length-append turns (t ∷ []) ∙ ap (λ (n : ℕ). n + 1) took.many;
+    }
+
+both_counted : (ts : List Turn) → served ts + missed ts ≡ length ts
+both_counted [] = refl
+both_counted (Missing ∷ ts) = let same = both_counted ts in omega arith
+both_counted (Serving sent written told ∷ ts) = let same = both_counted ts in omega arith
+
+-- each turn has a client, or none
+pub both_of : (s : Settings) (count : ℕ) (old new : Place) (tally : Tally)
+    → Took s count old new tally → tally.accepted + tally.unaccepted ≡ count
+both_of s count old new tally took =
+    let both = both_counted took.turns in
+    let many = took.many in
+    let accepted = took.taken.accepted in
+    let unaccepted = took.taken.unaccepted in
+    omega arith
+
+once_by : (n m : ℕ) (b : Bool) → m ≡ (if b then raised n else n) → m ≤ n + 1
+once_by n m true same = omega arith
+once_by n m false same = omega arith
+
+-- an exchange forwards once at most
+once : (s : Settings) (sent unwritten written : Bytes) (old new : Back) (x : Exchange)
+    → IsServed s sent unwritten written old new x → new.count ≤ old.count + 1
+once s sent unwritten written old new x is =
+    once_by old.count new.count (is_through x.admission) (exchanged_once s _ _ x is.exchanged)
+
+all_once : (s : Settings) (ts : List Turn) (old new : Back) → AreServed s ts old new
+    → new.count ≤ old.count + served ts
+all_once s [] old new same = let count = ap (λ (b : Back). b.count) same in omega arith
+all_once s (Missing ∷ ts) old new all = all_once s ts old new all
+all_once s (Serving sent written told ∷ ts) old new all =
+    let one = once s sent all.0 written old all.1 told all.3 in
+    let others = all_once s ts all.1 new all.4 in
+    omega arith
+
+pub forwarded_at_most : (s : Settings) (count : ℕ) (old new : Place) (tally : Tally)
+    → Took s count old new tally → new.back.count ≤ old.back.count + tally.accepted
+forwarded_at_most s count old new tally took =
+    let all = all_once s took.turns old.back new.back took.taken.exchanges in
+    let accepted = took.taken.accepted in
+    omega arith
+
+raised_once : (n : ℕ) → n + 1 ≤ count_end → raised n ≡ n + 1
+raised_once n h = omega arith
+
+given_exactly : (ts : List Turn) (n : ℕ) → n + served ts ≤ count_end
+    → given_by ts n ≡ n + served ts
+given_exactly [] n h = sym (add-zero n)
+given_exactly (Missing ∷ ts) n h = given_exactly ts n h
+given_exactly (Serving sent written told ∷ ts) n h =
+    let up : raised n ≡ n + 1 = raised_once n (omega arith) in
+    let rest : given_by ts (raised n) ≡ raised n + served ts =
+    given_exactly ts (raised n) (omega arith) in
+    omega arith
+
+failed_exactly : (ts : List Turn) (n : ℕ) → n + missed ts ≤ count_end
+    → failed_by ts n ≡ n + missed ts
+failed_exactly [] n h = sym (add-zero n)
+failed_exactly (Missing ∷ ts) n h =
+    let up : raised n ≡ n + 1 = raised_once n (omega arith) in
+    let rest : failed_by ts (raised n) ≡ raised n + missed ts =
+    failed_exactly ts (raised n) (omega arith) in
+    omega arith
+failed_exactly (Serving sent written told ∷ ts) n h = failed_exactly ts n h
+
+-- where a door's counts don't come to their ends, they rise by what is tallied
+pub all_given : (s : Settings) (count most : ℕ) (old new : Place) (tally : Tally)
+    → Took s count old new tally → count ≤ most → old.given + most ≤ count_end
+    → new.given ≡ old.given + tally.accepted
+all_given s count most old new tally took few room =
+    let both = both_counted took.turns in
+    let many = took.many in
+    let accepted = took.taken.accepted in
+    let given = took.taken.given ∙ given_exactly took.turns old.given (omega arith) in
+    omega arith
+
+pub all_failed : (s : Settings) (count most : ℕ) (old new : Place) (tally : Tally)
+    → Took s count old new tally → count ≤ most → old.failed + most ≤ count_end
+    → new.failed ≡ old.failed + tally.unaccepted
+all_failed s count most old new tally took few room =
+    let both = both_counted took.turns in
+    let many = took.many in
+    let unaccepted = took.taken.unaccepted in
+    let failed = took.taken.failed ∙ failed_exactly took.turns old.failed (omega arith) in
+    omega arith
+
+-- the turns that were taken are a run, where they are as many as were asked for, or the door was
+-- found closed
+pub run_of : (s : Settings) (count most : ℕ) (old new : Place) (tally : Tally)
+    → Took s count old new tally → count ≤ most → (new.closed ≡ false → count ≡ most)
+    → IsRun s most old new tally
+run_of s count most old new tally took few whole = record {
+  turns = took.turns;
+  taken = took.taken;
+  few = let many = took.many in omega arith;
+  whole = λ open_yet. took.many ∙ whole open_yet;
+}
+
+pub same_back : {P B : Type 0} (shown : P → Option Shown) (known : P → Option (List Entry))
+    (forwarded : B → ℕ) (log : B → Option (List Forwarded)) (p p' : P) (b b' : B) → p ≡ p'
+    → b ≡ b' → back_of shown known forwarded log p b ≡ back_of shown known forwarded log p' b'
+same_back {P} {B} shown known forwarded log p p' b b' ports backends =
+    ap (λ (x : P). back_of shown known forwarded log x b) ports
+    ∙ ap (λ (x : B). back_of shown known forwarded log p' x) backends

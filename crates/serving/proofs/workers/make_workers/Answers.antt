@@ -1,0 +1,10 @@
+use Rattle.std.proofs.Common.{rules, subst, sym, refl}
+use Rattle.serving.specs.Workers.{Begins}
+use Rattle.serving.proofs.All.{one_more}
+use Rattle.serving.proofs.workers.make_workers.Goals as goal
+
+pub loop-port-preserved : goal.loop-port-preserved
+loop-port-preserved g c = record {
+  all = search (rules, one_more);
+  room = search rules;
+}

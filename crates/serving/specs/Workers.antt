@@ -1,0 +1,147 @@
+-- Workers on threads, and what they leave.
+use Rattle.std.specs.Prelude.{◌≡◌, ◌≤◌, ◌+◌, ℕ, Bool, true, false, List, [], ◌∷◌, Option, None, ⊤}
+use Rattle.counted_io.specs.Count.{count_end}
+use Rattle.limiter_core.specs.declared.event.Entry.{Entry}
+use Rattle.gate_config.specs.declared.settings.Settings.{Settings}
+use Rattle.gate_port.specs.Shown.{Shown}
+use Rattle.backend.specs.Forwards.{Forwarded}
+use Rattle.tcp_backend.specs.declared.connecting.TcpBackend.{TcpBackend}
+use Rattle.tcp_backend.specs.Connecting.{count_of}
+use Rattle.serving.specs.declared.doors.Door.{Door}
+use Rattle.serving.specs.declared.hands.Context.{Context}
+use Rattle.serving.specs.declared.hands.Ended.{Ended}
+use Rattle.serving.specs.declared.hands.Hand.{Hand}
+use Rattle.serving.specs.declared.hands.Hand.TheVariants as hand
+use Rattle.serving.specs.declared.hands.Left.{Left}
+use Rattle.serving.specs.declared.hands.Left.TheVariants as left
+use Rattle.serving.specs.declared.hands.Worker.{Worker}
+use Rattle.serving.specs.declared.working.WorkerSettings.{WorkerSettings}
+use Rattle.serving.specs.Doors.{failed_of, given_of, is_closed}
+use Rattle.serving.specs.Turns.{IsRun, Place}
+use Rattle.serving.specs.Visits.{Visits}
+
+-- the workers among some hands, in order
+abbrev pub workers_in : {A P B X : Type 0} → List (Hand A P B X) → List (Worker A P B)
+workers_in [] = []
+workers_in (hand.Reporter context every ∷ hands) = workers_in hands
+workers_in (hand.Worker context worker ∷ hands) = worker ∷ workers_in hands
+
+-- all hands are in this context
+abbrev pub AreWithin : {A P B X : Type 0} → X → List (Hand A P B X) → Type 0
+AreWithin x [] = ⊤
+AreWithin x (hand.Reporter context every ∷ hands) = (context.now ≡ x) × AreWithin x hands
+AreWithin x (hand.Worker context worker ∷ hands) = (context.now ≡ x) × AreWithin x hands
+
+-- what the workers among them left
+abbrev pub ended_in : {A P B : Type 0} → List (Left A P B) → List (Ended A P B)
+ended_in [] = []
+ended_in (left.Unbegun ∷ lefts) = ended_in lefts
+ended_in (left.Reported ∷ lefts) = ended_in lefts
+ended_in (left.Worked ended ∷ lefts) = ended ∷ ended_in lefts
+
+-- whether it had the memory to begin
+abbrev pub has_begun : {A P B : Type 0} → Left A P B → Bool
+has_begun left.Unbegun = false
+has_begun left.Reported = true
+has_begun (left.Worked ended) = true
+
+-- what is known of doors, ports and backends, and which settings a source gives or lacks
+module _ {A P B S : Type 0} (given failed : A → ℕ) (closed : A → Bool)
+    (visits : A → Option Visits) (shown : P → Option Shown) (known : P → Option (List Entry))
+    (forwarded : B → ℕ) (log : B → Option (List Forwarded)) (gives : S → Settings → Type 0)
+    (lacks : S → Type 0) where
+  -- what stands at a door, a port and a backend
+  abbrev pub place_of : A → P → B → Place
+  place_of door port backend = record {
+    given = given door;
+    failed = failed door;
+    closed = closed door;
+    visits = visits door;
+    back = record {
+      shown = shown port;
+      known = known port;
+      count = forwarded backend;
+      log = log backend;
+    };
+  }
+
+  -- WORKED: by settings that the source gives a worker took its turns, each with a client or none,
+  -- and forwarded no more than it had clients
+  pub record HasWorked (source : S) (most : ℕ) (worker : Worker A P B) (ended : Ended A P B)
+      : Type 0 where
+    pub bounded : most ≤ count_end
+    pub settings : Settings
+    pub are_given : gives source settings
+    pub run : IsRun settings most (place_of worker.door worker.port worker.backend)
+        (place_of ended.door ended.port ended.backend) ended.tally
+    pub turns : ended.tally.accepted + ended.tally.unaccepted ≤ most
+    pub whole : closed ended.door ≡ false
+        → ended.tally.accepted + ended.tally.unaccepted ≡ most
+    pub once : forwarded ended.backend ≤ forwarded worker.backend + ended.tally.accepted
+    pub accepted : given worker.door + most ≤ count_end
+        → given ended.door ≡ given worker.door + ended.tally.accepted
+    pub unaccepted : failed worker.door + most ≤ count_end
+        → failed ended.door ≡ failed worker.door + ended.tally.unaccepted
+
+  -- what a worker leaves; who didn't begin had no settings
+  abbrev pub Leaves : S → ℕ → Worker A P B → Left A P B → Type 0
+  Leaves source most worker left.Unbegun = lacks source
+  Leaves source most worker left.Reported = ⊥
+  Leaves source most worker (left.Worked ended) = HasWorked source most worker ended
+
+  -- what whoever reports leaves
+  abbrev pub Reports : S → Left A P B → Type 0
+  Reports source left.Unbegun = lacks source
+  Reports source left.Reported = ⊤
+  Reports source (left.Worked ended) = ⊥
+
+  -- what each hand leaves
+  abbrev pub Makes : {R G L C W : Type 0} → Hand A P B (Context R G L C S W) → Left A P B → Type 0
+  Makes (hand.Reporter context every) left = Reports context.now.common.now.source.now left
+  Makes (hand.Worker context worker) left =
+      Leaves context.now.common.now.source.now context.now.common.now.per_worker worker left
+
+-- a new worker, with this port, a backend that was given nothing, and a door without a visit
+pub record Begins {R L W V P : Type 0} (port : P)
+    (worker : Worker (Door L W) P (TcpBackend R V)) : Type 0 where
+  pub port_is : worker.port ≡ port
+  pub given : given_of worker.door ≡ 0
+  pub failed : failed_of worker.door ≡ 0
+  pub unclosed : is_closed worker.door ≡ false
+  pub unused : count_of worker.backend ≡ 0
+
+-- RAN: a worker of this port, by settings that the source gives, took its turns, or fewer where the
+-- listener was closed; each accept was counted, for each client there was one exchange, and no more
+-- was forwarded than there were clients
+pub record HasRun {R L C S W V P : Type 0} (gives : S → Settings → Type 0)
+    (shown : P → Option Shown) (known : P → Option (List Entry)) (common : WorkerSettings L C S W)
+    (port : P) (ended : Ended (Door L W) P (TcpBackend R V)) : Type 0 where
+  pub settings : Settings
+  pub are_given : gives common.source.now settings
+  pub run : IsRun settings common.per_worker
+      (record {
+        given = 0;
+        failed = 0;
+        closed = false;
+        visits = None;
+        back = record { shown = shown port; known = known port; count = 0; log = None };
+      })
+      (record {
+        given = given_of ended.door;
+        failed = failed_of ended.door;
+        closed = is_closed ended.door;
+        visits = None;
+        back = record {
+          shown = shown ended.port;
+          known = known ended.port;
+          count = count_of ended.backend;
+          log = None;
+        };
+      })
+      ended.tally
+  pub accepted : given_of ended.door ≡ ended.tally.accepted
+  pub unaccepted : failed_of ended.door ≡ ended.tally.unaccepted
+  pub once : count_of ended.backend ≤ ended.tally.accepted
+  pub turns : ended.tally.accepted + ended.tally.unaccepted ≤ common.per_worker
+  pub whole : is_closed ended.door ≡ false
+      → ended.tally.accepted + ended.tally.unaccepted ≡ common.per_worker

@@ -1,0 +1,135 @@
+// How a worker comes to its clients.
+ghost use Rattle.std.specs.Prelude.{◌≡◌, [], None, false, is_ok, if◌then◌else◌};
+ghost use Rattle.std.specs.Prelude.{IfOk, IfSome, OnErr};
+ghost use Rattle.counted_io.specs.Count.{raised, raised_by_err};
+ghost use Rattle.serving.specs.Doors.{failed_of, given_of, is_closed};
+ghost use Rattle.serving.specs.Visits.{Arrives, Closes, Misses};
+
+use proxy::{Exchange, Watch};
+use std::io::Result;
+use timed_io::{Arrival, Connection, Inlet, Listener, Outlet};
+
+/// One worker's own way to its clients: it counts them, and may show what it did.
+pub trait Accepts {
+    /// A client's connection.
+    type Stream: Connection + Drop;
+
+    /// The end of it that is read.
+    type From: Inlet<Self::Stream> + Copy;
+
+    /// The end of it that is written.
+    type To: Outlet<Self::Stream> + Copy;
+
+    ghost use Rattle.std.specs.Prelude.{ℕ, Bool, Option};
+    ghost use Rattle.serving.specs.Visits.{Visits};
+
+    // How many accepts gave a client, and how many gave none.
+    ghost given: { Self → ℕ };
+
+    ghost failed: { Self → ℕ };
+
+    // Whether it was found closed.
+    ghost closed: { Self → Bool };
+
+    // Who is still to come and what happened so far, where that is shown.
+    ghost visits: { Self → Option Visits };
+
+    /// Waits for the next client, to whom nothing was written yet.
+    fn accept(&mut self) -> Result<Arrival<Self::Stream, Self::From, Self::To>>
+        ensures given { given self.new
+            ≡ (if is_ok result then raised (given self.old) else given self.old) }
+        ensures failed { failed self.new ≡ raised_by_err result (failed self.old) }
+        ensures arrived { IfOk result (λ client.
+            Arrives (visits self.old) (visits self.new) (Self.From.remaining client.from)) }
+        ensures unwritten { IfOk result (λ client.
+            IfSome (Self.To.contents client.to) (λ written. written ≡ [])) }
+        ensures missed { OnErr result (Misses (visits self.old) (visits self.new)) };
+
+    /// Lets the client go, of whom this is told: its connection is closed.
+    fn close(&mut self, client: Arrival<Self::Stream, Self::From, Self::To>, told: &Exchange)
+        ensures given { given self.new ≡ given self.old }
+        ensures failed { failed self.new ≡ failed self.old }
+        ensures closed { Closes (visits self.old) (visits self.new) (Self.To.contents client.to)
+            told.now };
+
+    /// Whether it was found closed: nobody comes any more.
+    fn is_closed(&self) -> bool
+        ensures { result ≡ closed self.now };
+}
+
+/// A worker's own count over a listener that is shared. It shows no visits; a watch hears of them.
+#[derive(Drop)]
+pub struct Door<'a, L, W> {
+    listener: &'a L,
+    watch: &'a W,
+    given: u64,
+    failed: u64,
+    closed: bool,
+}
+
+impl<'a, L, W> Door<'a, L, W> {
+    /// Nobody was asked for yet.
+    pub fn new(listener: &'a L, watch: &'a W) -> Door<'a, L, W>
+        ensures given { given_of result ≡ 0 }
+        ensures failed { failed_of result ≡ 0 }
+        ensures unclosed { is_closed result ≡ false }
+    {
+        Door {
+            listener,
+            watch,
+            given: 0,
+            failed: 0,
+            closed: false,
+        }
+    }
+}
+
+impl<'a, L: Listener, W: Watch> Accepts for Door<'a, L, W> {
+    type Stream = L::Stream;
+
+    type From = L::From;
+
+    type To = L::To;
+
+    ghost use Rattle.std.specs.Prelude.{None};
+    ghost use Rattle.serving.specs.Doors.{failed_of, given_of, is_closed};
+
+    ghost given = { given_of };
+
+    ghost failed = { failed_of };
+
+    ghost closed = { is_closed };
+
+    ghost visits = { λ _. None };
+
+    fn accept(&mut self) -> Result<Arrival<L::Stream, L::From, L::To>> {
+        let outcome = self.listener.accept();
+        match &outcome {
+            Ok(_) => {
+                self.given = self.given.saturating_add(1);
+                self.watch.accepted();
+            }
+            Err(error) => {
+                self.failed = self.failed.saturating_add(1);
+                self.closed = !self.listener.is_open();
+                if !self.closed {
+                    self.watch.unaccepted(error);
+                }
+            }
+        }
+        outcome
+    }
+
+    fn close(&mut self, client: Arrival<L::Stream, L::From, L::To>, told: &Exchange)
+        ensures given { given_of self.new ≡ given_of self.old }
+        ensures failed { failed_of self.new ≡ failed_of self.old }
+        ensures closed { Closes None None (L.To.contents client.to) told.now }
+    {
+        let _closed = client;
+        self.watch.ended(told);
+    }
+
+    fn is_closed(&self) -> bool {
+        self.closed
+    }
+}

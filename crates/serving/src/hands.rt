@@ -1,0 +1,170 @@
+// Who has a thread, and what each leaves.
+ghost use Rattle.std.specs.Prelude.{◌≡◌, ◌≤◌, ◌+◌, false};
+ghost use Rattle.serving.specs.Workers.{Leaves, Makes, Reports};
+
+use crate::doors::Accepts;
+use crate::reporting::{Present, report_all};
+use crate::working::{Buffers, Source, Tally, WorkerSettings, work};
+use backend::Backend;
+use clocks::Clock;
+use gate_port::{GatePort, GateView};
+use proxy::Watch;
+use std::sync::Wait;
+use std::time::Clock as SystemClock;
+use tasks::Task;
+
+/// What a worker owns.
+#[derive(Drop)]
+pub(crate) struct Worker<A, P, B> {
+    pub(crate) door: A,
+    pub(crate) port: P,
+    pub(crate) backend: B,
+    pub(crate) buffers: Buffers,
+}
+
+/// What a worker leaves.
+#[derive(Drop)]
+pub struct Ended<A, P, B> {
+    /// The way that its clients came.
+    pub door: A,
+    /// Where it asked for permits.
+    pub port: P,
+    /// Where it forwarded requests.
+    pub backend: B,
+    /// What came of its turns.
+    pub tally: Tally,
+}
+
+/// The gate, as its workers find it.
+#[derive(Drop)]
+pub(crate) struct Context<'a, R, G, L, C, S, W> {
+    pub(crate) rt: &'a R,
+    pub(crate) common: &'a WorkerSettings<'a, L, C, S, W>,
+    pub(crate) gate: &'a G,
+    pub(crate) present: Present,
+}
+
+/// Whoever has a thread, in a context: who reports every so many nanoseconds, or a worker.
+#[derive(Drop)]
+pub(crate) enum Hand<'a, A, P, B, X> {
+    Reporter(&'a X, u64),
+    Worker(&'a X, Worker<A, P, B>),
+}
+
+/// What is left by who had a thread.
+#[derive(Drop)]
+pub enum Left<A, P, B> {
+    /// It had no memory to begin.
+    Unbegun,
+    /// It reported.
+    Reported,
+    /// It served.
+    Worked(Ended<A, P, B>),
+}
+
+impl<'a, R, G, A, P, B, L, C, S, W> Task for Hand<'a, A, P, B, Context<'a, R, G, L, C, S, W>>
+where
+    R: Wait + SystemClock + Sync,
+    G: GateView + Sync,
+    A: Accepts + Send + Drop,
+    P: GatePort + Send + Drop,
+    L: Sync,
+    B: Backend + Send + Drop,
+    C: Clock + Sync,
+    S: Source + Sync,
+    W: Watch + Sync,
+{
+    type Done = Left<A, P, B>;
+
+    ghost use Rattle.serving.specs.Workers.{Makes};
+
+    ghost makes = { Makes A.given A.failed A.closed A.visits P.shown P.known B.forwarded B.shown
+        S.gives S.lacks };
+
+    fn run(self) -> Left<A, P, B> {
+        match self {
+            Hand::Reporter(context, every) => run_reports(context, every),
+            Hand::Worker(context, worker) => {
+                let left = run_one(context, worker);
+                context.present.leave(context.rt);
+                left
+            }
+        }
+    }
+}
+
+/// The reports, with the names of settings of its own.
+fn run_reports<R, G, A, P, B, L, C, S, W>(
+    context: &Context<'_, R, G, L, C, S, W>,
+    every: u64,
+) -> Left<A, P, B>
+where
+    R: Wait + SystemClock,
+    G: GateView,
+    A: Accepts,
+    P: GatePort,
+    B: Backend,
+    C: Clock,
+    S: Source,
+    W: Watch,
+    ensures { Reports A.given A.failed A.closed A.visits P.shown P.known B.forwarded B.shown
+        S.gives S.lacks context.now.common.now.source.now result }
+{
+    let common = context.common;
+    let Ok(settings) = common.source.settings(common.alloc) else {
+        return Left::Unbegun;
+    };
+    report_all(
+        context.rt,
+        &context.present,
+        context.gate,
+        &settings.table,
+        common.clock,
+        common.watch,
+        every,
+    );
+    Left::Reported
+}
+
+/// One worker's whole run, over settings of its own.
+fn run_one<R, G, A, P, B, L, C, S, W>(
+    context: &Context<'_, R, G, L, C, S, W>,
+    worker: Worker<A, P, B>,
+) -> Left<A, P, B>
+where
+    R: SystemClock,
+    A: Accepts + Drop,
+    P: GatePort + Drop,
+    B: Backend + Drop,
+    C: Clock,
+    S: Source,
+    ensures { Leaves A.given A.failed A.closed A.visits P.shown P.known B.forwarded B.shown
+        S.gives S.lacks context.now.common.now.source.now context.now.common.now.per_worker worker
+        result }
+{
+    let common = context.common;
+    let Ok(settings) = common.source.settings(common.alloc) else {
+        return Left::Unbegun;
+    };
+    let Worker {
+        mut door,
+        mut port,
+        mut backend,
+        mut buffers,
+    } = worker;
+    let tally = work(
+        context.rt,
+        common,
+        &settings,
+        &mut door,
+        &mut port,
+        &mut backend,
+        &mut buffers,
+    );
+    Left::Worked(Ended {
+        door,
+        port,
+        backend,
+        tally,
+    })
+}
