@@ -1,6 +1,7 @@
 -- What `check` answers a configuration.
-use Rattle.std.specs.Prelude.{◌≡◌, ◌≢◌, ◌<◌, ◌≤◌, ◌⊎◌, ℕ, Bool, true, false, List, length, Option, Result, Ok, Err}
+use Rattle.std.specs.Prelude.{◌≡◌, ◌≢◌, ◌<◌, ◌≤◌, ◌⊎◌, ℕ, Bool, true, false, List, length, Option, Result, Ok, Err, IsUtf8}
 use Rattle.toml.specs.Data.{Members}
+use Rattle.toml.specs.Errors.{IsBlank}
 use Rattle.counted_io.specs.declared.counted.Counted.{Counted}
 use Rattle.counted_io.specs.Causes.{IsMemoryCause, IsReadCause, IsWriteCause}
 use Rattle.counted_io.specs.Counted.{failures_of, is_flushed}
@@ -21,6 +22,10 @@ abbrev pub Says : List ℕ → Result Settings ConfigFault → Type 0
 Says bytes answer = ((t : Members) → Reads bytes t → settings_of t ≡ answer)
     × (answer ≢ Err Config.Toml → (t : Members) × Reads bytes t)
 
+-- reading the bytes may run out of memory: they aren't white space and comments alone
+abbrev pub WantsMemory : List ℕ → Type 0
+WantsMemory bytes = IsBlank bytes → IsUtf8 bytes → ⊥
+
 -- the bytes are all that the reader had left, and no more than 1 MiB
 abbrev pub Held : {R : Type 0} → (R → Option (List ℕ)) → Counted R → List ℕ → Type 0
 Held remaining reader bytes =
@@ -33,12 +38,17 @@ IsAccepted contents old new bytes = (s : Settings) × Says bytes (Ok s)
     × Wrote contents old new (accepted_line s)
     × (failures_of new ≡ failures_of old) × (is_flushed new ≡ true)
 
+-- the fault is that of the bytes; or they ran out of memory
+abbrev pub IsConfigFault : List ℕ → ConfigFault → Type 0
+IsConfigFault bytes fault =
+    (fault ≢ Config.Memory → Says bytes (Err fault)) × (fault ≡ Config.Memory → WantsMemory bytes)
+
 -- the fault is that of the bytes, and then nothing is written; or the line of their settings
 -- couldn't be written
 abbrev pub IsWhy : {W : Type 0} → Counted W → Counted W → List ℕ → CheckFault → Type 0
 IsWhy old new bytes Check.Read = ⊥
 IsWhy old new bytes (Check.Config fault) =
-    (new ≡ old) × (fault ≢ Config.Memory → Says bytes (Err fault))
+    (new ≡ old) × IsConfigFault bytes fault
 IsWhy old new bytes Check.Write = IsWriteCause old new × (s : Settings) × Says bytes (Ok s)
 
 -- the most reads that a configuration may take: 2^25
@@ -58,7 +68,7 @@ IsUnread remaining old new Check.Write = ⊥
 -- the fault is that of the bytes
 abbrev pub IsFaultOf : List ℕ → CheckFault → Type 0
 IsFaultOf bytes Check.Read = ⊥
-IsFaultOf bytes (Check.Config fault) = fault ≢ Config.Memory → Says bytes (Err fault)
+IsFaultOf bytes (Check.Config fault) = IsConfigFault bytes fault
 IsFaultOf bytes Check.Write = ⊥
 
 -- why a reader's settings weren't had: its bytes were not had; or no read failed, and the fault is

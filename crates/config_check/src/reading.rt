@@ -1,6 +1,7 @@
 // A configuration, read.
 ghost use Rattle.std.specs.Prelude.{◌≡◌, ◌≤◌, ◌+◌, ◌⊎◌, Ok, IfErr, IfOk, OnOk};
 ghost use Rattle.counted_io.specs.declared.counted.Counted.{Counted as CountedValue};
+ghost use Rattle.counted_io.specs.Causes.{HasRead};
 ghost use Rattle.counted_io.specs.Counted.{calls_of, failures_of};
 ghost use Rattle.gate_config.specs.Settings.{AreSound};
 ghost use Rattle.config_check.specs.Check.{Held, IsFaultOf, IsUnread, Says, most_reads};
@@ -45,6 +46,7 @@ pub fn read_text<R: Read>(alloc: Global, reader: &mut Counted<R>) -> Result<Vec<
     ensures unfailing { OnOk result (failures_of reader.new ≡ failures_of reader.old) }
     ensures refused { IfErr result (IsUnread R.remaining reader.old reader.new) }
     ensures few { calls_of reader.new ≤ calls_of reader.old + most_reads }
+    ensures reads { HasRead reader.old reader.new }
 {
     Ok(read_all(alloc, reader, MOST_CONFIG, MOST_READS)?)
 }

@@ -1,7 +1,9 @@
 -- Faults of the drivers, and their texts.
-use Rattle.std.specs.Prelude.{◌≡◌, ℕ, ◌≤◌, List, length, codes, Option, Result, Ok, Err}
+use Rattle.std.specs.Prelude.{◌≡◌, ℕ, ◌≤◌, ◌⊎◌, List, length, codes, Option, Result, Ok, Err}
+use Rattle.counted_io.specs.declared.counted.Counted.{Counted}
 use Rattle.counted_io.specs.declared.reading.ReadFault.{ReadFault}
 use Rattle.counted_io.specs.declared.reading.ReadFault.TheVariants as reading
+use Rattle.counted_io.specs.Causes.{HasReadAll, IsMemoryCause}
 use Rattle.script.specs.declared.line_fault.LineFault.{LineFault}
 use Rattle.script.specs.Faults.{line_fault_text}
 use Rattle.load_driver.specs.declared.driver.DriverFault.{DriverFault}
@@ -29,6 +31,11 @@ IsAnswer n script fault Written =
     (length script ≤ most_script)
     × ((replay_text n kept_entries script).fault ≡ fault)
     × Written (replay_text n kept_entries script).out
+
+-- no read failed, and what was read is some of an input, or all of it, and at most 16 MiB
+abbrev pub IsOutOfMemory : {R : Type 0} → (R → Option (List ℕ)) → Counted R → Counted R → Type 0
+IsOutOfMemory remaining old new =
+    IsMemoryCause remaining most_script old new ⊎ HasReadAll remaining most_script old new
 
 -- what a driver tells of a fault of reading
 abbrev pub told_of_read : ReadFault → DriverFault

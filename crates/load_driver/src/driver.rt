@@ -2,10 +2,10 @@
 ghost use Rattle.std.specs.Prelude.{◌≡◌, ◌<◌, ◌≤◌, ◌+◌, length, true, None, Some, OnOk, IfErr, IsErrOf};
 ghost use Rattle.counted_io.specs.Counted.{calls_of, failures_of, is_flushed};
 ghost use Rattle.counted_io.specs.Effects.{IfLeft, Wrote};
-ghost use Rattle.counted_io.specs.Causes.{IsReadCause, IsWriteCause, ReadWithin};
+ghost use Rattle.counted_io.specs.Causes.{HasRead, IsReadCause, IsWriteCause};
 ghost use Rattle.limit_laws.specs.Algorithm.{greatest_limit};
 ghost use Rattle.load_driver.specs.Limits.{most_script, most_reads};
-ghost use Rattle.load_driver.specs.Driver.{IfLine, IsAnswer, OnAnswer};
+ghost use Rattle.load_driver.specs.Driver.{IfLine, IsAnswer, IsOutOfMemory, OnAnswer};
 
 use super::opening::answer_script;
 use counted_io::{Counted, ReadFault, WriteFault, read_all, write_and_flush};
@@ -96,7 +96,7 @@ pub fn replay<R: Read, W: Write>(
 
     // Each other fault comes only for its cause.
     ensures memory { IsErrOf result DriverFault.Memory →
-        ReadWithin R.remaining most_script reader.old reader.new }
+        IsOutOfMemory R.remaining reader.old reader.new }
     ensures read { IsErrOf result DriverFault.Read → IsReadCause most_reads reader.old reader.new }
     ensures too_large { IsErrOf result DriverFault.TooLarge →
         IfLeft R.remaining reader.old (λ script. most_script < length script) }
@@ -106,6 +106,7 @@ pub fn replay<R: Read, W: Write>(
     ensures only_write_fails { ¬ IsErrOf result DriverFault.Write →
         failures_of writer.new ≡ failures_of writer.old }
     ensures few { calls_of reader.new ≤ calls_of reader.old + most_reads }
+    ensures reads { HasRead reader.old reader.new }
 
     // Then nothing is written.
     ensures memory_writes_nothing { IsErrOf result DriverFault.Memory → writer.new ≡ writer.old }

@@ -1,5 +1,5 @@
 -- What reading gives: a value and the bytes behind it, or a fault of the bytes.
-use Rattle.std.specs.Prelude.{◌≡◌, ◌<◌, ◌⊎◌, ℕ, List, [], ◌∷◌, Option, Some, None, Result, Ok, Err, ⊤}
+use Rattle.std.specs.Prelude.{◌≡◌, ◌<◌, ◌+◌, ◌⊎◌, ℕ, max, min, List, [], ◌∷◌, Option, Some, None, Result, Ok, Err, ⊤}
 use Rattle.counted_io.specs.declared.counted.Counted.{Counted}
 use Rattle.counted_io.specs.Count.{count_end}
 use Rattle.counted_io.specs.Counted.{inner_of, failures_of}
@@ -40,6 +40,10 @@ Reads remaining old new view Is result =
 -- a read failed in the call, or the count of failures stands at its end
 abbrev pub HasFailed : {R : Type 0} → Counted R → Counted R → Type 0
 HasFailed old new = (failures_of old < failures_of new) ⊎ (failures_of new ≡ count_end)
+
+-- the least count of calls after one more of them, which the limit may forbid
+abbrev pub once_more : ℕ → ℕ → ℕ
+once_more limit calls = max calls (min limit (calls + 1))
 
 -- one byte
 abbrev pub byte_of : List ℕ → Reading ℕ

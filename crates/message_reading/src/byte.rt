@@ -4,7 +4,7 @@ ghost use Rattle.std.specs.Io.{StopsAt};
 ghost use Rattle.counted_io.specs.Counted.{inner_of, calls_of, failures_of};
 ghost use Rattle.counted_io.specs.Effects.{Gave, IfLeft};
 ghost use Rattle.message_reading.specs.PlainBody.{byte_is, crlf_of};
-ghost use Rattle.message_reading.specs.Reading.{By, HasFailed, Reads, byte_of};
+ghost use Rattle.message_reading.specs.Reading.{By, HasFailed, Reads, byte_of, once_more};
 
 use crate::fault::{Fault, MessageFault};
 use counted_io::{AppendFault, Counted};
@@ -17,6 +17,7 @@ pub(crate) fn read_byte<R: Read>(reader: &mut Counted<R>, limit: u64) -> Result<
     ensures unfailing { OnOk result (failures_of reader.new ≡ failures_of reader.old) }
     ensures turns { IsErrOf result MessageFault.TurnLimit → limit ≤ calls_of reader.new }
     ensures few { calls_of reader.new ≤ max limit (calls_of reader.old) }
+    ensures goes_on { calls_of reader.old ≤ calls_of reader.new }
 {
     if reader.calls() >= limit {
         return Err(MessageFault::TurnLimit);
@@ -51,6 +52,7 @@ fn append<R: BufRead>(
     ensures unfailing { OnOk result (failures_of reader.new ≡ failures_of reader.old) }
     ensures turns { IsErrOf result MessageFault.TurnLimit → limit ≤ calls_of reader.new }
     ensures few { calls_of reader.new ≤ max limit (calls_of reader.old) }
+    ensures reads { once_more limit (calls_of reader.old) ≤ calls_of reader.new }
 {
     if reader.calls() >= limit {
         return Err(MessageFault::TurnLimit);
@@ -87,6 +89,7 @@ pub(crate) fn read_some<R: BufRead>(
     ensures unfailing { OnOk result (failures_of reader.new ≡ failures_of reader.old) }
     ensures turns { IsErrOf result MessageFault.TurnLimit → limit ≤ calls_of reader.new }
     ensures few { calls_of reader.new ≤ max limit (calls_of reader.old) }
+    ensures goes_on { calls_of reader.old ≤ calls_of reader.new }
 {
     append(reader, limit, None, most, into)
 }
@@ -117,6 +120,7 @@ pub(crate) fn read_line_part<R: BufRead>(
     ensures unfailing { OnOk result (failures_of reader.new ≡ failures_of reader.old) }
     ensures turns { IsErrOf result MessageFault.TurnLimit → limit ≤ calls_of reader.new }
     ensures few { calls_of reader.new ≤ max limit (calls_of reader.old) }
+    ensures reads { once_more limit (calls_of reader.old) ≤ calls_of reader.new }
 {
     match append(reader, limit, Some(b'\n'), most, into)? {
         0 => Err(MessageFault::from(Fault::Early)),
@@ -131,6 +135,7 @@ fn read_this<R: Read>(reader: &mut Counted<R>, limit: u64, byte: u8) -> Result<(
     ensures unfailing { OnOk result (failures_of reader.new ≡ failures_of reader.old) }
     ensures turns { IsErrOf result MessageFault.TurnLimit → limit ≤ calls_of reader.new }
     ensures few { calls_of reader.new ≤ max limit (calls_of reader.old) }
+    ensures goes_on { calls_of reader.old ≤ calls_of reader.new }
 {
     let found = read_byte(reader, limit)?;
     if found == byte {
@@ -147,6 +152,7 @@ pub(crate) fn read_crlf<R: Read>(reader: &mut Counted<R>, limit: u64) -> Result<
     ensures unfailing { OnOk result (failures_of reader.new ≡ failures_of reader.old) }
     ensures turns { IsErrOf result MessageFault.TurnLimit → limit ≤ calls_of reader.new }
     ensures few { calls_of reader.new ≤ max limit (calls_of reader.old) }
+    ensures goes_on { calls_of reader.old ≤ calls_of reader.new }
 {
     read_this(reader, limit, b'\r')?;
     read_this(reader, limit, b'\n')

@@ -1,7 +1,7 @@
 // The head of a request, read and checked.
 ghost use Rattle.std.specs.Prelude.{◌≡◌, ◌≤◌, max, IsErrOf, OnOk};
 ghost use Rattle.counted_io.specs.Counted.{calls_of, failures_of};
-ghost use Rattle.message_reading.specs.Reading.{HasFailed, Reads};
+ghost use Rattle.message_reading.specs.Reading.{HasFailed, Reads, once_more};
 ghost use Rattle.message_reading.specs.Heads.{IsCheckedHead, IsRequestHead};
 
 use crate::fault::MessageFault;
@@ -24,6 +24,7 @@ fn read_request_head<R: BufRead>(
     ensures unfailing { OnOk result (failures_of reader.new ≡ failures_of reader.old) }
     ensures turns { IsErrOf result MessageFault.TurnLimit → limit ≤ calls_of reader.new }
     ensures few { calls_of reader.new ≤ max limit (calls_of reader.old) }
+    ensures reads { once_more limit (calls_of reader.old) ≤ calls_of reader.new }
 {
     let text = read_head(alloc, reader, limit)?;
     parse_request(alloc, text)
@@ -41,6 +42,7 @@ pub fn read_checked_head<R: BufRead>(
     ensures unfailing { OnOk result (failures_of reader.new ≡ failures_of reader.old) }
     ensures turns { IsErrOf result MessageFault.TurnLimit → limit ≤ calls_of reader.new }
     ensures few { calls_of reader.new ≤ max limit (calls_of reader.old) }
+    ensures reads { once_more limit (calls_of reader.old) ≤ calls_of reader.new }
 {
     let head = read_request_head(alloc, reader, limit)?;
     match frame_request(&head) {

@@ -35,6 +35,7 @@ pub(crate) fn read_size<R: Read>(
     ensures unfailing { OnOk result (failures_of reader.new ≡ failures_of reader.old) }
     ensures turns { IsErrOf result MessageFault.TurnLimit → limit ≤ calls_of reader.new }
     ensures few { calls_of reader.new ≤ max limit (calls_of reader.old) }
+    ensures goes_on { calls_of reader.old ≤ calls_of reader.new }
 {
     let line = read_size_line(reader, limit, Vec::new(alloc))?;
     match whole_size(&line) {

@@ -32,6 +32,7 @@ fn read_piece<R: BufRead>(
     ensures unfailing { OnOk result (failures_of reader.new ≡ failures_of reader.old) }
     ensures turns { IsErrOf result MessageFault.TurnLimit → limit ≤ calls_of reader.new }
     ensures few { calls_of reader.new ≤ max limit (calls_of reader.old) }
+    ensures goes_on { calls_of reader.old ≤ calls_of reader.new }
 {
     fill(reader, limit, &mut body, size)?;
     read_crlf(reader, limit)?;
@@ -55,6 +56,7 @@ pub(crate) fn read_chunked<R: BufRead>(
     ensures unfailing { OnOk result (failures_of reader.new ≡ failures_of reader.old) }
     ensures turns { IsErrOf result MessageFault.TurnLimit → limit ≤ calls_of reader.new }
     ensures few { calls_of reader.new ≤ max limit (calls_of reader.old) }
+    ensures goes_on { calls_of reader.old ≤ calls_of reader.new }
 {
     let mut body = Vec::new(alloc);
     loop {

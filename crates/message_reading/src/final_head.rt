@@ -1,7 +1,7 @@
 // The head of a response, behind the interim ones.
 ghost use Rattle.std.specs.Prelude.{◌≡◌, ◌≤◌, max, IfOk, IsErrOf, OnOk};
 ghost use Rattle.counted_io.specs.Counted.{calls_of, failures_of};
-ghost use Rattle.message_reading.specs.Reading.{HasFailed, Reads};
+ghost use Rattle.message_reading.specs.Reading.{HasFailed, Reads, once_more};
 ghost use Rattle.message_reading.specs.Heads.{IsFinalHead, IsResponseHead, is_final, is_interim};
 
 use crate::fault::{Fault, MessageFault};
@@ -27,6 +27,7 @@ fn read_response_head<R: BufRead>(
     ensures unfailing { OnOk result (failures_of reader.new ≡ failures_of reader.old) }
     ensures turns { IsErrOf result MessageFault.TurnLimit → limit ≤ calls_of reader.new }
     ensures few { calls_of reader.new ≤ max limit (calls_of reader.old) }
+    ensures reads { once_more limit (calls_of reader.old) ≤ calls_of reader.new }
 {
     let text = read_head(alloc, reader, limit)?;
     parse_response(alloc, text)
@@ -61,6 +62,7 @@ pub fn read_final_head<R: BufRead>(
     ensures unfailing { OnOk result (failures_of reader.new ≡ failures_of reader.old) }
     ensures turns { IsErrOf result MessageFault.TurnLimit → limit ≤ calls_of reader.new }
     ensures few { calls_of reader.new ≤ max limit (calls_of reader.old) }
+    ensures reads { once_more limit (calls_of reader.old) ≤ calls_of reader.new }
 {
     let mut left = MOST_INTERIM;
     loop {

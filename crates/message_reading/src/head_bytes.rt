@@ -3,21 +3,21 @@ ghost use Rattle.std.specs.Prelude.{◌≡◌, ◌≤◌, ◌<◌, ◌-◌, ◌�
 ghost use Rattle.std.specs.Io.{StopsAt};
 ghost use Rattle.counted_io.specs.Counted.{inner_of, calls_of, failures_of};
 ghost use Rattle.counted_io.specs.Effects.{Gave, IfLeft};
-ghost use Rattle.message_reading.specs.Reading.{By, HasFailed, Reads};
+ghost use Rattle.message_reading.specs.Reading.{By, HasFailed, Reads, once_more};
 ghost use Rattle.message_reading.specs.HeadBytes.{ends_head, head_of, line_ends};
 
 use crate::byte::read_line_part;
 use crate::fault::{Fault, MessageFault};
 use crate::progress::Progress;
 use counted_io::Counted;
-use std::alloc::{AllocError, Global};
+use std::alloc::Global;
 use std::io::BufRead;
 use std::marker::Model;
 
 /// The greatest number of bytes of a head.
 const MOST_HEAD: usize = 65_536;
 
-/// The room for a head at first; it grows where one has more bytes.
+/// The room behind what a head begins with; it grows where one has more bytes.
 const USUAL_HEAD: usize = 512;
 
 /// The greatest number of lines, the first and the empty one among them.
@@ -42,13 +42,13 @@ impl Model for Seen {
 }
 
 impl Seen {
-    fn new(alloc: Global) -> Result<Seen, AllocError>
-        ensures { IfOk result (λ seen. seen ≡ []) }
+    fn new(alloc: Global) -> Seen
+        ensures { result ≡ [] }
     {
-        Ok(Seen {
-            bytes: Vec::with_capacity(alloc, USUAL_HEAD)?,
+        Seen {
+            bytes: Vec::new(alloc),
             progress: Progress::new(),
-        })
+        }
     }
 
     // Adds the next bytes of the reader, no further than an LF, and tells whether all are a head.
@@ -71,10 +71,13 @@ impl Seen {
         ensures unfailing { OnOk result (failures_of reader.new ≡ failures_of reader.old) }
         ensures turns { IsErrOf result MessageFault.TurnLimit → limit ≤ calls_of reader.new }
         ensures few { calls_of reader.new ≤ max limit (calls_of reader.old) }
+        ensures reads { once_more limit (calls_of reader.old) ≤ calls_of reader.new }
     {
         let before = self.bytes.len();
         read_line_part(reader, limit, MOST_HEAD - before, &mut self.bytes)?;
         self.progress = self.progress.through(&self.bytes[before..]);
+        let room = if before == 0 { USUAL_HEAD } else { 0 };
+        self.bytes.reserve(room)?;
         Ok(self.progress.ends())
     }
 
@@ -114,8 +117,9 @@ pub(crate) fn read_head<R: BufRead>(
     ensures unfailing { OnOk result (failures_of reader.new ≡ failures_of reader.old) }
     ensures turns { IsErrOf result MessageFault.TurnLimit → limit ≤ calls_of reader.new }
     ensures few { calls_of reader.new ≤ max limit (calls_of reader.old) }
+    ensures reads { once_more limit (calls_of reader.old) ≤ calls_of reader.new }
 {
-    let mut seen = Seen::new(alloc)?;
+    let mut seen = Seen::new(alloc);
     while seen.len() < MOST_HEAD {
         if seen.read_on(reader, limit)? {
             return seen.into_head();

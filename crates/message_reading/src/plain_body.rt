@@ -32,6 +32,7 @@ pub(crate) fn fill<R: BufRead>(
     ensures unfailing { OnOk result (failures_of reader.new ≡ failures_of reader.old) }
     ensures turns { IsErrOf result MessageFault.TurnLimit → limit ≤ calls_of reader.new }
     ensures few { calls_of reader.new ≤ max limit (calls_of reader.old) }
+    ensures goes_on { calls_of reader.old ≤ calls_of reader.new }
 {
     let mut left = size;
     while left > 0 {
@@ -57,6 +58,7 @@ pub(crate) fn read_sized<R: BufRead>(
     ensures unfailing { OnOk result (failures_of reader.new ≡ failures_of reader.old) }
     ensures turns { IsErrOf result MessageFault.TurnLimit → limit ≤ calls_of reader.new }
     ensures few { calls_of reader.new ≤ max limit (calls_of reader.old) }
+    ensures goes_on { calls_of reader.old ≤ calls_of reader.new }
 {
     let mut body = Vec::new(alloc);
     fill(reader, limit, &mut body, size)?;
@@ -75,6 +77,7 @@ pub(crate) fn read_to_end<R: BufRead>(
     ensures unfailing { OnOk result (failures_of reader.new ≡ failures_of reader.old) }
     ensures turns { IsErrOf result MessageFault.TurnLimit → limit ≤ calls_of reader.new }
     ensures few { calls_of reader.new ≤ max limit (calls_of reader.old) }
+    ensures goes_on { calls_of reader.old ≤ calls_of reader.new }
 {
     let mut body = Vec::new(alloc);
     loop {

@@ -27,6 +27,7 @@ pub(crate) fn read_size_line<R: Read>(
     ensures unfailing { OnOk result (failures_of reader.new ≡ failures_of reader.old) }
     ensures turns { IsErrOf result MessageFault.TurnLimit → limit ≤ calls_of reader.new }
     ensures few { calls_of reader.new ≤ max limit (calls_of reader.old) }
+    ensures goes_on { calls_of reader.old ≤ calls_of reader.new }
 {
     line.clear();
     for _ in 0..MOST_SIZE_LINE {

@@ -1,15 +1,19 @@
 // One request over a connection, and its answer.
-ghost use Rattle.std.specs.Prelude.{◌≡◌};
+ghost use Rattle.std.specs.Prelude.{◌≡◌, true, false, IfErr};
+ghost use Rattle.std.specs.Io.KnownBytes.{Appends};
+ghost use Rattle.wire.specs.Written.{request_text};
 ghost use Rattle.tcp_backend.specs.Answers.{answer_of};
+ghost use Rattle.tcp_backend.specs.Sent.{IsCut};
 
 use crate::early::EarlyRead;
+use crate::ends::Outlet;
 use crate::unanswered::UnansweredWrite;
 use backend::Answer;
 use counted_io::Counted;
 use lent_io::{BufferedRead, BufferedWrite, ReadBuffer, WriteBuffer};
 use message_parts::Request;
 use std::alloc::Global;
-use std::io::{Read, Write};
+use std::io::Read;
 use std::net::OpenStream;
 use std::time::Duration;
 use wire::{Response, WireFault, read_response, write_request};
@@ -20,24 +24,66 @@ const LAST_READS: u32 = 16;
 /// How long each of them may take, in milliseconds.
 const LAST_MILLIS: u64 = 20;
 
+/// What came of a request over a connection, whether it was written whole, and the connection's end
+/// then.
+#[derive(Drop)]
+pub(crate) struct Asked<E> {
+    pub(crate) answer: Result<Response, WireFault>,
+    pub(crate) is_sent: bool,
+    pub(crate) end: E,
+}
+
 // Writes the request and reads its answer. A backend may answer before it has read the whole
 // request, and close or read no further (RFC 9112, section 9.5), so the answer is looked for behind
 // a write that failed or stands still, too; nothing more is written then.
-pub(crate) fn ask<S: Read + Write + OpenStream>(
+pub(crate) fn ask<S: Read + OpenStream, E: Outlet<S> + Copy>(
     alloc: Global,
     stream: &mut S,
+    end: E,
     ahead: &mut ReadBuffer,
     behind: &mut WriteBuffer,
     request: &Request,
     host: &str,
-) -> Result<Response, WireFault> {
-    let unanswered = UnansweredWrite::new(&mut *stream);
-    let mut writer = Counted::new(BufferedWrite::new(unanswered, behind));
-    if write_request(&mut writer, request, host).is_err() {
-        return read_early(alloc, stream, ahead, request);
+) -> Asked<E>
+    ensures sent { result.is_sent ≡ true → Appends (E.contents end) (E.contents result.end)
+        (request_text host.now request.now) }
+    ensures cut { result.is_sent ≡ false → IfErr result.answer IsCut }
+{
+    let (end, is_sent) = send(&mut *stream, end, behind, request, host);
+    if !is_sent {
+        let answer = read_early(alloc, stream, ahead, request);
+        return Asked {
+            answer,
+            is_sent,
+            end,
+        };
     }
     let mut reader = Counted::new(BufferedRead::new(&mut *stream, ahead));
-    read_response(alloc, &mut reader, &request.method)
+    let answer = read_response(alloc, &mut reader, &request.method);
+    Asked {
+        answer,
+        is_sent,
+        end,
+    }
+}
+
+// Writes the request, and tells whether it was written whole.
+fn send<S: OpenStream, E: Outlet<S> + Copy>(
+    stream: &mut S,
+    end: E,
+    behind: &mut WriteBuffer,
+    request: &Request,
+    host: &str,
+) -> (E, bool)
+    ensures { result.1 ≡ true → Appends (E.contents end) (E.contents result.0)
+        (request_text host.now request.now) }
+{
+    let unanswered = UnansweredWrite::new(stream, end);
+    let mut writer = Counted::new(BufferedWrite::new(unanswered, behind));
+    let written = write_request(&mut writer, request, host);
+    let is_sent = written.is_ok() && writer.inner().is_sent();
+    let end = writer.inner().inner().end();
+    (end, is_sent)
 }
 
 // The answer that came before the request was written. It has to say its own length: its end may be
@@ -47,7 +93,9 @@ fn read_early<S: Read + OpenStream>(
     stream: &mut S,
     ahead: &mut ReadBuffer,
     request: &Request,
-) -> Result<Response, WireFault> {
+) -> Result<Response, WireFault>
+    ensures { IfErr result IsCut }
+{
     let early = EarlyRead::new(&mut *stream);
     let mut reader = Counted::new(BufferedRead::new(early, ahead));
     match read_response(alloc, &mut reader, &request.method) {

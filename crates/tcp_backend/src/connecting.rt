@@ -4,7 +4,7 @@ ghost use Rattle.std.specs.Net.Text.{socket_v4_text};
 ghost use Rattle.counted_io.specs.Count.{raised};
 ghost use Rattle.tcp_backend.specs.Connecting.{count_of, host_of};
 
-use crate::asking::{answer_of, ask, read_on};
+use crate::asking::{Asked, answer_of, ask, read_on};
 use crate::dialing::{Connector, Dialer};
 use crate::watch::BackendWatch;
 use arrayvec::ArrayString;
@@ -106,16 +106,17 @@ fn forward_over<C: Connector, W: BackendWatch>(
 ) -> Answer
     ensures once { C.connects connector.new ≡ raised (C.connects connector.old) }
 {
-    let mut stream = match connector.connect() {
-        Ok(stream) => stream,
+    let (mut stream, end) = match connector.connect() {
+        Ok(made) => made,
         Err(error) => {
             watch.unreached(&error);
             return Answer::NotConnected;
         }
     };
-    let asked = ask(
+    let Asked { answer: asked, .. } = ask(
         line.alloc,
         &mut stream,
+        end,
         &mut line.ahead,
         &mut line.behind,
         request,

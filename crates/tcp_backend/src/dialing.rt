@@ -3,6 +3,7 @@ ghost use Rattle.std.specs.Prelude.{◌≡◌};
 ghost use Rattle.counted_io.specs.Count.{raised};
 ghost use Rattle.tcp_backend.specs.Connecting.{dialed_of};
 
+use crate::ends::{Outlet, Untold};
 use std::io::{Read, Result, Write};
 use std::net::{Net, OpenStream, SocketAddrV4, TcpStream};
 
@@ -10,13 +11,16 @@ use std::net::{Net, OpenStream, SocketAddrV4, TcpStream};
 pub(crate) trait Connector {
     type Stream: Read + Write + OpenStream + Drop;
 
+    // Where it is written to.
+    type End: Outlet<Self::Stream> + Copy;
+
     ghost use Rattle.std.specs.Prelude.{ℕ};
 
     // How often it was asked to connect.
     ghost connects: { Self → ℕ };
 
     // A new connection, or why none can be had.
-    fn connect(&mut self) -> Result<Self::Stream>
+    fn connect(&mut self) -> Result<(Self::Stream, Self::End)>
         ensures { connects self.new ≡ raised (connects self.old) };
 }
 
@@ -51,12 +55,15 @@ impl<R: Net> Dialer<R> {
 impl<R: Net> Connector for Dialer<R> {
     type Stream = R::Stream;
 
+    type End = Untold;
+
     ghost use Rattle.tcp_backend.specs.Connecting.{dialed_of};
 
     ghost connects = { dialed_of };
 
-    fn connect(&mut self) -> Result<R::Stream> {
+    fn connect(&mut self) -> Result<(R::Stream, Untold)> {
         self.connects = self.connects.saturating_add(1);
-        TcpStream::connect(&self.rt, self.address)
+        let stream = TcpStream::connect(&self.rt, self.address)?;
+        Ok((stream, Untold {}))
     }
 }

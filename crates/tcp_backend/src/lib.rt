@@ -12,6 +12,7 @@ mod asking;
 mod connecting;
 mod dialing;
 mod early;
+mod ends;
 mod unanswered;
 mod watch;
 

@@ -1,4 +1,10 @@
 // Writing a request as long as it isn't answered.
+ghost use Rattle.std.specs.Prelude.{◌≡◌};
+ghost use Rattle.std.specs.Io.{WritesAtMost};
+ghost use Rattle.std.specs.Io.KnownBytes.{Keeps, WriteAppends};
+ghost use Rattle.tcp_backend.specs.Sent.{end_of};
+
+use crate::ends::Outlet;
 use std::io::{Error, ErrorKind, Result, Write};
 use std::net::OpenStream;
 use std::time::Duration;
@@ -17,23 +23,42 @@ const STATUS_PLACE: usize = 9;
 /// wait for its answer to be read while the gateway waits for the request to be. One without an
 /// answer goes on for as long as the backend takes.
 #[derive(Drop)]
-pub(crate) struct UnansweredWrite<'s, S> {
+pub(crate) struct UnansweredWrite<'s, S, E> {
     stream: &'s mut S,
+    end: E,
 }
 
-impl<'s, S: Write + OpenStream> UnansweredWrite<'s, S> {
+impl<'s, S: OpenStream, E> UnansweredWrite<'s, S, E> {
     // A connection whose writes can't be given a limit is written to as ever.
-    pub(crate) fn new(stream: &'s mut S) -> UnansweredWrite<'s, S> {
+    pub(crate) fn new(stream: &'s mut S, end: E) -> UnansweredWrite<'s, S, E>
+        ensures { end_of result ≡ end }
+    {
         let _ = stream.set_write_timeout(Some(Duration::from_millis(STALL_MILLIS)));
-        UnansweredWrite { stream }
+        UnansweredWrite { stream, end }
     }
 }
 
-impl<'s, S: Write + OpenStream> Write for UnansweredWrite<'s, S> {
-    fn write(&mut self, buf: &[u8]) -> Result<usize> {
+impl<'s, S, E: Copy> UnansweredWrite<'s, S, E> {
+    // The end, as it is now.
+    pub(crate) fn end(&self) -> E
+        ensures { result ≡ end_of self.now }
+    {
+        self.end
+    }
+}
+
+impl<'s, S: OpenStream, E: Outlet<S>> Write for UnansweredWrite<'s, S, E> {
+    ghost contents = { λ writer. E.contents (end_of writer) };
+
+    #[tactic(auto, using(crate::proofs::Known::anew))]
+    fn write(&mut self, buf: &[u8]) -> Result<usize>
+        ensures bound { WritesAtMost result buf.now }
+        ensures bytes { WriteAppends (E.contents (end_of self.old)) (E.contents (end_of self.new))
+            result buf.now }
+    {
         let mut has_stalled = false;
         for _ in 0..MOST_TURNS {
-            match self.stream.write(buf) {
+            match self.end.send(&mut *self.stream, buf) {
                 Err(fault) if fault.kind() == ErrorKind::Interrupted => {}
                 Err(fault) if fault.kind() == ErrorKind::WouldBlock => {
                     if has_stalled && is_answered(&*self.stream) {
@@ -47,8 +72,10 @@ impl<'s, S: Write + OpenStream> Write for UnansweredWrite<'s, S> {
         Err(Error::new(ErrorKind::TimedOut, "nothing was taken"))
     }
 
-    fn flush(&mut self) -> Result<()> {
-        self.stream.flush()
+    fn flush(&mut self) -> Result<()>
+        ensures { Keeps (E.contents (end_of self.old)) (E.contents (end_of self.new)) }
+    {
+        self.end.flush(&mut *self.stream)
     }
 }
 

@@ -1,12 +1,12 @@
 -- What stops a simulation is what stops a command over a text.
 use Rattle.std.proofs.Common.{◌≡◌, ◌<◌, ◌⊎◌, ℕ, true, inl, inr, ap, List, length, Option, Some, Result, Ok, Err, IfErr, IsErrOf}
 use Rattle.counted_io.specs.declared.counted.Counted.{Counted}
-use Rattle.counted_io.specs.Causes.{IsReadCause, IsWriteCause, ReadWithin}
+use Rattle.counted_io.specs.Causes.{IsReadCause, IsWriteCause}
 use Rattle.counted_io.specs.Counted.{failures_of, is_flushed}
 use Rattle.counted_io.specs.Effects.{IfLeft, Wrote}
 use Rattle.load_driver.specs.declared.driver.DriverFault.{DriverFault}
 use Rattle.load_driver.specs.declared.driver.DriverFault.TheVariants as driver
-use Rattle.load_driver.specs.Driver.{IfLine, OnAnswer}
+use Rattle.load_driver.specs.Driver.{IfLine, IsOutOfMemory, OnAnswer}
 use Rattle.load_driver.specs.Limits.{most_reads, most_script}
 use Rattle.virtual_time.specs.Simulation.{IsSimulated}
 use Rattle.commands.specs.declared.command_line.TextTask.TheVariants.{Simulate}
@@ -31,7 +31,7 @@ pub simulation_stops : {R W : Type 0} (remaining : R → Option (List ℕ))
     → IfErr result (λ fault. IfLine fault (λ at. IfLeft remaining before (λ text.
     IsSimulated limit text (Some at) (Wrote contents old new))))
     → OnAnswer result (is_flushed new ≡ true)
-    → (IsErrOf result driver.Memory → ReadWithin remaining most_script before after)
+    → (IsErrOf result driver.Memory → IsOutOfMemory remaining before after)
     → (IsErrOf result driver.Read → IsReadCause most_reads before after)
     → (IsErrOf result driver.TooLarge
     → IfLeft remaining before (λ text. most_script < length text))

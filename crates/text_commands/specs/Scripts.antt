@@ -1,12 +1,12 @@
 -- What a command over a text writes, and what ends it.
 use Rattle.std.specs.Prelude.{◌≡◌, ◌≢◌, ◌<◌, ◌⊎◌, ℕ, true, List, length, Option, Some}
 use Rattle.counted_io.specs.declared.counted.Counted.{Counted}
-use Rattle.counted_io.specs.Causes.{IsReadCause, IsWriteCause, ReadWithin}
+use Rattle.counted_io.specs.Causes.{IsReadCause, IsWriteCause}
 use Rattle.counted_io.specs.Counted.{failures_of, is_flushed}
 use Rattle.counted_io.specs.Effects.{IfLeft, Wrote}
 use Rattle.load_driver.specs.declared.driver.DriverFault.{DriverFault}
 use Rattle.load_driver.specs.declared.driver.DriverFault.TheVariants.{Memory, Read, TooLarge, Write}
-use Rattle.load_driver.specs.Driver.{IfLine, IsAnswer}
+use Rattle.load_driver.specs.Driver.{IfLine, IsAnswer, IsOutOfMemory}
 use Rattle.load_driver.specs.Limits.{most_reads, most_script}
 use Rattle.script.specs.declared.line_fault.LineFault.{LineFault}
 use Rattle.virtual_time.specs.Simulation.{IsSimulated}
@@ -28,7 +28,7 @@ pub record IsStop {R W : Type 0} (remaining : R → Option (List ℕ)) (contents
   pub line : IfLine fault (λ at. IfLeft remaining before (λ text.
       IsAnswerOf task text (Some at) (Wrote contents old new)))
   pub flushed : IfLine fault (λ at. is_flushed new ≡ true)
-  pub memory : fault ≡ Memory → ReadWithin remaining most_script before after
+  pub memory : fault ≡ Memory → IsOutOfMemory remaining before after
   pub too_large : fault ≡ TooLarge → IfLeft remaining before (λ script. most_script < length script)
   pub read : fault ≡ Read → IsReadCause most_reads before after
   pub write : fault ≡ Write → IsWriteCause old new

@@ -1,5 +1,6 @@
 // A command over a text.
 ghost use Rattle.std.specs.Prelude.{◌≡◌, ◌≤◌, ◌+◌, ◌⊎◌, true, None, OnOk, IfErr};
+ghost use Rattle.counted_io.specs.Causes.{HasRead};
 ghost use Rattle.counted_io.specs.Counted.{calls_of, failures_of, is_flushed};
 ghost use Rattle.counted_io.specs.Effects.{IfLeft, Wrote};
 ghost use Rattle.limit_laws.specs.Algorithm.{greatest_limit};
@@ -49,6 +50,7 @@ pub fn run_text<R: Read, W: Write, E: Write>(
 
     // Whatever it answers.
     ensures few { calls_of reader.new ≤ calls_of reader.old + most_reads }
+    ensures reads { HasRead reader.old reader.new }
 {
     match carry_out(alloc, task, reader, writer) {
         Ok(()) => DONE,
@@ -76,6 +78,7 @@ fn carry_out<R: Read, W: Write>(
     ensures stopped { IfErr result (IsStop R.remaining W.contents task
         reader.old reader.new writer.old writer.new) }
     ensures few { calls_of reader.new ≤ calls_of reader.old + most_reads }
+    ensures reads { HasRead reader.old reader.new }
 {
     match task {
         TextTask::Replay { limit } => replay(alloc, reader, writer, limit),

@@ -3,11 +3,11 @@ ghost use Rattle.std.specs.Prelude.{◌≡◌, ◌<◌, ◌≤◌, ◌+◌, leng
 ghost use Rattle.std.specs.Prelude.{OnOk, IfErr, IsErrOf};
 ghost use Rattle.counted_io.specs.Counted.{calls_of, failures_of, is_flushed};
 ghost use Rattle.counted_io.specs.Effects.{IfLeft, Wrote};
-ghost use Rattle.counted_io.specs.Causes.{IsReadCause, IsWriteCause, ReadWithin};
+ghost use Rattle.counted_io.specs.Causes.{HasRead, IsReadCause, IsWriteCause};
 ghost use Rattle.limit_laws.specs.Algorithm.{greatest_limit};
 ghost use Rattle.gate_journal.specs.Journal.{most_kept};
 ghost use Rattle.load_driver.specs.Limits.{most_script, most_reads};
-ghost use Rattle.load_driver.specs.Driver.{IfLine, OnAnswer};
+ghost use Rattle.load_driver.specs.Driver.{IfLine, IsOutOfMemory, OnAnswer};
 ghost use Rattle.trace.specs.Trace.{trace_of};
 ghost use Rattle.virtual_time.specs.Simulation.{IsRunOf, IsSimulated};
 
@@ -77,7 +77,7 @@ pub fn simulate<R: Read, W: Write>(
 
     // Each other fault comes only for its cause.
     ensures memory { IsErrOf result DriverFault.Memory →
-        ReadWithin R.remaining most_script reader.old reader.new }
+        IsOutOfMemory R.remaining reader.old reader.new }
     ensures read { IsErrOf result DriverFault.Read → IsReadCause most_reads reader.old reader.new }
     ensures too_large { IsErrOf result DriverFault.TooLarge →
         IfLeft R.remaining reader.old (λ text. most_script < length text) }
@@ -87,6 +87,7 @@ pub fn simulate<R: Read, W: Write>(
     ensures only_write_fails { ¬ IsErrOf result DriverFault.Write →
         failures_of writer.new ≡ failures_of writer.old }
     ensures few { calls_of reader.new ≤ calls_of reader.old + most_reads }
+    ensures reads { HasRead reader.old reader.new }
 
     // Then nothing is written.
     ensures memory_writes_nothing { IsErrOf result DriverFault.Memory → writer.new ≡ writer.old }

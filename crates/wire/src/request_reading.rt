@@ -1,6 +1,6 @@
 // Requests that are read.
-ghost use Rattle.std.specs.Prelude.{◌≡◌, ◌≤◌, ◌+◌, IsErrOf};
-ghost use Rattle.counted_io.specs.Causes.{IsWriteCause};
+ghost use Rattle.std.specs.Prelude.{◌≡◌, ◌≤◌, ◌+◌, IsErrOf, OnOk};
+ghost use Rattle.counted_io.specs.Causes.{HasRead, IsWriteCause};
 ghost use Rattle.counted_io.specs.Counted.{calls_of, failures_of, inner_of};
 ghost use Rattle.message_fields.specs.Target.{path_of};
 ghost use Rattle.message_reading.specs.Reading.{HasFailed};
@@ -69,12 +69,14 @@ pub fn read_request<R: BufRead, W: Write>(
     ensures said { ¬ (IsErrOf result WireFault.Write) → Said (R.remaining (inner_of reader.old))
         (W.contents (inner_of writer.old)) (W.contents (inner_of writer.new)) result }
     ensures seen { ¬ (IsErrOf result WireFault.Write) → IsSeen writer.old writer.new }
+    ensures reads_well { OnOk result (failures_of reader.new ≡ failures_of reader.old) }
     ensures unfailing { ¬ (IsErrOf result WireFault.Write) →
         failures_of writer.new ≡ failures_of writer.old }
     ensures read { IsErrOf result WireFault.Read → HasFailed reader.old reader.new }
     ensures write { IsErrOf result WireFault.Write → IsWriteCause writer.old writer.new }
     ensures turns { IsErrOf result WireFault.TurnLimit → IsUsedUp reader.old reader.new }
     ensures few { calls_of reader.new ≤ calls_of reader.old + most_reads }
+    ensures reads { HasRead reader.old reader.new }
 {
     let limit = reader.calls().saturating_add(MOST_READS);
     let (head, framing) = read_checked_head(alloc, reader, limit)?;

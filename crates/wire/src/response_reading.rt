@@ -1,6 +1,7 @@
 // Responses that are read.
-ghost use Rattle.std.specs.Prelude.{◌≡◌, ◌≤◌, ◌+◌, IsErrOf};
-ghost use Rattle.counted_io.specs.Counted.{calls_of};
+ghost use Rattle.std.specs.Prelude.{◌≡◌, ◌≤◌, ◌+◌, IsErrOf, OnOk};
+ghost use Rattle.counted_io.specs.Causes.{HasRead};
+ghost use Rattle.counted_io.specs.Counted.{calls_of, failures_of};
 ghost use Rattle.message_reading.specs.Reading.{HasFailed};
 ghost use Rattle.wire.specs.Fault.{IsUsedUp, Reads, most_reads};
 ghost use Rattle.wire.specs.Messages.{IsResponse};
@@ -27,10 +28,12 @@ pub fn read_response<R: BufRead>(
 ) -> Result<Response, WireFault>
     ensures response { Reads R.remaining reader.old reader.new (λ response. response)
         (IsResponse method.now) result }
+    ensures reads_well { OnOk result (failures_of reader.new ≡ failures_of reader.old) }
     ensures read { IsErrOf result WireFault.Read → HasFailed reader.old reader.new }
     ensures write { ¬ (IsErrOf result WireFault.Write) }
     ensures turns { IsErrOf result WireFault.TurnLimit → IsUsedUp reader.old reader.new }
     ensures few { calls_of reader.new ≤ calls_of reader.old + most_reads }
+    ensures reads { HasRead reader.old reader.new }
 {
     let limit = reader.calls().saturating_add(MOST_READS);
     let head = read_final_head(alloc, reader, limit)?;

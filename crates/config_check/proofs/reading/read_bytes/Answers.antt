@@ -25,5 +25,10 @@ returns-in_err-read-clause-sound c =
 pub returns-in_err-read-clause-refused : goal.returns-in_err-read-clause-refused
 returns-in_err-read-clause-refused c =
     let fault = c.in_err-read.ensures in
-    handed_on c.from_residual.result _ _ c.from_residual.ensures.1 (λ other.
-    (λ t reads. fault.settings t reads other, λ more. fault.refused other (λ e. more (ap Err e))))
+    handed_on c.from_residual.result _ _ c.from_residual.ensures.1 (
+      λ other. (
+        λ t reads. fault.settings t reads other,
+        λ more. fault.refused other (λ e. more (ap Err e)),
+      ),
+      λ memory blank text. let is = fault.blank blank text in cc,
+    )

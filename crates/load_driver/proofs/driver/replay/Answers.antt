@@ -55,6 +55,9 @@ returns-in-None-clause-only_write_fails g c = search rules
 pub returns-in-None-clause-few : goal.returns-in-None-clause-few
 returns-in-None-clause-few g c = search rules
 
+pub returns-in-None-clause-reads : goal.returns-in-None-clause-reads
+returns-in-None-clause-reads g c = search rules
+
 pub returns-in-None-clause-memory_writes_nothing : goal.returns-in-None-clause-memory_writes_nothing
 returns-in-None-clause-memory_writes_nothing g c = search rules
 
@@ -86,6 +89,9 @@ returns-clause-only_write_fails g c = search rules
 pub returns-clause-few : goal.returns-clause-few
 returns-clause-few g c = search rules
 
+pub returns-clause-reads : goal.returns-clause-reads
+returns-clause-reads g c = search rules
+
 pub returns-clause-memory_writes_nothing : goal.returns-clause-memory_writes_nothing
 returns-clause-memory_writes_nothing g c = search rules
 
@@ -116,6 +122,9 @@ returns-in_err-script-clause-only_write_fails g c = search rules
 
 pub returns-in_err-script-clause-few : goal.returns-in_err-script-clause-few
 returns-in_err-script-clause-few g c = search rules
+
+pub returns-in_err-script-clause-reads : goal.returns-in_err-script-clause-reads
+returns-in_err-script-clause-reads g c = search rules
 
 pub returns-in_err-script-clause-memory_writes_nothing :
     goal.returns-in_err-script-clause-memory_writes_nothing
@@ -155,6 +164,9 @@ returns-in_err-text-clause-only_write_fails g c = search rules
 
 pub returns-in_err-text-clause-few : goal.returns-in_err-text-clause-few
 returns-in_err-text-clause-few g c = search rules
+
+pub returns-in_err-text-clause-reads : goal.returns-in_err-text-clause-reads
+returns-in_err-text-clause-reads g c = search rules
 
 pub returns-in_err-text-clause-memory_writes_nothing :
     goal.returns-in_err-text-clause-memory_writes_nothing
@@ -201,6 +213,9 @@ returns-in_err-write_and_flush-clause-only_write_fails g c = search rules
 
 pub returns-in_err-write_and_flush-clause-few : goal.returns-in_err-write_and_flush-clause-few
 returns-in_err-write_and_flush-clause-few g c = search rules
+
+pub returns-in_err-write_and_flush-clause-reads : goal.returns-in_err-write_and_flush-clause-reads
+returns-in_err-write_and_flush-clause-reads g c = search rules
 
 pub returns-in_err-write_and_flush-clause-memory_writes_nothing :
     goal.returns-in_err-write_and_flush-clause-memory_writes_nothing

@@ -28,6 +28,9 @@ returns-then-calls-limit-clause-turns g c = search rules
 pub returns-then-calls-limit-clause-few : goal.returns-then-calls-limit-clause-few
 returns-then-calls-limit-clause-few g c = search rules
 
+pub returns-then-calls-limit-clause-reads : goal.returns-then-calls-limit-clause-reads
+returns-then-calls-limit-clause-reads g c = search rules
+
 pub returns-in-Ok-clause-gave : goal.returns-in-Ok-clause-gave
 returns-in-Ok-clause-gave g c = search rules
 
@@ -54,6 +57,9 @@ returns-in-Ok-clause-turns g c = search rules
 
 pub returns-in-Ok-clause-few : goal.returns-in-Ok-clause-few
 returns-in-Ok-clause-few g c = search rules
+
+pub returns-in-Ok-clause-reads : goal.returns-in-Ok-clause-reads
+returns-in-Ok-clause-reads g c = search rules
 
 pub returns-in-Err-Read-clause-gave : goal.returns-in-Err-Read-clause-gave
 returns-in-Err-Read-clause-gave g c = search rules
@@ -82,6 +88,9 @@ returns-in-Err-Read-clause-turns g c = search rules
 pub returns-in-Err-Read-clause-few : goal.returns-in-Err-Read-clause-few
 returns-in-Err-Read-clause-few g c = search rules
 
+pub returns-in-Err-Read-clause-reads : goal.returns-in-Err-Read-clause-reads
+returns-in-Err-Read-clause-reads g c = search rules
+
 pub returns-in-Err-Memory-clause-gave : goal.returns-in-Err-Memory-clause-gave
 returns-in-Err-Memory-clause-gave g c = search rules
 
@@ -108,3 +117,6 @@ returns-in-Err-Memory-clause-turns g c = search rules
 
 pub returns-in-Err-Memory-clause-few : goal.returns-in-Err-Memory-clause-few
 returns-in-Err-Memory-clause-few g c = search rules
+
+pub returns-in-Err-Memory-clause-reads : goal.returns-in-Err-Memory-clause-reads
+returns-in-Err-Memory-clause-reads g c = search rules

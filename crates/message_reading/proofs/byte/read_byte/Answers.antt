@@ -16,6 +16,9 @@ returns-then-calls-limit-clause-turns c = search rules
 pub returns-then-calls-limit-clause-few : goal.returns-then-calls-limit-clause-few
 returns-then-calls-limit-clause-few c = search rules
 
+pub returns-then-calls-limit-clause-goes_on : goal.returns-then-calls-limit-clause-goes_on
+returns-then-calls-limit-clause-goes_on c = search rules
+
 pub returns-in-Err-clause-byte : goal.returns-in-Err-clause-byte
 returns-in-Err-clause-byte c = search rules
 
@@ -30,6 +33,9 @@ returns-in-Err-clause-turns c = search rules
 
 pub returns-in-Err-clause-few : goal.returns-in-Err-clause-few
 returns-in-Err-clause-few c = search rules
+
+pub returns-in-Err-clause-goes_on : goal.returns-in-Err-clause-goes_on
+returns-in-Err-clause-goes_on c = search rules
 
 pub returns-in-Ok-eq0-clause-byte : goal.returns-in-Ok-eq0-clause-byte
 returns-in-Ok-eq0-clause-byte c = search rules
@@ -46,6 +52,9 @@ returns-in-Ok-eq0-clause-turns c = search rules
 pub returns-in-Ok-eq0-clause-few : goal.returns-in-Ok-eq0-clause-few
 returns-in-Ok-eq0-clause-few c = search rules
 
+pub returns-in-Ok-eq0-clause-goes_on : goal.returns-in-Ok-eq0-clause-goes_on
+returns-in-Ok-eq0-clause-goes_on c = search rules
+
 pub returns-in-Ok-clause-byte : goal.returns-in-Ok-clause-byte
 returns-in-Ok-clause-byte c = search rules
 
@@ -60,3 +69,6 @@ returns-in-Ok-clause-turns c = search rules
 
 pub returns-in-Ok-clause-few : goal.returns-in-Ok-clause-few
 returns-in-Ok-clause-few c = search rules
+
+pub returns-in-Ok-clause-goes_on : goal.returns-in-Ok-clause-goes_on
+returns-in-Ok-clause-goes_on c = search rules

@@ -16,6 +16,9 @@ returns-in_err-read_this-clause-turns c = search rules
 pub returns-in_err-read_this-clause-few : goal.returns-in_err-read_this-clause-few
 returns-in_err-read_this-clause-few c = search rules
 
+pub returns-in_err-read_this-clause-goes_on : goal.returns-in_err-read_this-clause-goes_on
+returns-in_err-read_this-clause-goes_on c = search rules
+
 pub returns-clause-bytes : goal.returns-clause-bytes
 returns-clause-bytes c = search rules
 
@@ -30,3 +33,6 @@ returns-clause-turns c = search rules
 
 pub returns-clause-few : goal.returns-clause-few
 returns-clause-few c = search rules
+
+pub returns-clause-goes_on : goal.returns-clause-goes_on
+returns-clause-goes_on c = search rules

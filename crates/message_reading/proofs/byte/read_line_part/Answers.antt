@@ -26,6 +26,9 @@ returns-in_err-append-clause-turns g c = search rules
 pub returns-in_err-append-clause-few : goal.returns-in_err-append-clause-few
 returns-in_err-append-clause-few g c = search rules
 
+pub returns-in_err-append-clause-reads : goal.returns-in_err-append-clause-reads
+returns-in_err-append-clause-reads g c = search rules
+
 pub returns-in-0-clause-gave : goal.returns-in-0-clause-gave
 returns-in-0-clause-gave g c = search rules
 
@@ -50,6 +53,9 @@ returns-in-0-clause-turns g c = search rules
 pub returns-in-0-clause-few : goal.returns-in-0-clause-few
 returns-in-0-clause-few g c = search rules
 
+pub returns-in-0-clause-reads : goal.returns-in-0-clause-reads
+returns-in-0-clause-reads g c = search rules
+
 pub returns-in_default-clause-gave : goal.returns-in_default-clause-gave
 returns-in_default-clause-gave g c = search rules
 
@@ -73,3 +79,6 @@ returns-in_default-clause-turns g c = search rules
 
 pub returns-in_default-clause-few : goal.returns-in_default-clause-few
 returns-in_default-clause-few g c = search rules
+
+pub returns-in_default-clause-reads : goal.returns-in_default-clause-reads
+returns-in_default-clause-reads g c = search rules

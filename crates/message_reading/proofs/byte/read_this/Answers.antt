@@ -16,6 +16,9 @@ returns-in_err-found-clause-turns g c = search rules
 pub returns-in_err-found-clause-few : goal.returns-in_err-found-clause-few
 returns-in_err-found-clause-few g c = search rules
 
+pub returns-in_err-found-clause-goes_on : goal.returns-in_err-found-clause-goes_on
+returns-in_err-found-clause-goes_on g c = search rules
+
 pub returns-then-found-byte-clause-byte : goal.returns-then-found-byte-clause-byte
 returns-then-found-byte-clause-byte g c = search rules
 
@@ -31,6 +34,9 @@ returns-then-found-byte-clause-turns g c = search rules
 pub returns-then-found-byte-clause-few : goal.returns-then-found-byte-clause-few
 returns-then-found-byte-clause-few g c = search rules
 
+pub returns-then-found-byte-clause-goes_on : goal.returns-then-found-byte-clause-goes_on
+returns-then-found-byte-clause-goes_on g c = search rules
+
 pub returns-else-found-byte-clause-byte : goal.returns-else-found-byte-clause-byte
 returns-else-found-byte-clause-byte g c = search rules
 
@@ -45,3 +51,6 @@ returns-else-found-byte-clause-turns g c = search rules
 
 pub returns-else-found-byte-clause-few : goal.returns-else-found-byte-clause-few
 returns-else-found-byte-clause-few g c = search rules
+
+pub returns-else-found-byte-clause-goes_on : goal.returns-else-found-byte-clause-goes_on
+returns-else-found-byte-clause-goes_on g c = search rules

@@ -13,6 +13,9 @@ returns-in_err-head-clause-turns g c = search rules
 pub returns-in_err-head-clause-few : goal.returns-in_err-head-clause-few
 returns-in_err-head-clause-few g c = search rules
 
+pub returns-in_err-head-clause-reads : goal.returns-in_err-head-clause-reads
+returns-in_err-head-clause-reads g c = search rules
+
 pub returns-in-Ok-clause-read : goal.returns-in-Ok-clause-read
 returns-in-Ok-clause-read g c = search rules
 
@@ -25,6 +28,9 @@ returns-in-Ok-clause-turns g c = search rules
 pub returns-in-Ok-clause-few : goal.returns-in-Ok-clause-few
 returns-in-Ok-clause-few g c = search rules
 
+pub returns-in-Ok-clause-reads : goal.returns-in-Ok-clause-reads
+returns-in-Ok-clause-reads g c = search rules
+
 pub returns-in-Err-clause-read : goal.returns-in-Err-clause-read
 returns-in-Err-clause-read g c = search rules
 
@@ -36,3 +42,6 @@ returns-in-Err-clause-turns g c = search rules
 
 pub returns-in-Err-clause-few : goal.returns-in-Err-clause-few
 returns-in-Err-clause-few g c = search rules
+
+pub returns-in-Err-clause-reads : goal.returns-in-Err-clause-reads
+returns-in-Err-clause-reads g c = search rules

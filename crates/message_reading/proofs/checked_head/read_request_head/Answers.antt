@@ -13,6 +13,9 @@ returns-in_err-text-clause-turns g c = search rules
 pub returns-in_err-text-clause-few : goal.returns-in_err-text-clause-few
 returns-in_err-text-clause-few g c = search rules
 
+pub returns-in_err-text-clause-reads : goal.returns-in_err-text-clause-reads
+returns-in_err-text-clause-reads g c = search rules
+
 pub returns-clause-read : goal.returns-clause-read
 returns-clause-read g c = search rules
 
@@ -24,3 +27,6 @@ returns-clause-turns g c = search rules
 
 pub returns-clause-few : goal.returns-clause-few
 returns-clause-few g c = search rules
+
+pub returns-clause-reads : goal.returns-clause-reads
+returns-clause-reads g c = search rules

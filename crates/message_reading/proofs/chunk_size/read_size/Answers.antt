@@ -25,6 +25,9 @@ returns-in_err-line-clause-turns g c = search rules
 pub returns-in_err-line-clause-few : goal.returns-in_err-line-clause-few
 returns-in_err-line-clause-few g c = search rules
 
+pub returns-in_err-line-clause-goes_on : goal.returns-in_err-line-clause-goes_on
+returns-in_err-line-clause-goes_on g c = search rules
+
 pub returns-in-Some-clause-read : goal.returns-in-Some-clause-read
 returns-in-Some-clause-read g c = search rules
 
@@ -37,6 +40,9 @@ returns-in-Some-clause-turns g c = search rules
 pub returns-in-Some-clause-few : goal.returns-in-Some-clause-few
 returns-in-Some-clause-few g c = search rules
 
+pub returns-in-Some-clause-goes_on : goal.returns-in-Some-clause-goes_on
+returns-in-Some-clause-goes_on g c = search rules
+
 pub returns-clause-read : goal.returns-clause-read
 returns-clause-read g c = search rules
 
@@ -48,3 +54,6 @@ returns-clause-turns g c = search rules
 
 pub returns-clause-few : goal.returns-clause-few
 returns-clause-few g c = search rules
+
+pub returns-clause-goes_on : goal.returns-clause-goes_on
+returns-clause-goes_on g c = search rules

@@ -43,6 +43,12 @@ loop-body-preserved g c =
         c.in_ok-body.ensures.few,
         c.loop-body.invariant.few,
       );
+      goes_on = omega (
+        arith,
+        c.in_ok-size.ensures.goes_on,
+        c.in_ok-body.ensures.goes_on,
+        c.loop-body.invariant.goes_on,
+      );
     }
 
 pub returns-then-size-len-clause-body : goal.returns-then-size-len-clause-body
@@ -70,6 +76,9 @@ returns-in_err-size-clause-turns g c = search rules
 pub returns-in_err-size-clause-few : goal.returns-in_err-size-clause-few
 returns-in_err-size-clause-few g c = search rules
 
+pub returns-in_err-size-clause-goes_on : goal.returns-in_err-size-clause-goes_on
+returns-in_err-size-clause-goes_on g c = search rules
+
 pub returns-in_err-read_trailers-clause-read : goal.returns-in_err-read_trailers-clause-read
 returns-in_err-read_trailers-clause-read g c = search rules
 
@@ -81,6 +90,9 @@ returns-in_err-read_trailers-clause-turns g c = search rules
 
 pub returns-in_err-read_trailers-clause-few : goal.returns-in_err-read_trailers-clause-few
 returns-in_err-read_trailers-clause-few g c = search rules
+
+pub returns-in_err-read_trailers-clause-goes_on : goal.returns-in_err-read_trailers-clause-goes_on
+returns-in_err-read_trailers-clause-goes_on g c = search rules
 
 pub returns-then-size-eq0-clause-read : goal.returns-then-size-eq0-clause-read
 returns-then-size-eq0-clause-read g c = search rules
@@ -94,6 +106,9 @@ returns-then-size-eq0-clause-turns g c = search rules
 pub returns-then-size-eq0-clause-few : goal.returns-then-size-eq0-clause-few
 returns-then-size-eq0-clause-few g c = search rules
 
+pub returns-then-size-eq0-clause-goes_on : goal.returns-then-size-eq0-clause-goes_on
+returns-then-size-eq0-clause-goes_on g c = search rules
+
 pub returns-then-size-len-clause-read : goal.returns-then-size-len-clause-read
 returns-then-size-len-clause-read g c = search rules
 
@@ -106,6 +121,9 @@ returns-then-size-len-clause-turns g c = search rules
 pub returns-then-size-len-clause-few : goal.returns-then-size-len-clause-few
 returns-then-size-len-clause-few g c = search rules
 
+pub returns-then-size-len-clause-goes_on : goal.returns-then-size-len-clause-goes_on
+returns-then-size-len-clause-goes_on g c = search rules
+
 pub returns-in_err-body-clause-read : goal.returns-in_err-body-clause-read
 returns-in_err-body-clause-read g c = search rules
 
@@ -117,6 +135,9 @@ returns-in_err-body-clause-turns g c = search rules
 
 pub returns-in_err-body-clause-few : goal.returns-in_err-body-clause-few
 returns-in_err-body-clause-few g c = search rules
+
+pub returns-in_err-body-clause-goes_on : goal.returns-in_err-body-clause-goes_on
+returns-in_err-body-clause-goes_on g c = search rules
 
 pub loop-body-smaller : goal.loop-body-smaller
 loop-body-smaller g c = search rules

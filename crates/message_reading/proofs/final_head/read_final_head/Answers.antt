@@ -19,6 +19,9 @@ returns-in_err-head-clause-turns g c = search rules
 pub returns-in_err-head-clause-few : goal.returns-in_err-head-clause-few
 returns-in_err-head-clause-few g c = search rules
 
+pub returns-in_err-head-clause-reads : goal.returns-in_err-head-clause-reads
+returns-in_err-head-clause-reads g c = search rules
+
 pub returns-then-is_final-clause-status : goal.returns-then-is_final-clause-status
 returns-then-is_final-clause-status g c = search rules
 
@@ -34,6 +37,9 @@ returns-then-is_final-clause-turns g c = search rules
 pub returns-then-is_final-clause-few : goal.returns-then-is_final-clause-few
 returns-then-is_final-clause-few g c = search rules
 
+pub returns-then-is_final-clause-reads : goal.returns-then-is_final-clause-reads
+returns-then-is_final-clause-reads g c = search rules
+
 pub returns-then-left-eq0-clause-status : goal.returns-then-left-eq0-clause-status
 returns-then-left-eq0-clause-status g c = search rules
 
@@ -48,6 +54,9 @@ returns-then-left-eq0-clause-turns g c = search rules
 
 pub returns-then-left-eq0-clause-few : goal.returns-then-left-eq0-clause-few
 returns-then-left-eq0-clause-few g c = search rules
+
+pub returns-then-left-eq0-clause-reads : goal.returns-then-left-eq0-clause-reads
+returns-then-left-eq0-clause-reads g c = search rules
 
 pub loop-head-smaller : goal.loop-head-smaller
 loop-head-smaller g c = search rules

@@ -25,6 +25,8 @@ loop-seen-preserved g c =
       fits = rw gave.3 (rw length-append room);
       failures = c.in_ok-read_on.ensures.unfailing ∙ invariant.failures;
       few = omega (arith, c.in_ok-read_on.ensures.few, invariant.few);
+      goes_on = omega (arith, c.in_ok-read_on.ensures.reads, invariant.goes_on);
+      read = λ _. omega (arith, c.in_ok-read_on.ensures.reads, invariant.goes_on);
     }
 
 pub returns-then-branch-clause-head : goal.returns-then-branch-clause-head
@@ -70,6 +72,9 @@ returns-in_err-read_on-clause-turns g c = search rules
 pub returns-in_err-read_on-clause-few : goal.returns-in_err-read_on-clause-few
 returns-in_err-read_on-clause-few g c = search rules
 
+pub returns-in_err-read_on-clause-reads : goal.returns-in_err-read_on-clause-reads
+returns-in_err-read_on-clause-reads g c = search rules
+
 pub returns-then-branch-clause-lines : goal.returns-then-branch-clause-lines
 returns-then-branch-clause-lines g c = search rules
 
@@ -85,6 +90,9 @@ returns-then-branch-clause-turns g c = search rules
 pub returns-then-branch-clause-few : goal.returns-then-branch-clause-few
 returns-then-branch-clause-few g c = search rules
 
+pub returns-then-branch-clause-reads : goal.returns-then-branch-clause-reads
+returns-then-branch-clause-reads g c = search rules
+
 pub returns-clause-lines : goal.returns-clause-lines
 returns-clause-lines g c = search rules
 
@@ -99,3 +107,6 @@ returns-clause-turns g c = search rules
 
 pub returns-clause-few : goal.returns-clause-few
 returns-clause-few g c = search rules
+
+pub returns-clause-reads : goal.returns-clause-reads
+returns-clause-reads g c = search rules

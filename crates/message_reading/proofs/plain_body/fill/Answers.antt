@@ -26,6 +26,7 @@ loop-left-preserved g c =
       ));
       failures = c.in_ok-count.ensures.unfailing ∙ invariant.failures;
       few = omega (arith, c.in_ok-count.ensures.few, invariant.few);
+      goes_on = omega (arith, c.in_ok-count.ensures.goes_on, invariant.goes_on);
     }
 
 pub returns-then-count-eq0-clause-bytes : goal.returns-then-count-eq0-clause-bytes
@@ -57,6 +58,9 @@ returns-in_err-count-clause-turns c = search rules
 pub returns-in_err-count-clause-few : goal.returns-in_err-count-clause-few
 returns-in_err-count-clause-few c = search rules
 
+pub returns-in_err-count-clause-goes_on : goal.returns-in_err-count-clause-goes_on
+returns-in_err-count-clause-goes_on c = search rules
+
 pub returns-then-count-eq0-clause-kept : goal.returns-then-count-eq0-clause-kept
 returns-then-count-eq0-clause-kept g c =
     let gave = c.in_ok-count.ensures.gave in
@@ -76,6 +80,9 @@ returns-then-count-eq0-clause-turns c = search rules
 
 pub returns-then-count-eq0-clause-few : goal.returns-then-count-eq0-clause-few
 returns-then-count-eq0-clause-few c = search rules
+
+pub returns-then-count-eq0-clause-goes_on : goal.returns-then-count-eq0-clause-goes_on
+returns-then-count-eq0-clause-goes_on c = search rules
 
 pub returns-clause-bytes : goal.returns-clause-bytes
 returns-clause-bytes c = grind (arith, common_steps)
@@ -97,3 +104,6 @@ returns-clause-turns c = search rules
 
 pub returns-clause-few : goal.returns-clause-few
 returns-clause-few c = search rules
+
+pub returns-clause-goes_on : goal.returns-clause-goes_on
+returns-clause-goes_on c = search rules

@@ -13,6 +13,7 @@ invariant-loop-left g l =
       counted : length got + l.left ≡ l.size;
       failures : failures_of l.reader ≡ failures_of l.fn.reader;
       few : calls_of l.reader ≤ max l.limit (calls_of l.fn.reader);
+      goes_on : calls_of l.fn.reader ≤ calls_of l.reader;
     }
 
 abbrev pub decreases-loop-left : goal.decreases-loop-left

@@ -16,6 +16,9 @@ returns-in_err-fill-clause-turns c = search rules
 pub returns-in_err-fill-clause-few : goal.returns-in_err-fill-clause-few
 returns-in_err-fill-clause-few c = search rules
 
+pub returns-in_err-fill-clause-goes_on : goal.returns-in_err-fill-clause-goes_on
+returns-in_err-fill-clause-goes_on c = search rules
+
 pub returns-clause-body : goal.returns-clause-body
 returns-clause-body c = search rules
 
@@ -30,3 +33,6 @@ returns-clause-turns c = search rules
 
 pub returns-clause-few : goal.returns-clause-few
 returns-clause-few c = search rules
+
+pub returns-clause-goes_on : goal.returns-clause-goes_on
+returns-clause-goes_on c = search rules

@@ -14,6 +14,7 @@ loop-body-preserved g c =
       fits = rw gave.2 (grind (arith, common_steps, size, gave.1, invariant.fits));
       failures = c.in_ok-count.ensures.unfailing ∙ invariant.failures;
       few = omega (arith, c.in_ok-count.ensures.few, invariant.few);
+      goes_on = omega (arith, c.in_ok-count.ensures.goes_on, invariant.goes_on);
     }
 
 pub returns-then-count-eq0-clause-body : goal.returns-then-count-eq0-clause-body
@@ -46,6 +47,9 @@ returns-in_err-count-clause-turns c = search rules
 pub returns-in_err-count-clause-few : goal.returns-in_err-count-clause-few
 returns-in_err-count-clause-few c = search rules
 
+pub returns-in_err-count-clause-goes_on : goal.returns-in_err-count-clause-goes_on
+returns-in_err-count-clause-goes_on c = search rules
+
 pub returns-then-count-eq0-clause-read : goal.returns-then-count-eq0-clause-read
 returns-then-count-eq0-clause-read c = search rules
 
@@ -58,6 +62,9 @@ returns-then-count-eq0-clause-turns c = search rules
 pub returns-then-count-eq0-clause-few : goal.returns-then-count-eq0-clause-few
 returns-then-count-eq0-clause-few c = search rules
 
+pub returns-then-count-eq0-clause-goes_on : goal.returns-then-count-eq0-clause-goes_on
+returns-then-count-eq0-clause-goes_on c = search rules
+
 pub returns-then-count-room-clause-read : goal.returns-then-count-room-clause-read
 returns-then-count-room-clause-read c = search rules
 
@@ -69,3 +76,6 @@ returns-then-count-room-clause-turns c = search rules
 
 pub returns-then-count-room-clause-few : goal.returns-then-count-room-clause-few
 returns-then-count-room-clause-few c = search rules
+
+pub returns-then-count-room-clause-goes_on : goal.returns-then-count-room-clause-goes_on
+returns-then-count-room-clause-goes_on c = search rules

@@ -10,6 +10,7 @@ invariant-loop-body g l = record {
   fits : length l.body.items ≤ 8388608;
   failures : failures_of l.reader ≡ failures_of l.fn.reader;
   few : calls_of l.reader ≤ max l.limit (calls_of l.fn.reader);
+  goes_on : calls_of l.fn.reader ≤ calls_of l.reader;
 }
 
 abbrev pub decreases-loop-body : goal.decreases-loop-body

@@ -34,6 +34,7 @@ loop-preserved g c =
       counted = search rules;
       failures = search rules;
       few = omega (arith, c.in_ok-byte.ensures.few, c.loop.invariant.few);
+      goes_on = omega (arith, c.in_ok-byte.ensures.goes_on, c.loop.invariant.goes_on);
     }
 
 pub returns-clause-line : goal.returns-clause-line
@@ -62,6 +63,9 @@ returns-in_err-byte-clause-turns g c = search rules
 pub returns-in_err-byte-clause-few : goal.returns-in_err-byte-clause-few
 returns-in_err-byte-clause-few g c = search rules
 
+pub returns-in_err-byte-clause-goes_on : goal.returns-in_err-byte-clause-goes_on
+returns-in_err-byte-clause-goes_on g c = search rules
+
 pub returns-then-is_err-clause-line : goal.returns-then-is_err-clause-line
 returns-then-is_err-clause-line g c = search rules
 
@@ -77,6 +81,9 @@ returns-then-is_err-clause-turns g c = search rules
 pub returns-then-is_err-clause-few : goal.returns-then-is_err-clause-few
 returns-then-is_err-clause-few g c = search rules
 
+pub returns-then-is_err-clause-goes_on : goal.returns-then-is_err-clause-goes_on
+returns-then-is_err-clause-goes_on g c = search rules
+
 pub returns-then-byte-eq10-clause-read : goal.returns-then-byte-eq10-clause-read
 returns-then-byte-eq10-clause-read g c = search rules
 
@@ -88,6 +95,9 @@ returns-then-byte-eq10-clause-turns g c = search rules
 
 pub returns-then-byte-eq10-clause-few : goal.returns-then-byte-eq10-clause-few
 returns-then-byte-eq10-clause-few g c = search rules
+
+pub returns-then-byte-eq10-clause-goes_on : goal.returns-then-byte-eq10-clause-goes_on
+returns-then-byte-eq10-clause-goes_on g c = search rules
 
 pub loop-smaller : goal.loop-smaller
 loop-smaller g c = search rules
@@ -103,3 +113,6 @@ returns-clause-turns g c = search rules
 
 pub returns-clause-few : goal.returns-clause-few
 returns-clause-few g c = search rules
+
+pub returns-clause-goes_on : goal.returns-clause-goes_on
+returns-clause-goes_on g c = search rules

@@ -25,6 +25,7 @@ loop-preserved g c =
       on = on;
       failures = search rules;
       few = omega (arith, c.in_ok-byte.ensures.few, c.loop.invariant.few);
+      goes_on = omega (arith, c.in_ok-byte.ensures.goes_on, c.loop.invariant.goes_on);
     }
 
 pub returns-clause-bytes : goal.returns-clause-bytes

@@ -50,6 +50,12 @@ returns-in_err-head-clause-turns g c = search rules
 pub returns-in_err-head-clause-few : goal.returns-in_err-head-clause-few
 returns-in_err-head-clause-few g c = search rules
 
+pub returns-in_err-head-clause-reads : goal.returns-in_err-head-clause-reads
+returns-in_err-head-clause-reads g c = search rules
+
+pub returns-in_err-head-clause-reads_well : goal.returns-in_err-head-clause-reads_well
+returns-in_err-head-clause-reads_well g c = search rules
+
 pub returns-in_err-path-clause-request : goal.returns-in_err-path-clause-request
 returns-in_err-path-clause-request g c = search rules
 
@@ -61,6 +67,12 @@ returns-in_err-path-clause-turns g c = search rules
 
 pub returns-in_err-path-clause-few : goal.returns-in_err-path-clause-few
 returns-in_err-path-clause-few g c = search rules
+
+pub returns-in_err-path-clause-reads : goal.returns-in_err-path-clause-reads
+returns-in_err-path-clause-reads g c = search rules
+
+pub returns-in_err-path-clause-reads_well : goal.returns-in_err-path-clause-reads_well
+returns-in_err-path-clause-reads_well g c = search rules
 
 pub returns-in_err-say_continue-clause-request : goal.returns-in_err-say_continue-clause-request
 returns-in_err-say_continue-clause-request g c = search rules
@@ -74,6 +86,12 @@ returns-in_err-say_continue-clause-turns g c = search rules
 pub returns-in_err-say_continue-clause-few : goal.returns-in_err-say_continue-clause-few
 returns-in_err-say_continue-clause-few g c = search rules
 
+pub returns-in_err-say_continue-clause-reads : goal.returns-in_err-say_continue-clause-reads
+returns-in_err-say_continue-clause-reads g c = search rules
+
+pub returns-in_err-say_continue-clause-reads_well : goal.returns-in_err-say_continue-clause-reads_well
+returns-in_err-say_continue-clause-reads_well g c = search rules
+
 pub returns-in_err-body-clause-read : goal.returns-in_err-body-clause-read
 returns-in_err-body-clause-read g c = search rules
 
@@ -83,6 +101,12 @@ returns-in_err-body-clause-turns g c = search rules
 pub returns-in_err-body-clause-few : goal.returns-in_err-body-clause-few
 returns-in_err-body-clause-few g c = search rules
 
+pub returns-in_err-body-clause-reads : goal.returns-in_err-body-clause-reads
+returns-in_err-body-clause-reads g c = search rules
+
+pub returns-in_err-body-clause-reads_well : goal.returns-in_err-body-clause-reads_well
+returns-in_err-body-clause-reads_well g c = search rules
+
 pub returns-clause-read : goal.returns-clause-read
 returns-clause-read g c = search rules
 
@@ -91,6 +115,12 @@ returns-clause-turns g c = search rules
 
 pub returns-clause-few : goal.returns-clause-few
 returns-clause-few g c = search rules
+
+pub returns-clause-reads : goal.returns-clause-reads
+returns-clause-reads g c = search rules
+
+pub returns-clause-reads_well : goal.returns-clause-reads_well
+returns-clause-reads_well g c = search rules
 
 pub returns-in_err-head-clause-unfailing : goal.returns-in_err-head-clause-unfailing
 returns-in_err-head-clause-unfailing g c = search rules

@@ -57,6 +57,12 @@ returns-in_err-head-clause-turns g c = search rules
 pub returns-in_err-head-clause-few : goal.returns-in_err-head-clause-few
 returns-in_err-head-clause-few g c = search rules
 
+pub returns-in_err-head-clause-reads : goal.returns-in_err-head-clause-reads
+returns-in_err-head-clause-reads g c = search rules
+
+pub returns-in_err-head-clause-reads_well : goal.returns-in_err-head-clause-reads_well
+returns-in_err-head-clause-reads_well g c = search rules
+
 pub returns-in_err-framing-clause-read : goal.returns-in_err-framing-clause-read
 returns-in_err-framing-clause-read g c = search rules
 
@@ -68,6 +74,12 @@ returns-in_err-framing-clause-turns g c = search rules
 
 pub returns-in_err-framing-clause-few : goal.returns-in_err-framing-clause-few
 returns-in_err-framing-clause-few g c = search rules
+
+pub returns-in_err-framing-clause-reads : goal.returns-in_err-framing-clause-reads
+returns-in_err-framing-clause-reads g c = search rules
+
+pub returns-in_err-framing-clause-reads_well : goal.returns-in_err-framing-clause-reads_well
+returns-in_err-framing-clause-reads_well g c = search rules
 
 pub returns-in_err-body-clause-read : goal.returns-in_err-body-clause-read
 returns-in_err-body-clause-read g c = search rules
@@ -81,6 +93,12 @@ returns-in_err-body-clause-turns g c = search rules
 pub returns-in_err-body-clause-few : goal.returns-in_err-body-clause-few
 returns-in_err-body-clause-few g c = search rules
 
+pub returns-in_err-body-clause-reads : goal.returns-in_err-body-clause-reads
+returns-in_err-body-clause-reads g c = search rules
+
+pub returns-in_err-body-clause-reads_well : goal.returns-in_err-body-clause-reads_well
+returns-in_err-body-clause-reads_well g c = search rules
+
 pub returns-clause-read : goal.returns-clause-read
 returns-clause-read g c = search rules
 
@@ -92,3 +110,9 @@ returns-clause-turns g c = search rules
 
 pub returns-clause-few : goal.returns-clause-few
 returns-clause-few g c = search rules
+
+pub returns-clause-reads : goal.returns-clause-reads
+returns-clause-reads g c = search rules
+
+pub returns-clause-reads_well : goal.returns-clause-reads_well
+returns-clause-reads_well g c = search rules

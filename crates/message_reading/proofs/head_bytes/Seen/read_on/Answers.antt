@@ -26,6 +26,9 @@ returns-in_err-read_line_part-clause-turns g c = search rules
 pub returns-in_err-read_line_part-clause-few : goal.returns-in_err-read_line_part-clause-few
 returns-in_err-read_line_part-clause-few g c = search rules
 
+pub returns-in_err-read_line_part-clause-reads : goal.returns-in_err-read_line_part-clause-reads
+returns-in_err-read_line_part-clause-reads g c = search rules
+
 pub returns-clause-gave : goal.returns-clause-gave
 returns-clause-gave g c = search rules
 
@@ -49,3 +52,6 @@ returns-clause-turns g c = search rules
 
 pub returns-clause-few : goal.returns-clause-few
 returns-clause-few g c = search rules
+
+pub returns-clause-reads : goal.returns-clause-reads
+returns-clause-reads g c = search rules

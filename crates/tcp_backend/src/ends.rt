@@ -1,0 +1,41 @@
+// What is written to a connection.
+ghost use Rattle.std.specs.Io.{WritesAtMost};
+ghost use Rattle.std.specs.Io.KnownBytes.{Keeps, WriteAppends};
+
+use std::io::{Result, Write};
+
+/// The end of a connection that is written to. It may show what was written; a stream of std, which
+/// is read and written by one owner, can't.
+pub(crate) trait Outlet<S> {
+    ghost use Rattle.std.specs.Prelude.{ℕ, List, Option};
+
+    // What was written, where that is shown.
+    ghost contents: { Self → Option (List ℕ) };
+
+    // One write.
+    fn send(&mut self, stream: &mut S, buf: &[u8]) -> Result<usize>
+        ensures bound { WritesAtMost result buf.now }
+        ensures bytes { WriteAppends (contents self.old) (contents self.new) result buf.now };
+
+    // One flush.
+    fn flush(&mut self, stream: &mut S) -> Result<()>
+        ensures bytes { Keeps (contents self.old) (contents self.new) };
+}
+
+/// The end of a socket. It shows nothing, and takes no room.
+#[derive(Clone, Copy)]
+pub(crate) struct Untold {}
+
+impl<S: Write> Outlet<S> for Untold {
+    ghost use Rattle.std.specs.Prelude.{None};
+
+    ghost contents = { λ _. None };
+
+    fn send(&mut self, stream: &mut S, buf: &[u8]) -> Result<usize> {
+        stream.write(buf)
+    }
+
+    fn flush(&mut self, stream: &mut S) -> Result<()> {
+        stream.flush()
+    }
+}
