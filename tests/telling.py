@@ -16,9 +16,11 @@ REPORT = "[INFO  admission] report "
 UNREACHED = "[WARN  admission] the backend can't be reached "
 BROKEN = "[WARN  admission] the backend broke an answer "
 NO_DESCRIPTOR = "[WARN  admission] no descriptor was free "
+# Words of the warnings on workers and on what they may have.
+OF_WORKERS = ("exceed", "are taken", "too few")
 # The names of a report's numbers, those of two classes among them.
-NAMES = ("limit inflight waiters granted class.live class.batch class.unknown admitted bypassed full backlog waiting "
-         "promoted timed-out success ignored dropped 400 413 429 431 500 501 502").split()
+NAMES = ("limit inflight waiters granted busy class.live class.batch class.unknown admitted bypassed full backlog "
+         "waiting promoted timed-out success ignored dropped 400 413 429 431 500 501 502").split()
 
 
 def reports(gate):
@@ -36,11 +38,12 @@ def until(holds):
 
 
 def troubles(gate, count):
-    """The warnings of a gateway's log, once there are so many."""
-    found = []
-    until(lambda: len([it for it in gate.log if "WARN" in it and "exceed" not in it]) >= count)
-    found += [it for it in gate.log if "WARN" in it and "exceed" not in it]
-    return found
+    """The warnings of a gateway's log, but those of its workers, once there are so many."""
+    def found():
+        return [it for it in gate.log if "WARN" in it and not any(words in it for words in OF_WORKERS)]
+
+    until(lambda: len(found()) >= count)
+    return found()
 
 
 def waits_to_write(process):
@@ -67,15 +70,16 @@ class Telling:
                      b"GET / HTTP/1.1\r\nHost: h\r\n" + b"X: y\r\n" * 101 + b"\r\n"):
             gate.ask(text)
         wanted = dict.fromkeys(NAMES, "0") | {
-            "limit": "2", "inflight": "2", "class.live": "2/2", "class.batch": "0/1", "admitted": "2", "bypassed": "1",
-            "full": "1", "400": "1", "413": "1", "429": "1", "431": "1", "501": "1"}
+            "limit": "2", "inflight": "2", "busy": "2/4", "class.live": "2/2", "class.batch": "0/1", "admitted": "2",
+            "bypassed": "1", "full": "1", "400": "1", "413": "1", "429": "1", "431": "1", "501": "1"}
         self.judge("a report with all of it", True, until(lambda: wanted in reports(gate)))
         self.judge("the names in their order", [NAMES], [list(it) for it in reports(gate)[-1:]])
         backend.release.set()
         self.judge("those who were at the backend", [passed_on(BODY)] * 2, [it.result() for it in held])
         for path in (b"/closes", b"/garbage", b"/busy"):
             gate.ask(b"GET %s HTTP/1.1\r\nHost: h\r\n\r\n" % path)
-        wanted |= {"inflight": "0", "class.live": "0/2", "admitted": "5", "success": "2", "dropped": "3", "502": "2"}
+        wanted |= {"inflight": "0", "busy": "0/4", "class.live": "0/2", "admitted": "5", "success": "2", "dropped": "3",
+                   "502": "2"}
         self.judge("a report after that", True, until(lambda: wanted in reports(gate)))
         begun, count = time.monotonic(), len(reports(gate))
         time.sleep(3)
@@ -159,10 +163,11 @@ class Telling:
         scripted.close()
 
     def serves_beside_a_full_log(self, _):
-        """A log that takes no more holds whoever tells of a trouble, and no other worker."""
+        """A log that takes no more holds whoever tells of a trouble, and no other worker. There are more workers than
+        clients, since who takes the last free one tells that too."""
         read_end, write_end = os.pipe()
         fcntl.fcntl(write_end, fcntl.F_SETPIPE_SZ, 4096)
-        gate = Gateway(self.program, self.room, free_port(), workers=2, each=1_000_000, log_to=write_end)
+        gate = Gateway(self.program, self.room, free_port(), workers=8, each=1_000_000, log_to=write_end)
         told = b""
         while b"listening" not in told and (piece := os.read(read_end, 4096)):
             told += piece
@@ -201,7 +206,7 @@ class Telling:
         for soft, count in ((135, 1), (136, 0)):
             front = ("sh", "-c", f'ulimit -Sn {soft} && exec "$@"', "sh")
             gate = Gateway(self.program, self.room, free_port(), "backlog = 0", workers=64, front=front)
-            wanted = ["[WARN  admission] workers exceed the descriptors: clients past them get no answer or 502 "
+            wanted = ["[WARN  admission] too few descriptors for the workers: requests are answered 502, or not at all "
                       f"descriptors={soft} wanted=136"] * count
             self.judge(f"warnings at {soft} descriptors", wanted, [it for it in gate.log if "WARN" in it])
 

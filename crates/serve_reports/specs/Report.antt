@@ -6,12 +6,17 @@ use Rattle.partitions.specs.Table.{Row, name_of}
 use Rattle.limiter_core.specs.declared.counters.Counters.{Counters}
 use Rattle.gate_port.specs.declared.report.Report.{Report}
 use Rattle.serve_reports.specs.declared.tally.AnswerTally.{AnswerTally}
+use Rattle.serve_reports.specs.declared.workers.Workers.{Workers}
 
 -- the limit, and how many are in flight, wait and lie granted
 abbrev pub stands_text : Report → List ℕ
 stands_text r = concat (
     codes "limit=" ∷ decimal r.limit ∷ codes " inflight=" ∷ decimal r.inflight
     ∷ codes " waiters=" ∷ decimal r.waiters ∷ codes " granted=" ∷ decimal r.granted ∷ [])
+
+-- how many workers serve a client, and of how many
+abbrev pub workers_text : Workers → List ℕ
+workers_text w = concat (codes " busy=" ∷ decimal w.busy ∷ codes "/" ∷ decimal w.count ∷ [])
 
 -- the class in a row, with how many of its permits are in flight and its share
 abbrev pub class_text : Report → List Row → ℕ → List ℕ
@@ -59,6 +64,7 @@ answers_text t = concat (
     ∷ codes " 502=" ∷ decimal t.bad_gateway ∷ [])
 
 -- THE TEXT OF A REPORT
-abbrev pub report_text : Report → List Row → AnswerTally → List ℕ
-report_text r rows t =
-    stands_text r ++ classes_text r rows ++ counters_text r.counters ++ answers_text t
+abbrev pub report_text : Report → Workers → List Row → AnswerTally → List ℕ
+report_text r w rows t =
+    stands_text r ++ workers_text w ++ classes_text r rows ++ counters_text r.counters
+    ++ answers_text t

@@ -22,5 +22,6 @@ told spell now = if is_due spell.last now then Some (once_more spell.count) else
 -- what is kept then
 abbrev pub noted : Spell → ℕ → Spell
 noted spell now =
-    if is_due spell.last now then record { last = Some now; count = 0 }
-    else record { last = spell.last; count = once_more spell.count }
+    if is_due spell.last now
+    then record { last = Some now; count = 0; total = once_more spell.total }
+    else record { last = spell.last; count = once_more spell.count; total = once_more spell.total }

@@ -8,13 +8,17 @@
 #![tactic(auto)]
 
 mod counters_line;
+mod noted;
 mod report_line;
 mod spell;
 mod tally;
 mod watching;
+mod workers;
 
 pub use counters_line::write_counters;
+pub use noted::{Noted, Troubles};
 pub use report_line::report_text;
 pub use spell::Spell;
 pub use tally::AnswerTally;
 pub use watching::Watcher;
+pub use workers::Workers;

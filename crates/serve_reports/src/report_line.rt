@@ -2,27 +2,31 @@
 ghost use Rattle.std.specs.Prelude.{◌≡◌, ◌++◌, ◌<◌, IfOk, OnOk, string_bytes};
 ghost use Rattle.serve_reports.specs.Report.{acquires_text, answers_text, class_text, classes_text};
 ghost use Rattle.serve_reports.specs.Report.{counters_text, outcomes_text, report_text, stands_text};
-ghost use Rattle.serve_reports.specs.Report.{waits_text};
+ghost use Rattle.serve_reports.specs.Report.{waits_text, workers_text};
 
 use crate::tally::AnswerTally;
+use crate::workers::Workers;
 use gate_port::Report;
 use limiter_core::Counters;
 use partitions::{Part, PartitionTable};
 use std::alloc::{AllocError, Global};
 
-/// The text of what stands in a gate over these classes, and of how many exchanges ended in each of
-/// the gateway's own answers. It fails only out of memory.
+/// The text of what stands in a gate over these classes, of how many of its workers serve a client,
+/// and of how many exchanges ended in each of the gateway's own answers. It fails only out of
+/// memory.
 pub fn report_text(
     alloc: Global,
     report: &Report,
+    workers: &Workers,
     table: &PartitionTable,
     answers: &AnswerTally,
 ) -> Result<String, AllocError>
     ensures { IfOk result (λ text.
-        string_bytes text ≡ report_text report.now table.now answers.now) }
+        string_bytes text ≡ report_text report.now workers.now table.now answers.now) }
 {
     let mut text = String::new(alloc);
     push_stands(&mut text, report)?;
+    push_workers(&mut text, workers)?;
     push_classes(&mut text, report, table)?;
     push_counters(&mut text, &report.counters)?;
     push_answers(&mut text, answers)?;
@@ -40,6 +44,15 @@ fn push_stands(text: &mut String, report: &Report) -> Result<(), AllocError>
         text,
         "limit={limit} inflight={inflight} waiters={waiters} granted={granted}"
     )
+}
+
+/// Adds how many workers serve a client, and of how many.
+fn push_workers(text: &mut String, workers: &Workers) -> Result<(), AllocError>
+    ensures { OnOk result (string_bytes text.new
+        ≡ string_bytes text.old ++ workers_text workers.now) }
+{
+    let (busy, count) = (workers.busy, workers.count);
+    write!(text, " busy={busy}/{count}")
 }
 
 /// Adds each class with its count and its share, and the callers of no class.

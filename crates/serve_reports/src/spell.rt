@@ -5,11 +5,12 @@ ghost use Rattle.serve_reports.specs.Spells.{is_due, noted, told};
 /// The least time from one telling to the next, in nanoseconds: ten seconds.
 const LENGTH: u64 = 10_000_000_000;
 
-/// How often something happened since it was last told.
+/// How often something happened: since it was last told, and at all.
 #[derive(Clone, Copy)]
 pub struct Spell {
     last: Option<u64>,
     count: u64,
+    total: u64,
 }
 
 impl Spell {
@@ -17,11 +18,20 @@ impl Spell {
     pub fn new() -> Spell
         ensures last { result.last ≡ None }
         ensures count { result.count ≡ 0 }
+        ensures total { result.total ≡ 0 }
     {
         Spell {
             last: None,
             count: 0,
+            total: 0,
         }
+    }
+
+    /// How often it happened.
+    pub fn total(&self) -> u64
+        ensures { result ≡ self.now.total }
+    {
+        self.total
     }
 
     /// It happens once more, at this moment in nanoseconds. Where it was never told, or last ten
@@ -30,6 +40,7 @@ impl Spell {
         ensures told { result ≡ told self.old now }
         ensures noted { self.new ≡ noted self.old now }
     {
+        self.total = self.total.saturating_add(1);
         let count = self.count.saturating_add(1);
         if is_due(self.last, now) {
             self.last = Some(now);

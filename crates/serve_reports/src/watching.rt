@@ -1,7 +1,9 @@
 // What the log says while a gateway serves.
+use crate::noted::{Noted, Troubles};
 use crate::report_line::report_text;
 use crate::spell::Spell;
 use crate::tally::AnswerTally;
+use crate::workers::Workers;
 use clocks::{Clock, ProgramClock};
 use gate_port::Report;
 use log::{Log, info, warn};
@@ -9,10 +11,14 @@ use partitions::PartitionTable;
 use proxy::{Exchange, Watch};
 use std::alloc::Global;
 use std::io::Error;
+use std::sync::atomic::{AtomicU32, Ordering};
 use std::sync::{Mutex, Wait};
 use std::time::Clock as SystemClock;
 use tcp_backend::BackendWatch;
 use wire::WireFault;
+
+/// The nanoseconds of a second.
+const SECOND: u64 = 1_000_000_000;
 
 /// The system's numbers of the faults that say that no descriptor was free: of the whole system,
 /// and of this program.
@@ -27,6 +33,19 @@ struct Notes {
     unreached: Spell,
     broken: Spell,
     without_descriptor: Spell,
+    all_taken: Spell,
+}
+
+impl Notes {
+    /// How often each trouble came.
+    fn troubles(&self) -> Troubles {
+        Troubles {
+            unreached: self.unreached.total(),
+            broken: self.broken.total(),
+            without_descriptor: self.without_descriptor.total(),
+            all_taken: self.all_taken.total(),
+        }
+    }
 }
 
 /// Logs what workers and their backends meet: a trouble at most once in ten seconds, with how often
@@ -37,27 +56,51 @@ pub struct Watcher<'a, R: SystemClock> {
     alloc: Global,
     clock: ProgramClock<&'a R>,
     notes: Mutex<Notes>,
+    workers: u32,
+    busy: AtomicU32,
 }
 
 impl<'a, R: SystemClock> Watcher<'a, R> {
-    /// Nothing has been noted.
-    pub fn new(rt: &'a R, alloc: Global) -> Watcher<'a, R> {
+    /// Nothing has been noted, and so many workers are free.
+    pub fn new(rt: &'a R, alloc: Global, workers: u32) -> Watcher<'a, R> {
         let notes = Notes {
             answers: AnswerTally::default(),
             unreached: Spell::new(),
             broken: Spell::new(),
             without_descriptor: Spell::new(),
+            all_taken: Spell::new(),
         };
         Watcher {
             rt,
             alloc,
             clock: ProgramClock::start(rt),
             notes: Mutex::new(notes),
+            workers,
+            busy: AtomicU32::new(0),
+        }
+    }
+
+    /// How many workers serve a client, and of how many.
+    fn workers(&self) -> Workers {
+        Workers {
+            busy: self.busy.load(Ordering::SeqCst),
+            count: self.workers,
         }
     }
 }
 
 impl<R: SystemClock + Log + Wait> Watcher<'_, R> {
+    /// What was noted so far.
+    pub fn noted(&self) -> Noted {
+        let notes = *self.notes.lock(self.rt);
+        Noted {
+            answers: notes.answers,
+            troubles: notes.troubles(),
+            workers: self.workers(),
+            seconds: self.clock.now() / SECOND,
+        }
+    }
+
     /// A descriptor was wanted, and none was free.
     fn lack_descriptor(&self, error: &Error) {
         let now = self.clock.now();
@@ -66,10 +109,28 @@ impl<R: SystemClock + Log + Wait> Watcher<'_, R> {
             warn!(self.rt; target: "admission", count, error:%; "no descriptor was free");
         }
     }
+
+    /// The last free worker was taken: who comes now waits unseen in the system's accept queue.
+    fn lack_worker(&self) {
+        let now = self.clock.now();
+        let told = self.notes.lock(self.rt).all_taken.note(now);
+        if let Some(count) = told {
+            let workers = self.workers;
+            warn!(self.rt; target: "admission", count, workers; "all workers are taken");
+        }
+    }
 }
 
 impl<R: SystemClock + Log + Wait> Watch for Watcher<'_, R> {
+    fn accepted(&self) {
+        let others = self.busy.fetch_add(1, Ordering::SeqCst);
+        if self.workers <= others.saturating_add(1) {
+            self.lack_worker();
+        }
+    }
+
     fn ended(&self, exchange: &Exchange) {
+        self.busy.fetch_sub(1, Ordering::SeqCst);
         if exchange.is_own {
             self.notes.lock(self.rt).answers.count(exchange);
         }
@@ -83,7 +144,8 @@ impl<R: SystemClock + Log + Wait> Watch for Watcher<'_, R> {
 
     fn report(&self, table: &PartitionTable, report: &Report) {
         let answers = self.notes.lock(self.rt).answers;
-        if let Ok(text) = report_text(self.alloc, report, table, &answers) {
+        let workers = self.workers();
+        if let Ok(text) = report_text(self.alloc, report, &workers, table, &answers) {
             info!(self.rt; target: "admission", "report {text}");
         }
     }
