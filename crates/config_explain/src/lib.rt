@@ -6,9 +6,11 @@
 #![tactic(auto)]
 
 mod about;
+mod callers;
 mod explain;
 mod faults;
 mod finding;
+mod limits;
 mod members;
 mod place;
 mod ranges;

@@ -1,4 +1,6 @@
 // What is worth knowing of a configuration without fault.
+use crate::callers::explain_callers;
+use crate::limits::explain_limit;
 use config_values::{Key, value_at};
 use gate_config::Settings;
 use limit_laws::Limit;
@@ -6,9 +8,9 @@ use std::alloc::AllocError;
 use toml::Table;
 
 /// The most workers.
-const MOST_WORKERS: u64 = 64;
+pub(crate) const MOST_WORKERS: u64 = 64;
 
-/// Says how many workers it wants, and what has no effect.
+/// Says how many workers it wants, what has no effect, and where the limit may not adapt.
 pub(crate) fn explain_settings(
     out: &mut String,
     table: &Table,
@@ -22,7 +24,8 @@ pub(crate) fn explain_settings(
             "wait = false: nobody waits, so backlog = {backlog} has no effect\n"
         )?;
     }
-    Ok(())
+    explain_limit(out, table, u64::from(settings.limit.hi()))?;
+    explain_callers(out, table, settings)
 }
 
 /// Says how many may be inside together, and so how many workers are wanted.

@@ -1,0 +1,76 @@
+// What is worth knowing of the addresses, and of how callers are told apart.
+use crate::members::MOST_RULES;
+use config_values::{Address, Key, read_tables, read_text};
+use gate_config::Settings;
+use std::alloc::AllocError;
+use toml::{Table, Value};
+
+/// Says where requests come back to the gateway, and which rules find nobody.
+pub(crate) fn explain_callers(
+    out: &mut String,
+    table: &Table,
+    settings: &Settings,
+) -> Result<(), AllocError> {
+    if is_same(&settings.listen, &settings.backend) {
+        out.push_str("backend is listen: each request comes back to this gateway\n")?;
+    }
+    let has_classes = value_count(table, Key::Class) > 0;
+    let resolvers = read_tables(table, Key::Resolver, MOST_RULES).unwrap_or(&[]);
+    for (place, rule) in resolvers.iter().enumerate() {
+        explain_rule(out, "resolver", place, rule)?;
+        if !has_classes && is_of_header(rule) {
+            let number = place.saturating_add(1);
+            write!(
+                out,
+                "resolver {number} tells a class by a header, and there is no class\n"
+            )?;
+        }
+    }
+    let bypasses = read_tables(table, Key::Bypass, MOST_RULES).unwrap_or(&[]);
+    for (place, rule) in bypasses.iter().enumerate() {
+        explain_rule(out, "bypass", place, rule)?;
+    }
+    Ok(())
+}
+
+/// Whether two addresses are one.
+fn is_same(one: &Address, other: &Address) -> bool {
+    one.socket() == other.socket()
+}
+
+/// How many tables an array has.
+fn value_count(table: &Table, key: Key) -> usize {
+    read_tables(table, key, MOST_RULES).unwrap_or(&[]).len()
+}
+
+/// Whether a resolver reads a header.
+fn is_of_header(rule: &Value) -> bool {
+    match rule.as_table() {
+        Some(rule) => read_text(rule, Key::ResolverKind).is_ok_and(|kind| kind == "header"),
+        None => false,
+    }
+}
+
+/// Says of a rule that its method has small letters, which no client sends.
+fn explain_rule(
+    out: &mut String,
+    array: &str,
+    place: usize,
+    rule: &Value,
+) -> Result<(), AllocError> {
+    let Some(rule) = rule.as_table() else {
+        return Ok(());
+    };
+    let Ok(method) = read_text(rule, Key::ResolverMethod) else {
+        return Ok(());
+    };
+    if !method.bytes().any(|byte| byte.is_ascii_lowercase()) {
+        return Ok(());
+    }
+    let number = place.saturating_add(1);
+    write!(
+        out,
+        "{array} {number} has the method \"{method}\" with small letters: methods are compared \
+         byte for byte, and clients send capitals\n"
+    )
+}
