@@ -4,21 +4,23 @@
     bench/proxy.py PROGRAM [--seconds S] [--rounds N] [--workers W,..]
                    [--answer BYTES] [--upload BYTES] [--refused] [CLIENTS ..]
 
-It starts an origin (nginx, which answers 13 bytes from memory), nginx and HAProxy as proxies, and PROGRAM (built), once
-for each number of workers W (by default 64), on loopback ports below the ephemeral range. Every request has its own
+It starts an origin (nginx, which answers 13 bytes from memory), nginx and HAProxy as proxies, PROGRAM (built), once for
+each number of workers W (by default 64), and a bare proxy of as many threads (`bare_proxy.rs`, plain Rust, which checks
+nothing: the limit of this form, and no competitor), on loopback ports below the ephemeral range. Every request has its own
 connection on both sides. Everything runs on one processor, since on a shared machine a program with more threads gets
 more of it. For each number of clients every round runs `wrk` against each proxy in turn, for S seconds. It prints the
 medians of requests a second, the ratio to nginx by round with its spread, the times of an answer, the user and system
 time of an exchange and its voluntary switches over all rounds, overflows of the accept queues, and the resident memory
 after the last round.
 
-`admission` runs under the scheduling policy batch, as its packaged unit has it, and nginx once under the usual one and
-once under batch. With --answer the origin answers with BYTES bytes; with --upload each request is a POST of BYTES bytes,
+`admission` runs under the scheduling policy batch, as its packaged unit has it, and nginx and the bare proxy once under
+the usual one and once under batch. With --answer the origin answers with BYTES bytes; with --upload each request is a POST of BYTES bytes,
 all of which the origin reads before it answers. With either one more nginx runs without buffering. With --refused the
 limit is one and an exchange without an answer holds it; the refusals of `admission` with 429 and those of nginx's
-`limit_conn` are timed. The ratios are to each nginx, round by round.
+`limit_conn` are timed; the bare proxy refuses nobody and isn't there. The ratios are to each nginx and to each bare
+proxy, round by round.
 
-It ends all processes that it starts. Needs Debian's nginx-light, haproxy and wrk.
+It ends all processes that it starts. Needs Debian's nginx-light, haproxy and wrk, and rustc.
 """
 import argparse
 import contextlib
@@ -36,7 +38,8 @@ import threading
 import time
 
 TICK = os.sysconf("SC_CLK_TCK")
-PACKAGES = {"nginx": "nginx-light", "haproxy": "haproxy", "wrk": "wrk", "taskset": "util-linux"}
+PACKAGES = {"nginx": "nginx-light", "haproxy": "haproxy", "wrk": "wrk", "taskset": "util-linux", "rustc": "rustc"}
+BARE = pathlib.Path(__file__).resolve().parent / "bare_proxy.rs"
 NGINX = """{first} daemon off; worker_processes 1; pid {room}/{name}.pid; error_log {room}/{name}.log;
 events {{ worker_connections 8192; }}
 http {{ access_log off; keepalive_timeout 0; {http} server {{ listen 127.0.0.1:{port} backlog=4096; {server} }} }}
@@ -74,6 +77,7 @@ echo_read_request_body; echo "hello, world";"""
 ECHO = "load_module modules/ngx_http_echo_module.so;"
 # The scheduling policy of the packaged unit.
 BATCH = ("chrt", "--batch", "0")
+POLICIES = {"": (), ", batch": BATCH}
 ONE_AT_A_TIME = "limit_conn_zone $server_port zone=all:1m; limit_conn_status 429; limit_conn_log_level info;"
 
 
@@ -202,7 +206,7 @@ def compared(runs, peers):
 
 def tell(clients, found):
     """The table of one number of clients."""
-    peers = [name for name in found if name.startswith("nginx")]
+    peers = [name for name in found if name.startswith(("nginx", "bare"))]
     columns = ["Proxy", "requests/s"]
     for peer in peers:
         columns += [f"of {peer}'s", "spread"]
@@ -288,6 +292,11 @@ def targets_of(servers, program, port, given):
         own = next(ports)
         file = servers.written("haproxy", HAPROXY.format(port=own, origin=origin))
         found["HAProxy"] = (own, servers.start("haproxy", "-f", file, "-db"))
+        bare = bare_program(servers)
+        for count, (name, policy) in itertools.product(given.workers, POLICIES.items()):
+            own = next(ports)
+            places = (f"127.0.0.1:{own}", f"127.0.0.1:{origin}")
+            found[f"bare, {count} threads{name}"] = (own, servers.start(*policy, bare, *places, str(count)))
     if given.answer or given.upload:
         nginx("nginx, unbuffered", UNBUFFERED)
     for count in given.workers:
@@ -296,6 +305,13 @@ def targets_of(servers, program, port, given):
         words = (*BATCH, program, "serve", file, "--workers", str(count))
         found[f"admission, {count} workers"] = (own, servers.start(*words))
     return found
+
+
+def bare_program(servers):
+    """The bare proxy, built."""
+    program = servers.room / "bare_proxy"
+    subprocess.run(["rustc", "-O", "--edition", "2021", "-o", program, BARE], check=True)
+    return str(program)
 
 
 def asking_of(servers, upload):
@@ -331,7 +347,7 @@ def main():
         os.chmod(folder, 0o755)
         servers = Servers(pathlib.Path(folder), processor)
         try:
-            first = first_port(5 + len(given.workers))
+            first = first_port(5 + 3 * len(given.workers))
             targets = targets_of(servers, str(given.program.resolve()), first, given)
             asking = asking_of(servers, given.upload)
             time.sleep(1.5)

@@ -15,6 +15,7 @@ import tempfile
 import threading
 import time
 
+TOP = pathlib.Path(__file__).resolve().parent.parent
 ANSWER = b"HTTP/1.1 200 OK\r\nContent-Length: 13\r\nConnection: close\r\n\r\nhello, world\n"
 STARTING = 10
 
@@ -28,6 +29,18 @@ def free_port():
 def allow_many_sockets():
     _, most = resource.getrlimit(resource.RLIMIT_NOFILE)
     resource.setrlimit(resource.RLIMIT_NOFILE, (min(most, 65_536), most))
+
+
+def tables_of(file: str) -> str:
+    """What a configuration of version 2 of the repository says below its addresses."""
+    text = (TOP / file).read_text(encoding="utf-8")
+    return re.sub(r"^(version|listen|backend) *=.*\n", "", text, flags=re.MULTILINE)
+
+
+def told_to_aimd(tables: str, timeout: float) -> str:
+    """The same tables with AIMD in the place of Vegas, which is told a timeout in seconds."""
+    tables = re.sub(r"^(alpha|beta|probe_every) *=.*\n", "", tables, flags=re.MULTILINE)
+    return tables.replace('kind = "vegas"', f'kind = "aimd"\ntimeout_us = {timeout * 1_000_000:.0f}')
 
 
 class Origin:
@@ -83,11 +96,12 @@ class Gateway:
     """The program over a configuration of its own. `tables` is what stands below the addresses. If it reports every
     `report_seconds`, `limits` gets pairs of a moment of time.perf_counter and the limit then."""
 
-    def __init__(self, program, origin, tables, workers=64, report_seconds=None):
+    def __init__(self, program, origin, tables, workers=64, report_seconds=None, version=1):
         self.port = free_port()
         self.room = tempfile.TemporaryDirectory(prefix="admission-")
         self.file = pathlib.Path(self.room.name) / "gateway.toml"
-        self.file.write_text(f'version = 1\nlisten = "127.0.0.1:{self.port}"\nbackend = "127.0.0.1:{origin.port}"\n{tables}')
+        addresses = f'listen = "127.0.0.1:{self.port}"\nbackend = "127.0.0.1:{origin.port}"\n'
+        self.file.write_text(f"version = {version}\n{addresses}{tables}")
         self.words = [program, "serve", str(self.file), "--workers", str(workers)]
         if report_seconds:
             self.words += ["--report-seconds", str(report_seconds)]

@@ -1,0 +1,133 @@
+"""A backend that has bad days, and callers in processes of their own, for bench/adapts. All on loopback."""
+import asyncio
+import collections
+import concurrent.futures
+import multiprocessing
+import random
+import signal
+import time
+
+from traffic import ANSWER, STARTING, Call, allow_many_sockets, free_port, offer
+
+BUSY = b"HTTP/1.1 503 Service Unavailable\r\nContent-Length: 0\r\nConnection: close\r\n\r\n"
+# What `ahead` says: serve all, answer all of them 503 at once, or serve the next one at once or in a tenth of its time.
+AS_EVER, REFUSING, ONE_AT_ONCE, ONE_IN_A_TENTH = range(4)
+# A process that makes more calls a second is late with them.
+CALLS_A_PROCESS = 300
+WATCH = 0.02
+
+
+class Exchange(asyncio.Protocol):
+    """One connection to the backend, with one request on it, which comes in one piece."""
+
+    def __init__(self, backend: "Wayward"):
+        self.backend, self.transport = backend, None
+
+    def connection_made(self, transport):
+        self.transport = transport
+
+    def data_received(self, data):
+        if data.endswith(b"\r\n\r\n"):
+            self.backend.take(self)
+
+    def answer(self, text: bytes):
+        self.transport.write(text)
+        self.transport.close()
+
+
+class Wayward:
+    """A backend in a process of its own: it serves `slots` requests at a time, first come first served, each in
+    `seconds` divided by its speed, with up to `spread` of that more or less, and slower by `drag` of it where as many
+    wait as it has slots. Its slots, its speed and what is ahead can be changed while it serves, and it can be killed."""
+
+    def __init__(self, slots: int, seconds: float, drag: float, spread: float = 0.0):
+        self.seconds, self.drag, self.spread, self.port = seconds, drag, spread, free_port()
+        self.slots = multiprocessing.Value("i", slots)
+        self.speed = multiprocessing.Value("d", 1.0)
+        self.ahead = multiprocessing.Value("i", AS_EVER)
+        self.process = None
+
+    def __enter__(self):
+        self.start()
+        return self
+
+    def __exit__(self, *_):
+        self.kill()
+
+    def start(self):
+        is_up = multiprocessing.Event()
+        self.process = multiprocessing.Process(target=self.run, args=(is_up,))
+        self.process.start()
+        if not is_up.wait(STARTING):
+            self.kill()
+            raise RuntimeError("the backend didn't start")
+
+    def kill(self):
+        """Ends it at once, with all that it serves."""
+        self.process.kill()
+        self.process.join()
+
+    def run(self, is_up):
+        signal.signal(signal.SIGINT, signal.SIG_IGN)
+        allow_many_sockets()
+        asyncio.run(self.serve(is_up))
+
+    async def serve(self, is_up):
+        self.loop, self.served, self.queue = asyncio.get_running_loop(), 0, collections.deque()
+        self.draw = random.Random(1)
+        await self.loop.create_server(lambda: Exchange(self), "127.0.0.1", self.port, backlog=4096)
+        is_up.set()
+        while True:
+            await asyncio.sleep(WATCH)
+            self.fill()
+
+    def take(self, exchange: Exchange):
+        ahead = self.ahead.value
+        if ahead == REFUSING:
+            exchange.answer(BUSY)
+        elif ahead in (ONE_AT_ONCE, ONE_IN_A_TENTH):
+            self.ahead.value = AS_EVER
+            self.loop.call_later(0 if ahead == ONE_AT_ONCE else self.seconds / 10, exchange.answer, ANSWER)
+        else:
+            self.queue.append(exchange)
+            self.fill()
+
+    def fill(self):
+        """Begins to serve as many as there are slots for."""
+        while self.queue and self.served < self.slots.value:
+            exchange, self.served = self.queue.popleft(), self.served + 1
+            varied = 1 + self.spread * (2 * self.draw.random() - 1)
+            slower = 1 + self.drag * len(self.queue) / self.slots.value
+            self.loop.call_later(self.seconds / self.speed.value * varied * slower, self.end, exchange)
+
+    def end(self, exchange: Exchange):
+        self.served -= 1
+        exchange.answer(ANSWER)
+        self.fill()
+
+
+def offered(port: int, rate: float, seconds: float, patience: float) -> list[Call]:
+    allow_many_sockets()
+    return asyncio.run(offer(port, rate, seconds, patience=patience))
+
+
+class Callers:
+    """So many calls a second for so many seconds, whether or not those before are answered."""
+
+    def __init__(self, port: int, rate: float, seconds: float, patience: float):
+        parts = 1 + int(rate // CALLS_A_PROCESS)
+        self.pool = concurrent.futures.ProcessPoolExecutor(parts, multiprocessing.get_context("fork"))
+        self.begun = time.perf_counter()
+        self.parts = []
+        for part in range(parts):
+            # one after the other, so that their calls lie between each other's
+            time.sleep(max(0.0, self.begun + part / rate - time.perf_counter()))
+            self.parts.append(self.pool.submit(offered, port, rate / parts, seconds, patience))
+
+    def wait_until(self, at: float):
+        time.sleep(max(0.0, self.begun + at - time.perf_counter()))
+
+    def calls(self) -> list[Call]:
+        """All calls, once the last one has ended."""
+        with self.pool:
+            return [it for part in self.parts for it in part.result()]
