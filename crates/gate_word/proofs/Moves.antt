@@ -55,8 +55,11 @@ module _ {E : Type 0} where
         (λ (ne : h.seat ≢ id).
         (h.keeper.0, set_else views id h.seat w ne ∙ h.keeper.1, h.keeper.2));
     all = λ j u e. ⊎_elim
-        (λ (t : (j ≡ id) × (w ≡ u)). subst (λ (z : View E). Fits n h.seat j z) t.1
-        (below, below', λ (k : w.keeps ≡ true). (t.0 ∙ (fits (sym same ∙ k)).0, top (sym same ∙ k))))
+        (λ (t : (j ≡ id) × (w ≡ u)). subst (λ (z : View E). Fits n h.seat j z) t.1 (
+          below,
+          below',
+          λ (k : w.keeps ≡ true). (t.0 ∙ (fits (sym same ∙ k)).0, top (sym same ∙ k)),
+        ))
         (λ (t : (j ≢ id) × (get_elem? views j ≡ some u)).
         others j u t.0 (h.all j u t.1) v.keeps refl)
         (at_set views id j w u e);

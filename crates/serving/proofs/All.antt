@@ -57,7 +57,8 @@ on_ok (Err e) P Q p f = tt
 
 module _ {A P B S R G L C W : Type 0} (given failed : A → ℕ) (closed : A → Bool)
     (visits : A → Option Visits) (shown : P → Option Shown) (known : P → Option (List Entry))
-    (forwarded : B → ℕ) (log : B → Option (List Forwarded)) (gives : S → Settings → Type 0) (lacks : S → Type 0)
+    (forwarded : B → ℕ) (log : B → Option (List Forwarded))
+    (gives : S → Settings → Type 0) (lacks : S → Type 0)
     (x : Context R G L C S W) where
   abbrev Worked : Worker A P B → Ended A P B → Type 0
   Worked = HasWorked given failed closed visits shown known forwarded log gives lacks
@@ -82,7 +83,8 @@ module _ {A P B S R G L C W : Type 0} (given failed : A → ℕ) (closed : A →
       absurd made.0
   worked_in (hand.Worker context worker ∷ hs) (left.Worked ended ∷ ls) made within begun = (
     subst (λ (c : Context R G L C S W). HasWorked given failed closed visits shown known
-        forwarded log gives lacks c.common.now.source.now c.common.now.per_worker worker ended) within.0 made.0,
+        forwarded log gives lacks c.common.now.source.now c.common.now.per_worker worker ended)
+        within.0 made.0,
     worked_in hs ls made.1 within.1 begun,
   )
 
@@ -135,7 +137,8 @@ module _ {R L C S W V P : Type 0} (gives : S → Settings → Type 0) (lacks : S
       begins.unclosed
       (subst (λ (n : ℕ). IsRun s most (from shown known 0 n closed worker.port count) end tally)
       begins.failed
-      (subst (λ (n : ℕ). IsRun s most (from shown known n failed closed worker.port count) end tally)
+      (subst
+      (λ (n : ℕ). IsRun s most (from shown known n failed closed worker.port count) end tally)
       begins.given did.run)))) in
       let no_given = begins.given in
       let no_failed = begins.failed in

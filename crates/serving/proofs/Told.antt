@@ -61,7 +61,8 @@ dealt s old reader writer writer' looks new (Err f) answer x y class admission d
 dealt s old reader writer writer' looks new (Ok request) answer x y class admission deals = (
   class ∙ deals.0,
   subst (λ (said : Verdict). IsSettled s request old.shown new.shown old.known new.known
-      old.looks looks old.count new.count old.log new.log (class_by s request) said answer) (sym admission) deals.1,
+      old.looks looks old.count new.count old.log new.log (class_by s request) said answer)
+      (sym admission) deals.1,
 )
 
 -- the same exchange, where other bytes are told at the end of the writer
@@ -119,7 +120,8 @@ served_so s from from' to to' looks looks' old new x first unwritten written sen
           (subst (λ (l : Looked Answer).
           IsExchange s (around (fresh first) (fresh unwritten) l old) end x) new_looks
           (subst (λ (c : Counted Bytes). IsExchange s (around (fresh first) c looks old) end x)
-          new_to (subst (λ (c : Counted Bytes). IsExchange s (around c to looks old) end x) new_from e)))
+          new_to
+          (subst (λ (c : Counted Bytes). IsExchange s (around c to looks old) end x) new_from e)))
           all;
       ended = refl;
     }

@@ -35,7 +35,8 @@ none_of (x ∷ xs) e = absurd (omega arith)
 
 -- a book of which nothing was asked is behind an empty log
 pub behind_none : {S : Type 0} (rules : Algorithm S) (limit : List Change → ℕ)
-    (legal : List Entry → Type 0) (b : Book S) (log : List Entry) → log ≡ [] → next_number b.journal ≡ 0
+    (legal : List Entry → Type 0) (b : Book S) (log : List Entry)
+    → log ≡ [] → next_number b.journal ≡ 0
     → MeansAtLeast (gate rules b.journal) (opening b.journal) legal
     → length b.journal.rows ≤ 4
     → (b.journal.opening.next ≡ 0 → IsUnasked rules limit b.journal.opening)

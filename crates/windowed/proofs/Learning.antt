@@ -83,7 +83,8 @@ module _ {S : Type 0} (rules : Algorithm S) where
       let none : filter is_setting (flat_map inputs_of windows ++ rest) ≡ [] =
       ap (filter is_setting) (sym cutting.whole) ∙ no_settings xs in
       let ran = run_windows rules w due inner windows rest cutting.each cutting.none_after all in
-      ap (λ s. s.inner) (sym (fold-map (after (windowed_rules rules)) Sampled (emptied w due inner) xs)
+      ap (λ s. s.inner)
+      (sym (fold-map (after (windowed_rules rules)) Sampled (emptied w due inner) xs)
       ∙ ap (run (windowed_rules rules) (emptied w due inner)) cutting.whole
       ∙ ran)
       ∙ ap (run rules inner) (told w windows rest none)

@@ -82,7 +82,8 @@ returns-in_err-size-clause-goes_on g c = search rules
 pub returns-in_err-read_trailers-clause-read : goal.returns-in_err-read_trailers-clause-read
 returns-in_err-read_trailers-clause-read g c = search rules
 
-pub returns-in_err-read_trailers-clause-unfailing : goal.returns-in_err-read_trailers-clause-unfailing
+pub returns-in_err-read_trailers-clause-unfailing :
+    goal.returns-in_err-read_trailers-clause-unfailing
 returns-in_err-read_trailers-clause-unfailing g c = search rules
 
 pub returns-in_err-read_trailers-clause-turns : goal.returns-in_err-read_trailers-clause-turns

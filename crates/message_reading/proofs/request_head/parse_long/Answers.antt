@@ -4,7 +4,8 @@ use Rattle.message_reading.proofs.request_head.parse_long.Goals as goal
 pub returns-in_err-head_at-in-Some-clause-head : goal.returns-in_err-head_at-in-Some-clause-head
 returns-in_err-head_at-in-Some-clause-head c = search rules
 
-pub returns-in_err-head_at-in-Some-clause-malformed : goal.returns-in_err-head_at-in-Some-clause-malformed
+pub returns-in_err-head_at-in-Some-clause-malformed :
+    goal.returns-in_err-head_at-in-Some-clause-malformed
 returns-in_err-head_at-in-Some-clause-malformed c = search rules
 
 pub returns-in_err-head_at-in-Some-clause-faults : goal.returns-in_err-head_at-in-Some-clause-faults
@@ -13,7 +14,8 @@ returns-in_err-head_at-in-Some-clause-faults c = search rules
 pub returns-in_ok-head_at-in-Some-clause-head : goal.returns-in_ok-head_at-in-Some-clause-head
 returns-in_ok-head_at-in-Some-clause-head c = search rules
 
-pub returns-in_ok-head_at-in-Some-clause-malformed : goal.returns-in_ok-head_at-in-Some-clause-malformed
+pub returns-in_ok-head_at-in-Some-clause-malformed :
+    goal.returns-in_ok-head_at-in-Some-clause-malformed
 returns-in_ok-head_at-in-Some-clause-malformed c = search rules
 
 pub returns-in_ok-head_at-in-Some-clause-faults : goal.returns-in_ok-head_at-in-Some-clause-faults

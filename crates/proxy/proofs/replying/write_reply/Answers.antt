@@ -31,7 +31,8 @@ returns-in-Some-NotConnected-clause-all g c = search rules
 pub returns-in-Some-NotConnected-clause-flushed : goal.returns-in-Some-NotConnected-clause-flushed
 returns-in-Some-NotConnected-clause-flushed g c = search rules
 
-pub returns-in-Some-NotConnected-clause-unfailing : goal.returns-in-Some-NotConnected-clause-unfailing
+pub returns-in-Some-NotConnected-clause-unfailing :
+    goal.returns-in-Some-NotConnected-clause-unfailing
 returns-in-Some-NotConnected-clause-unfailing g c = search rules
 
 pub returns-in-Some-NotConnected-clause-failed : goal.returns-in-Some-NotConnected-clause-failed

@@ -5,6 +5,7 @@ use Rattle.serving.proofs.workers.serve_by.Goals as goal
 pub returns : goal.returns
 returns g c =
     all_worked g.A.Accepts.given g.A.Accepts.failed g.A.Accepts.closed g.A.Accepts.visits
-    g.P.GatePort.shown g.P.GatePort.known g.B.Backend.forwarded g.B.Backend.shown g.S.Source.gives g.S.Source.lacks _
+    g.P.GatePort.shown g.P.GatePort.known g.B.Backend.forwarded g.B.Backend.shown
+    g.S.Source.gives g.S.Source.lacks _
     c.args.workers.items c.in_ok-hands.hands.items c.in_ok-lefts.lefts.items
     c.in_ok-hands.ensures.all c.in_ok-lefts.ensures c.in_ok-hands.ensures.within (search rules)

@@ -21,8 +21,8 @@ loop-preserved g c = elim c.match-accept.branch [
               w.serve_client-client.new.port w.serve_client-client.new.backend,
           w.in-Ok.ensures.unwritten,
           w.serve_client-client.ensures,
-          same_back g.P.GatePort.shown g.P.GatePort.known g.B.Backend.forwarded g.B.Backend.shown _ _ _ _ w.port-is
-              w.backend-is,
+          same_back g.P.GatePort.shown g.P.GatePort.known g.B.Backend.forwarded g.B.Backend.shown
+              _ _ _ _ w.port-is w.backend-is,
         )
         (serving_shown _ (g.A.Accepts.visits c.accept.new.self) _ _ _ _ w.in-Ok.ensures.arrived
         (search rules));

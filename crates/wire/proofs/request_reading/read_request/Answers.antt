@@ -89,7 +89,8 @@ returns-in_err-say_continue-clause-few g c = search rules
 pub returns-in_err-say_continue-clause-reads : goal.returns-in_err-say_continue-clause-reads
 returns-in_err-say_continue-clause-reads g c = search rules
 
-pub returns-in_err-say_continue-clause-reads_well : goal.returns-in_err-say_continue-clause-reads_well
+pub returns-in_err-say_continue-clause-reads_well :
+    goal.returns-in_err-say_continue-clause-reads_well
 returns-in_err-say_continue-clause-reads_well g c = search rules
 
 pub returns-in_err-body-clause-read : goal.returns-in_err-body-clause-read

@@ -9,6 +9,7 @@ returns-clause-one g c =
     let own = c.reader.inside.seat.me.0.log in
     let told = c.told_by-told.result.me.0.log in
     let is = ap (λ m. m.0.log) l.reader in
+    let theirs = ap (λ m. m.0.log) c.told_by-told.ensures.told ∙ ap (λ v. v.log) c.other.view_is in
     ⊎_elim (λ p. inl (is ∙ (p ∙ ap (λ v. v.log) c.reader.view_is)))
-    (λ p. inr (is ∙ (p ∙ (ap (λ m. m.0.log) c.told_by-told.ensures.told ∙ ap (λ v. v.log) c.other.view_is))))
+    (λ p. inr (is ∙ (p ∙ theirs)))
     (longer_one own told (longer own told) l.own l.told)

@@ -17,7 +17,8 @@ returns-in_err-read_line_part-clause-early g c = search rules
 pub returns-in_err-read_line_part-clause-read : goal.returns-in_err-read_line_part-clause-read
 returns-in_err-read_line_part-clause-read g c = search rules
 
-pub returns-in_err-read_line_part-clause-unfailing : goal.returns-in_err-read_line_part-clause-unfailing
+pub returns-in_err-read_line_part-clause-unfailing :
+    goal.returns-in_err-read_line_part-clause-unfailing
 returns-in_err-read_line_part-clause-unfailing g c = search rules
 
 pub returns-in_err-read_line_part-clause-turns : goal.returns-in_err-read_line_part-clause-turns

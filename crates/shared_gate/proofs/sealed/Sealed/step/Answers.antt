@@ -96,7 +96,8 @@ returns-in-Done g c =
     subst (λ (step : Step g.row.M.Denot). Tells c.args.pass.now after e step) (sym c.in-Done.is)
     (subst (λ (pass : Pass). Tells pass after e (Done told got)) c.pass.view_is
     (tells rules old new before after e told got log sound d
-    (number_is rules g.M.Naming.limit g.M.GateNaming.legal old log c.self.invariant.2) c.raise.ensures.before
+    (number_is rules g.M.Naming.limit g.M.GateNaming.legal old log c.self.invariant.2)
+    c.raise.ensures.before
     (longer_is rules old new c.pass.inside.pass c.step-step.new.pass e told got d same
     g.M.Naming.limit g.M.GateNaming.legal log c.self.invariant.2 c.journal-journal.result.now
     c.journal-journal.ensures longer
