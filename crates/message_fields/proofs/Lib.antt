@@ -4,3 +4,4 @@ pub mod Digits
 pub mod Lists
 pub mod First
 pub mod Short
+pub mod PartLengths

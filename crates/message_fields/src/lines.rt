@@ -7,6 +7,7 @@ use super::names::is_same_name;
 use message_parts::Header;
 
 /// Whether the line has the name.
+#[inline(always)]
 pub(crate) fn is_named(line: &Header, name: &[u8]) -> bool
     ensures { result ≡ is_named name.now line.now }
 {

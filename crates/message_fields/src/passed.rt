@@ -12,6 +12,7 @@ use super::parts::has_part;
 use message_parts::Header;
 
 /// Whether the field says how one connection is used.
+#[inline(always)]
 fn is_of_connection(name: &[u8]) -> bool
     ensures { result ≡ is_of_connection name.now }
 {
@@ -22,6 +23,7 @@ fn is_of_connection(name: &[u8]) -> bool
 }
 
 /// Whether the field says how the body is sent over one connection.
+#[inline(always)]
 fn is_of_coding(name: &[u8]) -> bool
     ensures { result ≡ is_of_coding name.now }
 {
@@ -32,18 +34,24 @@ fn is_of_coding(name: &[u8]) -> bool
 }
 
 /// Whether the field is of one connection alone.
+#[inline(always)]
 fn is_own(name: &[u8]) -> bool
     ensures { result ≡ is_own name.now }
 {
     is_of_connection(name) || is_of_coding(name)
 }
 
-/// Whether the line is a Connection line that names the field.
+/// Whether the line is a Connection line that names the field. Most values are shorter than most
+/// names, and such a line is passed by at once.
 fn names_field(line: &Header, name: &[u8]) -> bool
     ensures { result ≡ (is_named (codes "connection") line.now
         && list_any (λ part. same_name part name.now) (parts line.now.value)) }
 {
-    is_named(line, b"connection") && has_part(line.value.as_slice(), name)
+    let value = line.value.as_slice();
+    if value.len() < name.len() {
+        return false;
+    }
+    is_named(line, b"connection") && has_part(value, name)
 }
 
 /// Whether a Connection line names the field.

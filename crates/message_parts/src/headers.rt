@@ -1,5 +1,6 @@
 // The header lines of a message, in their order.
-ghost use Rattle.std.specs.Prelude.{◌≡◌, ◌↔◌, [], length, IsTrue};
+ghost use Rattle.std.specs.Prelude.{◌≡◌, ◌↔◌, ◌∷◌, [], codes, length, IfSome, IsTrue};
+ghost use Rattle.std.specs.List.{concat};
 
 use crate::piece::Piece;
 use std::marker::Model;
@@ -10,6 +11,17 @@ use std::marker::Model;
 pub struct Header {
     pub name: Piece,
     pub value: Piece,
+}
+
+impl Header {
+    /// The text of the line as its head has it, from its name through CR LF, where that is
+    /// `name: value` with one space alone; none elsewhere.
+    pub fn line(&self) -> Option<&[u8]>
+        ensures { IfSome result (λ line. line.now
+            ≡ concat (self.now.name ∷ codes ": " ∷ self.now.value ∷ codes "\r\n" ∷ [])) }
+    {
+        self.value.line_from(&self.name)
+    }
 }
 
 /// The header lines of a message, in their order. A contract sees their list.

@@ -1,5 +1,6 @@
 // Bytes that lie in the text of a head.
-ghost use Rattle.std.specs.Prelude.{◌≡◌, ◌≤◌, IfOk, length, slice_range};
+ghost use Rattle.std.specs.Prelude.{◌≡◌, ◌≤◌, ◌∷◌, [], IfOk, IfSome, codes, length, slice_range};
+ghost use Rattle.std.specs.List.{concat};
 
 use std::alloc::{AllocError, Global};
 use std::marker::Model;
@@ -68,5 +69,33 @@ impl Piece {
         ensures { result.now ≡ self.now }
     {
         &self.text[self.start..self.end]
+    }
+
+    /// The text of a line of this name and value as a head has it, from the name through CR LF,
+    /// where this value's head has it so: `name: value`, with one space alone. None elsewhere.
+    ///
+    /// It costs a comparison of the names, whatever the value's length.
+    pub(crate) fn line_from(&self, name: &Piece) -> Option<&[u8]>
+        ensures { IfSome result (λ line. line.now
+            ≡ concat (name.now ∷ codes ": " ∷ self.now ∷ codes "\r\n" ∷ [])) }
+    {
+        let text = self.text.as_slice();
+        if self.start < 2 || text.len() - self.end < 2 {
+            return None;
+        }
+        let (start, colon, end) = (name.start, self.start - 2, self.end + 2);
+        if colon < start {
+            return None;
+        }
+        if &text[start..colon] != name.as_slice() {
+            return None;
+        }
+        if &text[colon..self.start] != b": ".as_slice() {
+            return None;
+        }
+        if &text[self.end..end] != b"\r\n".as_slice() {
+            return None;
+        }
+        Some(&text[start..end])
     }
 }

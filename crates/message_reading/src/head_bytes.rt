@@ -17,9 +17,6 @@ use std::marker::Model;
 /// The greatest number of bytes of a head.
 const MOST_HEAD: usize = 65_536;
 
-/// The room behind what a head begins with; it grows where one has more bytes.
-const USUAL_HEAD: usize = 512;
-
 /// The greatest number of lines, the first and the empty one among them.
 const MOST_LINES: usize = 102;
 
@@ -76,8 +73,6 @@ impl Seen {
         let before = self.bytes.len();
         read_line_part(reader, limit, MOST_HEAD - before, &mut self.bytes)?;
         self.progress = self.progress.through(&self.bytes[before..]);
-        let room = if before == 0 { USUAL_HEAD } else { 0 };
-        self.bytes.reserve(room)?;
         Ok(self.progress.ends())
     }
 

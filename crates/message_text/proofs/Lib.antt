@@ -1,4 +1,3 @@
-pub mod Digits
 pub mod Kept
 pub mod Texts
 pub mod Apart

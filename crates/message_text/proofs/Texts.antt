@@ -70,12 +70,12 @@ pub local_whole : (status : ℕ)
 unfolding local_text lines_text line_text
 local_whole status = refl
 
--- the lines of a forwarded request and the empty line, in five pieces
+-- the lines of a forwarded request and the empty line, in four pieces
 pub forwarded_pieces : (request : ForwardedValue)
     → lines_text (forwarded_lines request) ++ codes "\r\n"
-    ≡ (((lines_text (map (hosted (authority_of request.target)) (request_lines request.headers))
+    ≡ ((lines_text (map (hosted (authority_of request.target)) (request_lines request.headers))
     ++ lines_text (host_lines request)) ++ lines_text (length_lines request.body))
-    ++ line_text (via_line request.is_old)) ++ codes "Connection: close\r\n\r\n"
+    ++ (line_text (via_line request.is_old) ++ codes "Connection: close\r\n\r\n")
 unfolding forwarded_lines
 forwarded_pieces request =
     let kept = map (hosted (authority_of request.target)) (request_lines request.headers) in
@@ -90,7 +90,6 @@ forwarded_pieces request =
     ap (λ (t : List ℕ). t ++ codes "\r\n") split
     ∙ append_assoc front (lines_text (via ∷ close_line ∷ [])) (codes "\r\n")
     ∙ ap (λ (t : List ℕ). front ++ t) pair
-    ∙ sym (append_assoc front (line_text via) (codes "Connection: close\r\n\r\n"))
 
 -- a forwarded request, in six pieces
 pub forwarded_whole : (request : ForwardedValue)

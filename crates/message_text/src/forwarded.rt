@@ -82,19 +82,20 @@ impl Forwarded<'_> {
         )
     }
 
-    /// Writes the line that tells of the gateway.
+    /// Writes the line that tells of the gateway, the one that ends the connection, and the empty
+    /// line behind them.
     #[tactic(auto, unfolding(crate::specs::Line::line_text, crate::specs::Forwarded::via_line))]
-    fn write_via<W: Write>(&self, writer: &mut Counted<W>) -> Result<(), WriteFault>
-        ensures all { OnOk result
-            (Wrote W.contents writer.old writer.new (line_text (via_line self.now.is_old))) }
+    fn write_last<W: Write>(&self, writer: &mut Counted<W>) -> Result<(), WriteFault>
+        ensures all { OnOk result (Wrote W.contents writer.old writer.new
+            (line_text (via_line self.now.is_old) ++ codes "Connection: close\r\n\r\n")) }
         ensures unfailing { OnOk result (failures_of writer.new ≡ failures_of writer.old) }
         ensures failed { OnErr result (IsWriteCause writer.old writer.new) }
         ensures flushes { flushes_of writer.new ≡ flushes_of writer.old }
     {
         if self.is_old {
-            write_all(writer, b"Via: 1.0 admission\r\n")
+            write_all(writer, b"Via: 1.0 admission\r\nConnection: close\r\n\r\n")
         } else {
-            write_all(writer, b"Via: 1.1 admission\r\n")
+            write_all(writer, b"Via: 1.1 admission\r\nConnection: close\r\n\r\n")
         }
     }
 
@@ -110,8 +111,7 @@ impl Forwarded<'_> {
         write_request_lines(writer, self.headers, authority(self.target))?;
         self.write_host(writer)?;
         write_body_length(writer, self.body)?;
-        self.write_via(writer)?;
-        write_all(writer, b"Connection: close\r\n\r\n")
+        self.write_last(writer)
     }
 
     /// Writes the request as it is forwarded, and flushes once.

@@ -41,6 +41,20 @@ pub fn write_line<W: Write>(
     write_all(writer, b"\r\n")
 }
 
+/// Writes a line as it came: in one piece, where its head has it as it is written.
+#[tactic(auto, unfolding(crate::specs::Line::line_text))]
+fn write_kept<W: Write>(writer: &mut Counted<W>, line: &Header) -> Result<(), WriteFault>
+    ensures all { OnOk result (Wrote W.contents writer.old writer.new (line_text line.now)) }
+    ensures unfailing { OnOk result (failures_of writer.new ≡ failures_of writer.old) }
+    ensures failed { OnErr result (IsWriteCause writer.old writer.new) }
+    ensures flushes { flushes_of writer.new ≡ flushes_of writer.old }
+{
+    match line.line() {
+        Some(text) => write_all(writer, text),
+        None => write_line(writer, line.name.as_slice(), line.value.as_slice()),
+    }
+}
+
 /// Writes the line that tells the length of a body.
 #[tactic(auto, unfolding(crate::specs::Line::line_text))]
 fn write_length<W: Write>(writer: &mut Counted<W>, body: &[u8]) -> Result<(), WriteFault>
@@ -85,11 +99,14 @@ fn write_hosted<W: Write>(
     ensures failed { OnErr result (IsWriteCause writer.old writer.new) }
     ensures flushes { flushes_of writer.new ≡ flushes_of writer.old }
 {
-    let value = match authority {
-        Some(authority) if is_same_name(line.name.as_slice(), b"host") => authority,
-        _ => line.value.as_slice(),
+    let Some(authority) = authority else {
+        return write_kept(writer, line);
     };
-    write_line(writer, line.name.as_slice(), value)
+    if is_same_name(line.name.as_slice(), b"host") {
+        write_line(writer, line.name.as_slice(), authority)
+    } else {
+        write_kept(writer, line)
+    }
 }
 
 /// Writes a line of a request with these lines, where it is passed on.
@@ -147,7 +164,7 @@ fn write_passed<W: Write>(
     if !is_passed(lines, line) {
         return Ok(());
     }
-    write_line(writer, line.name.as_slice(), line.value.as_slice())
+    write_kept(writer, line)
 }
 
 /// Writes the lines of a response that are passed on.

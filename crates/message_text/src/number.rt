@@ -5,18 +5,16 @@ ghost use Rattle.counted_io.specs.Effects.{Wrote};
 ghost use Rattle.counted_io.specs.Causes.{IsWriteCause};
 
 use counted_io::{Counted, WriteFault, write_all};
+use itoa::Buffer;
 use std::io::Write;
 
 /// Writes a number in decimal digits.
-#[tactic(auto, using(crate::proofs::Digits::wrote_digit, crate::proofs::Digits::wrote_one))]
 pub fn write_decimal<W: Write>(writer: &mut Counted<W>, number: u64) -> Result<(), WriteFault>
     ensures all { OnOk result (Wrote W.contents writer.old writer.new (decimal number)) }
     ensures unfailing { OnOk result (failures_of writer.new ≡ failures_of writer.old) }
     ensures failed { OnErr result (IsWriteCause writer.old writer.new) }
     ensures flushes { flushes_of writer.new ≡ flushes_of writer.old }
 {
-    if number >= 10 {
-        write_decimal(writer, number / 10)?;
-    }
-    write_all(writer, &[b'0' + (number % 10) as u8])
+    let mut digits = Buffer::new();
+    write_all(writer, digits.format(number).as_bytes())
 }

@@ -9,11 +9,10 @@ pub returns-clause-all : goal.returns-clause-all
 returns-clause-all g c =
     let told : lent c.authority.result ≡ authority_of c.args.self.now.target.now =
     c.authority.ensures in
-    wrote_then c.write_all.result _ _ _ _ _ _ (forwarded_pieces (seen c.args.self.now))
-    (Appends-trans _ _ _ _ _
+    wrote_then c.write_last.result _ _ _ _ _ _
+    (forwarded_pieces (seen c.args.self.now))
     (Appends-trans _ _ _ _ _
     (Appends-trans _ _ _ _ _ (rw told at c.in_ok-write_request_lines.ensures.all)
     c.in_ok-write_host.ensures.all)
     c.in_ok-write_body_length.ensures.all)
-    c.in_ok-write_via.ensures.all)
-    c.write_all.ensures.all
+    c.write_last.ensures.all

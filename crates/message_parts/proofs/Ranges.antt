@@ -1,0 +1,28 @@
+-- Ranges of a text that lie side by side.
+use Rattle.std.proofs.Common.{◌≡◌, ℕ, ◌+◌, ◌-◌, ◌≤◌, List, [], ◌∷◌, ◌++◌, take, drop, slice_range, ◌∙◌, ap, ap₂, arith, take-add, drop-drop}
+
+-- a range, cut at a place within it
+pub cut_at : {X : Type 0} (xs : List X) (a b c : ℕ) → a ≤ b → b ≤ c
+    → slice_range xs a c ≡ slice_range xs a b ++ slice_range xs b c
+cut_at xs a b c first second =
+    let both : c - a ≡ (b - a) + (c - b) = omega arith in
+    let behind : a + (b - a) ≡ b = omega arith in
+    ap (λ n. take n (drop a xs)) both
+    ∙ take-add (b - a) (c - b) (drop a xs)
+    ∙ ap (λ ys. slice_range xs a b ++ take (c - b) ys)
+    (drop-drop (b - a) a xs ∙ ap (λ n. drop n xs) behind)
+
+-- a line that lies in a text
+pub line_in : (text name : List ℕ) (start colon value end behind : ℕ)
+    → start ≤ colon → colon ≤ value → value ≤ end → end ≤ behind
+    → slice_range text start colon ≡ name
+    → slice_range text colon value ≡ 58 ∷ 32 ∷ []
+    → slice_range text end behind ≡ 13 ∷ 10 ∷ []
+    → slice_range text start behind
+    ≡ name ++ 58 ∷ 32 ∷ (slice_range text value end ++ 13 ∷ 10 ∷ [])
+line_in text name start colon value end behind a b c d named parted ended =
+    cut_at text start colon behind a (omega arith)
+    ∙ ap₂ (λ xs ys. xs ++ ys) named
+    (cut_at text colon value behind b (omega arith)
+    ∙ ap₂ (λ xs ys. xs ++ ys) parted
+    (cut_at text value end behind c d ∙ ap (λ ys. slice_range text value end ++ ys) ended))
