@@ -29,10 +29,10 @@ pub record IsLogged (old new : List Entry) (number : ℕ) (e : Event) (r : Reply
 -- AN ASKING IN A LOG of which this was known, what is known then, and what its caller is told:
 -- none, since the history is exhausted; or an acquire, and what its reply says; or an acquire that
 -- waits and the giving up of its number, and what the reply to that says, or a loss where the
--- history is exhausted by then
+-- history is exhausted by then. Where that is exhausted what is known goes on by what others did
 pub data IsAskedIn (ask : Ask) (old : List Entry) (now : ℕ) : List Entry → Admission PermitFacts
     → Type 0 where
-  spent : IsAskedIn ask old now old (Refused why.Exhausted)
+  spent : (new : List Entry) → IsPrefix old new → IsAskedIn ask old now new (Refused why.Exhausted)
   answered : (new : List Entry) (number : ℕ) (r : Reply) (told : Admission PermitFacts)
       → IsLogged old new number (acquire ask now) r → says ask number now r ≡ Some told
       → IsAskedIn ask old now new told
@@ -40,8 +40,8 @@ pub data IsAskedIn (ask : Ask) (old : List Entry) (now : ℕ) : List Entry → A
       → IsLogged old mid number (acquire ask now) reply.Waiting
       → IsLogged mid new second (GiveUp number) r → says ask number now r ≡ Some told
       → IsAskedIn ask old now new told
-  missed : (new : List Entry) (number : ℕ)
-      → IsLogged old new number (acquire ask now) reply.Waiting
+  missed : (mid new : List Entry) (number : ℕ)
+      → IsLogged old mid number (acquire ask now) reply.Waiting → IsPrefix mid new
       → IsAskedIn ask old now new (Refused why.Lost)
 
 -- AN ENDING IN A LOG: its call, answered with how many were promoted

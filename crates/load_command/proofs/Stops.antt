@@ -1,13 +1,14 @@
 -- What stops a load is what stops its command.
 use Rattle.std.proofs.Common.{◌≡◌, ◌<◌, ℕ, ap, List, length, Option, Result, Ok, Err, IfErr, IsErrOf, OnErr}
 use Rattle.counted_io.specs.declared.counted.Counted.{Counted}
-use Rattle.counted_io.specs.Causes.{IsReadCause, IsWriteCause, ReadWithin}
+use Rattle.counted_io.specs.Causes.{IsReadCause, IsWriteCause}
 use Rattle.counted_io.specs.Counted.{failures_of}
 use Rattle.counted_io.specs.Effects.{IfLeft}
+use Rattle.load_driver.specs.Driver.{IsOutOfMemory}
 use Rattle.load_driver.specs.Limits.{most_reads, most_script}
 use Rattle.load_run.specs.declared.fault.LoadFault.{LoadFault}
 use Rattle.load_run.specs.declared.fault.LoadFault.TheVariants as load
-use Rattle.load_run.specs.Driver.{IfAudit, IfLine, IsAtFault, IsRefused}
+use Rattle.load_run.specs.Driver.{IfAudit, IfLine, IsAtFault, IsRefused, LacksThread}
 use Rattle.load_command.specs.Command.{IsLoadStop}
 
 -- a result and its fault, one from the other
@@ -24,8 +25,8 @@ pub load_stops : {R W : Type 0} (remaining : R → Option (List ℕ)) (workers n
     IsAtFault text at)))
     → IfErr result (λ fault. IfAudit fault (λ cause. IfLeft remaining before (λ text.
     IsRefused workers n text cause)))
-    → (IsErrOf result load.Memory → ReadWithin remaining most_script before after)
-    → (IsErrOf result load.Thread → ReadWithin remaining most_script before after)
+    → (IsErrOf result load.Memory → IsOutOfMemory remaining before after)
+    → (IsErrOf result load.Thread → LacksThread remaining before after)
     → (IsErrOf result load.Read → IsReadCause most_reads before after)
     → (IsErrOf result load.TooLarge
     → IfLeft remaining before (λ text. most_script < length text))

@@ -2,15 +2,16 @@
 use Rattle.std.specs.Prelude.{◌≡◌, ◌≢◌, ◌<◌, ◌∷◌, [], ℕ, List, length, Option, codes}
 use Rattle.std.specs.List.{concat}
 use Rattle.counted_io.specs.declared.counted.Counted.{Counted}
-use Rattle.counted_io.specs.Causes.{IsReadCause, IsWriteCause, ReadWithin}
+use Rattle.counted_io.specs.Causes.{IsReadCause, IsWriteCause}
 use Rattle.counted_io.specs.Counted.{failures_of}
 use Rattle.counted_io.specs.Effects.{IfLeft}
 use Rattle.audit.specs.Text.{cause_text}
 use Rattle.script.specs.Faults.{line_fault_text}
+use Rattle.load_driver.specs.Driver.{IsOutOfMemory}
 use Rattle.load_driver.specs.Limits.{most_reads, most_script}
 use Rattle.load_run.specs.declared.fault.LoadFault.{LoadFault}
 use Rattle.load_run.specs.declared.fault.LoadFault.TheVariants.{Memory, Read, TooLarge, Line, Write, Thread, Audit}
-use Rattle.load_run.specs.Driver.{IfAudit, IfLine, IsAtFault, IsRefused}
+use Rattle.load_run.specs.Driver.{IfAudit, IfLine, IsAtFault, IsRefused, LacksThread}
 
 -- the text of a fault
 abbrev pub load_fault_text : LoadFault → List ℕ
@@ -30,8 +31,8 @@ pub record IsLoadStop {R W : Type 0} (remaining : R → Option (List ℕ)) (work
   pub line : IfLine fault (λ at. IfLeft remaining before (λ text. IsAtFault text at))
   pub audit : IfAudit fault (λ cause. IfLeft remaining before (λ text.
       IsRefused workers n text cause))
-  pub memory : fault ≡ Memory → ReadWithin remaining most_script before after
-  pub thread : fault ≡ Thread → ReadWithin remaining most_script before after
+  pub memory : fault ≡ Memory → IsOutOfMemory remaining before after
+  pub thread : fault ≡ Thread → LacksThread remaining before after
   pub too_large : fault ≡ TooLarge → IfLeft remaining before (λ text. most_script < length text)
   pub read : fault ≡ Read → IsReadCause most_reads before after
   pub write : fault ≡ Write → IsWriteCause old new

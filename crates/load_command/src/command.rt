@@ -1,5 +1,6 @@
 // A load as a command.
 ghost use Rattle.std.specs.Prelude.{◌≡◌, ◌≤◌, ◌+◌, ◌⊎◌, true, IfErr, OnOk};
+ghost use Rattle.counted_io.specs.Causes.{HasRead};
 ghost use Rattle.counted_io.specs.Counted.{calls_of, failures_of, is_flushed};
 ghost use Rattle.counted_io.specs.Effects.{IfLeft, Wrote};
 ghost use Rattle.limit_laws.specs.Algorithm.{greatest_limit};
@@ -59,6 +60,7 @@ where
 
     // Whatever it answers.
     ensures few_reads { calls_of reader.new ≤ calls_of reader.old + most_reads }
+    ensures reads { HasRead reader.old reader.new }
 {
     match carry_out(rt, alloc, limit, workers, reader, writer) {
         Ok(()) => DONE,
@@ -92,6 +94,7 @@ where
     ensures stopped { IfErr result (IsLoadStop R.remaining workers limit
         reader.old reader.new writer.old writer.new) }
     ensures few_reads { calls_of reader.new ≤ calls_of reader.old + most_reads }
+    ensures reads { HasRead reader.old reader.new }
 {
     load(rt, alloc, reader, writer, limit, workers)
 }

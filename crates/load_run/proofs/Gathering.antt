@@ -9,6 +9,7 @@ use Rattle.std.proofs.lemmas.Slice.Zip.{AllZip-right}
 use Rattle.gate_ledgers.specs.Told.{Told}
 use Rattle.gate_history.specs.Refusal.{Refusal}
 use Rattle.audit.specs.Firsts.{EachHas}
+use Rattle.shared_gate.specs.Calls.{seen_by}
 use Rattle.trace.specs.declared.arrival.Arrival.{Arrival}
 use Rattle.load_run.specs.declared.worker.Worker.{Worker}
 use Rattle.load_run.specs.Worker.{IsWork}
@@ -122,21 +123,26 @@ module _ {H D : Type 0} (Q : H → D → Type 0) (hands : List H) (n : ℕ) (d :
 module _ {H M : Type 0} (workers : ℕ) (arrivals : List Arrival) (P : ℕ → H → Type 0)
     (Q : H → Result (Worker M) AllocError → Type 0)
     (own : (n : ℕ) (h : H) (r : Result (Worker M) AllocError) → P n h → Q h r
-    → IfOk r (λ w. IsWork workers n arrivals w.receipts.items w.refusals.items))
+    → IfOk r (λ w. IsWork workers n arrivals w.receipts.items w.refusals.items
+    (seen_by w.pass)))
     (hands : List H) (done : List (Result (Worker M) AllocError))
     (kept : List (Vec Told Global)) (spent : List (Vec Refusal Global)) where
   worked_by : (n : ℕ) (r : Result (Worker M) AllocError) (list : Vec Told Global)
       → slice_get kept n ≡ Some list → IsKeptAt kept spent n r
-      → IfOk r (λ w. IsWork workers n arrivals w.receipts.items w.refusals.items)
+      → IfOk r (λ w. IsWork workers n arrivals w.receipts.items w.refusals.items
+      (seen_by w.pass))
       → HasWorked workers n arrivals spent list.items
   worked_by n r list here at work = record {
     refused = at.worker.refusals;
     here = at.refusals;
+    until = seen_by at.worker.pass;
     work =
-        subst (λ (l : Vec Told Global). IsWork workers n arrivals l.items at.worker.refusals.items)
+        subst (λ (l : Vec Told Global).
+        IsWork workers n arrivals l.items at.worker.refusals.items (seen_by at.worker.pass))
         (same_Some at.worker.receipts list (sym at.receipts ∙ here))
         (subst (λ (b : Result (Worker M) AllocError).
-        IfOk b (λ w. IsWork workers n arrivals w.receipts.items w.refusals.items)) at.is work);
+        IfOk b (λ w. IsWork workers n arrivals w.receipts.items w.refusals.items
+        (seen_by w.pass))) at.is work);
   }
 
   pub all_work : EachHas P hands → AllZip Q hands done → length kept ≡ length done

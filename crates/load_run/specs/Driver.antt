@@ -1,5 +1,8 @@
 -- What a load writes, and why it stops.
-use Rattle.std.specs.Prelude.{◌≡◌, ℕ, ◌≤◌, List, length, None, Some}
+use Rattle.std.specs.Prelude.{◌≡◌, ℕ, ◌≤◌, List, length, Option, None, Some}
+use Rattle.counted_io.specs.declared.counted.Counted.{Counted}
+use Rattle.counted_io.specs.Causes.{HasReadAll}
+use Rattle.counted_io.specs.Effects.{IfLeft}
 use Rattle.counted_io.specs.declared.reading.ReadFault.{ReadFault}
 use Rattle.counted_io.specs.declared.reading.ReadFault.TheVariants as reading
 use Rattle.tasks.specs.declared.running.TasksFault.{TasksFault}
@@ -48,6 +51,12 @@ StopsRun workers n settings arrivals _ = ⊥
 abbrev pub StopsTrace : ℕ → ℕ → TraceFacts → LoadFault → Type 0
 StopsTrace workers n trace (Line fault) = trace.calls.fault ≡ Some fault
 StopsTrace workers n trace fault = StopsRun workers n trace.settings trace.calls.arrivals fault
+
+-- a thread was lacking once a trace of at most 16 MiB was read whole, without a line at fault
+abbrev pub LacksThread : {R : Type 0} → (R → Option (List ℕ)) → Counted R → Counted R → Type 0
+LacksThread remaining old new =
+    HasReadAll remaining most_script old new
+    × IfLeft remaining old (λ text. (trace_of text).calls.fault ≡ None)
 
 -- THE ANSWER to a trace of at most 16 MiB without a line at fault: the two lines of a run of its
 -- calls that an audit accepted

@@ -1,5 +1,6 @@
 -- What a worker makes of its arrivals.
-use Rattle.std.specs.Prelude.{◌≡◌, ◌≢◌, ℕ, ◌+◌, ◌%◌, Bool, not, ◌&&◌, List, [], ◌∷◌, ◌++◌, length, Option, None, Some}
+use Rattle.std.specs.Prelude.{◌≡◌, ◌≢◌, ℕ, ◌+◌, ◌%◌, ◌≤◌, ◌<◌, Bool, not, ◌&&◌, List, [], ◌∷◌}
+use Rattle.std.specs.Prelude.{◌++◌, length, All, Option, None, Some}
 use Rattle.limit_laws.specs.Facts.{moment}
 use Rattle.limiter_core.specs.declared.event.Event.{Event}
 use Rattle.limiter_core.specs.declared.event.Event.TheVariants.{Acquire, End, GiveUp}
@@ -50,14 +51,23 @@ pub data Makes (a : Arrival) : List Told → List Refusal → Type 0 where
   stuck : (asks : Told) (refusal : Refusal) → asks.event ≡ asked a → asks.reply ≡ Waiting
       → Refuses (GiveUp asks.number) refusal → Makes a (asks ∷ []) (refusal ∷ [])
 
--- THE RECEIPTS AND REFUSALS OF A WORKER, one of so many: those of each arrival whose place, counted
--- from 0, leaves the worker's number when it is divided by how many there are, in their order
-pub data IsWork (workers worker : ℕ) : List Arrival → List Told → List Refusal → Type 0 where
-  begins : IsWork workers worker [] [] []
-  leaves : (before : List Arrival) (told : List Told) (refused : List Refusal) (a : Arrival)
-      → IsWork workers worker before told refused → length before % workers ≢ worker
-      → IsWork workers worker (before ++ a ∷ []) told refused
+-- THEY LIE BETWEEN two numbers of the history: each receipt has the first or a greater one, below
+-- the second, and so had the entries that each refusal found
+pub record LieBetween (from until : ℕ) (told : List Told) (refused : List Refusal) : Type 0 where
+  pub receipts : All (λ receipt. (from ≤ receipt.number) × (receipt.number < until)) told
+  pub refusals : All (λ refusal. (from ≤ refusal.next) × (refusal.next ≤ until)) refused
+
+-- THE RECEIPTS AND REFUSALS OF A WORKER, one of so many, up to a number of the history: those of
+-- each arrival whose place, counted from 0, leaves the worker's number when it is divided by how
+-- many there are. They were asked for in their order: those of an arrival lie behind the number
+-- that those of the arrivals before it lie in front of
+pub data IsWork (workers worker : ℕ) : List Arrival → List Told → List Refusal → ℕ → Type 0 where
+  begins : (seen : ℕ) → IsWork workers worker [] [] [] seen
+  leaves : (before : List Arrival) (told : List Told) (refused : List Refusal) (seen : ℕ)
+      (a : Arrival) → IsWork workers worker before told refused seen
+      → length before % workers ≢ worker
+      → IsWork workers worker (before ++ a ∷ []) told refused seen
   takes : (before : List Arrival) (told own : List Told) (refused spent : List Refusal)
-      (a : Arrival) → IsWork workers worker before told refused
-      → length before % workers ≡ worker → Makes a own spent
-      → IsWork workers worker (before ++ a ∷ []) (told ++ own) (refused ++ spent)
+      (seen until : ℕ) (a : Arrival) → IsWork workers worker before told refused seen
+      → length before % workers ≡ worker → Makes a own spent → LieBetween seen until own spent
+      → IsWork workers worker (before ++ a ∷ []) (told ++ own) (refused ++ spent) until

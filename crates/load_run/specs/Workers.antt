@@ -13,7 +13,8 @@ pub record HasWorked (workers worker : ℕ) (arrivals : List Arrival)
     (spent : List (Vec Refusal Global)) (told : List Told) : Type 0 where
   pub refused : Vec Refusal Global
   pub here : slice_get spent worker ≡ Some refused
-  pub work : IsWork workers worker arrivals told refused.items
+  pub until : ℕ
+  pub work : IsWork workers worker arrivals told refused.items until
 
 -- THE RECEIPTS AND REFUSALS OF ALL WORKERS, one of so many each: a list of either for each, in the
 -- order of their numbers

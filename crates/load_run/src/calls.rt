@@ -1,6 +1,7 @@
 // The calls of one arrival.
-ghost use Rattle.std.specs.Prelude.{◌≡◌, ◌++◌, true, false, OnOk};
-ghost use Rattle.load_run.specs.Worker.{Makes, ending, waits};
+ghost use Rattle.std.specs.Prelude.{◌≡◌, ◌≤◌, ◌<◌, ◌++◌, true, false, OnOk};
+ghost use Rattle.shared_gate.specs.Calls.{seen_by};
+ghost use Rattle.load_run.specs.Worker.{LieBetween, Makes, ending, waits};
 ghost use Rattle.load_run.specs.Made.{made_of, refused_of};
 
 use gate_history::{Naming, Permit, Receipt, Spent};
@@ -63,7 +64,9 @@ fn finish<L: Limit, M: GateNaming>(
     arrival: Arrival,
     permit: Permit<M>,
 ) -> Receipt<M>
-    ensures { result.event ≡ ending arrival permit }
+    ensures event { result.event ≡ ending arrival permit }
+    ensures unseen { seen_by pass.old ≤ result.number }
+    ensures seen { result.number < seen_by pass.new }
 {
     let start = permit.facts().start;
     let now = start.saturating_add(arrival.duration).min(LAST_MOMENT);
@@ -78,7 +81,9 @@ fn call_once<L: Limit, M: GateNaming>(
     arrival: Arrival,
 ) -> Made<M>
     requires { waits arrival ≡ false }
-    ensures { Makes arrival (made_of result) (refused_of result) }
+    ensures made { Makes arrival (made_of result) (refused_of result) }
+    ensures order { LieBetween (seen_by pass.old) (seen_by pass.new)
+        (made_of result) (refused_of result) }
 {
     let Arrival {
         part,
@@ -112,7 +117,9 @@ fn call_and_wait<L: Limit, M: GateNaming, R: Wait + SystemClock, C: Clock>(
     timeout: u64,
 ) -> Made<M>
     requires { waits arrival ≡ true }
-    ensures { Makes arrival (made_of result) (refused_of result) }
+    ensures made { Makes arrival (made_of result) (refused_of result) }
+    ensures order { LieBetween (seen_by pass.old) (seen_by pass.new)
+        (made_of result) (refused_of result) }
 {
     let deadline = clock.now().saturating_add(timeout).min(LAST_MOMENT);
     match gate.acquire_wait(rt, pass, arrival.part, arrival.at, clock, deadline) {
@@ -155,7 +162,9 @@ pub(crate) fn make_calls<L: Limit, M: GateNaming, R: Wait + SystemClock, C: Cloc
     clock: &C,
     timeout: u64,
 ) -> Made<M>
-    ensures { Makes arrival (made_of result) (refused_of result) }
+    ensures made { Makes arrival (made_of result) (refused_of result) }
+    ensures order { LieBetween (seen_by pass.old) (seen_by pass.new)
+        (made_of result) (refused_of result) }
 {
     if waits(arrival) {
         call_and_wait(rt, gate, pass, arrival, clock, timeout)

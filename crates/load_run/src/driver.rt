@@ -3,11 +3,13 @@ ghost use Rattle.std.specs.Prelude.{◌≡◌, ◌<◌, ◌≤◌, ◌+◌, leng
 ghost use Rattle.std.specs.Prelude.{IfErr, IfOk, IsErrOf, OnErr, OnOk};
 ghost use Rattle.counted_io.specs.Counted.{calls_of, failures_of, is_flushed};
 ghost use Rattle.counted_io.specs.Effects.{IfLeft, Wrote};
-ghost use Rattle.counted_io.specs.Causes.{IsReadCause, IsWriteCause, ReadWithin};
+ghost use Rattle.counted_io.specs.Causes.{HasRead, IsReadCause, IsWriteCause};
 ghost use Rattle.limit_laws.specs.Algorithm.{greatest_limit};
+ghost use Rattle.load_driver.specs.Driver.{IsOutOfMemory};
 ghost use Rattle.load_driver.specs.Limits.{most_reads, most_script};
 ghost use Rattle.trace.specs.Trace.{trace_of};
-ghost use Rattle.load_run.specs.Driver.{IfAudit, IfLine, IsAtFault, IsLoaded, IsRefused, StopsTrace};
+ghost use Rattle.load_run.specs.Driver.{IfAudit, IfLine, IsAtFault, IsLoaded, IsRefused};
+ghost use Rattle.load_run.specs.Driver.{LacksThread, StopsTrace};
 ghost use Rattle.load_run.specs.Load.{IsRun};
 ghost use Rattle.load_run.specs.Summary.{summary_text};
 
@@ -46,6 +48,7 @@ where
     ensures run { IfOk result (IsRun crew.workers crew.limit
         (trace_of text.now).settings (trace_of text.now).calls.arrivals) }
     ensures stops { IfErr result (StopsTrace crew.workers crew.limit (trace_of text.now)) }
+    ensures thread { IsErrOf result LoadFault.Thread → (trace_of text.now).calls.fault ≡ None }
 {
     let Trace {
         settings,
@@ -116,9 +119,9 @@ where
     ensures audit { IfErr result (λ fault. IfAudit fault (λ cause.
         IfLeft R.remaining reader.old (λ text. IsRefused workers n text cause))) }
     ensures memory { IsErrOf result LoadFault.Memory →
-        ReadWithin R.remaining most_script reader.old reader.new }
+        IsOutOfMemory R.remaining reader.old reader.new }
     ensures thread { IsErrOf result LoadFault.Thread →
-        ReadWithin R.remaining most_script reader.old reader.new }
+        LacksThread R.remaining reader.old reader.new }
     ensures read { IsErrOf result LoadFault.Read → IsReadCause most_reads reader.old reader.new }
     ensures too_large { IsErrOf result LoadFault.TooLarge →
         IfLeft R.remaining reader.old (λ text. most_script < length text) }
@@ -128,6 +131,7 @@ where
     ensures only_write_fails { ¬ IsErrOf result LoadFault.Write →
         failures_of writer.new ≡ failures_of writer.old }
     ensures few_reads { calls_of reader.new ≤ calls_of reader.old + most_reads }
+    ensures reads { HasRead reader.old reader.new }
 
     // Nothing is written on any other fault.
     ensures writes_nothing { OnErr result (¬ IsErrOf result LoadFault.Write →
@@ -168,9 +172,9 @@ where
     ensures audit { IfErr result (λ fault. IfAudit fault (λ cause.
         IfLeft R.remaining reader.old (λ text. IsRefused workers n text cause))) }
     ensures memory { IsErrOf result LoadFault.Memory →
-        ReadWithin R.remaining most_script reader.old reader.new }
+        IsOutOfMemory R.remaining reader.old reader.new }
     ensures thread { IsErrOf result LoadFault.Thread →
-        ReadWithin R.remaining most_script reader.old reader.new }
+        LacksThread R.remaining reader.old reader.new }
     ensures read { IsErrOf result LoadFault.Read → IsReadCause most_reads reader.old reader.new }
     ensures too_large { IsErrOf result LoadFault.TooLarge →
         IfLeft R.remaining reader.old (λ text. most_script < length text) }
@@ -180,6 +184,7 @@ where
     ensures only_write_fails { ¬ IsErrOf result LoadFault.Write →
         failures_of writer.new ≡ failures_of writer.old }
     ensures few_reads { calls_of reader.new ≤ calls_of reader.old + most_reads }
+    ensures reads { HasRead reader.old reader.new }
 
     // Nothing is written on any other fault.
     ensures writes_nothing { OnErr result (¬ IsErrOf result LoadFault.Write →

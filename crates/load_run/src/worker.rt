@@ -1,5 +1,6 @@
 // The calls of one worker.
 ghost use Rattle.std.specs.Prelude.{◌<◌, ◌+◌, IfOk, OnOk, length, take};
+ghost use Rattle.shared_gate.specs.Calls.{seen_by};
 ghost use Rattle.load_run.specs.Worker.{IsWork};
 
 use crate::calls::make_calls;
@@ -45,9 +46,11 @@ fn take_turn<L: Limit, M: GateNaming, R: Wait + SystemClock, C: Clock>(
     requires inside { place < length shop.now.arrivals.now.items }
     ensures { OnOk result (
         IsWork shop.now.workers number
-        (take place shop.now.arrivals.now.items) receipts.old.items refusals.old.items →
+        (take place shop.now.arrivals.now.items) receipts.old.items refusals.old.items
+        (seen_by pass.old) →
         IsWork shop.now.workers number
-        (take (place + 1) shop.now.arrivals.now.items) receipts.new.items refusals.new.items) }
+        (take (place + 1) shop.now.arrivals.now.items) receipts.new.items refusals.new.items
+        (seen_by pass.new)) }
 {
     if place % shop.workers != number {
         return Ok(());
@@ -65,7 +68,7 @@ pub(crate) fn work<L: Limit, M: GateNaming, R: Wait + SystemClock, C: Clock>(
 ) -> Result<Worker<M>, AllocError>
     ensures { IfOk result (λ done.
         IsWork shop.now.workers number shop.now.arrivals.now.items
-        done.receipts.items done.refusals.items) }
+        done.receipts.items done.refusals.items (seen_by done.pass)) }
 {
     let Worker {
         mut pass,

@@ -38,6 +38,7 @@ where
     C: Clock + Sync,
 {
     ghost use Rattle.std.specs.Prelude.{IfOk};
+    ghost use Rattle.shared_gate.specs.Calls.{seen_by};
     ghost use Rattle.load_run.specs.Worker.{IsWork};
 
     // What the worker brings back.
@@ -45,7 +46,7 @@ where
 
     ghost makes = { λ hand done. IfOk done (λ worker.
         IsWork hand.shop.now.workers hand.number hand.shop.now.arrivals.now.items
-        worker.receipts.items worker.refusals.items) };
+        worker.receipts.items worker.refusals.items (seen_by worker.pass)) };
 
     fn run(self) -> Result<Worker<M>, AllocError> {
         work(self.shop, self.number, self.worker)

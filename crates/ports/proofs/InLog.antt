@@ -59,8 +59,7 @@ pub asked_in : {M : Type 0} (before after : Pass) (ask : Ask) (now : ℕ) (kept 
     → IsAskedIn ask before.log now after.log answer
 asked_in before after ask now asked.Nothing answer is = absurd is
 asked_in before after ask now (asked.Exhausted refusal) answer is =
-    subst (λ (p : Pass). IsAskedIn ask before.log now p.log answer) (sym is.0.same)
-    (subst (IsAskedIn ask before.log now before.log) (sym is.1) spent)
+    subst (IsAskedIn ask before.log now after.log) (sym is.1) (spent after.log is.0.begins)
 asked_in before after ask now (asked.Answered receipt) answer is =
     answered after.log receipt.number receipt.reply answer
     (logged before after (acquire ask now) receipt is.0) is.1
@@ -69,9 +68,8 @@ asked_in before after ask now (asked.GaveUp first second) answer is =
     (queued before is.0 ask now first is.1)
     (logged is.0 after (GiveUp first.number) second is.2) is.3
 asked_in before after ask now (asked.Missed first refusal) answer is =
-    subst (λ (p : Pass). IsAskedIn ask before.log now p.log answer) (sym is.2.same)
-    (subst (IsAskedIn ask before.log now is.0.log) (sym is.3)
-    (missed is.0.log first.number (queued before is.0 ask now first is.1)))
+    subst (IsAskedIn ask before.log now after.log) (sym is.3)
+    (missed is.0.log after.log first.number (queued before is.0 ask now first is.1) is.2.begins)
 
 -- what is answered of permits that are their facts
 pub same_told : (answer : Admission PermitFacts)

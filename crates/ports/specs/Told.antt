@@ -35,4 +35,5 @@ IsTold before after ask now (Refused why.BacklogFull) =
 IsTold before after ask now (Refused why.TimedOut) = Makes 2 before after × (ask.wait ≡ true)
 IsTold before after ask now (Refused why.Lost) =
     (Makes 1 before after ⊎ Makes 2 before after) × (ask.wait ≡ true)
-IsTold before after ask now (Refused why.Exhausted) = after ≡ before
+IsTold before after ask now (Refused why.Exhausted) =
+    (after.count ≡ before.count) × (seen_by before ≤ seen_by after)

@@ -8,4 +8,5 @@ mod Reporting
 mod Rising
 mod Running
 mod Sequential
+mod Stepping
 pub mod Telling

@@ -1,5 +1,5 @@
 -- Behind the call of an answer come promotions alone, which are no calls.
-use Rattle.std.proofs.Common.{◌≡◌, ℕ, zero, suc, ◌+◌, cond, List, [], ◌∷◌, length, Option, None, Some}
+use Rattle.std.proofs.Common.{◌≡◌, ℕ, zero, suc, cond, List, [], ◌∷◌, length, Option, None, Some}
 use Rattle.std.proofs.Common.{refl, arith}
 use Rattle.std.proofs.lemmas.List.Sums.{sum_by-cons}
 use Rattle.limit_laws.specs.Algorithm.{Algorithm}
@@ -7,7 +7,7 @@ use Rattle.lifo_backlog.specs.declared.waiter.Waiter.{Waiter}
 use Rattle.limiter_core.specs.declared.event.Event.{Event}
 use Rattle.limiter_core.specs.declared.event.Reply.{Reply}
 use Rattle.limiter_core.specs.declared.event.Entry.{Entry}
-use Rattle.limiter_core.specs.declared.event.Entry.TheVariants.{Call, Promotion}
+use Rattle.limiter_core.specs.declared.event.Entry.TheVariants.{Call}
 use Rattle.limiter_core.specs.History.{Gate, Image, image_after}
 use Rattle.limiter_core.specs.Answer.{counting, next_waiter, promoted, promotion, promotion_then}
 use Rattle.limiter_core.specs.Answer.{promotions, promotions_at, reply_to}

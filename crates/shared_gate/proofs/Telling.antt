@@ -1,5 +1,5 @@
 -- What a step tells, without what it did under the lock.
-use Rattle.std.proofs.Common.{◌≡◌, ℕ, ◌+◌, ◌<◌, ◌≤◌, ◌==◌, ltb, ltb-true, nat_lt, Bool, true, false}
+use Rattle.std.proofs.Common.{◌≡◌, ℕ, ◌+◌, ◌<◌, ◌==◌, ltb, ltb-true, nat_lt, Bool, true, false}
 use Rattle.std.proofs.Common.{◌||◌, cond, List, [], ◌∷◌, ◌++◌, length, Option, None, Some}
 use Rattle.std.proofs.Common.{Result, Ok, Err, is_some, find, count_by}
 use Rattle.std.proofs.Common.{refl, sym, ap, ◌∙◌, subst, arith, true≢false, length-append}
@@ -264,15 +264,19 @@ tells {S} {M} rules old new before after e told got log sound did number begins 
           did.gives,
     )
 
--- what a step tells that is exhausted
+-- and one that is exhausted
 pub tells_spent : {S M : Type 0} (rules : Algorithm S) (old new : Book S) (before after : Pass)
-    (e : Event) (refusal : Refusal) (got : Handed M)
+    (e : Event) (refusal : Refusal) (got : Handed M) (log : List Entry)
     → IsExhausted rules old new before.count after.count e refusal got
-    → after.log ≡ before.log → Tells before after e (Exhausted refusal got)
-tells_spent rules old new before after e refusal got did same = (
+    → next_number old.journal ≡ length log → IsPrefix before.log log → after.log ≡ log
+    → Tells before after e (Exhausted refusal got)
+tells_spent rules old new before after e refusal got log did number begins whole = (
   record {
     event = did.event;
-    same = λ i. record { count = did.uncounted i; log = same i };
+    uncounted = did.uncounted;
+    begins = subst (λ (h : List Entry). IsPrefix before.log h) (sym whole) begins;
+    next = did.next ∙ number ∙ ap (λ (h : List Entry). length h) (sym whole);
+    unseen = omega (arith, did.next, number, prefix_length before.log log begins);
   },
   back rules old.journal e did.exhausted got did.gives,
 )

@@ -55,10 +55,14 @@ pub record IsTold (before after : Pass) (e : Event) (receipt : Told) : Type 0 wh
   pub unseen : seen_by before ≤ receipt.number
   pub seen : receipt.number < seen_by after
 
--- the refusal is of this event, and the pass is as before
+-- UNTOLD: the refusal is of this event, and no call is counted on the pass. The log had no entry
+-- more than the pass knows now, of which it knew a beginning before: the next number is behind them
 pub record IsUntold (before after : Pass) (e : Event) (refusal : Refusal) : Type 0 where
   pub event : refusal.event ≡ e
-  pub same : after ≡ before
+  pub uncounted : after.count ≡ before.count
+  pub begins : IsPrefix before.log after.log
+  pub next : refusal.next ≡ seen_by after
+  pub unseen : seen_by before ≤ refusal.next
 
 -- a step, without what it did under the lock
 abbrev pub Tells : {M : Type 0} → Pass → Pass → Event → Step M → Type 0

@@ -37,8 +37,8 @@ impl<L: Limit, M: GateNaming> Model for Sealed<L, M> {
 }
 
 impl<L: Limit, M: GateNaming> Sealed<L, M> {
-    /// One step of the book. Where that is done, its entries are added to the log, which the pass
-    /// knows then.
+    /// One step of the book. Its entries are added to the log, none where the history is exhausted,
+    /// and the pass knows the log then.
     #[inline(always)]
     pub(crate) fn step(
         &mut self,
@@ -53,15 +53,10 @@ impl<L: Limit, M: GateNaming> Sealed<L, M> {
         counters_add_up();
         self.book.journal().invariant();
         let step = self.book.step(&mut pass.pass, call);
-        match &step {
-            Step::Done(_, _) => {
-                let journal = self.book.journal();
-                let next = journal.number();
-                word.raise::<Journal<L>, Brand>(&mut self.keeper, &mut pass.reader, journal, next);
-                pass.seen = next;
-            }
-            Step::Exhausted(_, _) => {}
-        }
+        let journal = self.book.journal();
+        let next = journal.number();
+        word.raise::<Journal<L>, Brand>(&mut self.keeper, &mut pass.reader, journal, next);
+        pass.seen = next;
         step
     }
 

@@ -48,3 +48,9 @@ returns-in-Ok-clause-few_reads g c = search rules
 
 pub returns-in-Err-clause-few_reads : goal.returns-in-Err-clause-few_reads
 returns-in-Err-clause-few_reads g c = search rules
+
+pub returns-in-Ok-clause-reads : goal.returns-in-Ok-clause-reads
+returns-in-Ok-clause-reads g c = search rules
+
+pub returns-in-Err-clause-reads : goal.returns-in-Err-clause-reads
+returns-in-Err-clause-reads g c = search rules

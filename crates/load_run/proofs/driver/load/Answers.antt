@@ -36,5 +36,8 @@ returns-clause-only_write_fails g c = c.load_with.ensures.only_write_fails
 pub returns-clause-few_reads : goal.returns-clause-few_reads
 returns-clause-few_reads g c = c.load_with.ensures.few_reads
 
+pub returns-clause-reads : goal.returns-clause-reads
+returns-clause-reads g c = c.load_with.ensures.reads
+
 pub returns-clause-writes_nothing : goal.returns-clause-writes_nothing
 returns-clause-writes_nothing g c = c.load_with.ensures.writes_nothing

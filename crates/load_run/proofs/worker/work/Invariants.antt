@@ -1,4 +1,5 @@
 use Rattle.std.proofs.Common.{take}
+use Rattle.shared_gate.specs.Calls.{seen_by}
 use Rattle.load_run.specs.Worker.{IsWork}
 use Rattle.load_run.proofs.worker.work.Given as goal
 
@@ -6,4 +7,4 @@ use Rattle.load_run.proofs.worker.work.Given as goal
 abbrev pub invariant-loop-place : goal.invariant-loop-place
 invariant-loop-place g l =
     IsWork l.shop.workers l.number (take l.place l.shop.arrivals.now.items) l.receipts.items
-    l.refusals.items
+    l.refusals.items (seen_by l.pass)

@@ -1,5 +1,6 @@
 use Rattle.std.proofs.Common.{rules, ◌≡◌, IfOk, length, subst}
 use Rattle.std.proofs.lemmas.Slice.Zip.{AllZip-long}
+use Rattle.shared_gate.specs.Calls.{seen_by}
 use Rattle.load_run.specs.Worker.{IsWork}
 use Rattle.load_run.proofs.Gathering.{all_work}
 use Rattle.load_run.proofs.workers.run_all.Goals as goal
@@ -19,10 +20,11 @@ returns-clause-work g c =
     (λ n hand. (hand.number ≡ n) × (hand.shop.now ≡ c.args.shop.now)) _
     (λ n hand back has made.
     subst (λ shop. IfOk back (λ worker.
-    IsWork shop.workers n shop.arrivals.now.items worker.receipts.items worker.refusals.items))
+    IsWork shop.workers n shop.arrivals.now.items worker.receipts.items worker.refusals.items
+    (seen_by worker.pass)))
     has.1
     (subst (λ number. IfOk back (λ worker.
     IsWork hand.shop.now.workers number hand.shop.now.arrivals.now.items worker.receipts.items
-    worker.refusals.items)) has.0 made)) c.in-Ok.hands.items done kept
+    worker.refusals.items (seen_by worker.pass))) has.0 made)) c.in-Ok.hands.items done kept
     c.in-Ok-gather.worked.spent.items c.in-Ok.ensures.each c.in_ok-done.ensures count
     c.in-Ok-gather.ensures.each

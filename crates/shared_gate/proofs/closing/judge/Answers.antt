@@ -1,4 +1,4 @@
-use Rattle.std.proofs.Common.{ap, sym, subst, ◌≡◌, ◌∙◌}
+use Rattle.std.proofs.Common.{subst}
 use Rattle.gate_history.specs.Book.{Making, made_as}
 use Rattle.shared_gate.specs.Closing.{IsEndOf}
 use Rattle.shared_gate.proofs.Closings.{first_of, has_the_calls, is_accepted, is_all, is_end_of}

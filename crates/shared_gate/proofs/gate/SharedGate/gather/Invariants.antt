@@ -1,4 +1,4 @@
-use Rattle.std.proofs.Common.{◌≡◌, ◌<◌, ℕ, List, slice_index_or}
+use Rattle.std.proofs.Common.{◌≡◌, ◌<◌, ℕ, slice_index_or}
 use mathlib.Core.List.{IsPrefix}
 use Rattle.shared_gate.specs.Calls.{Pass}
 use Rattle.shared_gate.proofs.gate.SharedGate.gather.Given as goal

@@ -1,4 +1,4 @@
-use Rattle.std.proofs.Common.{◌≡◌, ◌∙◌, ap, subst}
+use Rattle.std.proofs.Common.{◌∙◌, ap, subst}
 use Rattle.limiter_core.specs.Bound.{IsSound}
 use Rattle.limiter_core.specs.Counting.{counters_after}
 use Rattle.gate_history.specs.Book.{made_as}
