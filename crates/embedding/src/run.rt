@@ -1,10 +1,11 @@
 // A run: the gate is made, called by two threads, and closed.
-ghost use Rattle.std.specs.Prelude.{◌≡◌, false, IfOk};
+ghost use Rattle.std.specs.Prelude.{◌≡◌, false, replicate, IfOk};
 ghost use Rattle.limiter_core.specs.declared.promote.Promote.TheVariants.{Newest};
 ghost use Rattle.aimd.specs.AimdRules.{aimd_rules};
 ghost use Rattle.gate_ledgers.specs.Course.{course_of};
 ghost use Rattle.gate_ledgers.specs.Names.{AreNamed, AreWhole};
 ghost use Rattle.gate_history.specs.Book.{made_as};
+ghost use Rattle.shared_gate.specs.Calls.{pass_of};
 ghost use Rattle.shared_gate.specs.Log.{CallsLegal};
 ghost use Rattle.embedding.specs.Run.{IsAudited};
 
@@ -13,7 +14,9 @@ use aimd::Aimd;
 use gate_history::{Blanks, Book, History};
 use limiter_core::Promote;
 use partitions::{Part, PartitionTable};
-use shared_gate::{GateNaming, ProgramClock, SharedGate, Word, accepted_histories_are_one_threads};
+use shared_gate::{
+    GateNaming, Pass, ProgramClock, SharedGate, Word, accepted_histories_are_one_threads,
+};
 use std::alloc::Global;
 use std::sync::Wait;
 use std::thread::{Threads, join};
@@ -53,7 +56,22 @@ pub(crate) fn run<M: GateNaming + Send + Sync, R: Threads + Wait + SystemClock +
         false,
         blanks,
     )?;
-    let (gate, mut passes) = SharedGate::<Aimd, M>::open(alloc, word, book, 2)?;
+    let (gate, passes) = SharedGate::<Aimd, M>::open(alloc, word, book, 2)?;
+    call_and_close(rt, alloc, gate, passes)
+}
+
+/// Has a thread call by each of two new passes, and closes the gate.
+fn call_and_close<M: GateNaming + Send + Sync, R: Threads + Wait + SystemClock + Sync>(
+    rt: &R,
+    alloc: Global,
+    gate: SharedGate<Aimd, M>,
+    mut passes: Vec<Pass<M>>,
+) -> anyhow::Result<History<Aimd>>
+    requires new { passes.items ≡ replicate 2 (pass_of 0) }
+    ensures { IfOk result (λ history. IsAudited
+        (made_as M.rows M.room M.promote M.kept M.is_rolling M.limit)
+        history.opening.standing history.entries.items) }
+{
     let (Some(two), Some(one)) = (passes.pop(), passes.pop()) else {
         unreachable!()
     };

@@ -5,8 +5,7 @@ ghost use Rattle.limit_laws.specs.FixedRules.{fixed_rules};
 ghost use Rattle.gate_ledgers.specs.Course.{course_of};
 ghost use Rattle.gate_ledgers.specs.Names.{AreNamed, AreWhole};
 
-use crate::books::book_over;
-use gate_history::{Blanks, Journal, JournalFault, Naming};
+use gate_history::{Blanks, Book, Journal, JournalFault, Naming};
 use limit_laws::Fixed;
 use limiter_core::{Core, Promote};
 use partitions::PartitionTable;
@@ -15,11 +14,13 @@ use std::marker::Brand;
 use std::process::Abort;
 
 #[test]
-fn a_book_gives_a_million_passes(rt: HostRuntime) {
-    a_million_passes::<Brand, _>(&rt, rt.alloc(), Blanks::new());
+fn a_book_gives_a_million_passes_unless_it_is_sealed(rt: HostRuntime) {
+    gives::<Brand, _>(&rt, rt.alloc(), Blanks::new(), 1_000_000, false);
+    gives::<Brand, _>(&rt, rt.alloc(), Blanks::new(), 0, true);
 }
 
-fn a_million_passes<N: Naming, R: Abort>(rt: &R, alloc: Global, blanks: Blanks)
+/// A new book, which may be sealed at once, gives so many passes and no more.
+fn gives<N: Naming, R: Abort>(rt: &R, alloc: Global, blanks: Blanks, count: u64, is_sealed: bool)
     requires names { AreNamed N.calls N.place blanks }
     requires parts { AreWhole blanks }
     requires rows { N.rows ≡ [] }
@@ -29,30 +30,24 @@ fn a_million_passes<N: Naming, R: Abort>(rt: &R, alloc: Global, blanks: Blanks)
     requires rolling { N.is_rolling ≡ false }
     requires limit { N.limit ≡ course_of fixed_rules 1 }
 {
-    let mut book = book_over::<N, R>(rt, alloc, 1, 1, false, blanks);
-    for _ in 0..1_000_000 {
+    let limit = Fixed::new(1).expect(rt, "a limit");
+    let table = PartitionTable::unknown_only();
+    let begun = Book::<_, N>::begin(alloc, limit, table, 100, Promote::Newest, 1, false, blanks);
+    gives_passes(rt, begun.expect(rt, "memory for a book"), count, is_sealed);
+}
+
+fn gives_passes<N: Naming, R: Abort>(
+    rt: &R,
+    mut book: Book<Fixed, N>,
+    count: u64,
+    is_sealed: bool,
+) {
+    if is_sealed {
+        book.seal();
+    }
+    for _ in 0..count {
         assert!(rt; book.pass().is_some());
     }
-    assert!(rt; book.pass().is_none());
-}
-
-#[test]
-fn a_sealed_book_gives_no_pass(rt: HostRuntime) {
-    sealed::<Brand, _>(&rt, rt.alloc(), Blanks::new());
-}
-
-fn sealed<N: Naming, R: Abort>(rt: &R, alloc: Global, blanks: Blanks)
-    requires names { AreNamed N.calls N.place blanks }
-    requires parts { AreWhole blanks }
-    requires rows { N.rows ≡ [] }
-    requires room { N.room ≡ 100 }
-    requires promote { N.promote ≡ Newest }
-    requires kept { N.kept ≡ 1 }
-    requires rolling { N.is_rolling ≡ false }
-    requires limit { N.limit ≡ course_of fixed_rules 1 }
-{
-    let mut book = book_over::<N, R>(rt, alloc, 1, 1, false, blanks);
-    book.seal();
     assert!(rt; book.pass().is_none());
 }
 

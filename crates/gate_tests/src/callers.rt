@@ -1,7 +1,8 @@
 // Callers of a gate who keep their receipts.
+use crate::gates::next_of;
 use crate::threads::{Work, both_done};
 use gate_history::{Naming, Permit, Receipt};
-use limit_laws::Fixed;
+use limit_kinds::AnyLimit;
 use limiter_core::Outcome;
 use partitions::Part;
 use shared_gate::{GateNaming, Got, Pass, SharedGate};
@@ -42,10 +43,22 @@ impl<M: GateNaming> Caller<M> {
     }
 }
 
+/// Two callers by two passes, each with room for the receipts of so many calls.
+pub(crate) fn two_callers<M: GateNaming, R: Abort>(
+    rt: &R,
+    alloc: Global,
+    mut passes: Vec<Pass<M>>,
+    calls: usize,
+) -> (Caller<M>, Caller<M>) {
+    let two = Caller::of(rt, alloc, next_of(rt, &mut passes), calls);
+    let one = Caller::of(rt, alloc, next_of(rt, &mut passes), calls);
+    (one, two)
+}
+
 /// An acquire at one moment, and its ending at another.
 pub(crate) fn acquire_and_end<M: GateNaming, R: Wait + Abort>(
     rt: &R,
-    gate: &SharedGate<Fixed, M>,
+    gate: &SharedGate<AnyLimit, M>,
     caller: &mut Caller<M>,
     from: u64,
     to: u64,
@@ -72,7 +85,7 @@ fn admitted<M: Naming, R: Abort>(rt: &R, got: Got<M>) -> (Receipt<M>, Permit<M>)
 /// A look at what stands.
 pub(crate) fn look<M: GateNaming, R: Wait + Abort>(
     rt: &R,
-    gate: &SharedGate<Fixed, M>,
+    gate: &SharedGate<AnyLimit, M>,
     caller: &mut Caller<M>,
 ) {
     let looked = gate.look(rt, &mut caller.pass, Part::Unknown);
@@ -82,7 +95,7 @@ pub(crate) fn look<M: GateNaming, R: Wait + Abort>(
 /// 100 acquires with an ending each, by each of two callers on threads of their own.
 pub(crate) fn by_two_threads<M: GateNaming + Send + Sync, R: Threads + Wait + Abort + Sync>(
     rt: &R,
-    gate: &SharedGate<Fixed, M>,
+    gate: &SharedGate<AnyLimit, M>,
     one: Caller<M>,
     two: Caller<M>,
 ) -> (Caller<M>, Caller<M>) {
@@ -95,7 +108,7 @@ pub(crate) fn by_two_threads<M: GateNaming + Send + Sync, R: Threads + Wait + Ab
 /// 100 acquires with an ending each.
 #[derive(Drop)]
 struct Pairs<'a, M: GateNaming> {
-    gate: &'a SharedGate<Fixed, M>,
+    gate: &'a SharedGate<AnyLimit, M>,
     caller: Caller<M>,
 }
 

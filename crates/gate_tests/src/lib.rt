@@ -6,8 +6,6 @@
 #[cfg(test)]
 mod book_tests;
 #[cfg(test)]
-mod books;
-#[cfg(test)]
 mod callers;
 #[cfg(test)]
 mod closing;
@@ -25,6 +23,8 @@ mod rolling_tests;
 mod seen_tests;
 #[cfg(test)]
 mod shared_gate_tests;
+#[cfg(test)]
+mod threaded;
 #[cfg(test)]
 mod threads;
 #[cfg(test)]

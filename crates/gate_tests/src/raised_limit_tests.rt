@@ -1,23 +1,14 @@
 // A limit that is raised while somebody waits, at a gate that promotes all who have room: by hand,
 // and by a reset. Who waits is woken at once, and doesn't find its permit as it looks by itself.
-ghost use Rattle.std.specs.Prelude.{◌≡◌, [], false};
-ghost use Rattle.limiter_core.specs.declared.promote.Promote.TheVariants.{All};
-ghost use Rattle.limit_laws.specs.SettableRules.{settable_from, settable_rules};
-ghost use Rattle.gate_ledgers.specs.Course.{course_of};
-ghost use Rattle.gate_ledgers.specs.Names.{AreNamed, AreWhole};
-ghost use Rattle.shared_gate.specs.Log.{CallsAllLegal};
-
-use crate::books::book_with;
-use crate::gates::{gate_by_two, new_word};
+use crate::gates::{Making, next_of, settable};
 use crate::shared_gate_tests::{admitted, until_one_waits, waits};
+use crate::threaded::{Threaded, try_by_threads};
 use crate::waking_tests::{SOON, real};
-use gate_history::Blanks;
-use limit_laws::Settable;
+use limit_kinds::AnyLimit;
 use limiter_core::{Outcome, Promote};
 use partitions::Part;
-use shared_gate::{GateNaming, Pass, SharedGate, Word};
+use shared_gate::{GateNaming, Pass, SharedGate};
 use std::alloc::Global;
-use std::marker::Brand;
 use std::process::Abort;
 use std::sync::Wait;
 use std::thread::{Threads, join, sleep};
@@ -25,51 +16,30 @@ use std::time::{Clock as SystemClock, Duration};
 
 #[test]
 fn a_setting_wakes_whoever_it_promotes(rt: HostRuntime) {
-    by_two_threads::<Brand, _>(
-        &rt,
-        rt.alloc(),
-        Blanks::new(),
-        new_word(&rt, rt.alloc()),
-        false,
-    );
+    wakes(&rt, rt.alloc(), false);
 }
 
 #[test]
 fn a_reset_wakes_whoever_it_promotes(rt: HostRuntime) {
-    by_two_threads::<Brand, _>(
-        &rt,
-        rt.alloc(),
-        Blanks::new(),
-        new_word(&rt, rt.alloc()),
-        true,
-    );
+    wakes(&rt, rt.alloc(), true);
 }
 
-fn by_two_threads<M: GateNaming + Send + Sync, R: Threads + Wait + SystemClock + Abort + Sync>(
-    rt: &R,
-    alloc: Global,
-    blanks: Blanks,
-    word: Word,
-    is_reset: bool,
-)
-    requires names { AreNamed M.calls M.place blanks }
-    requires parts { AreWhole blanks }
-    requires word { word ≡ M.word }
-    requires legal { CallsAllLegal M.legal }
-    requires rows { M.rows ≡ [] }
-    requires room { M.room ≡ 100 }
-    requires promote { M.promote ≡ All }
-    requires kept { M.kept ≡ 1000000 }
-    requires rolling { M.is_rolling ≡ false }
-    requires limit { M.limit ≡ course_of settable_rules (settable_from 1 2 10) }
-{
-    let limit = Settable::new(1, 2, 10).expect(rt, "a limit");
-    let book = book_with::<_, M, R>(rt, alloc, limit, Promote::All, 1_000_000, false, blanks);
-    let (gate, (one, two)) = gate_by_two(rt, alloc, book, word);
+fn wakes<R: Threads + Wait + SystemClock + Abort + Sync>(rt: &R, alloc: Global, is_reset: bool) {
+    let making = Making::plain(settable(rt, 1, 2, 10), Promote::All, 1_000_000, false, 2);
+    try_by_threads(rt, alloc, making, Threaded::Raise { is_reset });
+}
+
+/// One waits until another one raises the limit.
+pub(crate) fn raises_the_limit<
+    M: GateNaming + Send + Sync,
+    R: Threads + Wait + SystemClock + Abort + Sync,
+>(rt: &R, gate: &SharedGate<AnyLimit, M>, mut passes: Vec<Pass<M>>, is_reset: bool) {
+    let two = next_of(rt, &mut passes);
+    let one = next_of(rt, &mut passes);
     let (one, two) = join(
         rt,
-        || raises(rt, &gate, one, is_reset),
-        || waits(rt, &gate, two),
+        || raises(rt, gate, one, is_reset),
+        || waits(rt, gate, two),
     );
     assert!(rt; one.count() >= 4 && two.count() == 3);
 }
@@ -78,7 +48,7 @@ fn by_two_threads<M: GateNaming + Send + Sync, R: Threads + Wait + SystemClock +
 /// waits gets the other permit then, and ends it soon.
 fn raises<M: GateNaming, R: Wait + SystemClock + Abort>(
     rt: &R,
-    gate: &SharedGate<Settable, M>,
+    gate: &SharedGate<AnyLimit, M>,
     mut pass: Pass<M>,
     is_reset: bool,
 ) -> Pass<M> {
@@ -102,7 +72,7 @@ fn raises<M: GateNaming, R: Wait + SystemClock + Abort>(
 /// A limit of 2, by a reset or by hand, and whether that was answered.
 fn makes_it_two<M: GateNaming, R: Wait>(
     rt: &R,
-    gate: &SharedGate<Settable, M>,
+    gate: &SharedGate<AnyLimit, M>,
     pass: &mut Pass<M>,
     is_reset: bool,
 ) -> bool {
@@ -114,7 +84,7 @@ fn makes_it_two<M: GateNaming, R: Wait>(
 }
 
 /// Goes on once a permit was ended in success.
-fn until_one_succeeds<M: GateNaming, R: Wait>(rt: &R, gate: &SharedGate<Settable, M>) {
+fn until_one_succeeds<M: GateNaming, R: Wait>(rt: &R, gate: &SharedGate<AnyLimit, M>) {
     for _ in rt.forever() {
         if gate.counters(rt).success == 1 {
             break;

@@ -1,103 +1,70 @@
 // What a pass has seen, over gates that keep one entry: a worked row, calls by two threads, two
 // workers whose receipts are compared by number alone, and a telling while the lock is held.
-ghost use Rattle.std.specs.Prelude.{◌≡◌, [], true};
-ghost use Rattle.limiter_core.specs.declared.promote.Promote.TheVariants.{Newest};
-ghost use Rattle.limit_laws.specs.FixedRules.{fixed_rules};
-ghost use Rattle.gate_ledgers.specs.Course.{course_of};
-ghost use Rattle.gate_ledgers.specs.Names.{AreNamed, AreWhole};
-ghost use Rattle.shared_gate.specs.Log.{CallsAllLegal};
-
-use crate::books::book_over;
-use crate::callers::{Caller, by_two_threads};
-use crate::gates::{gate_by, gate_by_two, new_word};
+use crate::callers::{by_two_threads, two_callers};
+use crate::gates::{Trial, fixed, next_of, try_at};
 use crate::shared_gate_tests::admitted;
-use gate_history::{Blanks, Receipt};
-use limit_laws::Fixed;
+use crate::threaded::{Threaded, try_by_threads};
+use gate_history::Receipt;
+use limit_kinds::AnyLimit;
 use limiter_core::Outcome;
 use partitions::Part;
-use shared_gate::{Clock, GateNaming, Pass, SharedGate, Waited, Word};
+use shared_gate::{Clock, GateNaming, Pass, SharedGate, Waited};
 use std::alloc::Global;
-use std::marker::Brand;
 use std::process::Abort;
 use std::sync::{Mutex, Wait};
 use std::thread::Threads;
 use std::time::Clock as SystemClock;
 
-/// What is done with two passes.
-#[derive(Clone, Copy)]
-enum Doing {
-    Row,
-    Calls,
-    Work,
-}
-
 #[test]
 fn what_is_told_is_seen(rt: HostRuntime) {
-    let word = new_word(&rt, rt.alloc());
-    by_two_passes::<Brand, _>(&rt, rt.alloc(), Blanks::new(), word, Doing::Row);
+    let trial = LooksAndIsTold {};
+    try_at(&rt, rt.alloc(), fixed(&rt, 2, 1, true, 2), trial);
 }
 
-#[test]
-fn two_threads_have_seen_each_call(rt: HostRuntime) {
-    let word = new_word(&rt, rt.alloc());
-    by_two_passes::<Brand, _>(&rt, rt.alloc(), Blanks::new(), word, Doing::Calls);
-}
+/// The worked row.
+#[derive(Drop)]
+struct LooksAndIsTold {}
 
-#[test]
-fn workers_are_compared_by_number_alone(rt: HostRuntime) {
-    let word = new_word(&rt, rt.alloc());
-    by_two_passes::<Brand, _>(&rt, rt.alloc(), Blanks::new(), word, Doing::Work);
-}
-
-fn by_two_passes<M: GateNaming + Send + Sync, R: Threads + Wait + Abort + Sync>(
-    rt: &R,
-    alloc: Global,
-    blanks: Blanks,
-    word: Word,
-    doing: Doing,
-)
-    requires names { AreNamed M.calls M.place blanks }
-    requires parts { AreWhole blanks }
-    requires word { word ≡ M.word }
-    requires legal { CallsAllLegal M.legal }
-    requires rows { M.rows ≡ [] }
-    requires room { M.room ≡ 100 }
-    requires promote { M.promote ≡ Newest }
-    requires kept { M.kept ≡ 1 }
-    requires rolling { M.is_rolling ≡ true }
-    requires limit { M.limit ≡ course_of fixed_rules 2 }
-{
-    let book = book_over::<M, R>(rt, alloc, 2, 1, true, blanks);
-    let (gate, (one, two)) = gate_by_two(rt, alloc, book, word);
-    match doing {
-        Doing::Row => one_looks_and_is_told(rt, &gate, one, two),
-        Doing::Calls => both_call(rt, alloc, &gate, one, two),
-        Doing::Work => both_work(rt, alloc, &gate, one, two),
+impl<R: Wait + Abort> Trial<R> for LooksAndIsTold {
+    fn run<M: GateNaming>(
+        self,
+        rt: &R,
+        _alloc: Global,
+        gate: SharedGate<AnyLimit, M>,
+        mut passes: Vec<Pass<M>>,
+    ) {
+        let two = next_of(rt, &mut passes);
+        let one = next_of(rt, &mut passes);
+        one_looks_and_is_told(rt, &gate, one, two);
     }
 }
 
 /// Looks 0 and 1 by two passes, of which the first is told what the second has seen, and look 2.
 fn one_looks_and_is_told<M: GateNaming, R: Wait + Abort>(
     rt: &R,
-    gate: &SharedGate<Fixed, M>,
+    gate: &SharedGate<AnyLimit, M>,
     mut one: Pass<M>,
     mut two: Pass<M>,
 ) {
-    assert!(rt; (one.seen(), two.seen()) == (0, 0));
+    assert!(rt; have_seen(&one, &two, 0, 0));
     looks(rt, gate, &mut one, 0);
     looks(rt, gate, &mut two, 1);
-    assert!(rt; (one.seen(), two.seen()) == (1, 2));
+    assert!(rt; have_seen(&one, &two, 1, 2));
     gate.told(&mut one, &mut two);
-    assert!(rt; (one.seen(), two.seen()) == (2, 2));
+    assert!(rt; have_seen(&one, &two, 2, 2));
     looks(rt, gate, &mut one, 2);
-    assert!(rt; (one.seen(), two.seen()) == (3, 2));
-    assert!(rt; (one.count(), two.count()) == (2, 1));
+    assert!(rt; have_seen(&one, &two, 3, 2) && one.count() == 2 && two.count() == 1);
+}
+
+/// So many entries each of two passes has seen.
+fn have_seen<M: GateNaming>(one: &Pass<M>, two: &Pass<M>, by_one: u64, by_two: u64) -> bool {
+    one.seen() == by_one && two.seen() == by_two
 }
 
 /// A look that is answered by this number.
 fn looks<M: GateNaming, R: Wait + Abort>(
     rt: &R,
-    gate: &SharedGate<Fixed, M>,
+    gate: &SharedGate<AnyLimit, M>,
     pass: &mut Pass<M>,
     number: u64,
 ) {
@@ -105,16 +72,24 @@ fn looks<M: GateNaming, R: Wait + Abort>(
     assert!(rt; receipt.expect(rt, "an answer").number() == number);
 }
 
+#[test]
+fn two_threads_have_seen_each_call(rt: HostRuntime) {
+    try_by_threads(&rt, rt.alloc(), fixed(&rt, 2, 1, true, 2), Threaded::Call);
+}
+
+#[test]
+fn workers_are_compared_by_number_alone(rt: HostRuntime) {
+    try_by_threads(&rt, rt.alloc(), fixed(&rt, 2, 1, true, 2), Threaded::Work);
+}
+
 /// 100 acquires and endings by each of two threads: each is seen as it comes, and the numbers rise.
-fn both_call<M: GateNaming + Send + Sync, R: Threads + Wait + Abort + Sync>(
+pub(crate) fn both_call<M: GateNaming + Send + Sync, R: Threads + Wait + Abort + Sync>(
     rt: &R,
     alloc: Global,
-    gate: &SharedGate<Fixed, M>,
-    one: Pass<M>,
-    two: Pass<M>,
+    gate: &SharedGate<AnyLimit, M>,
+    passes: Vec<Pass<M>>,
 ) {
-    let one = Caller::of(rt, alloc, one, 200);
-    let two = Caller::of(rt, alloc, two, 200);
+    let (one, two) = two_callers(rt, alloc, passes, 200);
     let (one, two) = by_two_threads(rt, gate, one, two);
     assert!(rt; one.receipts.len() == 200 && is_rising(&one.receipts));
     assert!(rt; two.receipts.len() == 200 && is_rising(&two.receipts));
@@ -134,57 +109,50 @@ fn is_rising<M: GateNaming>(receipts: &[Receipt<M>]) -> bool {
 
 /// Two workers at the same time. Once the first has done 200 calls it tells the second, and all
 /// that the second does from there on has greater numbers, whatever the first does meanwhile.
-fn both_work<M: GateNaming + Send + Sync, R: Threads + Wait + Abort + Sync>(
+pub(crate) fn both_work<M: GateNaming + Send + Sync, R: Threads + Wait + Abort + Sync>(
     rt: &R,
     alloc: Global,
-    gate: &SharedGate<Fixed, M>,
-    one: Pass<M>,
-    two: Pass<M>,
+    gate: &SharedGate<AnyLimit, M>,
+    passes: Vec<Pass<M>>,
 ) {
-    let one = Caller::of(rt, alloc, one, 400);
-    let two = Caller::of(rt, alloc, two, 400);
+    let (one, two) = two_callers(rt, alloc, passes, 400);
     let (mut one, mut two) = by_two_threads(rt, gate, one, two);
     gate.told(&mut two.pass, &mut one.pass);
     let (one, two) = by_two_threads(rt, gate, one, two);
-    assert!(rt; is_rising(&one.receipts) && is_rising(&two.receipts));
-    let last_before = number_at(rt, &one.receipts, 199);
-    assert!(rt; last_before < number_at(rt, &two.receipts, 200));
+    assert!(rt; go_on_behind(&one.receipts, &two.receipts));
 }
 
-/// The number of the receipt at a place.
-fn number_at<M: GateNaming, R: Abort>(rt: &R, receipts: &[Receipt<M>], place: usize) -> u64 {
-    receipts.get(place).expect(rt, "a receipt").number()
+/// Both rise, and behind its 200 calls the second goes on above the last of the first one's 200.
+fn go_on_behind<M: GateNaming>(one: &[Receipt<M>], two: &[Receipt<M>]) -> bool {
+    let (Some(before), Some(behind)) = (one.get(199), two.get(200)) else {
+        return false;
+    };
+    is_rising(one) && is_rising(two) && before.number() < behind.number()
 }
 
 #[test]
 fn a_telling_takes_no_lock(rt: HostRuntime) {
-    let word = new_word(&rt, rt.alloc());
-    by_three_passes::<Brand, _>(&rt, rt.alloc(), Blanks::new(), word);
+    let trial = TellsUnderTheLock {};
+    try_at(&rt, rt.alloc(), fixed(&rt, 1, 1, true, 3), trial);
 }
 
-fn by_three_passes<M: GateNaming, R: Wait + SystemClock + Abort>(
-    rt: &R,
-    alloc: Global,
-    blanks: Blanks,
-    word: Word,
-)
-    requires names { AreNamed M.calls M.place blanks }
-    requires parts { AreWhole blanks }
-    requires word { word ≡ M.word }
-    requires legal { CallsAllLegal M.legal }
-    requires rows { M.rows ≡ [] }
-    requires room { M.room ≡ 100 }
-    requires promote { M.promote ≡ Newest }
-    requires kept { M.kept ≡ 1 }
-    requires rolling { M.is_rolling ≡ true }
-    requires limit { M.limit ≡ course_of fixed_rules 1 }
-{
-    let book = book_over::<M, R>(rt, alloc, 1, 1, true, blanks);
-    let (gate, mut passes) = gate_by(rt, alloc, book, word, 3);
-    let waiter = passes.pop().expect(rt, "a pass");
-    let one = passes.pop().expect(rt, "a pass");
-    let two = passes.pop().expect(rt, "a pass");
-    tells_under_the_lock(rt, &gate, waiter, one, two);
+/// A pass is told of another one while the lock is held.
+#[derive(Drop)]
+struct TellsUnderTheLock {}
+
+impl<R: Wait + SystemClock + Abort> Trial<R> for TellsUnderTheLock {
+    fn run<M: GateNaming>(
+        self,
+        rt: &R,
+        _alloc: Global,
+        gate: SharedGate<AnyLimit, M>,
+        mut passes: Vec<Pass<M>>,
+    ) {
+        let waiter = next_of(rt, &mut passes);
+        let one = next_of(rt, &mut passes);
+        let two = next_of(rt, &mut passes);
+        tells_under_the_lock(rt, &gate, waiter, one, two);
+    }
 }
 
 /// Two passes, of which one is told what the other has seen.
@@ -199,7 +167,7 @@ struct Pair<M: GateNaming> {
 #[derive(Drop)]
 struct Telling<'a, M: GateNaming, R> {
     rt: &'a R,
-    gate: &'a SharedGate<Fixed, M>,
+    gate: &'a SharedGate<AnyLimit, M>,
     pair: Mutex<Pair<M>>,
 }
 
@@ -212,14 +180,14 @@ impl<'a, M: GateNaming, R: Wait> Clock for Telling<'a, M, R> {
 }
 
 /// The first pass is told what the second has seen.
-fn tell<M: GateNaming>(gate: &SharedGate<Fixed, M>, pair: &mut Pair<M>) {
+fn tell<M: GateNaming>(gate: &SharedGate<AnyLimit, M>, pair: &mut Pair<M>) {
     gate.told(&mut pair.one, &mut pair.two);
 }
 
 /// Numbers 0 to 2 are looks and the only permit; then somebody waits in vain, by such a clock.
 fn tells_under_the_lock<M: GateNaming, R: Wait + SystemClock + Abort>(
     rt: &R,
-    gate: &SharedGate<Fixed, M>,
+    gate: &SharedGate<AnyLimit, M>,
     mut waiter: Pass<M>,
     mut one: Pass<M>,
     mut two: Pass<M>,

@@ -1,21 +1,12 @@
 // A shared gate by worked rows, and by two threads of which one waits for the other.
-ghost use Rattle.std.specs.Prelude.{◌≡◌, ◌≤◌, [], false};
-ghost use Rattle.limiter_core.specs.declared.promote.Promote.TheVariants.{Newest};
-ghost use Rattle.gate_journal.specs.Journal.{most_kept};
-ghost use Rattle.limit_laws.specs.FixedRules.{fixed_rules};
-ghost use Rattle.gate_ledgers.specs.Course.{course_of};
-ghost use Rattle.gate_ledgers.specs.Names.{AreNamed, AreWhole};
-ghost use Rattle.shared_gate.specs.Log.{CallsAllLegal};
-
-use crate::books::book_over;
-use crate::gates::{gate_by_one, gate_by_two, new_word};
-use gate_history::{Blanks, Naming, Permit, Receipt, Spent, Ticket};
-use limit_laws::{Fixed, Limit};
+use crate::gates::{Trial, fixed, next_of, try_at};
+use crate::threaded::{Threaded, try_by_threads};
+use gate_history::{Naming, Permit, Receipt, Spent, Ticket};
+use limit_kinds::AnyLimit;
 use limiter_core::{Outcome, Reply};
 use partitions::Part;
-use shared_gate::{Claimed, Clock, GateNaming, GaveUp, Got, Pass, SharedGate, Waited, Word};
+use shared_gate::{Claimed, Clock, GateNaming, GaveUp, Got, Pass, SharedGate, Waited};
 use std::alloc::Global;
-use std::marker::Brand;
 use std::process::Abort;
 use std::sync::Wait;
 use std::thread::{Threads, join};
@@ -56,57 +47,35 @@ pub(crate) fn queued<M: Naming, R: Abort>(rt: &R, got: Got<M>) -> Ticket<M> {
 
 #[test]
 fn one_waits_and_one_is_promoted(rt: HostRuntime) {
-    by_one_pass::<Brand, _>(
-        &rt,
-        rt.alloc(),
-        Blanks::new(),
-        new_word(&rt, rt.alloc()),
-        1_000_000,
-        false,
-    );
+    let trial = PromotesTheNewest {};
+    try_at(&rt, rt.alloc(), fixed(&rt, 1, 1_000_000, false, 1), trial);
 }
 
 #[test]
 fn a_roll_keeps_who_waits_and_what_lies_granted(rt: HostRuntime) {
-    by_one_pass::<Brand, _>(
-        &rt,
-        rt.alloc(),
-        Blanks::new(),
-        new_word(&rt, rt.alloc()),
-        1,
-        true,
-    );
+    let trial = PromotesTheNewest {};
+    try_at(&rt, rt.alloc(), fixed(&rt, 1, 1, true, 1), trial);
 }
 
-fn by_one_pass<M: GateNaming, R: Wait + Abort>(
-    rt: &R,
-    alloc: Global,
-    blanks: Blanks,
-    word: Word,
-    kept: usize,
-    is_rolling: bool,
-)
-    requires names { AreNamed M.calls M.place blanks }
-    requires parts { AreWhole blanks }
-    requires word { word ≡ M.word }
-    requires legal { CallsAllLegal M.legal }
-    requires rows { M.rows ≡ [] }
-    requires room { M.room ≡ 100 }
-    requires promote { M.promote ≡ Newest }
-    requires kept { M.kept ≡ kept }
-    requires rolling { M.is_rolling ≡ is_rolling }
-    requires limit { M.limit ≡ course_of fixed_rules 1 }
-    requires some_kept { 1 ≤ kept }
-    requires few_kept { kept ≤ most_kept }
-{
-    let book = book_over::<M, R>(rt, alloc, 1, kept, is_rolling, blanks);
-    let (gate, pass) = gate_by_one(rt, alloc, book, word);
-    promotes_the_newest(rt, &gate, pass);
+/// Two wait; the newer one is promoted, and the other one gives up.
+#[derive(Drop)]
+struct PromotesTheNewest {}
+
+impl<R: Wait + Abort> Trial<R> for PromotesTheNewest {
+    fn run<M: GateNaming>(
+        self,
+        rt: &R,
+        _alloc: Global,
+        gate: SharedGate<AnyLimit, M>,
+        mut passes: Vec<Pass<M>>,
+    ) {
+        promotes_the_newest(rt, &gate, next_of(rt, &mut passes));
+    }
 }
 
 fn promotes_the_newest<M: GateNaming, R: Wait + Abort>(
     rt: &R,
-    gate: &SharedGate<Fixed, M>,
+    gate: &SharedGate<AnyLimit, M>,
     mut pass: Pass<M>,
 ) {
     let (first, second) = two_wait(rt, gate, &mut pass);
@@ -123,7 +92,7 @@ fn promotes_the_newest<M: GateNaming, R: Wait + Abort>(
 /// Numbers 1 and 2 wait, and the ending of number 0 promotes one of them.
 fn two_wait<M: GateNaming, R: Wait + Abort>(
     rt: &R,
-    gate: &SharedGate<Fixed, M>,
+    gate: &SharedGate<AnyLimit, M>,
     pass: &mut Pass<M>,
 ) -> (Ticket<M>, Ticket<M>) {
     let permit = admitted(rt, gate.acquire(rt, pass, Part::Unknown, false, false, 0));
@@ -137,7 +106,7 @@ fn two_wait<M: GateNaming, R: Wait + Abort>(
 /// A claim hands the ticket back.
 fn still_waits<M: GateNaming, R: Wait + Abort>(
     rt: &R,
-    gate: &SharedGate<Fixed, M>,
+    gate: &SharedGate<AnyLimit, M>,
     pass: &mut Pass<M>,
     ticket: Ticket<M>,
 ) -> Ticket<M> {
@@ -152,7 +121,7 @@ fn still_waits<M: GateNaming, R: Wait + Abort>(
 /// A giving up gets the permit that the waiter was given.
 fn promoted<M: GateNaming, R: Wait + Abort>(
     rt: &R,
-    gate: &SharedGate<Fixed, M>,
+    gate: &SharedGate<AnyLimit, M>,
     pass: &mut Pass<M>,
     ticket: Ticket<M>,
 ) -> Permit<M> {
@@ -167,7 +136,7 @@ fn promoted<M: GateNaming, R: Wait + Abort>(
 /// A giving up without a permit, and its receipt's number.
 pub(crate) fn times_out<M: GateNaming, R: Wait + Abort>(
     rt: &R,
-    gate: &SharedGate<Fixed, M>,
+    gate: &SharedGate<AnyLimit, M>,
     pass: &mut Pass<M>,
     ticket: Ticket<M>,
 ) -> u64 {
@@ -181,36 +150,25 @@ pub(crate) fn times_out<M: GateNaming, R: Wait + Abort>(
 
 #[test]
 fn who_waits_gets_the_permit_that_another_ends(rt: HostRuntime) {
-    by_two_threads::<Brand, _>(&rt, rt.alloc(), Blanks::new(), new_word(&rt, rt.alloc()));
+    let making = fixed(&rt, 1, 1_000_000, false, 2);
+    try_by_threads(&rt, rt.alloc(), making, Threaded::Wait);
 }
 
-fn by_two_threads<M: GateNaming + Send + Sync, R: Threads + Wait + SystemClock + Abort + Sync>(
-    rt: &R,
-    alloc: Global,
-    blanks: Blanks,
-    word: Word,
-)
-    requires names { AreNamed M.calls M.place blanks }
-    requires parts { AreWhole blanks }
-    requires word { word ≡ M.word }
-    requires legal { CallsAllLegal M.legal }
-    requires rows { M.rows ≡ [] }
-    requires room { M.room ≡ 100 }
-    requires promote { M.promote ≡ Newest }
-    requires kept { M.kept ≡ 1000000 }
-    requires rolling { M.is_rolling ≡ false }
-    requires limit { M.limit ≡ course_of fixed_rules 1 }
-{
-    let book = book_over::<M, R>(rt, alloc, 1, 1_000_000, false, blanks);
-    let (gate, (one, two)) = gate_by_two(rt, alloc, book, word);
-    let (one, two) = join(rt, || holds(rt, &gate, one), || waits(rt, &gate, two));
+/// One holds the only permit until another one waits for it.
+pub(crate) fn one_waits_for_another<
+    M: GateNaming + Send + Sync,
+    R: Threads + Wait + SystemClock + Abort + Sync,
+>(rt: &R, gate: &SharedGate<AnyLimit, M>, mut passes: Vec<Pass<M>>) {
+    let two = next_of(rt, &mut passes);
+    let one = next_of(rt, &mut passes);
+    let (one, two) = join(rt, || holds(rt, gate, one), || waits(rt, gate, two));
     assert!(rt; one.count() >= 2 && two.count() == 3);
 }
 
 /// Holds the only permit until somebody waits for it.
 fn holds<M: GateNaming, R: Wait + Abort>(
     rt: &R,
-    gate: &SharedGate<Fixed, M>,
+    gate: &SharedGate<AnyLimit, M>,
     mut pass: Pass<M>,
 ) -> Pass<M> {
     let permit = admitted(
@@ -223,9 +181,9 @@ fn holds<M: GateNaming, R: Wait + Abort>(
 }
 
 /// Looks until one waits.
-pub(crate) fn until_one_waits<L: Limit, M: GateNaming, R: Wait + Abort>(
+pub(crate) fn until_one_waits<M: GateNaming, R: Wait + Abort>(
     rt: &R,
-    gate: &SharedGate<L, M>,
+    gate: &SharedGate<AnyLimit, M>,
     pass: &mut Pass<M>,
 ) {
     for _ in 0..900_000 {
@@ -244,9 +202,9 @@ fn shows_waiter<M: Naming>(looked: Result<Receipt<M>, Spent<M>>) -> bool {
 }
 
 /// Waits for a permit, once the only one is held, by a clock that stands still.
-pub(crate) fn waits<L: Limit, M: GateNaming, R: Wait + SystemClock + Abort>(
+pub(crate) fn waits<M: GateNaming, R: Wait + SystemClock + Abort>(
     rt: &R,
-    gate: &SharedGate<L, M>,
+    gate: &SharedGate<AnyLimit, M>,
     mut pass: Pass<M>,
 ) -> Pass<M> {
     for _ in rt.forever() {

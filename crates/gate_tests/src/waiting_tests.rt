@@ -1,21 +1,12 @@
 // Waiting at a shared gate by clocks of several kinds, and a gate whose history is exhausted.
-ghost use Rattle.std.specs.Prelude.{◌≡◌, [], false};
-ghost use Rattle.limiter_core.specs.declared.promote.Promote.TheVariants.{Newest};
-ghost use Rattle.limit_laws.specs.FixedRules.{fixed_rules};
-ghost use Rattle.gate_ledgers.specs.Course.{course_of};
-ghost use Rattle.gate_ledgers.specs.Names.{AreNamed, AreWhole};
-ghost use Rattle.shared_gate.specs.Log.{CallsAllLegal};
-
-use crate::books::book_over;
-use crate::gates::{gate_by_one, new_word};
+use crate::gates::{Trial, fixed, next_of, try_at};
 use crate::shared_gate_tests::{Still, admitted, queued, times_out};
-use gate_history::{Blanks, Naming, Receipt, Spent, Ticket};
-use limit_laws::Fixed;
+use gate_history::{Naming, Receipt, Spent, Ticket};
+use limit_kinds::AnyLimit;
 use limiter_core::{Counters, Event, Outcome, Reply};
 use partitions::Part;
-use shared_gate::{Claimed, Clock, GateNaming, Got, Pass, SharedGate, Waited, Word};
+use shared_gate::{Claimed, Clock, GateNaming, Got, Pass, SharedGate, Waited};
 use std::alloc::Global;
-use std::marker::Brand;
 use std::process::Abort;
 use std::sync::Wait;
 use std::sync::atomic::{AtomicU64, Ordering};
@@ -57,15 +48,7 @@ fn told_after<R: Wait + SystemClock + Abort>(
         nanos: AtomicU64::new(first),
         step,
     };
-    in_vain::<Brand, R, GoesOn>(
-        rt,
-        alloc,
-        Blanks::new(),
-        new_word(rt, alloc),
-        0,
-        &clock,
-        deadline,
-    );
+    waits(rt, alloc, 0, &clock, deadline);
     clock.now()
 }
 
@@ -98,60 +81,51 @@ fn a_near_deadline_is_waited_for_in_short_pauses(rt: HostRuntime) {
 }
 
 #[test]
-fn a_clock_may_stand_still_at_the_deadline(rt: HostRuntime) {
-    in_vain::<Brand, _, _>(
-        &rt,
-        rt.alloc(),
-        Blanks::new(),
-        new_word(&rt, rt.alloc()),
-        0,
-        &Still {},
-        0,
-    );
-}
-
-#[test]
-fn a_clock_may_tell_more_than_the_last_moment(rt: HostRuntime) {
-    in_vain::<Brand, _, _>(
-        &rt,
-        rt.alloc(),
-        Blanks::new(),
-        new_word(&rt, rt.alloc()),
-        u64::MAX,
-        &Late {},
-        u64::MAX,
-    );
+fn a_clock_may_stand_still_at_the_deadline_or_tell_more_than_the_last_moment(rt: HostRuntime) {
+    waits(&rt, rt.alloc(), 0, &Still {}, 0);
+    waits(&rt, rt.alloc(), u64::MAX, &Late {}, u64::MAX);
 }
 
 /// A caller holds the only permit and waits for another, until its clock has reached the deadline.
-pub(crate) fn in_vain<M: GateNaming, R: Wait + SystemClock + Abort, C: Clock>(
+pub(crate) fn waits<R: Wait + SystemClock + Abort, C: Clock>(
     rt: &R,
     alloc: Global,
-    blanks: Blanks,
-    word: Word,
     now: u64,
     clock: &C,
     deadline: u64,
-)
-    requires names { AreNamed M.calls M.place blanks }
-    requires parts { AreWhole blanks }
-    requires word { word ≡ M.word }
-    requires legal { CallsAllLegal M.legal }
-    requires rows { M.rows ≡ [] }
-    requires room { M.room ≡ 100 }
-    requires promote { M.promote ≡ Newest }
-    requires kept { M.kept ≡ 1000 }
-    requires rolling { M.is_rolling ≡ false }
-    requires limit { M.limit ≡ course_of fixed_rules 1 }
-{
-    let book = book_over::<M, R>(rt, alloc, 1, 1_000, false, blanks);
-    let (gate, pass) = gate_by_one(rt, alloc, book, word);
-    waits_in_vain(rt, &gate, pass, now, clock, deadline);
+) {
+    let trial = Vain {
+        now,
+        clock,
+        deadline,
+    };
+    try_at(rt, alloc, fixed(rt, 1, 1_000, false, 1), trial);
+}
+
+/// A wait in vain.
+#[derive(Drop)]
+struct Vain<'c, C> {
+    now: u64,
+    clock: &'c C,
+    deadline: u64,
+}
+
+impl<'c, C: Clock, R: Wait + SystemClock + Abort> Trial<R> for Vain<'c, C> {
+    fn run<M: GateNaming>(
+        self,
+        rt: &R,
+        _alloc: Global,
+        gate: SharedGate<AnyLimit, M>,
+        mut passes: Vec<Pass<M>>,
+    ) {
+        let pass = next_of(rt, &mut passes);
+        waits_in_vain(rt, &gate, pass, self.now, self.clock, self.deadline);
+    }
 }
 
 fn waits_in_vain<M: GateNaming, R: Wait + SystemClock + Abort, C: Clock>(
     rt: &R,
-    gate: &SharedGate<Fixed, M>,
+    gate: &SharedGate<AnyLimit, M>,
     mut pass: Pass<M>,
     now: u64,
     clock: &C,
@@ -182,35 +156,29 @@ fn is_timed_out<M: Naming, R: Abort>(rt: &R, waited: Waited<M>) {
 
 #[test]
 fn an_exhausted_gate_answers_what_is_owed(rt: HostRuntime) {
-    exhausted::<Brand, _>(&rt, rt.alloc(), Blanks::new(), new_word(&rt, rt.alloc()));
+    try_at(&rt, rt.alloc(), fixed(&rt, 1, 2, false, 1), Owed {});
 }
 
-fn exhausted<M: GateNaming, R: Wait + SystemClock + Abort>(
-    rt: &R,
-    alloc: Global,
-    blanks: Blanks,
-    word: Word,
-)
-    requires names { AreNamed M.calls M.place blanks }
-    requires parts { AreWhole blanks }
-    requires word { word ≡ M.word }
-    requires legal { CallsAllLegal M.legal }
-    requires rows { M.rows ≡ [] }
-    requires room { M.room ≡ 100 }
-    requires promote { M.promote ≡ Newest }
-    requires kept { M.kept ≡ 2 }
-    requires rolling { M.is_rolling ≡ false }
-    requires limit { M.limit ≡ course_of fixed_rules 1 }
-{
-    let book = book_over::<M, R>(rt, alloc, 1, 2, false, blanks);
-    let (gate, pass) = gate_by_one(rt, alloc, book, word);
-    answers_what_is_owed(rt, &gate, pass);
+/// What an exhausted gate still answers.
+#[derive(Drop)]
+struct Owed {}
+
+impl<R: Wait + SystemClock + Abort> Trial<R> for Owed {
+    fn run<M: GateNaming>(
+        self,
+        rt: &R,
+        _alloc: Global,
+        gate: SharedGate<AnyLimit, M>,
+        mut passes: Vec<Pass<M>>,
+    ) {
+        answers_what_is_owed(rt, &gate, next_of(rt, &mut passes));
+    }
 }
 
 /// One is admitted and one waits; then nothing but a giving up and an ending is answered.
 fn answers_what_is_owed<M: GateNaming, R: Wait + SystemClock + Abort>(
     rt: &R,
-    gate: &SharedGate<Fixed, M>,
+    gate: &SharedGate<AnyLimit, M>,
     mut pass: Pass<M>,
 ) {
     let permit = admitted(rt, gate.acquire(rt, &mut pass, UNKNOWN, false, false, 0));
@@ -225,7 +193,7 @@ fn answers_what_is_owed<M: GateNaming, R: Wait + SystemClock + Abort>(
 /// No acquire, no change and no claim is answered, and the claim's ticket comes back.
 fn refuses_the_rest<M: GateNaming, R: Wait + SystemClock + Abort>(
     rt: &R,
-    gate: &SharedGate<Fixed, M>,
+    gate: &SharedGate<AnyLimit, M>,
     pass: &mut Pass<M>,
     ticket: Ticket<M>,
 ) -> Ticket<M> {
@@ -239,7 +207,7 @@ fn refuses_the_rest<M: GateNaming, R: Wait + SystemClock + Abort>(
 /// No acquire is answered.
 fn refuses_acquires<M: GateNaming, R: Wait + SystemClock + Abort>(
     rt: &R,
-    gate: &SharedGate<Fixed, M>,
+    gate: &SharedGate<AnyLimit, M>,
     pass: &mut Pass<M>,
 ) {
     match gate.acquire(rt, pass, UNKNOWN, true, false, 2) {
@@ -272,7 +240,7 @@ const fn acquire(bypass: bool, wait: bool, now: u64) -> Event {
 /// Neither settings nor a look are answered.
 fn refuses_changes<M: GateNaming, R: Wait + Abort>(
     rt: &R,
-    gate: &SharedGate<Fixed, M>,
+    gate: &SharedGate<AnyLimit, M>,
     pass: &mut Pass<M>,
 ) {
     let set = gate.set_limit(rt, pass, 7, 4);
@@ -286,7 +254,7 @@ fn refuses_changes<M: GateNaming, R: Wait + Abort>(
 /// A claim isn't answered, and its ticket comes back.
 fn handed_back<M: GateNaming, R: Wait + Abort>(
     rt: &R,
-    gate: &SharedGate<Fixed, M>,
+    gate: &SharedGate<AnyLimit, M>,
     pass: &mut Pass<M>,
     ticket: Ticket<M>,
 ) -> Ticket<M> {
@@ -320,7 +288,7 @@ fn is_spent<M: Naming>(spent: &Spent<M>, event: Event) -> bool {
 /// One was admitted and one waits, and the pass counts these two calls.
 fn is_as_before<M: GateNaming, R: Wait + Abort>(
     rt: &R,
-    gate: &SharedGate<Fixed, M>,
+    gate: &SharedGate<AnyLimit, M>,
     pass: &Pass<M>,
 ) {
     let two = Counters {

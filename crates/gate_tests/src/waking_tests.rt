@@ -1,26 +1,18 @@
 // When who waits is woken, how often it looks at its clock meanwhile, and when a load's callers
 // give up. Real time is looked at here, so each bound has room to spare.
-ghost use Rattle.std.specs.Prelude.{◌≡◌, [], false};
-ghost use Rattle.limiter_core.specs.declared.promote.Promote.TheVariants.{Newest};
-ghost use Rattle.limit_laws.specs.FixedRules.{fixed_rules};
-ghost use Rattle.gate_ledgers.specs.Course.{course_of};
-ghost use Rattle.gate_ledgers.specs.Names.{AreNamed, AreWhole};
-ghost use Rattle.shared_gate.specs.Log.{CallsAllLegal};
-
-use crate::books::book_over;
-use crate::gates::{gate_by, new_word};
+use crate::gates::{fixed, next_of};
 use crate::shared_gate_tests::{Still, admitted};
-use crate::waiting_tests::in_vain;
+use crate::threaded::{Threaded, try_by_threads};
+use crate::waiting_tests;
 use counted_io::Counted;
-use gate_history::{Blanks, Permit};
-use limit_laws::Fixed;
+use gate_history::Permit;
+use limit_kinds::AnyLimit;
 use limiter_core::Outcome;
 use load_run::load_with;
 use partitions::Part;
-use shared_gate::{Clock, GateNaming, Pass, SharedGate, Waited, Word};
+use shared_gate::{Clock, GateNaming, Pass, SharedGate, Waited};
 use std::alloc::Global;
 use std::io::{Read, Result as IoResult};
-use std::marker::Brand;
 use std::process::Abort;
 use std::sync::Wait;
 use std::sync::atomic::{AtomicU64, Ordering};
@@ -47,7 +39,7 @@ pub(crate) fn real<R: SystemClock>(rt: &R) -> u64 {
 /// A gate, when its last ending began, and the longest time from one to where who waited went on.
 #[derive(Drop)]
 struct Watched<M: GateNaming> {
-    gate: SharedGate<Fixed, M>,
+    gate: SharedGate<AnyLimit, M>,
     ended: AtomicU64,
     longest: AtomicU64,
 }
@@ -149,31 +141,18 @@ fn promoted<M: GateNaming, R: Wait + SystemClock + Abort>(
 
 #[test]
 fn an_ending_wakes_whoever_it_promotes(rt: HostRuntime) {
-    three_threads::<Brand, _>(&rt, rt.alloc(), Blanks::new(), new_word(&rt, rt.alloc()));
+    let making = fixed(&rt, 1, 1_000_000, false, 3);
+    try_by_threads(&rt, rt.alloc(), making, Threaded::WaitOften);
 }
 
-fn three_threads<M: GateNaming + Send + Sync, R: Threads + Wait + SystemClock + Abort + Sync>(
-    rt: &R,
-    alloc: Global,
-    blanks: Blanks,
-    word: Word,
-)
-    requires names { AreNamed M.calls M.place blanks }
-    requires parts { AreWhole blanks }
-    requires word { word ≡ M.word }
-    requires legal { CallsAllLegal M.legal }
-    requires rows { M.rows ≡ [] }
-    requires room { M.room ≡ 100 }
-    requires promote { M.promote ≡ Newest }
-    requires kept { M.kept ≡ 1000000 }
-    requires rolling { M.is_rolling ≡ false }
-    requires limit { M.limit ≡ course_of fixed_rules 1 }
-{
-    let book = book_over::<M, R>(rt, alloc, 1, 1_000_000, false, blanks);
-    let (gate, mut passes) = gate_by(rt, alloc, book, word, 3);
-    let one = passes.pop().expect(rt, "a pass");
-    let two = passes.pop().expect(rt, "a pass");
-    let three = passes.pop().expect(rt, "a pass");
+/// Two wait again and again for the only permit, which a third one holds meanwhile.
+pub(crate) fn two_wait_for_a_third<
+    M: GateNaming + Send + Sync,
+    R: Threads + Wait + SystemClock + Abort + Sync,
+>(rt: &R, gate: SharedGate<AnyLimit, M>, mut passes: Vec<Pass<M>>) {
+    let one = next_of(rt, &mut passes);
+    let two = next_of(rt, &mut passes);
+    let three = next_of(rt, &mut passes);
     let watched = Watched {
         gate,
         ended: AtomicU64::new(0),
@@ -230,15 +209,7 @@ fn looked<R: Wait + SystemClock + Abort>(
         first,
         then: deadline,
     };
-    in_vain::<Brand, R, Counts<'_, R>>(
-        rt,
-        alloc,
-        Blanks::new(),
-        new_word(rt, alloc),
-        0,
-        &clock,
-        deadline,
-    );
+    waiting_tests::waits(rt, alloc, 0, &clock, deadline);
     let time = real(rt).saturating_sub(clock.start);
     (clock.looks.load(Ordering::SeqCst), time)
 }

@@ -15,7 +15,6 @@
 mod doors;
 mod fault;
 mod hands;
-mod lingering;
 mod reporting;
 mod workers;
 mod working;

@@ -45,19 +45,26 @@ impl Present {
     /// Rests until the clock has reached a moment, or all workers have ended; whether some haven't.
     /// A clock that fails is answered as if all had.
     fn rest<R: Wait + SystemClock, C: Clock>(&self, rt: &R, clock: &C, until: u64) -> bool {
-        let mut count = self.count.lock(rt);
         for _ in rt.forever() {
-            let now = clock.now();
-            if *count == 0 || LAST_MOMENT <= now {
-                return false;
+            if let Some(some_have_not) = self.pause(rt, clock.now(), until) {
+                return some_have_not;
             }
-            if until <= now {
-                return true;
-            }
-            let rest = Duration::from_nanos((until - now).clamp(SHORTEST_REST, LONGEST_REST));
-            count = self.left.wait_timeout(rt, count, rest).0;
         }
         true
+    }
+
+    /// The answer of a rest, where it has come to its end by now; else a pause was made.
+    fn pause<R: Wait + SystemClock>(&self, rt: &R, now: u64, until: u64) -> Option<bool> {
+        let count = self.count.lock(rt);
+        if *count == 0 || LAST_MOMENT <= now {
+            return Some(false);
+        }
+        if until <= now {
+            return Some(true);
+        }
+        let rest = Duration::from_nanos((until - now).clamp(SHORTEST_REST, LONGEST_REST));
+        let _woken = self.left.wait_timeout(rt, count, rest);
+        None
     }
 }
 

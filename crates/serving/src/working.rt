@@ -6,7 +6,6 @@ ghost use Rattle.serving.specs.Served.{IsServed, told_where};
 ghost use Rattle.serving.specs.Turns.{IsRun};
 
 use crate::doors::Accepts;
-use crate::lingering::linger;
 use backend::Backend;
 use clocks::{Clock, Looks};
 use counted_io::Counted;
@@ -17,7 +16,9 @@ use proxy::{Exchange, exchange};
 use std::alloc::{AllocError, Global};
 use std::thread;
 use std::time::{Clock as SystemClock, Duration};
-use timed_io::{Arrival, Connection, Inlet, Lent, Outlet, TimedReader, TimedWriter, Uninterrupted};
+use timed_io::{
+    Arrival, Connection, Inlet, Lent, Outlet, TimedReader, TimedWriter, Uninterrupted, linger,
+};
 use wire::WireFault;
 
 /// How many bytes are read or written at once.
@@ -228,8 +229,24 @@ where
     let is_sent = writer.inner().is_sent();
     let to = writer.inner().inner().inner().inner().end();
     let served = told_where(is_sent, served);
-    linger(&served, &buffers.ahead, &stream, from, clock, time);
+    linger_behind(&served, &buffers.ahead, &stream, from, clock, time);
     (Arrival { stream, from, to }, served)
+}
+
+/// Where a client was answered: sees that it gets to read the answer, for so many nanoseconds at
+/// most, though its request wasn't read whole, or more than it lies in the buffer or comes.
+fn linger_behind<T: Connection, I: Inlet<T> + Copy, C: Clock>(
+    served: &Exchange,
+    ahead: &ReadBuffer,
+    stream: &T,
+    from: I,
+    clock: &C,
+    most: u64,
+) {
+    if served.answer.is_some() && served.written_fault.is_none() {
+        let is_unread = served.class.is_none() || ahead.left() > 0;
+        linger(stream, from, clock, most, is_unread);
+    }
 }
 
 // What is told of an exchange, by whether all that was written was sent. Without a fault of writing

@@ -1,7 +1,7 @@
 // What is handed in of one caller as a gate is closed, and what is told of it.
 use crate::callers::Caller;
 use gate_history::{History, Naming, Receipt};
-use limit_laws::Fixed;
+use limit_kinds::AnyLimit;
 use shared_gate::{AuditFault, Cause, GateNaming, Pass, SharedGate};
 use std::alloc::Global;
 use std::process::Abort;
@@ -36,10 +36,10 @@ impl Handing {
 pub(crate) fn closed<M: GateNaming, R: Abort>(
     rt: &R,
     alloc: Global,
-    gate: SharedGate<Fixed, M>,
+    gate: SharedGate<AnyLimit, M>,
     caller: Caller<M>,
     handing: Handing,
-) -> Result<History<Fixed>, AuditFault<Fixed, M>> {
+) -> Result<History<AnyLimit>, AuditFault<AnyLimit, M>> {
     let Caller { pass, receipts, .. } = caller;
     let passes = passes_of(rt, alloc, pass, handing);
     let kept = lists_of(rt, alloc, receipts, handing);

@@ -3,3 +3,5 @@ mod handing;
 mod rolled_tests;
 mod threads_tests;
 mod two_calls_tests;
+
+pub(crate) use threads_tests::two_threads_close;

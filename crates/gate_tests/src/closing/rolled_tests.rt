@@ -1,20 +1,11 @@
 // A gate that rolled isn't accepted: two looks, of which one entry is kept.
-ghost use Rattle.std.specs.Prelude.{◌≡◌, [], true};
-ghost use Rattle.limiter_core.specs.declared.promote.Promote.TheVariants.{Newest};
-ghost use Rattle.limit_laws.specs.FixedRules.{fixed_rules};
-ghost use Rattle.gate_ledgers.specs.Course.{course_of};
-ghost use Rattle.gate_ledgers.specs.Names.{AreNamed, AreWhole};
-ghost use Rattle.shared_gate.specs.Log.{CallsAllLegal};
-
 use super::handing::{Handing, are_handed_back, closed};
-use crate::books::book_over;
 use crate::callers::{Caller, look};
-use crate::gates::{gate_by_one, new_word};
-use gate_history::{Blanks, Naming};
-use limit_laws::Fixed;
-use shared_gate::{AuditFault, Cause, GateNaming, Pass, SharedGate, Word};
+use crate::gates::{Trial, fixed, next_of, try_at};
+use gate_history::Naming;
+use limit_kinds::AnyLimit;
+use shared_gate::{AuditFault, Cause, GateNaming, Pass, SharedGate};
 use std::alloc::Global;
-use std::marker::Brand;
 use std::process::Abort;
 use std::sync::Wait;
 
@@ -32,43 +23,34 @@ fn handings() -> [Handing; 3] {
 #[test]
 fn a_gate_that_rolled_is_not_accepted(rt: HostRuntime) {
     for handing in &handings() {
-        closes_rolled::<Brand, _>(
-            &rt,
-            rt.alloc(),
-            Blanks::new(),
-            new_word(&rt, rt.alloc()),
-            *handing,
-        );
+        let trial = Rolled { handing: *handing };
+        try_at(&rt, rt.alloc(), fixed(&rt, 10, 1, true, 1), trial);
     }
 }
 
-fn closes_rolled<M: GateNaming, R: Wait + Abort>(
-    rt: &R,
-    alloc: Global,
-    blanks: Blanks,
-    word: Word,
+/// A gate that rolled is closed.
+#[derive(Drop)]
+struct Rolled {
     handing: Handing,
-)
-    requires names { AreNamed M.calls M.place blanks }
-    requires parts { AreWhole blanks }
-    requires word { word ≡ M.word }
-    requires legal { CallsAllLegal M.legal }
-    requires rows { M.rows ≡ [] }
-    requires room { M.room ≡ 100 }
-    requires promote { M.promote ≡ Newest }
-    requires kept { M.kept ≡ 1 }
-    requires rolling { M.is_rolling ≡ true }
-    requires limit { M.limit ≡ course_of fixed_rules 10 }
-{
-    let book = book_over::<M, R>(rt, alloc, 10, 1, true, blanks);
-    let (gate, pass) = gate_by_one(rt, alloc, book, word);
-    closes_gate(rt, alloc, gate, pass, handing);
+}
+
+impl<R: Wait + Abort> Trial<R> for Rolled {
+    fn run<M: GateNaming>(
+        self,
+        rt: &R,
+        alloc: Global,
+        gate: SharedGate<AnyLimit, M>,
+        mut passes: Vec<Pass<M>>,
+    ) {
+        let pass = next_of(rt, &mut passes);
+        closes_gate(rt, alloc, gate, pass, self.handing);
+    }
 }
 
 fn closes_gate<M: GateNaming, R: Wait + Abort>(
     rt: &R,
     alloc: Global,
-    gate: SharedGate<Fixed, M>,
+    gate: SharedGate<AnyLimit, M>,
     pass: Pass<M>,
     handing: Handing,
 ) {
@@ -80,7 +62,7 @@ fn closes_gate<M: GateNaming, R: Wait + Abort>(
 }
 
 /// The history begins with the second look, and the cause is as wanted.
-fn has_rolled<M: Naming>(fault: &AuditFault<Fixed, M>, handing: Handing) -> bool {
+fn has_rolled<M: Naming>(fault: &AuditFault<AnyLimit, M>, handing: Handing) -> bool {
     handing.cause == Some(fault.cause)
         && fault.history.base == 1
         && fault.history.entries.len() == 1

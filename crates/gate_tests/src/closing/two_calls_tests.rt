@@ -1,23 +1,14 @@
 // A gate of an acquire and its ending: each fault of what is handed in is told, and history and
 // lists come back.
-ghost use Rattle.std.specs.Prelude.{◌≡◌, [], false};
-ghost use Rattle.limiter_core.specs.declared.promote.Promote.TheVariants.{Newest};
-ghost use Rattle.limit_laws.specs.FixedRules.{fixed_rules};
-ghost use Rattle.gate_ledgers.specs.Course.{course_of};
-ghost use Rattle.gate_ledgers.specs.Names.{AreNamed, AreWhole};
-ghost use Rattle.shared_gate.specs.Log.{CallsAllLegal};
-
 use super::handing::{Handing, are_handed_back, closed};
-use crate::books::book_over;
 use crate::callers::{Caller, acquire_and_end};
-use crate::gates::{gate_by_one, new_word};
-use gate_history::{Blanks, Entry, History, Naming};
-use limit_laws::Fixed;
+use crate::gates::{Trial, fixed, next_of, try_at};
+use gate_history::{Entry, History, Naming};
+use limit_kinds::AnyLimit;
 use limiter_core::{Event, Outcome, PermitFacts, Reply};
 use partitions::Part;
-use shared_gate::{AuditFault, Cause, GateNaming, Pass, SharedGate, Word};
+use shared_gate::{AuditFault, Cause, GateNaming, Pass, SharedGate};
 use std::alloc::Global;
-use std::marker::Brand;
 use std::process::Abort;
 use std::sync::Wait;
 
@@ -41,43 +32,34 @@ fn handings() -> [Handing; 7] {
 #[test]
 fn each_fault_of_two_calls_is_told(rt: HostRuntime) {
     for handing in &handings() {
-        closes_two_calls::<Brand, _>(
-            &rt,
-            rt.alloc(),
-            Blanks::new(),
-            new_word(&rt, rt.alloc()),
-            *handing,
-        );
+        let trial = TwoCalls { handing: *handing };
+        try_at(&rt, rt.alloc(), fixed(&rt, 10, 1_000, false, 1), trial);
     }
 }
 
-fn closes_two_calls<M: GateNaming, R: Wait + Abort>(
-    rt: &R,
-    alloc: Global,
-    blanks: Blanks,
-    word: Word,
+/// A gate of two calls is closed.
+#[derive(Drop)]
+struct TwoCalls {
     handing: Handing,
-)
-    requires names { AreNamed M.calls M.place blanks }
-    requires parts { AreWhole blanks }
-    requires word { word ≡ M.word }
-    requires legal { CallsAllLegal M.legal }
-    requires rows { M.rows ≡ [] }
-    requires room { M.room ≡ 100 }
-    requires promote { M.promote ≡ Newest }
-    requires kept { M.kept ≡ 1000 }
-    requires rolling { M.is_rolling ≡ false }
-    requires limit { M.limit ≡ course_of fixed_rules 10 }
-{
-    let book = book_over::<M, R>(rt, alloc, 10, 1_000, false, blanks);
-    let (gate, pass) = gate_by_one(rt, alloc, book, word);
-    closes_gate(rt, alloc, gate, pass, handing);
+}
+
+impl<R: Wait + Abort> Trial<R> for TwoCalls {
+    fn run<M: GateNaming>(
+        self,
+        rt: &R,
+        alloc: Global,
+        gate: SharedGate<AnyLimit, M>,
+        mut passes: Vec<Pass<M>>,
+    ) {
+        let pass = next_of(rt, &mut passes);
+        closes_gate(rt, alloc, gate, pass, self.handing);
+    }
 }
 
 fn closes_gate<M: GateNaming, R: Wait + Abort>(
     rt: &R,
     alloc: Global,
-    gate: SharedGate<Fixed, M>,
+    gate: SharedGate<AnyLimit, M>,
     pass: Pass<M>,
     handing: Handing,
 ) {
@@ -89,7 +71,7 @@ fn closes_gate<M: GateNaming, R: Wait + Abort>(
 /// The cause is as wanted; history and lists come back.
 fn is_told<M: Naming, R: Abort>(
     rt: &R,
-    closed: Result<History<Fixed>, AuditFault<Fixed, M>>,
+    closed: Result<History<AnyLimit>, AuditFault<AnyLimit, M>>,
     handing: Handing,
 ) {
     match closed {
@@ -104,7 +86,7 @@ fn is_told<M: Naming, R: Abort>(
 }
 
 /// The history is that of an acquire and of its ending, and of nothing else.
-fn has_two_calls(history: &History<Fixed>) -> bool {
+fn has_two_calls(history: &History<AnyLimit>) -> bool {
     history.base == 0
         && history.opening.next_number() == 0
         && history.entries.as_slice() == [acquired(), ended()].as_slice()

@@ -41,14 +41,22 @@ fn is_as_a_plain_one<R: Abort>(rt: &R, alloc: Global, promote: Promote, all: boo
         if is_from_the_middle(&plain, event) {
             from_the_middle = u64::saturating_add(from_the_middle, 1);
         }
-        if plain.answer(rt, event) != reply_of(rt, &mut core, event) {
-            return false;
-        }
-        if !shows_the_same(&core, &plain) || turn % 100 == 99 && !shows_all(&core, &plain) {
+        let is_alike = is_answered_alike(rt, &mut core, &mut plain, event);
+        if !is_alike || turn % 100 == 99 && !shows_all(&core, &plain) {
             return false;
         }
     }
     from_the_middle >= 10 && has_seen_all(core.counters())
+}
+
+/// An event is answered alike, and the same is shown then.
+fn is_answered_alike<R: Abort>(
+    rt: &R,
+    core: &mut Core<Aimd>,
+    plain: &mut PlainLimiter,
+    event: Event,
+) -> bool {
+    plain.answer(rt, event) == reply_of(rt, core, event) && shows_the_same(core, plain)
 }
 
 /// Somebody gives up while others wait before and behind it.

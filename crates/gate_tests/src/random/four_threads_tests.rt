@@ -1,24 +1,19 @@
 // Four threads make random calls of one gate: what they are told is what one thread is told.
-ghost use Rattle.std.specs.Prelude.{◌≡◌, ◌≤◌};
+ghost use Rattle.std.specs.Prelude.{◌≡◌};
 ghost use Rattle.limiter_core.specs.Answer.{granted_at};
 ghost use Rattle.limiter_core.specs.Limiter.{gate_of, stands};
-ghost use Rattle.gate_journal.specs.Journal.{most_kept, next_number};
-ghost use Rattle.aimd.specs.AimdRules.{aimd_from, aimd_rules};
-ghost use Rattle.gate_ledgers.specs.Course.{course_of};
-ghost use Rattle.gate_ledgers.specs.Names.{AreNamed, AreWhole};
-ghost use Rattle.shared_gate.specs.Log.{CallsAllLegal};
 
 use super::random_calls::{Caller, Told, call_at_random};
-use crate::gates::{gate_by, new_word};
+use crate::gates::{Making, next_of};
+use crate::threaded::{Threaded, try_by_threads};
 use crate::threads::{Work, four_done};
 use aimd::Aimd;
-use gate_history::{Blanks, Book, Naming};
+use limit_kinds::{AnyLimit, BaseLimit};
 use limit_laws::Limit;
 use limiter_core::{Core, Counters, Event, Promote, Reply};
 use partitions::PartitionTable;
-use shared_gate::{GateNaming, Pass, SharedGate, Word};
+use shared_gate::{GateNaming, Pass, SharedGate};
 use std::alloc::Global;
-use std::marker::Brand;
 use std::process::Abort;
 use std::sync::{Mutex, Wait};
 use std::thread::Threads;
@@ -33,9 +28,7 @@ fn classes<R: Abort>(rt: &R, alloc: Global) -> PartitionTable {
 }
 
 /// A limit of 1 to 5, which begins with 3.
-fn limit<R: Abort>(rt: &R) -> Aimd
-    ensures { result ≡ aimd_from 1 3 5 900 1000000 }
-{
+fn limit<R: Abort>(rt: &R) -> Aimd {
     Aimd::new(1, 3, 5, 900, 1_000_000).expect(rt, "a limit")
 }
 
@@ -46,113 +39,55 @@ fn limiter<R: Abort>(rt: &R, alloc: Global, promote: Promote) -> Core<Aimd> {
 
 #[test]
 fn four_threads_are_told_what_one_is(rt: HostRuntime) {
-    let table = classes(&rt, rt.alloc());
-    told_by_four::<Brand, _>(
-        &rt,
-        rt.alloc(),
-        table,
-        Blanks::new(),
-        new_word(&rt, rt.alloc()),
-        Promote::Newest,
-        1_000_000,
-        false,
-    );
+    let making = making(&rt, rt.alloc(), Promote::Newest, 1_000_000, false);
+    let threaded = Threaded::CallAtRandom(Promote::Newest);
+    try_by_threads(&rt, rt.alloc(), making, threaded);
 }
 
 #[test]
 fn four_threads_over_a_rolling_gate_are_told_what_one_is(rt: HostRuntime) {
-    let table = classes(&rt, rt.alloc());
-    told_by_four::<Brand, _>(
-        &rt,
-        rt.alloc(),
-        table,
-        Blanks::new(),
-        new_word(&rt, rt.alloc()),
-        Promote::Newest,
-        100,
-        true,
-    );
+    let making = making(&rt, rt.alloc(), Promote::Newest, 100, true);
+    let threaded = Threaded::CallAtRandom(Promote::Newest);
+    try_by_threads(&rt, rt.alloc(), making, threaded);
 }
 
 #[test]
 fn four_threads_over_a_rolling_gate_of_all_are_told_what_one_is(rt: HostRuntime) {
-    let table = classes(&rt, rt.alloc());
-    told_by_four::<Brand, _>(
-        &rt,
-        rt.alloc(),
-        table,
-        Blanks::new(),
-        new_word(&rt, rt.alloc()),
-        Promote::All,
-        100,
-        true,
-    );
+    let making = making(&rt, rt.alloc(), Promote::All, 100, true);
+    let threaded = Threaded::CallAtRandom(Promote::All);
+    try_by_threads(&rt, rt.alloc(), making, threaded);
 }
 
-fn told_by_four<M: GateNaming + Send + Sync, R: Threads + Wait + Abort + Sync>(
+/// A gate that promotes so.
+fn making<R: Abort>(
     rt: &R,
     alloc: Global,
-    table: PartitionTable,
-    blanks: Blanks,
-    word: Word,
     promote: Promote,
     kept: usize,
     is_rolling: bool,
-)
-    requires names { AreNamed M.calls M.place blanks }
-    requires parts { AreWhole blanks }
-    requires word { word ≡ M.word }
-    requires legal { CallsAllLegal M.legal }
-    requires rows { M.rows ≡ table }
-    requires room { M.room ≡ 2 }
-    requires promote { M.promote ≡ promote }
-    requires kept { M.kept ≡ kept }
-    requires rolling { M.is_rolling ≡ is_rolling }
-    requires limit { M.limit ≡ course_of aimd_rules (aimd_from 1 3 5 900 1000000) }
-    requires some_kept { 1 ≤ kept }
-    requires few_kept { kept ≤ most_kept }
-{
-    let book = a_book::<M, R>(rt, alloc, table, blanks, promote, kept, is_rolling);
-    let (gate, mut passes) = gate_by(rt, alloc, book, word, 5);
-    let common = Mutex::new(passes.pop().expect(rt, "a pass"));
-    let callers = four_callers(rt, alloc, passes);
-    told_of_gate(rt, alloc, promote, &gate, &common, callers);
+) -> Making {
+    Making {
+        limit: AnyLimit::Plain(BaseLimit::Aimd(limit(rt))),
+        table: classes(rt, alloc),
+        room: ROOM,
+        promote,
+        kept,
+        is_rolling,
+        passes: 5,
+    }
 }
 
-fn a_book<M: Naming, R: Abort>(
-    rt: &R,
-    alloc: Global,
-    table: PartitionTable,
-    blanks: Blanks,
-    promote: Promote,
-    kept: usize,
-    is_rolling: bool,
-) -> Book<Aimd, M>
-    requires names { AreNamed M.calls M.place blanks }
-    requires parts { AreWhole blanks }
-    requires rows { M.rows ≡ table }
-    requires room { M.room ≡ 2 }
-    requires promote { M.promote ≡ promote }
-    requires kept { M.kept ≡ kept }
-    requires rolling { M.is_rolling ≡ is_rolling }
-    requires limit { M.limit ≡ course_of aimd_rules (aimd_from 1 3 5 900 1000000) }
-    requires some_kept { 1 ≤ kept }
-    requires few_kept { kept ≤ most_kept }
-    ensures { next_number result.journal ≡ 0 }
-{
-    let limit = limit(rt);
-    Book::begin(alloc, limit, table, ROOM, promote, kept, is_rolling, blanks).expect(rt, "memory")
-}
-
-fn told_of_gate<M: GateNaming + Send + Sync, R: Threads + Wait + Abort + Sync>(
+/// Four threads call by four passes, and tell one another by a fifth.
+pub(crate) fn told_by_four<M: GateNaming + Send + Sync, R: Threads + Wait + Abort + Sync>(
     rt: &R,
     alloc: Global,
     promote: Promote,
-    gate: &SharedGate<Aimd, M>,
-    common: &Mutex<Pass<M>>,
-    callers: Four<M>,
+    gate: &SharedGate<AnyLimit, M>,
+    mut passes: Vec<Pass<M>>,
 ) {
-    let callers = by_four_threads(rt, gate, common, callers);
+    let common = Mutex::new(next_of(rt, &mut passes));
+    let callers = four_callers(rt, alloc, passes);
+    let callers = by_four_threads(rt, gate, &common, callers);
     let told = all_told(rt, alloc, &callers);
     is_told_to_one(rt, limiter(rt, alloc, promote), &told, gate.counters(rt));
 }
@@ -185,13 +120,12 @@ fn a_caller<M: GateNaming, R: Abort>(
     passes: &mut Vec<Pass<M>>,
     seed: u64,
 ) -> Caller<M> {
-    let pass = passes.pop().expect(rt, "a pass");
-    Caller::new(rt, alloc, pass, seed)
+    Caller::new(rt, alloc, next_of(rt, passes), seed)
 }
 
 fn by_four_threads<M: GateNaming + Send + Sync, R: Threads + Wait + Abort + Sync>(
     rt: &R,
-    gate: &SharedGate<Aimd, M>,
+    gate: &SharedGate<AnyLimit, M>,
     common: &Mutex<Pass<M>>,
     callers: Four<M>,
 ) -> Four<M> {
@@ -215,7 +149,7 @@ fn by_four_threads<M: GateNaming + Send + Sync, R: Threads + Wait + Abort + Sync
 /// A caller's random calls.
 #[derive(Drop)]
 struct Calls<'a, M: GateNaming> {
-    gate: &'a SharedGate<Aimd, M>,
+    gate: &'a SharedGate<AnyLimit, M>,
     /// A pass that nobody calls by, and by which callers tell one another.
     common: &'a Mutex<Pass<M>>,
     caller: Caller<M>,
@@ -239,7 +173,7 @@ impl<'a, M: GateNaming, R: Wait + Abort> Work<R> for Calls<'a, M> {
 
 /// The calls of two callers.
 fn two_calls<'a, M: GateNaming>(
-    gate: &'a SharedGate<Aimd, M>,
+    gate: &'a SharedGate<AnyLimit, M>,
     common: &'a Mutex<Pass<M>>,
     one: Caller<M>,
     two: Caller<M>,

@@ -6,3 +6,5 @@ mod four_threads_tests;
 mod plain_counters;
 mod plain_limiter;
 mod random_calls;
+
+pub(crate) use four_threads_tests::told_by_four;

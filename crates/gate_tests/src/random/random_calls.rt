@@ -1,8 +1,8 @@
 // A caller that makes random calls of a shared gate, keeps what it is told, and lets other callers
 // know what it has seen.
 use super::dice::Dice;
-use aimd::Aimd;
 use gate_history::{Naming, Permit, Receipt, Spent, Ticket};
+use limit_kinds::AnyLimit;
 use limiter_core::{Event, Reply};
 use partitions::Part;
 use shared_gate::{Claimed, GateNaming, GaveUp, Got, Pass, SharedGate};
@@ -86,7 +86,7 @@ struct Both<M: Naming> {
 /// Makes random calls and tellings, and gives back what it holds in the end.
 pub(crate) fn call_at_random<M: GateNaming, R: Wait + Abort>(
     rt: &R,
-    gate: &SharedGate<Aimd, M>,
+    gate: &SharedGate<AnyLimit, M>,
     common: &Mutex<Pass<M>>,
     mut caller: Caller<M>,
 ) -> Caller<M> {
@@ -108,7 +108,7 @@ pub(crate) fn call_at_random<M: GateNaming, R: Wait + Abort>(
 /// has.
 fn tell<M: GateNaming, R: Wait + Abort>(
     rt: &R,
-    gate: &SharedGate<Aimd, M>,
+    gate: &SharedGate<AnyLimit, M>,
     common: &Mutex<Pass<M>>,
     caller: &mut Caller<M>,
 ) {
@@ -129,7 +129,7 @@ fn tell<M: GateNaming, R: Wait + Abort>(
 /// A pass that was told has seen what the other had, and no less than before.
 fn is_told<M: GateNaming, R: Abort>(
     rt: &R,
-    gate: &SharedGate<Aimd, M>,
+    gate: &SharedGate<AnyLimit, M>,
     pass: &mut Pass<M>,
     other: &mut Pass<M>,
 ) {
@@ -142,7 +142,7 @@ fn is_told<M: GateNaming, R: Abort>(
 /// One call, for one of the two things.
 fn turn<M: GateNaming, R: Wait + Abort>(
     rt: &R,
-    gate: &SharedGate<Aimd, M>,
+    gate: &SharedGate<AnyLimit, M>,
     caller: &mut Caller<M>,
     both: Both<M>,
     now: u64,
@@ -159,7 +159,7 @@ fn turn<M: GateNaming, R: Wait + Abort>(
 /// One call: what is held before it, and after it.
 fn call<M: GateNaming, R: Wait + Abort>(
     rt: &R,
-    gate: &SharedGate<Aimd, M>,
+    gate: &SharedGate<AnyLimit, M>,
     caller: &mut Caller<M>,
     held: Held<M>,
     now: u64,
@@ -174,7 +174,7 @@ fn call<M: GateNaming, R: Wait + Abort>(
 /// Most often an acquire, else a setting, a reset or a look.
 fn call_with_nothing<M: GateNaming, R: Wait + Abort>(
     rt: &R,
-    gate: &SharedGate<Aimd, M>,
+    gate: &SharedGate<AnyLimit, M>,
     caller: &mut Caller<M>,
     now: u64,
 ) -> Held<M> {
@@ -190,7 +190,7 @@ fn call_with_nothing<M: GateNaming, R: Wait + Abort>(
 
 fn acquire<M: GateNaming, R: Wait + Abort>(
     rt: &R,
-    gate: &SharedGate<Aimd, M>,
+    gate: &SharedGate<AnyLimit, M>,
     caller: &mut Caller<M>,
     now: u64,
 ) -> Held<M> {
@@ -212,7 +212,7 @@ fn acquire<M: GateNaming, R: Wait + Abort>(
 /// An ending, or a look.
 fn call_with_permit<M: GateNaming, R: Wait + Abort>(
     rt: &R,
-    gate: &SharedGate<Aimd, M>,
+    gate: &SharedGate<AnyLimit, M>,
     caller: &mut Caller<M>,
     permit: Permit<M>,
     now: u64,
@@ -228,7 +228,7 @@ fn call_with_permit<M: GateNaming, R: Wait + Abort>(
 
 fn end<M: GateNaming, R: Wait + Abort>(
     rt: &R,
-    gate: &SharedGate<Aimd, M>,
+    gate: &SharedGate<AnyLimit, M>,
     caller: &mut Caller<M>,
     permit: Permit<M>,
     now: u64,
@@ -241,7 +241,7 @@ fn end<M: GateNaming, R: Wait + Abort>(
 /// A claim, or a giving up.
 fn call_with_ticket<M: GateNaming, R: Wait + Abort>(
     rt: &R,
-    gate: &SharedGate<Aimd, M>,
+    gate: &SharedGate<AnyLimit, M>,
     caller: &mut Caller<M>,
     ticket: Ticket<M>,
 ) -> Held<M> {
@@ -260,7 +260,7 @@ fn call_with_ticket<M: GateNaming, R: Wait + Abort>(
 
 fn give_up<M: GateNaming, R: Wait + Abort>(
     rt: &R,
-    gate: &SharedGate<Aimd, M>,
+    gate: &SharedGate<AnyLimit, M>,
     caller: &mut Caller<M>,
     ticket: Ticket<M>,
 ) -> Held<M> {
@@ -277,7 +277,7 @@ fn give_up<M: GateNaming, R: Wait + Abort>(
 /// Ends the permit that is held, or that a giving up gets.
 fn leave<M: GateNaming, R: Wait + Abort>(
     rt: &R,
-    gate: &SharedGate<Aimd, M>,
+    gate: &SharedGate<AnyLimit, M>,
     caller: &mut Caller<M>,
     held: Held<M>,
 ) {
