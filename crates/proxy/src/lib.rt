@@ -17,5 +17,6 @@ pub use backend::{Answer, Backend};
 pub use classifier::Class;
 pub use exchanging::exchange;
 pub use gate_port::{GatePort, Why};
+pub use replying::fault_status;
 pub use told::{Exchange, Verdict};
 pub use watch::Watch;

@@ -92,7 +92,7 @@ fn write_reply<W: Write>(
 }
 
 /// The status that a fault of reading is answered with; none where nothing more is written.
-pub(crate) fn fault_status(fault: WireFault) -> Option<u16>
+pub fn fault_status(fault: WireFault) -> Option<u16>
     ensures status { result ≡ fault_status fault }
     ensures three_digits { IfSome result (λ status. (100 ≤ status) × (status ≤ 999)) }
 {

@@ -13,6 +13,10 @@ use std::time::{Clock, Duration};
 /// From one look for connections that wait to the next, in milliseconds.
 const TURN: u64 = 1;
 
+/// For how long a closing listener takes whoever comes, in milliseconds, before it takes those
+/// alone who wait.
+const OPEN_TO_ALL: u64 = 500;
+
 /// Clients over TCP.
 #[derive(Drop)]
 pub struct BoundListener {
@@ -55,25 +59,32 @@ impl Listener for BoundListener {
         self.open.load(Ordering::SeqCst)
     }
 
-    // Only the first time: a socket that was shut down would listen anew.
+    // Only the first time: a socket that was shut down would listen anew. The queue is made short
+    // where it doesn't get empty by itself alone: a client that finds it full isn't refused by the
+    // system, and tries again a second later.
     fn close<R: Clock>(&self, rt: &R, most: Duration) {
         if self.open.swap(false, Ordering::SeqCst) {
             let file = self.listener.as_raw_fd();
-            listen(file, 0);
-            await_empty(rt, file, most);
+            let first = most.min(Duration::from_millis(OPEN_TO_ALL));
+            if !await_empty(rt, file, first) {
+                listen(file, 0);
+                await_empty(rt, file, most);
+            }
             shutdown(file, SHUT_RD);
         }
     }
 }
 
-/// Waits until no connection waits to be accepted, for so long at most.
-fn await_empty<R: Clock>(rt: &R, file: RawFd, most: Duration) {
+/// Waits until no connection waits to be accepted, for so long at most, and tells whether none
+/// does.
+fn await_empty<R: Clock>(rt: &R, file: RawFd, most: Duration) -> bool {
     for _ in 0..most.as_millis() / u128::from(TURN) {
         if !has_waiting(file) {
-            return;
+            return true;
         }
         thread::sleep(rt, Duration::from_millis(TURN));
     }
+    false
 }
 
 /// Whether a connection waits to be accepted.

@@ -9,14 +9,16 @@
 //! request together, and all writes of an answer up to its flush, each have so long, counted from
 //! the first of them; past that a read or a write fails and touches nothing below. Before each one
 //! the connection's own limit is set to the time that is left, so that it doesn't wait for longer.
-//! An [`Uninterrupted`] reader or writer begins a call anew that a signal cut short. `specs/` has
-//! the words. Nothing is promised of what a clock tells, or of how long a call takes.
+//! An [`Uninterrupted`] reader or writer begins a call anew that a signal cut short. [`linger`]
+//! sees that a client gets to read its answer. `specs/` has the words. Nothing is promised of what
+//! a clock tells, or of how long a call takes.
 #![tactic(auto)]
 
 mod bound_listener;
 mod connection;
 mod countdown;
 mod ends;
+mod lingering;
 mod listener;
 mod reading;
 mod uninterrupted;
@@ -26,6 +28,7 @@ pub use bound_listener::BoundListener;
 pub use connection::{Connection, Lent};
 pub use countdown::Countdown;
 pub use ends::{Inlet, Outlet, Untold};
+pub use lingering::linger;
 pub use listener::{Arrival, Listener};
 pub use reading::{LimitedRead, TimedReader};
 pub use uninterrupted::Uninterrupted;

@@ -1,0 +1,101 @@
+-- What a scrape is told.
+use Rattle.std.specs.Prelude.{ℕ, List, [], ◌∷◌, ◌++◌, codes, length, nat_lt, slice_index}
+use Rattle.std.specs.Prelude.{if◌then◌else◌}
+use Rattle.partitions.specs.declared.part.Part.TheVariants.{Known}
+use Rattle.partitions.specs.Table.{Row, name_of}
+use Rattle.limiter_core.specs.declared.counters.Counters.{Counters}
+use Rattle.gate_port.specs.declared.report.Report.{Report}
+use Rattle.serve_reports.specs.declared.noted.Noted.{Noted}
+use Rattle.serve_reports.specs.declared.noted.Troubles.{Troubles}
+use Rattle.serve_reports.specs.declared.tally.AnswerTally.{AnswerTally}
+use Rattle.serve_reports.specs.declared.workers.Workers.{Workers}
+use Rattle.metrics.specs.Families.{counters_text, gauge_text, head_text, sample_text}
+
+-- the limit, and how many are in flight, wait and lie granted
+abbrev pub standing_text : Report → List ℕ
+standing_text r =
+    gauge_text (codes "admission_limit") (codes "The limit, in permits.") r.limit
+    ++ gauge_text (codes "admission_in_flight") (codes "Permits that haven't ended.") r.inflight
+    ++ gauge_text (codes "admission_waiting") (codes "Callers that wait for a permit.") r.waiters
+    ++ gauge_text (codes "admission_granted")
+    (codes "Permits of waiters that were promoted and haven't taken them yet.") r.granted
+
+-- the sample of the class in a row, of these numbers of all classes
+abbrev pub class_text : List ℕ → List Row → List ℕ → ℕ → List ℕ
+class_text name rows numbers row =
+    if nat_lt row (length rows)
+    then sample_text name (codes "class") (name_of rows (Known row)) (slice_index numbers row)
+    else []
+
+-- a family with a sample for each class, in their order, and for the callers of none
+unfoldable pub classes_text : List ℕ → List ℕ → List Row → List ℕ → List ℕ
+classes_text name help rows numbers =
+    head_text name (codes "gauge") help
+    ++ class_text name rows numbers 0 ++ class_text name rows numbers 1
+    ++ class_text name rows numbers 2 ++ class_text name rows numbers 3
+    ++ sample_text name (codes "class") (codes "unknown") (slice_index numbers 4)
+
+-- how many of each class are in flight, and the share of each
+abbrev pub shares_text : Report → List Row → List ℕ
+shares_text r rows =
+    classes_text (codes "admission_class_in_flight")
+    (codes "Permits of a class that haven't ended.") rows r.counts
+    ++ classes_text (codes "admission_class_share")
+    (codes "The share of a class at this limit, in permits.") rows r.shares
+
+-- how often each reply and promotion was
+abbrev pub decisions_text : Counters → List ℕ
+decisions_text c =
+    counters_text (codes "admission_decisions_total") (codes "decision")
+    (codes "Replies to callers, and promotions of those who waited.")
+    ((codes "admitted", c.admitted) ∷ (codes "bypassed", c.bypassed) ∷ (codes "full", c.full)
+    ∷ (codes "backlog", c.backlog_full) ∷ (codes "waiting", c.waiting)
+    ∷ (codes "promoted", c.promoted) ∷ (codes "timed-out", c.timed_out) ∷ [])
+
+-- how often each outcome was
+abbrev pub outcomes_text : Counters → List ℕ
+outcomes_text c =
+    counters_text (codes "admission_outcomes_total") (codes "outcome")
+    (codes "Permits that ended, by what the limit learned.")
+    ((codes "success", c.success) ∷ (codes "ignored", c.ignored) ∷ (codes "dropped", c.dropped)
+    ∷ [])
+
+-- how many exchanges ended in each of the gateway's own answers
+abbrev pub answers_text : AnswerTally → List ℕ
+answers_text t =
+    counters_text (codes "admission_answers_total") (codes "status")
+    (codes "Exchanges that ended in an answer of the gateway's own.")
+    ((codes "400", t.bad_request) ∷ (codes "413", t.too_large) ∷ (codes "429", t.refused)
+    ∷ (codes "431", t.head_too_large) ∷ (codes "500", t.out_of_memory)
+    ∷ (codes "501", t.not_taken) ∷ (codes "502", t.bad_gateway) ∷ [])
+
+-- how often each trouble came
+abbrev pub troubles_text : Troubles → List ℕ
+troubles_text t =
+    counters_text (codes "admission_troubles_total") (codes "trouble")
+    (codes "Troubles that the log tells of.")
+    ((codes "unreached", t.unreached) ∷ (codes "broken", t.broken)
+    ∷ (codes "without-descriptor", t.without_descriptor) ∷ (codes "all-taken", t.all_taken)
+    ∷ [])
+
+-- how many workers there are, and how many of them serve a client
+abbrev pub workers_text : Workers → List ℕ
+workers_text w =
+    gauge_text (codes "admission_workers") (codes "Workers that the gateway was started with.")
+    w.count
+    ++ gauge_text (codes "admission_busy_workers") (codes "Workers that serve a client.") w.busy
+
+-- for how long it has served, and which version it is
+abbrev pub program_text : ℕ → List ℕ
+program_text seconds =
+    gauge_text (codes "admission_uptime_seconds") (codes "Whole seconds since the start.") seconds
+    ++ head_text (codes "admission_build_info") (codes "gauge")
+    (codes "Always 1, labelled with the version of the program.")
+    ++ sample_text (codes "admission_build_info") (codes "version") (codes "1.1.0") 1
+
+-- THE TEXT OF THE METRICS: fourteen families
+abbrev pub metrics_text : Report → List Row → Noted → List ℕ
+metrics_text r rows n =
+    standing_text r ++ shares_text r rows ++ decisions_text r.counters
+    ++ outcomes_text r.counters ++ answers_text n.answers ++ troubles_text n.troubles
+    ++ workers_text n.workers ++ program_text n.seconds

@@ -1,0 +1,211 @@
+// The text of the metrics, in the format that scrapers read.
+ghost use Rattle.std.specs.Prelude.{◌≡◌, ◌++◌, ◌<◌, IfOk, OnOk, string_bytes};
+ghost use Rattle.metrics.specs.Metrics.{answers_text, class_text, classes_text, decisions_text};
+ghost use Rattle.metrics.specs.Metrics.{metrics_text, outcomes_text, program_text, shares_text};
+ghost use Rattle.metrics.specs.Metrics.{standing_text, troubles_text, workers_text};
+
+use crate::families::{push_gauge, push_head, push_sample, push_samples};
+use gate_port::Report;
+use limiter_core::Counters;
+use partitions::{Part, PartitionTable};
+use serve_reports::{AnswerTally, Noted, Troubles, Workers};
+use std::alloc::{AllocError, Global};
+
+/// The version of the program.
+const VERSION: &str = "1.1.0";
+
+/// The text of the metrics in the text format of Prometheus, version 0.0.4: of what stands in a
+/// gate over these classes, in permits and callers, and of what was noted since the start. It fails
+/// only out of memory.
+pub fn metrics_text(
+    alloc: Global,
+    report: &Report,
+    table: &PartitionTable,
+    noted: &Noted,
+) -> Result<String, AllocError>
+    ensures { IfOk result (λ text.
+        string_bytes text ≡ metrics_text report.now table.now noted.now) }
+{
+    let mut text = String::new(alloc);
+    push_standing(&mut text, report)?;
+    push_shares(&mut text, report, table)?;
+    push_decisions(&mut text, &report.counters)?;
+    push_outcomes(&mut text, &report.counters)?;
+    push_answers(&mut text, &noted.answers)?;
+    push_troubles(&mut text, &noted.troubles)?;
+    push_workers(&mut text, &noted.workers)?;
+    push_program(&mut text, noted.seconds)?;
+    Ok(text)
+}
+
+/// Adds the limit, and how many are in flight, wait and lie granted.
+fn push_standing(text: &mut String, report: &Report) -> Result<(), AllocError>
+    ensures { OnOk result (string_bytes text.new
+        ≡ string_bytes text.old ++ standing_text report.now) }
+{
+    push_gauge(
+        text,
+        "admission_limit",
+        "The limit, in permits.",
+        report.limit as u64,
+    )?;
+    let help = "Permits that haven't ended.";
+    push_gauge(text, "admission_in_flight", help, report.inflight as u64)?;
+    let help = "Callers that wait for a permit.";
+    push_gauge(text, "admission_waiting", help, report.waiters as u64)?;
+    let help = "Permits of waiters that were promoted and haven't taken them yet.";
+    push_gauge(text, "admission_granted", help, report.granted as u64)
+}
+
+/// Adds how many of each class are in flight, and the share of each.
+fn push_shares(text: &mut String, report: &Report, table: &PartitionTable) -> Result<(), AllocError>
+    ensures { OnOk result (string_bytes text.new
+        ≡ string_bytes text.old ++ shares_text report.now table.now) }
+{
+    let help = "Permits of a class that haven't ended.";
+    push_classes(
+        text,
+        "admission_class_in_flight",
+        help,
+        table,
+        &report.counts,
+    )?;
+    let help = "The share of a class at this limit, in permits.";
+    push_classes(text, "admission_class_share", help, table, &report.shares)
+}
+
+/// Adds a family with a sample for each class, and for the callers of none.
+fn push_classes(
+    text: &mut String,
+    name: &str,
+    help: &str,
+    table: &PartitionTable,
+    numbers: &[u32; 5],
+) -> Result<(), AllocError>
+    ensures { OnOk result (string_bytes text.new
+        ≡ string_bytes text.old ++ classes_text name.now help.now table.now numbers.now) }
+{
+    push_head(text, name, "gauge", help)?;
+    push_class(text, name, table, numbers, 0)?;
+    push_class(text, name, table, numbers, 1)?;
+    push_class(text, name, table, numbers, 2)?;
+    push_class(text, name, table, numbers, 3)?;
+    push_sample(text, name, "class", "unknown", numbers[4] as u64)
+}
+
+/// Adds the sample of the class in a row of the table, where it has one.
+fn push_class(
+    text: &mut String,
+    name: &str,
+    table: &PartitionTable,
+    numbers: &[u32; 5],
+    row: u8,
+) -> Result<(), AllocError>
+    requires { row < 4 }
+    ensures { OnOk result (string_bytes text.new
+        ≡ string_bytes text.old ++ class_text name.now table.now numbers.now row) }
+{
+    let place = usize::from(row);
+    if table.len() <= place {
+        return Ok(());
+    }
+    let class = table.name(Part::Known(row));
+    push_sample(text, name, "class", class, numbers[place] as u64)
+}
+
+/// Adds how often each reply and promotion was.
+fn push_decisions(text: &mut String, counters: &Counters) -> Result<(), AllocError>
+    ensures { OnOk result (string_bytes text.new
+        ≡ string_bytes text.old ++ decisions_text counters.now) }
+{
+    let name = "admission_decisions_total";
+    let help = "Replies to callers, and promotions of those who waited.";
+    push_head(text, name, "counter", help)?;
+    let samples = [
+        ("admitted", counters.admitted),
+        ("bypassed", counters.bypassed),
+        ("full", counters.full),
+        ("backlog", counters.backlog_full),
+        ("waiting", counters.waiting),
+        ("promoted", counters.promoted),
+        ("timed-out", counters.timed_out),
+    ];
+    push_samples(text, name, "decision", &samples)
+}
+
+/// Adds how often each outcome was.
+fn push_outcomes(text: &mut String, counters: &Counters) -> Result<(), AllocError>
+    ensures { OnOk result (string_bytes text.new
+        ≡ string_bytes text.old ++ outcomes_text counters.now) }
+{
+    let name = "admission_outcomes_total";
+    let help = "Permits that ended, by what the limit learned.";
+    push_head(text, name, "counter", help)?;
+    let samples = [
+        ("success", counters.success),
+        ("ignored", counters.ignored),
+        ("dropped", counters.dropped),
+    ];
+    push_samples(text, name, "outcome", &samples)
+}
+
+/// Adds how many exchanges ended in each of the gateway's own answers.
+fn push_answers(text: &mut String, answers: &AnswerTally) -> Result<(), AllocError>
+    ensures { OnOk result (string_bytes text.new
+        ≡ string_bytes text.old ++ answers_text answers.now) }
+{
+    let name = "admission_answers_total";
+    let help = "Exchanges that ended in an answer of the gateway's own.";
+    push_head(text, name, "counter", help)?;
+    let samples = [
+        ("400", answers.bad_request),
+        ("413", answers.too_large),
+        ("429", answers.refused),
+        ("431", answers.head_too_large),
+        ("500", answers.out_of_memory),
+        ("501", answers.not_taken),
+        ("502", answers.bad_gateway),
+    ];
+    push_samples(text, name, "status", &samples)
+}
+
+/// Adds how often each trouble came.
+fn push_troubles(text: &mut String, troubles: &Troubles) -> Result<(), AllocError>
+    ensures { OnOk result (string_bytes text.new
+        ≡ string_bytes text.old ++ troubles_text troubles.now) }
+{
+    let name = "admission_troubles_total";
+    let help = "Troubles that the log tells of.";
+    push_head(text, name, "counter", help)?;
+    let samples = [
+        ("unreached", troubles.unreached),
+        ("broken", troubles.broken),
+        ("without-descriptor", troubles.without_descriptor),
+        ("all-taken", troubles.all_taken),
+    ];
+    push_samples(text, name, "trouble", &samples)
+}
+
+/// Adds how many workers there are, and how many of them serve a client.
+fn push_workers(text: &mut String, workers: &Workers) -> Result<(), AllocError>
+    ensures { OnOk result (string_bytes text.new
+        ≡ string_bytes text.old ++ workers_text workers.now) }
+{
+    let help = "Workers that the gateway was started with.";
+    push_gauge(text, "admission_workers", help, workers.count as u64)?;
+    let help = "Workers that serve a client.";
+    push_gauge(text, "admission_busy_workers", help, workers.busy as u64)
+}
+
+/// Adds for how long it has served, in seconds, and which version it is.
+fn push_program(text: &mut String, seconds: u64) -> Result<(), AllocError>
+    ensures { OnOk result (string_bytes text.new
+        ≡ string_bytes text.old ++ program_text seconds) }
+{
+    let help = "Whole seconds since the start.";
+    push_gauge(text, "admission_uptime_seconds", help, seconds)?;
+    let name = "admission_build_info";
+    let help = "Always 1, labelled with the version of the program.";
+    push_head(text, name, "gauge", help)?;
+    push_sample(text, name, "version", VERSION, 1)
+}

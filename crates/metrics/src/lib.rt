@@ -1,0 +1,12 @@
+//! What the operator's address shows.
+//!
+//! [`metrics_text`] tells a scraper what stands in a gate and what its gateway noted, as
+//! `specs/Metrics.antt` has it, family by family. [`PAGE`] draws it in a browser.
+#![tactic(auto)]
+
+mod exposition;
+mod families;
+mod page;
+
+pub use exposition::metrics_text;
+pub use page::PAGE;

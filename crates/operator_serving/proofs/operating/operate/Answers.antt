@@ -1,0 +1,13 @@
+use Rattle.operator_serving.specs.Attending.AreServed.{nobody, one_more}
+use Rattle.operator_serving.proofs.operating.operate.Goals as goal
+
+pub loop-init : goal.loop-init
+loop-init g c = (tt, tt, nobody c.args.desk.now)
+
+pub loop-preserved-in-Ok : goal.loop-preserved-in-Ok
+loop-preserved-in-Ok g c = (
+  tt,
+  tt,
+  one_more c.args.desk.now c.loop.desk c.serve_operator.new.desk c.loop.invariant.2
+      c.serve_operator.ensures,
+)

@@ -1,0 +1,18 @@
+-- What is seen and done at a desk.
+use Rattle.std.specs.Prelude.{ℕ, Bool, Result}
+use Rattle.gate_port.specs.declared.report.Report.{Report}
+use Rattle.serve_reports.specs.declared.noted.Noted.{Noted}
+use Rattle.operator_serving.specs.declared.desk.ChangeFault.{ChangeFault}
+
+-- what is seen: what stands in the gate; what was noted; whether clients are accepted
+pub data Sight : Type 0 where
+  Stands : Report → Sight
+  Notes : Noted → Sight
+  Accepts : Bool → Sight
+
+-- what is done: the limit was to be set to a number, and what came of it; it was to begin anew; no
+-- further client comes
+pub data Deed : Type 0 where
+  SetTo : ℕ → Result (Unit {0}) ChangeFault → Deed
+  Begun : Result (Unit {0}) ChangeFault → Deed
+  Drained : Deed

@@ -1,0 +1,77 @@
+// One exchange with an operator.
+ghost use Rattle.std.specs.Prelude.{◌≡◌, false, true};
+ghost use Rattle.counted_io.specs.Effects.{Wrote};
+ghost use Rattle.proxy.specs.Exchanges.{told_by};
+ghost use Rattle.proxy.specs.Table.{fault_status, local_or_nothing};
+ghost use Rattle.operator_serving.specs.Attending.{IsAttended};
+
+use crate::answering::{answer, write_local};
+use crate::desk::Desk;
+use counted_io::Counted;
+use operator_calls::read_call;
+use proxy::fault_status;
+use std::alloc::Global;
+use std::io::{BufRead, Write};
+use wire::{WireFault, read_request};
+
+/// What became of an operator's request.
+#[derive(Clone, Copy)]
+pub struct Attended {
+    /// Whether a request was read whole.
+    pub is_read: bool,
+    /// The status of its answer; none where nothing is written after a fault of reading.
+    pub answer: Option<u16>,
+    /// Whether all that was to be written was written and flushed.
+    pub is_written: bool,
+}
+
+/// Serves one connection of an operator's: reads a request, carries its call out at the desk, and
+/// answers with a status and a text. `host` is how the address is named, such as `127.0.0.1:9901`,
+/// and `page` the page that draws what stands.
+///
+/// After a fault of reading, or where the request is no call, the desk isn't changed; the client is
+/// answered with the fault's own status, after a fault of the reader, the writer or too many reads
+/// not at all. Out of memory is answered with 500, and then nothing was changed either.
+pub fn attend<D: Desk, R: BufRead, W: Write>(
+    alloc: Global,
+    host: &str,
+    page: &str,
+    desk: &mut D,
+    reader: &mut Counted<R>,
+    writer: &mut Counted<W>,
+) -> Attended
+    ensures { IsAttended D.rows D.shows D.does host.now page.now desk.old desk.new
+        (told_by R.remaining reader.old) (told_by R.remaining reader.new)
+        (told_by W.contents writer.old) (told_by W.contents writer.new) result }
+{
+    let request = match read_request(alloc, reader, writer) {
+        Ok(request) => request,
+        Err(fault) => return unread(fault, writer),
+    };
+    let call = read_call(&request, host);
+    let (status, is_written) = answer(alloc, page, desk, &call, &request.method, writer);
+    Attended {
+        is_read: true,
+        answer: Some(status),
+        is_written,
+    }
+}
+
+/// Answers a request that was not read.
+fn unread<W: Write>(fault: WireFault, writer: &mut Counted<W>) -> Attended
+    ensures unread { result.is_read ≡ false }
+    ensures answer { result.answer ≡ fault_status fault }
+    ensures text { result.is_written ≡ true → Wrote W.contents writer.old writer.new
+        (local_or_nothing (fault_status fault)) }
+{
+    let answer = fault_status(fault);
+    let is_written = match answer {
+        Some(status) => write_local(writer, status),
+        None => !matches!(fault, WireFault::Write),
+    };
+    Attended {
+        is_read: false,
+        answer,
+        is_written,
+    }
+}

@@ -1,0 +1,64 @@
+// What an operator looks at and changes.
+ghost use Rattle.std.specs.Prelude.{◌≡◌};
+ghost use Rattle.operator_serving.specs.Desk.Deed.{SetTo, Begun, Drained};
+ghost use Rattle.operator_serving.specs.Desk.Sight.{Stands, Notes, Accepts};
+
+use gate_port::Report;
+use partitions::PartitionTable;
+use serve_reports::Noted;
+
+/// Why a limit stays as it is.
+#[derive(Clone, Copy)]
+pub enum ChangeFault {
+    /// A limit of this kind isn't set by hand.
+    NotSettable,
+    /// The number is below the least limit or above the greatest one.
+    OutOfRange,
+    /// The history is exhausted.
+    Exhausted,
+}
+
+/// Where an operator looks at a gateway that serves, and changes it.
+pub trait Desk {
+    ghost use Rattle.std.specs.Prelude.{List};
+    ghost use Rattle.partitions.specs.Table.{Row};
+    ghost use Rattle.operator_serving.specs.Desk.{Deed, Sight};
+
+    // The classes, with their shares.
+    ghost rows: { Self → List Row };
+
+    // What is seen at it.
+    ghost shows: { Self → Sight → Type 0 };
+
+    // What is done at it, before and after.
+    ghost does: { Self → Self → Deed → Type 0 };
+
+    /// The classes of callers.
+    fn table(&self) -> &PartitionTable
+        ensures { result.now ≡ rows self.now };
+
+    /// What stands in the gate.
+    fn report(&self) -> Report
+        ensures { shows self.now (Stands result) };
+
+    /// What was noted of exchanges and troubles.
+    fn noted(&self) -> Noted
+        ensures { shows self.now (Notes result) };
+
+    /// Whether clients are accepted: nobody drained the gateway.
+    fn is_accepting(&self) -> bool
+        ensures { shows self.now (Accepts result) };
+
+    /// Sets the limit to so many permits, where its kind is set by hand and the number is in its
+    /// range.
+    fn set_limit(&mut self, n: u32) -> Result<(), ChangeFault>
+        ensures { does self.old self.new (SetTo n result) };
+
+    /// Lets the algorithm of the limit begin anew. Its one fault is `Exhausted`.
+    fn reset(&mut self) -> Result<(), ChangeFault>
+        ensures { does self.old self.new (Begun result) };
+
+    /// Lets no further client come. Those inside are served.
+    fn drain(&mut self)
+        ensures { does self.old self.new Drained };
+}

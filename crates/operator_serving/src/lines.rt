@@ -1,0 +1,50 @@
+// The header lines of an answer.
+ghost use Rattle.std.specs.Prelude.{◌≡◌, IfOk};
+ghost use Rattle.message_text.specs.Line.{line_of};
+ghost use Rattle.operator_serving.specs.Telling.{lines_of, media_of};
+
+use message_parts::{HeadText, Header, Headers, Piece};
+use operator_calls::{Call, Refusal};
+use std::alloc::{AllocError, Global};
+
+/// The header lines of what is told of a call or a refusal. It fails only out of memory.
+pub(crate) fn make_lines(alloc: Global, call: &Result<Call, Refusal>) -> Result<Headers, AllocError>
+    ensures { IfOk result (λ lines. lines ≡ lines_of call.now) }
+{
+    let mut lines = Vec::new(alloc);
+    lines.push(line(alloc, "Content-Type", media(call))?)?;
+    lines.push(line(alloc, "Cache-Control", "no-store")?)?;
+    if let Err(Refusal::OtherMethod(verb)) = call {
+        lines.push(line(alloc, "Allow", verb.name())?)?;
+    }
+    Ok(Headers::new(lines))
+}
+
+/// The type of what is told.
+fn media(call: &Result<Call, Refusal>) -> &'static str
+    ensures { result.now ≡ media_of call.now }
+{
+    match call {
+        Ok(Call::Page) => "text/html; charset=utf-8",
+        Ok(Call::Metrics) => "text/plain; version=0.0.4; charset=utf-8",
+        _ => "text/plain; charset=utf-8",
+    }
+}
+
+/// A header line. It fails only out of memory.
+fn line(alloc: Global, name: &str, value: &str) -> Result<Header, AllocError>
+    ensures { IfOk result (λ line. line ≡ line_of name.now value.now) }
+{
+    Ok(Header {
+        name: piece(alloc, name)?,
+        value: piece(alloc, value)?,
+    })
+}
+
+/// A piece with a text of its own. It fails only out of memory.
+fn piece(alloc: Global, text: &str) -> Result<Piece, AllocError>
+    ensures { IfOk result (λ piece. piece ≡ text.now) }
+{
+    let whole = HeadText::new(alloc, Vec::from_slice(alloc, text.as_bytes())?)?;
+    whole.piece(0, text.len())
+}
