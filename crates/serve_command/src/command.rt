@@ -8,7 +8,7 @@ ghost use Rattle.serve_command.specs.ServiceFault.{service_fault_text};
 use crate::config_text::ConfigText;
 use crate::fault::{ServiceFault, tell_service_fault};
 use crate::gateway::serve_gateway;
-use crate::logging::log_listening;
+use crate::logging::{log_listening, log_unbound};
 use clocks::ProgramClock;
 use config_check::{read_bytes, read_file_text};
 use counted_io::Counted;
@@ -21,7 +21,7 @@ use serving::WorkerSettings;
 use std::alloc::Global;
 use std::fs::Files;
 use std::io::Write;
-use std::net::{Net, SocketAddr};
+use std::net::{Net, SocketAddr, SocketAddrV4};
 use std::sync::Wait;
 use std::thread::Threads;
 use std::time::Clock as SystemClock;
@@ -129,9 +129,7 @@ where
     requires few { service.now.workers ≤ 64 }
     ensures { IfErr result IsOfServing }
 {
-    let Ok(front) = BoundListener::bind(rt, SocketAddr::V4(settings.listen.socket())) else {
-        return Err(ServiceFault::Listen);
-    };
+    let front = bind(rt, settings.listen.socket())?;
     log_listening(rt, alloc, settings, service.workers);
     let clock = ProgramClock::start(rt);
     let watch = Watcher::new(rt, alloc, service.workers);
@@ -146,6 +144,19 @@ where
         alloc,
     };
     Ok(serve_gateway(rt, &common, settings, service.workers as usize)?)
+}
+
+/// What listens at an address; where it can't be bound, the log has the system's reason.
+fn bind<R: Net + Log>(rt: &R, address: SocketAddrV4) -> Result<BoundListener, ServiceFault>
+    ensures { IfErr result IsOfServing }
+{
+    match BoundListener::bind(rt, SocketAddr::V4(address)) {
+        Ok(listener) => Ok(listener),
+        Err(error) => {
+            log_unbound(rt, address, &error);
+            Err(ServiceFault::Listen)
+        }
+    }
 }
 
 /// So many seconds in nanoseconds.

@@ -6,9 +6,10 @@ ghost use Rattle.serve_command.specs.Command.{most_inside};
 use crate::descriptors::most_descriptors;
 use gate_config::Settings;
 use limit_laws::Limit;
-use log::{Log, info, warn};
+use log::{Log, error, info, warn};
 use std::alloc::Global;
 use std::fs::Files;
+use std::io::Error;
 use std::net::SocketAddrV4;
 
 /// The most workers.
@@ -43,6 +44,11 @@ pub(crate) fn log_listening<R: Files + Log>(
     }
     let limit = settings.limit.kind();
     info!(rt; target: "admission", address:%, workers, limit; "listening");
+}
+
+/// Logs why an address can't be bound.
+pub(crate) fn log_unbound<R: Log>(rt: &R, address: SocketAddrV4, error: &Error) {
+    error!(rt; target: "admission", address:%, error:%; "the address can't be bound");
 }
 
 /// Logs a warning where each worker with a client and a backend would want more descriptors than
