@@ -8,66 +8,25 @@ exchange after the start: the difference of two runs, divided by the difference 
 import pathlib
 import re
 import shutil
-import socket
 import subprocess
 import sys
 import tempfile
-import threading
-import time
+
+from one_worker import WAITING, ask, between
 
 CALLS = ("malloc", "realloc", "free")
 FEW, MANY = 10, 60
-WAITING = 60
-CONFIG = """version = 1
-listen = "127.0.0.1:{port}"
-backend = "127.0.0.1:{origin}"
-backlog = 0
-[limit]
-kind = "fixed"
-initial = 4
-"""
 
 
-def lines(count):
+def lines(count: int) -> bytes:
     return b"".join(b"X-Field-%d: a value of some length, number %d\r\n" % (at, at) for at in range(count))
 
 
-def answer(listener, count):
-    """Answers each connection once its head has come, until the listener is closed."""
-    text = b"HTTP/1.1 200 OK\r\n%sContent-Length: 13\r\n\r\nhello, world\n" % lines(count - 1)
-    while True:
-        with listener.accept()[0] as caller:
-            head = b""
-            while b"\r\n\r\n" not in head:
-                head += caller.recv(65_536)
-            caller.sendall(text)
-
-
-def ask(port, count):
-    """One exchange, once the program listens."""
-    begun = time.monotonic()
-    while True:
-        try:
-            with socket.create_connection(("127.0.0.1", port)) as server:
-                server.sendall(b"GET /articles/today?page=2 HTTP/1.1\r\nHost: h\r\n%s\r\n" % lines(count - 1))
-                with server.makefile("rb") as said:
-                    status = said.read().split(b" ")[1]
-                assert status == b"200", f"answered {status}"
-                return
-        except ConnectionError:
-            if time.monotonic() - begun > WAITING:
-                sys.exit("allocations.py: the program doesn't listen")
-            time.sleep(0.2)
-
-
-def counted(program, room, count, exchanges):
+def counted(program: str, room: pathlib.Path, count: int, exchanges: int) -> list[int]:
     """The calls of one run with so many exchanges of so many lines."""
-    with socket.create_server(("127.0.0.1", 0)) as origin, socket.create_server(("127.0.0.1", 0)) as free:
-        port, behind = free.getsockname()[1], origin.getsockname()[1]
-        free.close()
-        threading.Thread(target=answer, args=(origin.dup(), count), daemon=True).start()
-        config = room / "gateway.toml"
-        config.write_text(CONFIG.format(port=port, origin=behind))
+    request = b"GET /articles/today?page=2 HTTP/1.1\r\nHost: h\r\n%s\r\n" % lines(count - 1)
+    text = b"HTTP/1.1 200 OK\r\n%sContent-Length: 13\r\n\r\nhello, world\n" % lines(count - 1)
+    with between(room, text) as (port, config):
         words = ["gdb", "-q", "-batch", "-ex", "set breakpoint pending on", "-ex", "set startup-with-shell off"]
         for number, name in enumerate(CALLS, 1):
             words += ["-ex", f"break {name}", "-ex", f"ignore {number} 1000000000"]
@@ -75,7 +34,7 @@ def counted(program, room, count, exchanges):
         gdb = subprocess.Popen([*words, "-ex", run, "-ex", "info breakpoints", program],
                                stdout=subprocess.PIPE, stderr=subprocess.STDOUT, text=True)
         for _ in range(exchanges):
-            ask(port, count)
+            ask(port, request)
         told = gdb.communicate(timeout=WAITING)[0]
     found = [int(hits) for hits in re.findall(r"already hit (\d+) time", told)]
     return found if len(found) == len(CALLS) else sys.exit(f"allocations.py: gdb says\n{told}")

@@ -12,61 +12,20 @@ import collections
 import pathlib
 import re
 import shutil
-import socket
 import subprocess
 import sys
 import tempfile
-import threading
-import time
+
+from one_worker import WAITING, ask, between
 
 FEW, MANY = 200, 2_200
-WAITING = 120
 REQUEST = b"GET / HTTP/1.1\r\nHost: 127.0.0.1:%d\r\nConnection: close\r\n\r\n"
 ANSWER = (b"HTTP/1.1 200 OK\r\nServer: nginx/1.22.1\r\nDate: Thu, 01 Jan 2026 00:00:00 GMT\r\n"
           b"Content-Type: text/plain\r\nContent-Length: 13\r\nConnection: close\r\n\r\nhello, world\n")
-CONFIG = """version = 1
-listen = "127.0.0.1:{port}"
-backend = "127.0.0.1:{origin}"
-wait = false
-backlog = 0
-[limit]
-kind = "fixed"
-initial = 64
-"""
 COSTS = ("alone", "with calls")
 
 
-def answer(listener):
-    """Answers each connection once its head has come, until the listener is closed."""
-    while True:
-        with listener.accept()[0] as caller:
-            head = b""
-            while b"\r\n\r\n" not in head:
-                more = caller.recv(65_536)
-                if not more:
-                    break
-                head += more
-            caller.sendall(ANSWER)
-
-
-def ask(port):
-    """One exchange, once the program listens."""
-    begun = time.monotonic()
-    while True:
-        try:
-            with socket.create_connection(("127.0.0.1", port)) as server:
-                server.sendall(REQUEST % port)
-                with server.makefile("rb") as said:
-                    status = said.read().split(b" ")[1]
-                assert status == b"200", f"answered {status}"
-                return
-        except ConnectionError:
-            if time.monotonic() - begun > WAITING:
-                sys.exit("profile.py: the program doesn't listen")
-            time.sleep(0.2)
-
-
-def counted(file):
+def counted(file: pathlib.Path) -> tuple[collections.Counter, collections.Counter]:
     """The instructions by function that callgrind wrote to a file: of functions alone, and with all that they call."""
     names, alone, whole = {}, collections.Counter(), collections.Counter()
     caller = callee = None
@@ -90,19 +49,15 @@ def counted(file):
     return alone, whole
 
 
-def run(program, room, exchanges):
+def run(program: str, room: pathlib.Path, exchanges: int) -> tuple[collections.Counter, collections.Counter]:
     """The instructions of one run with so many exchanges: of the functions alone, and with their calls."""
-    with socket.create_server(("127.0.0.1", 0)) as origin, socket.create_server(("127.0.0.1", 0)) as free:
-        port, behind = free.getsockname()[1], origin.getsockname()[1]
-        free.close()
-        threading.Thread(target=answer, args=(origin.dup(),), daemon=True).start()
-        config, out = room / "gateway.toml", room / f"callgrind.{exchanges}"
-        config.write_text(CONFIG.format(port=port, origin=behind))
+    out = room / f"callgrind.{exchanges}"
+    with between(room, ANSWER) as (port, config):
         words = ["valgrind", "-q", "--tool=callgrind", f"--callgrind-out-file={out}", program, "serve", str(config),
                  "--workers", "1", "--per-worker", str(exchanges)]
         process = subprocess.Popen(words, stdout=subprocess.DEVNULL, stderr=subprocess.PIPE, text=True)
         for _ in range(exchanges):
-            ask(port)
+            ask(port, REQUEST % port)
         _, said = process.communicate(timeout=WAITING)
     return counted(out) if out.exists() else sys.exit(f"profile.py: valgrind says\n{said}")
 
