@@ -7,6 +7,7 @@ use Rattle.limiter_core.specs.declared.event.Entry.{Entry}
 use Rattle.limiter_core.specs.History.{Gate, image_after}
 use Rattle.limiter_core.specs.Bound.{IsSound}
 use Rattle.limiter_core.specs.Counting.{counters_after}
+use Rattle.limiter_core.specs.declared.counters.Counters.{Counters}
 use Rattle.limiter_core.specs.Legal.{IsLegal}
 use Rattle.limiter_core.specs.Limiter.{Limiter, gate_of, stands}
 use Rattle.gate_journal.specs.Image.{image_of}
@@ -56,5 +57,6 @@ reported {S} rules m legal log b c report behind rows room promote own_rows own_
       told =
           is ∙ ap₂ (λ (g : Gate S) i. report_in g i c.counters) there (same ∙ leads)
           ∙ ap (report_in (limiter_of rules m) (image_after (limiter_of rules m) o log))
-          (counted ∙ behind.counted);
+          (counted ∙ behind.counted
+          ∙ ap (λ (first : Counters). counters_after first log) behind.unasked.uncounted);
     }

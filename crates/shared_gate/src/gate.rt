@@ -11,7 +11,7 @@ ghost use Rattle.shared_gate.specs.Calls.{Tells, Gets, Waits, Claims, GivesUp, E
 ghost use Rattle.shared_gate.specs.Calls.{HandsNothing, pass_of, plainly};
 ghost use Rattle.shared_gate.specs.Closing.{FailsBy, IsKept, calls_by};
 ghost use Rattle.shared_gate.specs.Log.{MeansAtLeast};
-ghost use Rattle.shared_gate.specs.Reported.{IsReportOf};
+ghost use Rattle.shared_gate.specs.Reported.{AreCountersOf, IsReportOf};
 
 use crate::answers::{Claimed, GaveUp, Got, Waited};
 use crate::closing::{AuditFault, count_calls, judge};
@@ -86,8 +86,11 @@ impl<L: Limit, M: GateNaming> SharedGate<L, M> {
     }
 
     /// How many replies, promotions and outcomes of each kind there were so far.
-    pub fn counters(&self, rt: &impl Wait) -> Counters {
-        self.book.lock(rt).book.journal().core().counters()
+    pub fn counters(&self, rt: &impl Wait) -> Counters
+        ensures { AreCountersOf L.rules
+            (made_as M.rows M.room M.promote M.kept M.is_rolling M.limit) result }
+    {
+        self.report(rt).counters
     }
 
     /// What stands at one moment, and the counters so far. It makes no step of the history, and
