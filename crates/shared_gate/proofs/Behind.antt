@@ -17,8 +17,8 @@ use Rattle.gate_journal.specs.Rolling.{IsLastStretch, StretchesJoin, continued, 
 use Rattle.gate_journal.specs.Rolling.{standing}
 use Rattle.gate_ledgers.specs.Course.{Change}
 use Rattle.gate_ledgers.specs.Told.{Told}
-use Rattle.gate_history.specs.declared.step.Handed.{Handed}
 use Rattle.gate_history.specs.Book.{Agrees, Book, IsUnasked, calls_of}
+use Rattle.gate_history.specs.Handing.{Given}
 use Rattle.gate_history.specs.Steps.{IsDone}
 use Rattle.shared_gate.specs.Log.{IsBehind, MeansAtLeast}
 use Rattle.shared_gate.proofs.Promoted.{one, one_call}
@@ -174,8 +174,8 @@ module _ {S : Type 0} (rules : Algorithm S) (j : Journal S) (e : Event)
 
 -- A STEP of the book that is done, where the pick is what the journal has from the log's next
 -- number on
-module _ {S N : Type 0} (rules : Algorithm S) (old new : Book S) (before after : ℕ) (e : Event)
-    (told : Told) (got : Handed N) (d : IsDone rules old new before after e told got)
+module _ {S : Type 0} (rules : Algorithm S) (old new : Book S) (before after : ℕ) (e : Event)
+    (told : Told) (got : Given) (d : IsDone rules old new before after e told got)
     (same : answered rules (ready rules old.journal) e ≡ answered rules old.journal e)
     (limit : List Change → ℕ) (legal : List Entry → Type 0) (log : List Entry)
     (behind : IsBehind rules limit legal log old)

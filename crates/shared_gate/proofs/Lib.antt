@@ -2,6 +2,7 @@ mod Beginnings
 mod Behind
 mod Closings
 mod Gathering
+mod Getting
 mod Opened
 mod Promoted
 mod Reporting

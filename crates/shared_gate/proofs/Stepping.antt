@@ -1,21 +1,22 @@
 -- The log behind a step, done or exhausted.
 use Rattle.std.proofs.Common.{◌≡◌, ℕ, zero, suc, ◌-◌, List, [], ◌∷◌, ◌++◌, length, drop}
+use Rattle.std.proofs.Common.{Result, Ok, Err}
 use Rattle.std.proofs.Common.{refl, ap, sym, ◌∙◌, subst, arith}
 use Rattle.std.proofs.lemmas.List.{append-nil}
 use mathlib.Core.List.{IsPrefix}
 use Rattle.limit_laws.specs.Algorithm.{Algorithm}
 use Rattle.limiter_core.specs.declared.event.Event.{Event}
 use Rattle.limiter_core.specs.declared.event.Entry.{Entry}
-use Rattle.limiter_core.specs.Bound.{IsSound}
 use Rattle.limiter_core.specs.Laws.{CountersAddUp}
-use Rattle.gate_journal.specs.Journal.{Journal, answered, gate, image, next_number}
+use Rattle.gate_journal.specs.Journal.{Journal, answered, next_number}
 use Rattle.gate_journal.specs.Rolling.{StretchesJoin, ready}
 use Rattle.gate_ledgers.specs.Course.{Change}
-use Rattle.gate_history.specs.declared.step.Step.{Step}
-use Rattle.gate_history.specs.declared.step.Step.TheVariants.{Done, Exhausted}
+use Rattle.gate_ledgers.specs.Told.{Told}
 use Rattle.gate_history.specs.Book.{Book}
-use Rattle.gate_history.specs.Steps.{Steps}
-use Rattle.shared_gate.specs.Calls.{Pass, Tells}
+use Rattle.gate_history.specs.Handing.{Given}
+use Rattle.gate_history.specs.Refusal.{Refusal}
+use Rattle.gate_history.specs.Steps.{StepsTo}
+use Rattle.shared_gate.specs.Calls.{Pass, TellsOf}
 use Rattle.shared_gate.specs.Log.{IsBehind}
 use Rattle.shared_gate.proofs.Behind.{behind_then, longer_is, next_then, number_is}
 use Rattle.shared_gate.proofs.Telling.{tells, tells_spent}
@@ -45,21 +46,23 @@ module _ {S : Type 0} (rules : Algorithm S) (old new : Book S) (limit : List Cha
   none_added : log ++ picked log next ≡ log
   none_added = ap (λ (h : List Entry). log ++ h) none_picked ∙ append-nil log
 
-module _ {S N : Type 0} (rules : Algorithm S) (old new : Book S) (before after : ℕ) (e : Event)
+module _ {S : Type 0} (rules : Algorithm S) (old new : Book S) (before after : ℕ) (e : Event)
     (same : answered rules (ready rules old.journal) e ≡ answered rules old.journal e)
     (limit : List Change → ℕ) (legal : List Entry → Type 0) (log : List Entry)
     (behind : IsBehind rules limit legal log old)
     (next : Journal S) (is : next ≡ new.journal) where
-  pub sealed_after : (step : Step N) → Steps rules old new before after e step
+  pub sealed_after : (told : Result Told Refusal) (got : Given)
+      → StepsTo rules old new before after e told got
       → new.is_sealed ≡ old.is_sealed
-  sealed_after (Done told got) d = d.is_sealed
-  sealed_after (Exhausted refusal got) d = ap (λ (b : Book S). b.is_sealed) d.same
+  sealed_after (Ok told) got d = d.is_sealed
+  sealed_after (Err refusal) got d = ap (λ (b : Book S). b.is_sealed) d.same
 
-  pub next_after : (step : Step N) → Steps rules old new before after e step
+  pub next_after : (told : Result Told Refusal) (got : Given)
+      → StepsTo rules old new before after e told got
       → next_number next ≡ length (log ++ picked log next)
-  next_after (Done told got) d =
+  next_after (Ok told) got d =
       next_then rules old new before after e told got d same limit legal log behind next is
-  next_after (Exhausted refusal got) d =
+  next_after (Err refusal) got d =
       ap next_number (is ∙ ap (λ (b : Book S). b.journal) d.same)
       ∙ number_is rules limit legal old log behind
       ∙ ap (λ (h : List Entry). length h)
@@ -67,29 +70,29 @@ module _ {S N : Type 0} (rules : Algorithm S) (old new : Book S) (before after :
 
   -- the log after it
   module _ (longer : List Entry) (raised : longer ≡ log ++ picked log next) where
-    pub behind_after : StretchesJoin rules → CountersAddUp → (step : Step N)
-        → Steps rules old new before after e step → IsBehind rules limit legal longer new
-    behind_after join add (Done told got) d =
+    pub behind_after : StretchesJoin rules → CountersAddUp
+        → (told : Result Told Refusal) (got : Given)
+        → StepsTo rules old new before after e told got → IsBehind rules limit legal longer new
+    behind_after join add (Ok told) got d =
         behind_then rules old new before after e told got d same limit legal log behind next is
         longer raised join add
-    behind_after join add (Exhausted refusal got) d =
+    behind_after join add (Err refusal) got d =
         subst (λ (h : List Entry). IsBehind rules limit legal h new)
         (sym (raised ∙ none_added rules old new limit legal log behind next is d.same))
         (subst (λ (b : Book S). IsBehind rules limit legal log b) (sym d.same) behind)
 
     -- WHAT IT TELLS, where the pass knew a beginning of the log before it, and knows the log then
     pub tells_of : (known now : Pass) → known.count ≡ before → now.count ≡ after
-        → IsSound (gate rules old.journal) (image rules old.journal)
-        → IsPrefix known.log log → now.log ≡ longer → (step : Step N)
-        → Steps rules old new before after e step → Tells known now e step
-    tells_of known now first second sound begins knows (Done told got) d =
-        tells rules old new known now e told got log sound
+        → IsPrefix known.log log → now.log ≡ longer → (told : Result Told Refusal) (got : Given)
+        → StepsTo rules old new before after e told got → TellsOf known now e told got
+    tells_of known now first second begins knows (Ok told) got d =
+        tells rules old new known now e told got log
         (rw (first, second) d)
         (number_is rules limit legal old log behind) begins
         (knows
         ∙ longer_is rules old new before after e told got d same limit legal log behind next is
         longer raised)
-    tells_of known now first second sound begins knows (Exhausted refusal got) d =
+    tells_of known now first second begins knows (Err refusal) got d =
         tells_spent rules old new known now e refusal got log
         (rw (first, second) d)
         (number_is rules limit legal old log behind) begins

@@ -12,19 +12,18 @@ use Rattle.limiter_core.specs.declared.event.PermitFacts.{PermitFacts}
 use Rattle.limiter_core.specs.declared.event.Reply.TheVariants as reply
 use Rattle.gate_ledgers.specs.Told.{Told}
 use Rattle.gate_history.specs.Book.{calls_of}
-use Rattle.gate_history.specs.declared.step.Handed.TheVariants as handed
 use Rattle.gate_history.specs.declared.step.Step.{Step}
-use Rattle.gate_history.specs.declared.step.Step.TheVariants as step
+use Rattle.gate_history.specs.Handing.{Given, given_by, told_of}
 use Rattle.gate_history.specs.Refusal.{Refusal}
-use Rattle.shared_gate.specs.declared.answers.Got.{Got}
-use Rattle.shared_gate.specs.declared.answers.Got.TheVariants as got
+use Rattle.gate_history.specs.Replies.{Answers, HandsBack, IsOf, IsOwn, WasGranted}
+use Rattle.gate_history.specs.declared.answers.Got.{Got}
+use Rattle.gate_history.specs.declared.answers.Got.TheVariants as got
 use Rattle.shared_gate.specs.declared.answers.Waited.{Waited}
 use Rattle.shared_gate.specs.declared.answers.Waited.TheVariants as waited
-use Rattle.shared_gate.specs.declared.answers.Claimed.{Claimed}
-use Rattle.shared_gate.specs.declared.answers.Claimed.TheVariants as claimed
-use Rattle.shared_gate.specs.declared.answers.GaveUp.{GaveUp}
-use Rattle.shared_gate.specs.declared.answers.GaveUp.TheVariants as gave_up
-use Rattle.shared_gate.specs.Answers.{Answers, HandsBack, IsOf, IsOwn, WasGranted}
+use Rattle.gate_history.specs.declared.answers.Claimed.{Claimed}
+use Rattle.gate_history.specs.declared.answers.Claimed.TheVariants as claimed
+use Rattle.gate_history.specs.declared.answers.GaveUp.{GaveUp}
+use Rattle.gate_history.specs.declared.answers.GaveUp.TheVariants as gave_up
 
 -- a pass: how many calls were made by it, and the beginning of the gate's log that it knows
 pub record Pass : Type 0 where
@@ -64,12 +63,14 @@ pub record IsUntold (before after : Pass) (e : Event) (refusal : Refusal) : Type
   pub next : refusal.next ≡ seen_by after
   pub unseen : seen_by before ≤ refusal.next
 
--- a step, without what it did under the lock
+-- a step, without what it did under the lock, by what the caller is told and given
+abbrev pub TellsOf : Pass → Pass → Event → Result Told Refusal → Given → Type 0
+TellsOf before after e (Ok told) got =
+    IsTold before after e told × Answers told.number e told.reply got
+TellsOf before after e (Err refusal) got = IsUntold before after e refusal × HandsBack e got
+
 abbrev pub Tells : {M : Type 0} → Pass → Pass → Event → Step M → Type 0
-Tells before after e (step.Done told handed) =
-    IsTold before after e told × Answers told.number e told.reply handed
-Tells before after e (step.Exhausted refusal handed) =
-    IsUntold before after e refusal × HandsBack e handed
+Tells before after e step = TellsOf before after e (told_of step) (given_by step)
 
 -- the receipt of an acquire that waits
 abbrev pub IsQueued : Pass → Pass → Part → ℕ → Told → Type 0
@@ -157,13 +158,3 @@ GivesUp before after named (gave_up.Exhausted spent) =
 abbrev pub Changes : Pass → Pass → Event → Result Told Refusal → Type 0
 Changes before after e (Ok receipt) = IsTold before after e receipt × IsOf e receipt.reply
 Changes before after e (Err refusal) = IsUntold before after e refusal
-
--- a step that hands nothing out or back, and what it tells
-abbrev pub HandsNothing : {M : Type 0} → Step M → Type 0
-HandsNothing (step.Done told handed.Nothing) = Unit {0}
-HandsNothing (step.Exhausted refusal handed.Nothing) = Unit {0}
-HandsNothing _ = ⊥
-
-abbrev pub plainly : {M : Type 0} → Step M → Result Told Refusal
-plainly (step.Done told handed) = Ok told
-plainly (step.Exhausted refusal handed) = Err refusal

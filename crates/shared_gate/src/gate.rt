@@ -8,12 +8,12 @@ ghost use Rattle.gate_history.specs.Book.{calls_of, made_as};
 ghost use Rattle.gate_history.specs.Handing.{IsChange};
 ghost use Rattle.gate_history.specs.Steps.{event_of};
 ghost use Rattle.shared_gate.specs.Calls.{Tells, Gets, Waits, Claims, GivesUp, Ends, Changes};
-ghost use Rattle.shared_gate.specs.Calls.{HandsNothing, pass_of, plainly};
+ghost use Rattle.shared_gate.specs.Calls.{pass_of};
 ghost use Rattle.shared_gate.specs.Closing.{FailsBy, IsKept, calls_by};
 ghost use Rattle.shared_gate.specs.Log.{MeansAtLeast};
 ghost use Rattle.shared_gate.specs.Reported.{AreCountersOf, IsReportOf};
 
-use crate::answers::{Claimed, GaveUp, Got, Waited};
+use crate::answers::Waited;
 use crate::closing::{AuditFault, count_calls, judge};
 use crate::naming::GateNaming;
 use crate::pass::{Pass, with_readers};
@@ -21,12 +21,12 @@ use crate::sealed::Sealed;
 use crate::word::Word;
 use clocks::Clock;
 use gate_history::{
-    Book, Call, Entry, Handed, History, Naming, Permit, Receipt, Spent, Step, Ticket,
+    Book, Call, Claimed, Entry, GaveUp, Got, History, Permit, Receipt, Spent, Step, Ticket,
 };
 use gate_port::Report;
 use gate_word::SharedWord;
 use limit_laws::Limit;
-use limiter_core::{Counters, Outcome, Reply};
+use limiter_core::{Counters, Outcome};
 use partitions::Part;
 use std::alloc::{AllocError, Global};
 use std::sync::{Condvar, Mutex, Wait};
@@ -121,23 +121,7 @@ impl<L: Limit, M: GateNaming> SharedGate<L, M> {
             wait,
             now,
         };
-        match self.step(rt, pass, call) {
-            Step::Done(receipt, handed) => match handed {
-                Handed::Permit(permit) => Got::Admitted(receipt, permit),
-                Handed::Ticket(ticket) => Got::Waiting(receipt, ticket),
-                Handed::Nothing => match receipt.reply() {
-                    Reply::Bypassed => Got::Bypassed(receipt),
-                    Reply::Full => Got::Full(receipt),
-                    Reply::BacklogFull => Got::BacklogFull(receipt),
-                    _ => unreachable!(),
-                },
-            },
-            Step::Exhausted(spent, handed) => match handed {
-                Handed::Nothing => Got::Exhausted(spent),
-                Handed::Permit(_permit) => unreachable!(),
-                Handed::Ticket(_ticket) => unreachable!(),
-            },
-        }
+        self.step(rt, pass, call).into_got()
     }
 
     /// Asks for a permit, and where there is no room waits for one until the clock reaches the
@@ -214,13 +198,9 @@ impl<L: Limit, M: GateNaming> SharedGate<L, M> {
         };
         let step = self.step(rt, pass, call);
         self.wake_behind(&step);
-        match step {
-            Step::Done(receipt, handed) => match handed {
-                Handed::Nothing => receipt,
-                Handed::Permit(_permit) => unreachable!(),
-                Handed::Ticket(_ticket) => unreachable!(),
-            },
-            Step::Exhausted(_spent, _handed) => unreachable!(),
+        match step.into_receipt() {
+            Ok(receipt) => receipt,
+            Err(_spent) => unreachable!(),
         }
     }
 
@@ -233,39 +213,14 @@ impl<L: Limit, M: GateNaming> SharedGate<L, M> {
     pub fn claim(&self, rt: &impl Wait, pass: &mut Pass<M>, ticket: Ticket<M>) -> Claimed<M>
         ensures { Claims pass.old pass.new ticket result }
     {
-        match self.step(rt, pass, Call::Claim { ticket }) {
-            Step::Done(receipt, handed) => match handed {
-                Handed::Permit(permit) => Claimed::Granted(receipt, permit),
-                Handed::Ticket(ticket) => Claimed::StillWaiting(receipt, ticket),
-                Handed::Nothing => Claimed::Lost(receipt),
-            },
-            Step::Exhausted(spent, handed) => match handed {
-                Handed::Ticket(ticket) => Claimed::Exhausted(spent, ticket),
-                Handed::Nothing => unreachable!(),
-                Handed::Permit(_permit) => unreachable!(),
-            },
-        }
+        self.step(rt, pass, Call::Claim { ticket }).into_claimed()
     }
 
     /// Ends the wait of a waiter; a permit that it was given meanwhile is the caller's.
     pub fn give_up(&self, rt: &impl Wait, pass: &mut Pass<M>, ticket: Ticket<M>) -> GaveUp<M>
         ensures { GivesUp pass.old pass.new ticket result }
     {
-        match self.step(rt, pass, Call::GiveUp { ticket }) {
-            Step::Done(receipt, handed) => match handed {
-                Handed::Permit(permit) => GaveUp::Granted(receipt, permit),
-                Handed::Ticket(_ticket) => unreachable!(),
-                Handed::Nothing => match receipt.reply() {
-                    Reply::TimedOut => GaveUp::TimedOut(receipt),
-                    _ => GaveUp::Lost(receipt),
-                },
-            },
-            Step::Exhausted(spent, handed) => match handed {
-                Handed::Nothing => GaveUp::Exhausted(spent),
-                Handed::Permit(_permit) => unreachable!(),
-                Handed::Ticket(_ticket) => unreachable!(),
-            },
-        }
+        self.step(rt, pass, Call::GiveUp { ticket }).into_gave_up()
     }
 
     /// Sets the limit by hand, and wakes all who wait.
@@ -363,25 +318,6 @@ impl<L: Limit, M: GateNaming> SharedGate<L, M> {
         requires { IsChange (event_of call) }
         ensures { Changes pass.old pass.new (event_of call) result }
     {
-        plain(self.step(rt, pass, call))
-    }
-}
-
-/// What a step tells that hands nothing out.
-fn plain<M: Naming>(step: Step<M>) -> Result<Receipt<M>, Spent<M>>
-    requires { HandsNothing step }
-    ensures { result ≡ plainly step }
-{
-    match step {
-        Step::Done(receipt, handed) => match handed {
-            Handed::Nothing => Ok(receipt),
-            Handed::Permit(_permit) => unreachable!(),
-            Handed::Ticket(_ticket) => unreachable!(),
-        },
-        Step::Exhausted(spent, handed) => match handed {
-            Handed::Nothing => Err(spent),
-            Handed::Permit(_permit) => unreachable!(),
-            Handed::Ticket(_ticket) => unreachable!(),
-        },
+        self.step(rt, pass, call).into_receipt()
     }
 }

@@ -22,11 +22,12 @@ mod pass;
 mod sealed;
 mod word;
 
-pub use answers::{Claimed, GaveUp, Got, Waited};
+pub use answers::Waited;
 pub use audit::Cause;
 pub use clocks::{Clock, ProgramClock};
 pub use closing::AuditFault;
 pub use gate::SharedGate;
+pub use gate_history::{Claimed, GaveUp, Got};
 pub use gate_port::Report;
 pub use laws::{
     accepted_histories_are_one_threads, receipts_of_a_pass_rise, running_gates_are_one_threads,

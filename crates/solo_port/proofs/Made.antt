@@ -1,9 +1,8 @@
 -- What a step of a book adds and hands out, as its port sees it.
 use Rattle.std.proofs.Common.{◌≡◌, ℕ, zero, suc, ◌+◌, ◌≤◌, nat_lt, Bool, true, false, not, ◌&&◌, ◌||◌, cond}
-use Rattle.std.proofs.Common.{List, [], ◌∷◌, ◌++◌, length, Option, None, Some}
-use Rattle.std.proofs.Common.{All, refl, sym, ap, ◌∙◌, subst, arith, rules, true≢false}
+use Rattle.std.proofs.Common.{List, [], ◌∷◌, ◌++◌, length, Option, None, Some, Result, Ok, Err}
+use Rattle.std.proofs.Common.{All, refl, sym, ap, ◌∙◌, subst, rules, true≢false}
 use Rattle.limit_laws.specs.Algorithm.{Algorithm}
-use Rattle.limit_laws.specs.Facts.{moment}
 use Rattle.partitions.specs.declared.part.Part.{Part}
 use Rattle.partitions.specs.Table.{place_of}
 use Rattle.lifo_backlog.specs.declared.waiter.Waiter.{Waiter}
@@ -17,61 +16,23 @@ use Rattle.limiter_core.specs.declared.event.Entry.TheVariants.{Call, Promotion}
 use Rattle.limiter_core.specs.declared.event.PermitFacts.{PermitFacts}
 use Rattle.limiter_core.specs.declared.promote.Promote.{Promote}
 use Rattle.limiter_core.specs.declared.promote.Promote.TheVariants as rule
-use Rattle.limiter_core.specs.History.{Gate, Image, image_after, permit_of, total}
+use Rattle.limiter_core.specs.History.{Gate, Image, image_after, total}
 use Rattle.limiter_core.specs.Answer.{candidates, counting, granted_of, granted_or, has_room}
 use Rattle.limiter_core.specs.Answer.{moment_of, next_waiter, promoted, promotion, promotion_then}
 use Rattle.limiter_core.specs.Answer.{promotions, promotions_at, queued, reply_to, waits}
 use Rattle.gate_journal.specs.Journal.{Journal, answered, gate, image, is_over, opening}
 use Rattle.gate_journal.specs.Rolling.{continued, ready}
-use Rattle.gate_history.specs.declared.step.Handed.{Handed}
-use Rattle.gate_history.specs.declared.step.Handed.TheVariants as handed
-use Rattle.gate_history.specs.declared.step.Step.{Step}
-use Rattle.gate_history.specs.declared.step.Step.TheVariants.{Done, Exhausted}
+use Rattle.gate_ledgers.specs.Told.{Told}
 use Rattle.gate_history.specs.Book.{Book}
-use Rattle.gate_history.specs.Handing.{Given, given, given_back, given_by, nothing, permit, ticket}
-use Rattle.gate_history.specs.Steps.{Steps}
+use Rattle.gate_history.specs.Handing.{Given}
+use Rattle.gate_history.specs.Refusal.{Refusal}
+use Rattle.gate_history.specs.Steps.{StepsTo}
 use Rattle.gate_port.specs.Ending.{IsPromotion}
 use Rattle.gate_port.specs.Shown.{Shown, next_of}
-use Rattle.solo_port.specs.Solo.{Hands, HandsNothing, IsOfPort, Makes, MayExhaust, Queues, Records}
+use Rattle.solo_port.specs.Solo.{IsOfPort, MakesOf, MayExhaust, Queues, Records}
 use Rattle.solo_port.specs.Solo.{Waits, shown_of}
 use Rattle.solo_port.proofs.Grown.{adds_map, grows, next_ready}
 use Rattle.solo_port.proofs.LastWaiter.{last_waits}
-
-abbrev kind : Given → ℕ
-kind nothing = 0
-kind (permit facts) = 1
-kind (ticket number) = 2
-
-abbrev facts_or : PermitFacts → Given → PermitFacts
-facts_or other nothing = other
-facts_or other (permit facts) = facts
-facts_or other (ticket number) = other
-
-abbrev number_or : ℕ → Given → ℕ
-number_or other nothing = other
-number_or other (permit facts) = other
-number_or other (ticket number) = number
-
--- a fact of what is handed out, by what it gives
-module _ {N : Type 0} (X : Handed N → Type 0) where
-  for_nothing : X handed.Nothing → (got : Handed N) → given_by got ≡ nothing → X got
-  for_nothing x handed.Nothing is = x
-  for_nothing x (handed.Permit facts) is = absurd (omega (arith, ap kind is))
-  for_nothing x (handed.Ticket number) is = absurd (omega (arith, ap kind is))
-
-  for_permit : (facts : PermitFacts) → X (handed.Permit facts)
-      → (got : Handed N) → given_by got ≡ permit facts → X got
-  for_permit facts x handed.Nothing is = absurd (omega (arith, ap kind is))
-  for_permit facts x (handed.Permit other) is =
-      subst (λ (f : PermitFacts). X (handed.Permit f)) (sym (ap (facts_or facts) is)) x
-  for_permit facts x (handed.Ticket number) is = absurd (omega (arith, ap kind is))
-
-  for_ticket : (number : ℕ) → X (handed.Ticket number)
-      → (got : Handed N) → given_by got ≡ ticket number → X got
-  for_ticket number x handed.Nothing is = absurd (omega (arith, ap kind is))
-  for_ticket number x (handed.Permit facts) is = absurd (omega (arith, ap kind is))
-  for_ticket number x (handed.Ticket other) is =
-      subst (λ (n : ℕ). X (handed.Ticket n)) (sym (ap (number_or number) is)) x
 
 -- all promotions are some
 module _ {S : Type 0} (g : Gate S) where
@@ -167,16 +128,6 @@ module _ {S : Type 0} (rules : Algorithm S) (j : Journal S) where
   records (Reset now) port r is added all = absurd port
   records (Look part) port r is added all = absurd port
 
-  none_back : {N : Type 0} (e : Event) → IsOfPort e → (got : Handed N)
-      → given_by got ≡ given_back e → HandsNothing got
-  none_back (Acquire part bypass wait now) port = for_nothing HandsNothing tt
-  none_back (End ended outcome now) port = for_nothing HandsNothing tt
-  none_back (GiveUp number) port = for_nothing HandsNothing tt
-  none_back (Claim number) port = absurd port
-  none_back (SetLimit n now) port = absurd port
-  none_back (Reset now) port = absurd port
-  none_back (Look part) port = absurd port
-
   may : (e : Event) → is_over rules j e ≡ true → MayExhaust rules e j
   may (Acquire part bypass wait now) over = tt
   may (End ended outcome now) over = absurd (true≢false (sym over))
@@ -186,14 +137,11 @@ module _ {S : Type 0} (rules : Algorithm S) (j : Journal S) where
   may (Reset now) over = tt
   may (Look part) over = tt
 
-  module _ (N : Type 0) (new : Journal S) (number : ℕ)
-      (is : number ≡ j.opening.next + length j.entries)
+  module _ (new : Journal S) (number : ℕ) (is : number ≡ j.opening.next + length j.entries)
       (same : (e : Event) → answered rules (ready rules j) e ≡ answered rules j e) where
-    -- what a reply hands out, and who waits by it
+    -- who waits by a reply
     abbrev Fits : Event → Reply → Type 0
-    Fits e r =
-        ((got : Handed N) → given_by got ≡ given number e r → Hands number e r got)
-        × (new ≡ continued rules j e → own e ≡ r → Queues rules number r new)
+    Fits e r = new ≡ continued rules j e → own e ≡ r → Queues rules number r new
 
     queued_waits : (part : Part) (now : ℕ)
         → new ≡ continued rules j (Acquire part false true now)
@@ -212,42 +160,19 @@ module _ {S : Type 0} (rules : Algorithm S) (j : Journal S) where
         → Fits (Acquire part false wait now)
         (counting told (cond room (reply.Admitted (total (image rules j) + 1))
         (cond wait (cond behind reply.Waiting reply.BacklogFull) reply.Full)))
-    acquire_fits told part wait now true behind = (
-      for_permit (Hands number (Acquire part false wait now)
-          (reply.Admitted (total (image rules j) + 1)))
-          (permit_of number part (moment now) (total (image rules j) + 1)) refl,
-      λ goes r. tt,
-    )
-    acquire_fits told part true now false true = (
-      for_ticket (Hands number (Acquire part false true now) reply.Waiting) number refl,
-      queued_waits part now,
-    )
-    acquire_fits told part true now false false = (
-      for_nothing (Hands number (Acquire part false true now) reply.BacklogFull) tt,
-      λ goes r. tt,
-    )
-    acquire_fits told part false now false behind = (
-      for_nothing (Hands number (Acquire part false false now) reply.Full) tt,
-      λ goes r. tt,
-    )
+    acquire_fits told part wait now true behind = λ goes r. tt
+    acquire_fits told part true now false true = queued_waits part now
+    acquire_fits told part true now false false = λ goes r. tt
+    acquire_fits told part false now false behind = λ goes r. tt
 
     give_up_fits : (told n : ℕ) (o : Option PermitFacts) (b : Bool)
         → Fits (GiveUp n) (counting told (granted_or o (cond b reply.TimedOut reply.Lost)))
-    give_up_fits told n (Some one) b = (
-      for_permit (Hands number (GiveUp n) (reply.Granted one.part one.start one.inflight))
-          (permit_of n one.part one.start one.inflight) refl,
-      λ goes r. tt,
-    )
-    give_up_fits told n None true =
-        (for_nothing (Hands number (GiveUp n) reply.TimedOut) tt, λ goes r. tt)
-    give_up_fits told n None false =
-        (for_nothing (Hands number (GiveUp n) reply.Lost) tt, λ goes r. tt)
+    give_up_fits told n (Some one) b = λ goes r. tt
+    give_up_fits told n None true = λ goes r. tt
+    give_up_fits told n None false = λ goes r. tt
 
     reply_fits : (e : Event) → IsOfPort e → Fits e (own e)
-    reply_fits (Acquire part true wait now) port = (
-      for_nothing (Hands number (Acquire part true wait now) reply.Bypassed) tt,
-      λ goes r. tt,
-    )
+    reply_fits (Acquire part true wait now) port = λ goes r. tt
     reply_fits (Acquire part false wait now) port = acquires wait
       where
         acquires : (wait : Bool)
@@ -263,11 +188,7 @@ module _ {S : Type 0} (rules : Algorithm S) (j : Journal S) where
         acquires false =
             acquire_fits (length (follow (Acquire part false false now))) part false now
             (has_room (gate rules j) (image rules j) (place_of j.rows part)) true
-    reply_fits (End ended outcome now) port = (
-      for_nothing (Hands number (End ended outcome now)
-          (reply.Ended (length (follow (End ended outcome now))))) tt,
-      λ goes r. tt,
-    )
+    reply_fits (End ended outcome now) port = λ goes r. tt
     reply_fits (GiveUp n) port =
         give_up_fits (length (follow (GiveUp n))) n (granted_of (image rules j) n)
         (waits (image rules j) n)
@@ -277,39 +198,37 @@ module _ {S : Type 0} (rules : Algorithm S) (j : Journal S) where
     reply_fits (Look part) port = absurd port
 
 -- WHAT A STEP MAKES
-pub makes : {S N : Type 0} (rules : Algorithm S) (old new : Book S) (before after : ℕ) (e : Event)
-    (step : Step N) → IsOfPort e → 1 ≤ old.journal.kept
+pub makes : {S : Type 0} (rules : Algorithm S) (old new : Book S) (before after : ℕ) (e : Event)
+    (told : Result Told Refusal) (got : Given) → IsOfPort e → 1 ≤ old.journal.kept
     → ((x : Event)
     → answered rules (ready rules old.journal) x ≡ answered rules old.journal x)
-    → Steps rules old new before after e step → Makes rules old.journal new.journal e step
-makes {S} {N} rules old new before after e (Done told got) port some same did =
-    let j : Journal S = old.journal in
+    → StepsTo rules old new before after e told got
+    → MakesOf rules old.journal new.journal e told got
+makes rules old new before after e (Ok told) got port some same did =
+    let j = old.journal in
     let r : own rules j e ≡ told.reply =
     ap (λ (o : Option Entry). reply_of told.reply (entry_or (Call e (own rules j e)) o))
-    (sym did.reply) in
-    let fits : ((x : Handed N) → given_by x ≡ given told.number e told.reply
-    → Hands told.number e told.reply x)
-    × (new.journal ≡ continued rules j e → own rules j e ≡ told.reply
-    → Queues rules told.number told.reply new.journal) =
-    subst (λ (x : Reply). ((y : Handed N) → given_by y ≡ given told.number e x
-    → Hands told.number e x y)
-    × (new.journal ≡ continued rules j e → own rules j e ≡ x
-    → Queues rules told.number x new.journal)) r
-    (reply_fits rules j N new.journal told.number did.number same e port) in
-    record {
-      served = did.served;
-      adds = adds_map (shown_of j) (shown_of new.journal)
-          (λ s more. (told.number ≡ next_of s) × (more ≡ answered rules j e))
-          (λ s more. (told.number ≡ next_of s) × Records e told.reply more)
-          (grows rules j new.journal e told.number did.journal (same e) did.number some)
-          (λ (s : Shown) (more : List Entry) both.
-          (both.0, records rules j e port told.reply r more both.1));
-      hands = fits.0 got did.gives;
-      queues = fits.1 did.journal r;
-    }
-makes rules old new before after e (Exhausted refusal got) port some same did = record {
-  over = did.exhausted;
-  same = ap (λ (b : Book _). b.journal) did.same;
-  nothing = none_back rules old.journal e port got did.gives;
-  may = may rules old.journal e did.exhausted;
-}
+    (sym did.reply) in (
+      record {
+        served = did.served;
+        adds = adds_map (shown_of j) (shown_of new.journal)
+            (λ s more. (told.number ≡ next_of s) × (more ≡ answered rules j e))
+            (λ s more. (told.number ≡ next_of s) × Records e told.reply more)
+            (grows rules j new.journal e told.number did.journal (same e) did.number some)
+            (λ (s : Shown) (more : List Entry) both.
+            (both.0, records rules j e port told.reply r more both.1));
+        queues =
+            subst (λ (x : Reply). new.journal ≡ continued rules j e → own rules j e ≡ x
+            → Queues rules told.number x new.journal) r
+            (reply_fits rules j new.journal told.number did.number same e port) did.journal r;
+      },
+      did.answers,
+    )
+makes rules old new before after e (Err refusal) got port some same did = (
+  record {
+    over = did.exhausted;
+    same = ap (λ (b : Book _). b.journal) did.same;
+    may = may rules old.journal e did.exhausted;
+  },
+  did.back,
+)

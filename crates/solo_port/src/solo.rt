@@ -2,12 +2,12 @@
 ghost use Rattle.std.specs.Prelude.{◌≡◌};
 ghost use Rattle.gate_history.specs.Steps.{event_of};
 ghost use Rattle.gate_port.specs.Asking.{would_wait};
-ghost use Rattle.solo_port.specs.Solo.{IsOfPort, Makes};
+ghost use Rattle.solo_port.specs.Solo.{Gets, GivesUp, IsOfPort, Makes};
 
-use gate_history::{Book, Call, Handed, Naming, Pass, Permit, Receipt, Step};
+use gate_history::{Book, Call, GaveUp, Got, Naming, Pass, Permit, Receipt, Step, Ticket};
 use gate_port::{Admission, GatePort, Why};
 use limit_laws::Limit;
-use limiter_core::{Outcome, Reply};
+use limiter_core::Outcome;
 use partitions::Part;
 use std::marker::Model;
 
@@ -61,6 +61,27 @@ impl<L: Limit, N: Naming> SoloPort<L, N> {
         self.book.journal().invariant();
         self.book.step(&mut self.pass, call)
     }
+
+    /// Asks for a permit, or with `wait` for a place in line.
+    fn acquire(&mut self, part: Part, bypass: bool, wait: bool, now: u64) -> Got<N>
+        ensures { Gets L.rules self.old.book.journal self.new.book.journal part bypass wait now
+            result }
+    {
+        let call = Call::Acquire {
+            part,
+            bypass,
+            wait,
+            now,
+        };
+        self.step(call).into_got()
+    }
+
+    /// Ends the wait of a waiter.
+    fn give_up(&mut self, ticket: Ticket<N>) -> GaveUp<N>
+        ensures { GivesUp L.rules self.old.book.journal self.new.book.journal ticket result }
+    {
+        self.step(Call::GiveUp { ticket }).into_gave_up()
+    }
 }
 
 /// Whether an admission asks to wait.
@@ -92,42 +113,17 @@ impl<L: Limit, N: Naming> GatePort for SoloPort<L, N> {
         now: u64,
     ) -> Admission<Permit<N>> {
         let wait = would_wait(bypass, deadline);
-        let call = Call::Acquire {
-            part,
-            bypass,
-            wait,
-            now,
-        };
-        match self.step(call) {
-            Step::Exhausted(_spent, handed) => match handed {
-                Handed::Nothing => Admission::Refused(Why::Exhausted),
-                Handed::Permit(_permit) => unreachable!(),
-                Handed::Ticket(_ticket) => unreachable!(),
-            },
-            Step::Done(receipt, handed) => match handed {
-                Handed::Permit(permit) => Admission::Admitted(permit),
-                Handed::Nothing => match receipt.reply() {
-                    Reply::Bypassed => Admission::Bypassed,
-                    Reply::Full => Admission::Refused(Why::Full),
-                    Reply::BacklogFull => Admission::Refused(Why::BacklogFull),
-                    _ => unreachable!(),
-                },
-                Handed::Ticket(ticket) => match self.step(Call::GiveUp { ticket }) {
-                    Step::Exhausted(_spent, handed) => match handed {
-                        Handed::Nothing => unreachable!(),
-                        Handed::Permit(_permit) => unreachable!(),
-                        Handed::Ticket(_ticket) => unreachable!(),
-                    },
-                    Step::Done(receipt, handed) => match handed {
-                        Handed::Permit(permit) => Admission::Admitted(permit),
-                        Handed::Nothing => match receipt.reply() {
-                            Reply::TimedOut => Admission::Refused(Why::TimedOut),
-                            Reply::Lost => Admission::Refused(Why::Lost),
-                            _ => unreachable!(),
-                        },
-                        Handed::Ticket(_ticket) => unreachable!(),
-                    },
-                },
+        match self.acquire(part, bypass, wait, now) {
+            Got::Admitted(_receipt, permit) => Admission::Admitted(permit),
+            Got::Bypassed(_receipt) => Admission::Bypassed,
+            Got::Full(_receipt) => Admission::Refused(Why::Full),
+            Got::BacklogFull(_receipt) => Admission::Refused(Why::BacklogFull),
+            Got::Exhausted(_spent) => Admission::Refused(Why::Exhausted),
+            Got::Waiting(_receipt, ticket) => match self.give_up(ticket) {
+                GaveUp::Granted(_receipt, permit) => Admission::Admitted(permit),
+                GaveUp::TimedOut(_receipt) => Admission::Refused(Why::TimedOut),
+                GaveUp::Lost(_receipt) => Admission::Refused(Why::Lost),
+                GaveUp::Exhausted(_spent) => unreachable!(),
             },
         }
     }
@@ -138,13 +134,9 @@ impl<L: Limit, N: Naming> GatePort for SoloPort<L, N> {
             outcome,
             now,
         };
-        match self.step(call) {
-            Step::Done(receipt, handed) => match handed {
-                Handed::Nothing => receipt,
-                Handed::Permit(_permit) => unreachable!(),
-                Handed::Ticket(_ticket) => unreachable!(),
-            },
-            Step::Exhausted(_spent, _handed) => unreachable!(),
+        match self.step(call).into_receipt() {
+            Ok(receipt) => receipt,
+            Err(_spent) => unreachable!(),
         }
     }
 }

@@ -1,20 +1,14 @@
-use Rattle.std.proofs.Common.{rules}
+use Rattle.std.proofs.Common.{sym, subst}
+use Rattle.shared_gate.specs.Calls.{Gets}
+use Rattle.shared_gate.proofs.Getting.{gets}
 use Rattle.shared_gate.proofs.gate.SharedGate.acquire.Goals as goal
 
-pub returns-in-Permit : goal.returns-in-Permit
-returns-in-Permit g c = search rules
+pub into_got-requires : goal.into_got-requires
+into_got-requires g c =
+    (gets _ _ c.args.part c.args.bypass c.args.wait c.args.now _ c.step.ensures).0
 
-pub returns-in-Ticket : goal.returns-in-Ticket
-returns-in-Ticket g c = search rules
-
-pub returns-in-Bypassed : goal.returns-in-Bypassed
-returns-in-Bypassed g c = search rules
-
-pub returns-in-Full : goal.returns-in-Full
-returns-in-Full g c = search rules
-
-pub returns-in-BacklogFull : goal.returns-in-BacklogFull
-returns-in-BacklogFull g c = search rules
-
-pub returns-in-Nothing-handed : goal.returns-in-Nothing-handed
-returns-in-Nothing-handed g c = search rules
+pub returns : goal.returns
+returns g c =
+    subst (Gets c.args.pass.now c.step.new.pass c.args.part c.args.bypass c.args.wait c.args.now)
+    (sym c.into_got.ensures)
+    (gets _ _ c.args.part c.args.bypass c.args.wait c.args.now _ c.step.ensures).1

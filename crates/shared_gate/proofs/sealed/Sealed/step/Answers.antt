@@ -1,8 +1,8 @@
 use Rattle.std.proofs.Common.{◌≡◌, List, ap, sym, refl, subst, ◌∙◌, length}
 use Rattle.limiter_core.specs.declared.event.Entry.{Entry}
-use Rattle.limiter_core.specs.Bound.{IsSound}
-use Rattle.gate_journal.specs.Journal.{Journal, answered, gate, image, next_number}
+use Rattle.gate_journal.specs.Journal.{Journal, answered, next_number}
 use Rattle.gate_journal.specs.Rolling.{ready}
+use Rattle.gate_history.specs.Handing.{given_by, told_of}
 use Rattle.gate_history.specs.Steps.{event_of}
 use Rattle.shared_gate.specs.Calls.{Pass, Tells}
 use Rattle.shared_gate.proofs.Behind.{number_is}
@@ -20,9 +20,10 @@ raise-requires-clause-next g c =
     answered rules (ready rules v) e ≡ answered rules v e) c.journal.ensures
     (c.invariant.ensures.same e) in
     c.number-next.ensures
-    ∙ next_after {N = g.row.M.Denot} rules old new c.pass.inside.pass c.step-step.new.pass e same
+    ∙ next_after rules old new c.pass.inside.pass c.step-step.new.pass e same
     g.M.Naming.limit g.M.GateNaming.legal c.self.inside.keeper.log c.self.invariant.2
-    c.journal-journal.result.now c.journal-journal.ensures c.step-step.result c.step-step.ensures
+    c.journal-journal.result.now c.journal-journal.ensures (told_of c.step-step.result)
+    (given_by c.step-step.result) c.step-step.ensures
 
 pub invariant_of-self : goal.invariant_of-self
 invariant_of-self g c =
@@ -36,16 +37,17 @@ invariant_of-self g c =
     (c.invariant.ensures.same e) in
     let raised = c.raise.ensures.keeper in (
       ap (λ k. k.table) raised ∙ c.self.invariant.0,
-      sealed_after {N = g.row.M.Denot} rules old new c.pass.inside.pass c.step-step.new.pass e
+      sealed_after rules old new c.pass.inside.pass c.step-step.new.pass e
           same g.M.Naming.limit g.M.GateNaming.legal c.self.inside.keeper.log c.self.invariant.2
-          c.journal-journal.result.now c.journal-journal.ensures c.step-step.result
-          c.step-step.ensures
+          c.journal-journal.result.now c.journal-journal.ensures (told_of c.step-step.result)
+          (given_by c.step-step.result) c.step-step.ensures
           ∙ c.self.invariant.1,
-      behind_after {N = g.row.M.Denot} rules old new c.pass.inside.pass c.step-step.new.pass e
+      behind_after rules old new c.pass.inside.pass c.step-step.new.pass e
           same g.M.Naming.limit g.M.GateNaming.legal c.self.inside.keeper.log c.self.invariant.2
           c.journal-journal.result.now c.journal-journal.ensures c.raise.new.keeper.log
           (ap (λ k. k.log) raised) (c.rolling_runs_are_legal.ensures.stretches rules)
-          c.counters_add_up.ensures c.step-step.result c.step-step.ensures,
+          c.counters_add_up.ensures (told_of c.step-step.result)
+          (given_by c.step-step.result) c.step-step.ensures,
     )
 
 pub invariant_of-pass : goal.invariant_of-pass
@@ -73,9 +75,6 @@ returns g c =
     subst (λ (v : Journal g.row.L.Denot).
     answered rules (ready rules v) e ≡ answered rules v e) c.journal.ensures
     (c.invariant.ensures.same e) in
-    let sound : IsSound (gate rules old.journal) (image rules old.journal) =
-    subst (λ (v : Journal g.row.L.Denot). IsSound (gate rules v) (image rules v))
-    c.journal.ensures c.invariant.ensures.sound in
     let longer : List Entry = c.raise.new.reader.log in
     let before : Pass = record { count = c.pass.inside.pass; log = c.pass.inside.reader.log } in
     let after : Pass = record { count = c.step-step.new.pass; log = longer } in
@@ -84,5 +83,5 @@ returns g c =
     g.M.Naming.limit g.M.GateNaming.legal log c.self.invariant.2 c.journal-journal.result.now
     c.journal-journal.ensures longer
     (c.raise.ensures.reader ∙ ap (λ k. k.log) c.raise.ensures.keeper)
-    before after refl refl sound c.raise.ensures.before refl c.step-step.result
-    c.step-step.ensures)
+    before after refl refl c.raise.ensures.before refl (told_of c.step-step.result)
+    (given_by c.step-step.result) c.step-step.ensures)

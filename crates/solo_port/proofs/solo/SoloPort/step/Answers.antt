@@ -2,6 +2,7 @@ use Rattle.std.proofs.Common.{◌≡◌, ◌≤◌, subst}
 use Rattle.limiter_core.specs.declared.event.Event.{Event}
 use Rattle.gate_journal.specs.Journal.{Journal, answered}
 use Rattle.gate_journal.specs.Rolling.{ready}
+use Rattle.gate_history.specs.Handing.{given_by, told_of}
 use Rattle.gate_history.specs.Steps.{event_of}
 use Rattle.solo_port.specs.Solo.{Makes, Solo}
 use Rattle.solo_port.proofs.Made.{makes}
@@ -13,7 +14,7 @@ returns g c =
     subst (λ (solo : Solo g.row.L.Denot). Makes rules solo.book.journal
     c.step.new.self.journal (event_of c.args.call) c.step.result) c.self.view_is
     (makes rules c.self.inside.book c.step.new.self _ _ (event_of c.args.call)
-    c.step.result c.requires
+    (told_of c.step.result) (given_by c.step.result) c.requires
     (subst (λ (j : Journal g.row.L.Denot). 1 ≤ j.kept) c.journal.ensures c.invariant.ensures.some)
     (subst (λ (j : Journal g.row.L.Denot). (e : Event)
     → answered rules (ready rules j) e ≡ answered rules j e) c.journal.ensures

@@ -8,8 +8,7 @@ use Rattle.limiter_core.specs.declared.event.Reply.{Reply}
 use Rattle.limiter_core.specs.declared.event.Reply.TheVariants as reply
 use Rattle.limiter_core.specs.declared.event.PermitFacts.{PermitFacts}
 use Rattle.limiter_core.specs.History.{permit_of}
-use Rattle.gate_history.specs.declared.step.Handed.{Handed}
-use Rattle.gate_history.specs.declared.step.Handed.TheVariants.{Nothing, Permit, Ticket}
+use Rattle.gate_history.specs.Handing.{Given, nothing, permit, ticket}
 
 -- an acquire that gets nothing: bypassed where it asks for it, else full or, where it would wait,
 -- turned away by the backlog
@@ -22,16 +21,16 @@ IsTurnedAway bypass wait _ = ⊥
 -- an admitted acquire's permit, with its number, part and moment, and what was in flight; one that
 -- asks to be let through gets none
 abbrev pub IsOwn : ℕ → Event → Reply → PermitFacts → Type 0
-IsOwn number (Acquire part bypass wait now) r permit =
-    (bypass ≡ false) × (r ≡ reply.Admitted permit.inflight)
-    × (permit ≡ permit_of number part (moment now) permit.inflight)
-IsOwn number _ r permit = ⊥
+IsOwn number (Acquire part bypass wait now) r facts =
+    (bypass ≡ false) × (r ≡ reply.Admitted facts.inflight)
+    × (facts ≡ permit_of number part (moment now) facts.inflight)
+IsOwn number _ r facts = ⊥
 
 -- a permit that lay granted under an earlier number than the call's
 abbrev pub WasGranted : ℕ → ℕ → Reply → PermitFacts → Type 0
-WasGranted number named r permit =
-    (r ≡ reply.Granted permit.part permit.start permit.inflight)
-    × (permit.number ≡ named) × (named < number)
+WasGranted number named r facts =
+    (r ≡ reply.Granted facts.part facts.start facts.inflight)
+    × (facts.number ≡ named) × (named < number)
 
 -- a waiter that waits no longer has an earlier number; one that is lost has any
 abbrev pub IsGivenUp : ℕ → ℕ → Reply → Type 0
@@ -41,7 +40,7 @@ IsGivenUp number named _ = ⊥
 
 -- the replies to an ending, a setting, a reset and a look
 abbrev pub IsOf : Event → Reply → Type 0
-IsOf (End permit outcome now) (reply.Ended promoted) = Unit {0}
+IsOf (End ended outcome now) (reply.Ended promoted) = Unit {0}
 IsOf (SetLimit n now) reply.LimitSet = Unit {0}
 IsOf (SetLimit n now) (reply.Refused fault) = Unit {0}
 IsOf (Reset now) reply.ResetDone = Unit {0}
@@ -49,28 +48,28 @@ IsOf (Look part) (reply.Seen limit total waiting granted inflight share) = Unit 
 IsOf _ _ = ⊥
 
 -- WHAT IS REPLIED AND HANDED OUT, to an event under a number
-abbrev pub Answers : {M : Type 0} → ℕ → Event → Reply → Handed M → Type 0
-Answers number (Acquire part bypass wait now) r (Permit permit) =
-    IsOwn number (Acquire part bypass wait now) r permit
-Answers number (Acquire part bypass wait now) r (Ticket ticket) =
-    (r ≡ reply.Waiting) × (ticket ≡ number) × (bypass ≡ false) × (wait ≡ true)
-Answers number (Acquire part bypass wait now) r Nothing = IsTurnedAway bypass wait r
-Answers number (Claim named) r (Permit permit) = WasGranted number named r permit
-Answers number (Claim named) r (Ticket ticket) =
-    (r ≡ reply.StillWaiting) × (ticket ≡ named) × (named < number)
-Answers number (Claim named) r Nothing = r ≡ reply.Lost
-Answers number (GiveUp named) r (Permit permit) = WasGranted number named r permit
-Answers number (GiveUp named) r Nothing = IsGivenUp number named r
-Answers number (End permit outcome now) r Nothing = IsOf (End permit outcome now) r
-Answers number (SetLimit n now) r Nothing = IsOf (SetLimit n now) r
-Answers number (Reset now) r Nothing = IsOf (Reset now) r
-Answers number (Look part) r Nothing = IsOf (Look part) r
+abbrev pub Answers : ℕ → Event → Reply → Given → Type 0
+Answers number (Acquire part bypass wait now) r (permit facts) =
+    IsOwn number (Acquire part bypass wait now) r facts
+Answers number (Acquire part bypass wait now) r (ticket own) =
+    (r ≡ reply.Waiting) × (own ≡ number) × (bypass ≡ false) × (wait ≡ true)
+Answers number (Acquire part bypass wait now) r nothing = IsTurnedAway bypass wait r
+Answers number (Claim named) r (permit facts) = WasGranted number named r facts
+Answers number (Claim named) r (ticket own) =
+    (r ≡ reply.StillWaiting) × (own ≡ named) × (named < number)
+Answers number (Claim named) r nothing = r ≡ reply.Lost
+Answers number (GiveUp named) r (permit facts) = WasGranted number named r facts
+Answers number (GiveUp named) r nothing = IsGivenUp number named r
+Answers number (End ended outcome now) r nothing = IsOf (End ended outcome now) r
+Answers number (SetLimit n now) r nothing = IsOf (SetLimit n now) r
+Answers number (Reset now) r nothing = IsOf (Reset now) r
+Answers number (Look part) r nothing = IsOf (Look part) r
 Answers number _ r _ = ⊥
 
 -- what an event that isn't answered hands back: a claim its ticket; an ending is always answered
-abbrev pub HandsBack : {M : Type 0} → Event → Handed M → Type 0
-HandsBack (Claim named) (Ticket ticket) = ticket ≡ named
+abbrev pub HandsBack : Event → Given → Type 0
+HandsBack (Claim named) (ticket own) = own ≡ named
 HandsBack (Claim named) _ = ⊥
-HandsBack (End permit outcome now) _ = ⊥
-HandsBack _ Nothing = Unit {0}
+HandsBack (End ended outcome now) _ = ⊥
+HandsBack _ nothing = Unit {0}
 HandsBack _ _ = ⊥
