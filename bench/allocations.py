@@ -31,8 +31,12 @@ def counted(program: str, room: pathlib.Path, count: int, exchanges: int) -> lis
         for number, name in enumerate(CALLS, 1):
             words += ["-ex", f"break {name}", "-ex", f"ignore {number} 1000000000"]
         run = f"run serve {config} --workers 1 --per-worker {exchanges}"
-        gdb = subprocess.Popen([*words, "-ex", run, "-ex", "info breakpoints", program],
-                               stdout=subprocess.PIPE, stderr=subprocess.STDOUT, text=True)
+        gdb = subprocess.Popen(
+            [*words, "-ex", run, "-ex", "info breakpoints", program],
+            stdout=subprocess.PIPE,
+            stderr=subprocess.STDOUT,
+            text=True,
+        )
         for _ in range(exchanges):
             ask(port, request)
         told = gdb.communicate(timeout=WAITING)[0]

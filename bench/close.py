@@ -31,8 +31,7 @@ def main():
     print("|---|---|---|---|")
     for receipts in RECEIPTS:
         each = [closing(program, receipts) / receipts for _ in range(TURNS)]
-        print(f"| {receipts:,} | {statistics.median(each):.0f} | {min(each):.0f} | {max(each):.0f} |",
-              flush=True)
+        print(f"| {receipts:,} | {statistics.median(each):.0f} | {min(each):.0f} | {max(each):.0f} |", flush=True)
 
 
 main()

@@ -84,8 +84,7 @@ def main():
     timed = rows_past_waiters(is_seen) if given.all else rows(given.still, is_rolling, has_history, is_seen)
     for calls, times, ours, theirs in timed:
         took, least, ratio, used = row((program, ours), (other, theirs))
-        print(f"| {calls} | {took / times:.0f} ns | {least / times:.0f} ns | {ratio:.2f} | {used:.2f} |",
-              flush=True)
+        print(f"| {calls} | {took / times:.0f} ns | {least / times:.0f} ns | {ratio:.2f} | {used:.2f} |", flush=True)
 
 
 main()

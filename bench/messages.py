@@ -25,8 +25,7 @@ BODIES = ((0, 100_000), (KIB, 100_000), (MIB, 300))
 def request(lines, body, is_chunked):
     """A request with so many header lines, and its body in chunks or with a length."""
     out = [b"POST /articles/today?page=2 HTTP/1.1", b"Host: www.example.com"]
-    out += [f"X-Field-{number}: a value of some length, number {number}".encode()
-            for number in range(lines - 2)]
+    out += [f"X-Field-{number}: a value of some length, number {number}".encode() for number in range(lines - 2)]
     if is_chunked:
         out.append(b"Transfer-Encoding: chunked")
     else:
@@ -48,8 +47,20 @@ def sources(word):
 
 def httparse(given, folder, log):
     """The peer's library, built from its sources."""
-    words = ["rustc", "-O", "--edition", "2018", "--crate-type", "rlib", "--crate-name", "httparse",
-             "--cap-lints", "allow", "-o", folder / "libhttparse.rlib"]
+    words = [
+        "rustc",
+        "-O",
+        "--edition",
+        "2018",
+        "--crate-type",
+        "rlib",
+        "--crate-name",
+        "httparse",
+        "--cap-lints",
+        "allow",
+        "-o",
+        folder / "libhttparse.rlib",
+    ]
     found = given or sorted(pathlib.Path("/usr/share/cargo/registry").glob("httparse-*"))
     if not found:
         sys.exit("no sources of httparse: install Debian's librust-httparse-dev, or name their folder")

@@ -19,11 +19,14 @@ def row(name, calls):
     good = [it.seconds * 1000 for it in calls if it.status == 200]
     refused = [it.seconds * 1000 for it in calls if it.status == 429]
     within = sum(it <= 100 for it in good)
-    times = " | ".join(f"{percentile(part, 0.5):.1f} / {percentile(part, 0.99):.1f} ms" if part else "none"
-                       for part in (good, refused))
+    times = " | ".join(
+        f"{percentile(part, 0.5):.1f} / {percentile(part, 0.99):.1f} ms" if part else "none" for part in (good, refused)
+    )
     none = sum(it.status == 0 for it in calls)
-    print(f"| {name} | {len(calls)} | {len(good) / len(calls):.0%} | {within / len(calls):.0%} | {times} | {none / len(calls):.0%} |",
-          flush=True)
+    print(
+        f"| {name} | {len(calls)} | {len(good) / len(calls):.0%} | {within / len(calls):.0%} | {times} | {none / len(calls):.0%} |",
+        flush=True,
+    )
 
 
 def main():
@@ -34,7 +37,9 @@ def main():
     seconds = given.seconds
     allow_many_sockets()
     rate = TIMES * SLOTS / PAUSE
-    print("| | calls | answered 200 | within 100 ms | time of a 200, p50 / p99 | time of a 429, p50 / p99 | unanswered |")
+    print(
+        "| | calls | answered 200 | within 100 ms | time of a 200, p50 / p99 | time of a 429, p50 / p99 | unanswered |"
+    )
     print("|---|---|---|---|---|---|---|")
     with Origin(SLOTS, PAUSE) as origin:
         row("without", asyncio.run(offer(origin.port, rate, seconds)))

@@ -20,8 +20,10 @@ from one_worker import WAITING, ask, between
 
 FEW, MANY = 200, 2_200
 REQUEST = b"GET / HTTP/1.1\r\nHost: 127.0.0.1:%d\r\nConnection: close\r\n\r\n"
-ANSWER = (b"HTTP/1.1 200 OK\r\nServer: nginx/1.22.1\r\nDate: Thu, 01 Jan 2026 00:00:00 GMT\r\n"
-          b"Content-Type: text/plain\r\nContent-Length: 13\r\nConnection: close\r\n\r\nhello, world\n")
+ANSWER = (
+    b"HTTP/1.1 200 OK\r\nServer: nginx/1.22.1\r\nDate: Thu, 01 Jan 2026 00:00:00 GMT\r\n"
+    b"Content-Type: text/plain\r\nContent-Length: 13\r\nConnection: close\r\n\r\nhello, world\n"
+)
 COSTS = ("alone", "with calls")
 
 
@@ -53,8 +55,19 @@ def run(program: str, room: pathlib.Path, exchanges: int) -> tuple[collections.C
     """The instructions of one run with so many exchanges: of the functions alone, and with their calls."""
     out = room / f"callgrind.{exchanges}"
     with between(room, ANSWER) as (port, config):
-        words = ["valgrind", "-q", "--tool=callgrind", f"--callgrind-out-file={out}", program, "serve", str(config),
-                 "--workers", "1", "--per-worker", str(exchanges)]
+        words = [
+            "valgrind",
+            "-q",
+            "--tool=callgrind",
+            f"--callgrind-out-file={out}",
+            program,
+            "serve",
+            str(config),
+            "--workers",
+            "1",
+            "--per-worker",
+            str(exchanges),
+        ]
         process = subprocess.Popen(words, stdout=subprocess.DEVNULL, stderr=subprocess.PIPE, text=True)
         for _ in range(exchanges):
             ask(port, REQUEST % port)
@@ -79,7 +92,7 @@ def main():
         print(f"\nInstructions of one exchange by function, {cost}")
         if cost == COSTS[0]:
             print(f"{sum(each.values()):>10,.1f}  all functions together")
-        for name, number in sorted(each.items(), key=lambda row: -row[1])[:given.top]:
+        for name, number in sorted(each.items(), key=lambda row: -row[1])[: given.top]:
             print(f"{number:>10,.1f}  {name}", flush=True)
 
 

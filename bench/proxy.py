@@ -98,8 +98,9 @@ class Servers:
         self.room, self.processor, self.started = room, processor, []
 
     def start(self, *words):
-        process = subprocess.Popen(["taskset", "-c", str(self.processor), *words],
-                                   stdout=subprocess.DEVNULL, stderr=subprocess.DEVNULL)
+        process = subprocess.Popen(
+            ["taskset", "-c", str(self.processor), *words], stdout=subprocess.DEVNULL, stderr=subprocess.DEVNULL
+        )
         self.started.append(process)
         return process
 
@@ -176,8 +177,20 @@ def visit(target, clients, seconds, processor, asking):
     """One visit of wrk to a target: its figures by name."""
     port, process = target
     before, dropped = spent(process.pid), overflows()
-    words = ["taskset", "-c", str(processor), "wrk", "-t1", f"-c{clients}", f"-d{seconds}s", "--latency",
-             *asking, "-H", "Connection: close", f"http://127.0.0.1:{port}/"]
+    words = [
+        "taskset",
+        "-c",
+        str(processor),
+        "wrk",
+        "-t1",
+        f"-c{clients}",
+        f"-d{seconds}s",
+        "--latency",
+        *asking,
+        "-H",
+        "Connection: close",
+        f"http://127.0.0.1:{port}/",
+    ]
     said = subprocess.run(words, capture_output=True, text=True, check=True).stdout
     total = max(1, int(re.search(r"(\d+) requests in", said)[1]))
     user, system, switches = (after - earlier for after, earlier in zip(spent(process.pid), before))
@@ -217,9 +230,12 @@ def tell(clients, found):
         summed = {key: sum(run[key] for run in runs) for key in ("requests", "wrong", "overflows")}
         each = {key: sum(run[key] for run in runs) / summed["requests"] for key in ("user", "system", "switches")}
         ratios = " | ".join(compared(runs, found[peer]) for peer in peers)
-        print(f"| {name} | {middle['rate']:,.0f} | {ratios} | {middle['p50']:.2f} ms | {middle['p99']:.2f} ms | "
-              f"{each['user']:.1f} us | {each['system']:.1f} us | {each['switches']:.2f} | "
-              f"{runs[-1]['resident']:.1f} MB | {summed['wrong']} | {summed['overflows']} |", flush=True)
+        print(
+            f"| {name} | {middle['rate']:,.0f} | {ratios} | {middle['p50']:.2f} ms | {middle['p99']:.2f} ms | "
+            f"{each['user']:.1f} us | {each['system']:.1f} us | {each['switches']:.2f} | "
+            f"{runs[-1]['resident']:.1f} MB | {summed['wrong']} | {summed['overflows']} |",
+            flush=True,
+        )
         for fault in sorted({run["faults"] for run in runs} - {""}):
             print(f"  {name}: {fault}", file=sys.stderr)
 
@@ -358,7 +374,7 @@ def main():
                 found = {name: [] for name in targets}
                 for turn in range(given.rounds):
                     names = list(targets)
-                    for name in names[turn % len(names):] + names[:turn % len(names)]:
+                    for name in names[turn % len(names) :] + names[: turn % len(names)]:
                         with held(targets[name][0], given.refused):
                             found[name].append(visit(targets[name], clients, given.seconds, processor, asking))
                 tell(clients, found)

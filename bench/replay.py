@@ -97,8 +97,11 @@ SCRIPTS = [
     ("the same, past the entries that are kept", IN_FLIGHT, repeated(looks, 600_000)),
     ("waiting, promotions and claims", IN_FLIGHT, repeated(promotions, 90_000)),
     ("the same, and all who have room are promoted", IN_FLIGHT, ["promote all"] + repeated(promotions, 90_000)),
-    ("a limit set by hand, and all who have room are promoted", IN_FLIGHT,
-     [f"limit settable 1 1 {IN_FLIGHT}", "promote all"] + repeated(raised, 70_000)),
+    (
+        "a limit set by hand, and all who have room are promoted",
+        IN_FLIGHT,
+        [f"limit settable 1 1 {IN_FLIGHT}", "promote all"] + repeated(raised, 70_000),
+    ),
     ("waiting, claims and timeouts", IN_FLIGHT, repeated(timeouts, 99_000)),
     ("thousands in flight, ended in a drawn order", CROWD, crowds(99_000)),
     ("thousands wait, and give up oldest first", IN_FLIGHT, late(99_000, list)),
@@ -121,7 +124,9 @@ def main():
                 theirs.append(took)
                 assert wrote == wanted, f"{name}: the texts differ"
             ratio = min(ours) / min(theirs)
-            print(f"{name}: {len(lines)} lines, admission {min(ours):.3f} s, plain {min(theirs):.3f} s, ratio {ratio:.2f}")
+            print(
+                f"{name}: {len(lines)} lines, admission {min(ours):.3f} s, plain {min(theirs):.3f} s, ratio {ratio:.2f}"
+            )
 
 
 main()

@@ -178,8 +178,10 @@ def main():
     used = resource.getrusage(resource.RUSAGE_CHILDREN)
     spent = used.ru_utime + used.ru_stime
     print("", *rows(sums), "", f"minutes of {minutes(sums)}", sep="\n")
-    print(f"{spent / 60:.1f} processor minutes, {clock / 60:.1f} by the clock, on {os.cpu_count()} processors; "
-          f"{taken / 60:.1f} stolen")
+    print(
+        f"{spent / 60:.1f} processor minutes, {clock / 60:.1f} by the clock, on {os.cpu_count()} processors; "
+        f"{taken / 60:.1f} stolen"
+    )
     missed = (spent - sum(sums.values())) / 60
     print(f"{missed:.1f} of these are of no crate: missed at the ends, or of the command itself")
     sys.exit(status if status >= 0 else 128 - status)

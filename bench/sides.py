@@ -40,8 +40,9 @@ class Bench:
         """What a crate above reads of a crate: its sources and its built library."""
         for part in ("src", "specs", "proofs", "out/rlib"):
             if (TOP / "crates" / crate / part).is_dir():
-                shutil.copytree(TOP / "crates" / crate / part, self.tree / "crates" / crate / part,
-                                copy_function=os.link)
+                shutil.copytree(
+                    TOP / "crates" / crate / part, self.tree / "crates" / crate / part, copy_function=os.link
+                )
 
     def product(self, words, given, log):
         """Proves and builds the product's side, and runs it once with these words and this input."""

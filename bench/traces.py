@@ -25,25 +25,29 @@ TWO = ["class live 60", "class batch 20"]
 CLASSES = ["live", "batch", "unknown"]
 ALL = ["promote all"]
 TRACES = [
-    ("10 in flight at a time, and room for 20",
-     text_of(["limit fixed 20"], calls(["unknown"], 10, 100))),
-    ("15 want in where 10 fit; the others are refused",
-     text_of(["limit fixed 10", *TWO], calls(CLASSES, 10, 150))),
-    ("15 want in where 10 fit; the others wait for 50 ms",
-     text_of(["limit fixed 10", "timeout 50000000", *TWO],
-             calls(CLASSES, 10, 150, " wait"))),
-    ("the same, and all who have room are promoted",
-     text_of(["limit fixed 10", "timeout 50000000", *TWO, *ALL],
-             calls(CLASSES, 10, 150, " wait"))),
-    ("15 want in where 2 to 20 fit; all who have room are promoted",
-     text_of(["limit aimd 2 10 20 500 300000000", "timeout 50000000", *TWO, *ALL],
-             calls(CLASSES, 10, 150, " wait"))),
-    ("8,000 in flight at a time, and room for 10,000",
-     text_of(["limit fixed 10000"], calls(["unknown"], 0.0125, 100))),
-    ("8,000 wait behind 10",
-     text_of(["limit fixed 10", "backlog 10000", "timeout 100000000"],
-             calls(["unknown"], 0.0125, 100, " wait"))),
-    ("8,000 of two classes wait behind 10; all who have room are promoted",
-     text_of(["limit fixed 10", "backlog 10000", "timeout 100000000", *TWO, *ALL],
-             calls(CLASSES, 0.0125, 100, " wait"))),
+    ("10 in flight at a time, and room for 20", text_of(["limit fixed 20"], calls(["unknown"], 10, 100))),
+    ("15 want in where 10 fit; the others are refused", text_of(["limit fixed 10", *TWO], calls(CLASSES, 10, 150))),
+    (
+        "15 want in where 10 fit; the others wait for 50 ms",
+        text_of(["limit fixed 10", "timeout 50000000", *TWO], calls(CLASSES, 10, 150, " wait")),
+    ),
+    (
+        "the same, and all who have room are promoted",
+        text_of(["limit fixed 10", "timeout 50000000", *TWO, *ALL], calls(CLASSES, 10, 150, " wait")),
+    ),
+    (
+        "15 want in where 2 to 20 fit; all who have room are promoted",
+        text_of(["limit aimd 2 10 20 500 300000000", "timeout 50000000", *TWO, *ALL], calls(CLASSES, 10, 150, " wait")),
+    ),
+    ("8,000 in flight at a time, and room for 10,000", text_of(["limit fixed 10000"], calls(["unknown"], 0.0125, 100))),
+    (
+        "8,000 wait behind 10",
+        text_of(["limit fixed 10", "backlog 10000", "timeout 100000000"], calls(["unknown"], 0.0125, 100, " wait")),
+    ),
+    (
+        "8,000 of two classes wait behind 10; all who have room are promoted",
+        text_of(
+            ["limit fixed 10", "backlog 10000", "timeout 100000000", *TWO, *ALL], calls(CLASSES, 0.0125, 100, " wait")
+        ),
+    ),
 ]

@@ -138,6 +138,7 @@ class Gateway:
 @dataclasses.dataclass
 class Call:
     """One call: when it came, of which class, the status of its answer (0: none in time), and how long that took."""
+
     at: float
     name: str
     status: int

@@ -38,7 +38,8 @@ class Exchange(asyncio.Protocol):
 class Wayward:
     """A backend in a process of its own: it serves `slots` requests at a time, first come first served, each in
     `seconds` divided by its speed, with up to `spread` of that more or less, and slower by `drag` of it where as many
-    wait as it has slots. Its slots, its speed and what is ahead can be changed while it serves, and it can be killed."""
+    wait as it has slots. Its slots, its speed and what is ahead can be changed while it serves, and it can be killed.
+    """
 
     def __init__(self, slots: int, seconds: float, drag: float, spread: float = 0.0):
         self.seconds, self.drag, self.spread, self.port = seconds, drag, spread, free_port()

@@ -13,13 +13,15 @@ def built(word):
     """The path of a built program."""
     path = pathlib.Path(word).resolve()
     if not path.is_file() or not os.access(path, os.X_OK):
-        raise argparse.ArgumentTypeError(f"{word} isn't a built program: run ./admission --prove, "
-                                         "and take crates/admission/out/admission")
+        raise argparse.ArgumentTypeError(
+            f"{word} isn't a built program: run ./admission --prove, " "and take crates/admission/out/admission"
+        )
     return str(path)
 
 
 def above_zero(kind):
     """Numbers of this kind above 0."""
+
     def number(word):
         try:
             found = kind(word)
@@ -28,6 +30,7 @@ def above_zero(kind):
         if not found > 0:
             raise argparse.ArgumentTypeError(f"{word} isn't a number above 0")
         return found
+
     return number
 
 

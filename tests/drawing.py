@@ -9,28 +9,51 @@ import random
 from reference import HOUR, LAST_MOMENT, SHARES, Limiter
 
 # How often each event is drawn while many come, and while few do; these alternate after PHASE lines.
-BUSY = {"acquire": 400, "wait": 500, "bypass": 50, "end": 450, "claim": 300, "giveup": 100, "set": 40, "reset": 4,
-        "look": 100}
+BUSY = {
+    "acquire": 400,
+    "wait": 500,
+    "bypass": 50,
+    "end": 450,
+    "claim": 300,
+    "giveup": 100,
+    "set": 40,
+    "reset": 4,
+    "look": 100,
+}
 SLACK = BUSY | {"acquire": 250, "wait": 50, "end": 600}
 PHASE = 1_000
 
 OUTCOMES = ["success"] * 15 + ["dropped", "ignored", "ignored"]
-SET_TO = [0, 1, 2, 3, 5, 8, 9, 10, 20, 40, 41, 60, 100, 9_999, 10_000, 10_001, 2 ** 32 - 1]
+SET_TO = [0, 1, 2, 3, 5, 8, 9, 10, 20, 40, 41, 60, 100, 9_999, 10_000, 10_001, 2**32 - 1]
 NAMES = ["a", "b-2", "c_3", "a-name_of-32-letters-and-figures"]
 THOUSANDTHS = [1, 2, 10, 20, 125, 200, 330, 333, 500, 970, 999, 1_000]
 LIMITS = [1, 1, 2, 3, 5, 8, 20, 100, 9_999, 10_000]
 TIMES = [1, 2, 50, 100, 1_000, HOUR - 1, HOUR]
-MOMENTS = [0, 1, 2, 100, HOUR, HOUR + 1, HOUR + 2, LAST_MOMENT - HOUR, LAST_MOMENT - 1, LAST_MOMENT, LAST_MOMENT + 1,
-           2 ** 64 - 1]
+MOMENTS = [
+    0,
+    1,
+    2,
+    100,
+    HOUR,
+    HOUR + 1,
+    HOUR + 2,
+    LAST_MOMENT - HOUR,
+    LAST_MOMENT - 1,
+    LAST_MOMENT,
+    LAST_MOMENT + 1,
+    2**64 - 1,
+]
 
 
 def flowing(step, start=0):
     """Moments that rise by so much in the mean, with one now and then that lies before."""
+
     def moments(draw):
         now = start
         while True:
             now += int(draw.random() * (2 * step + 1))
             yield now if draw.random() < 0.98 else max(0, now - draw.randrange(100 * step + 1))
+
     return moments
 
 
@@ -99,15 +122,24 @@ def random_settings(seed):
     low, first, high = sorted(draw.choices(LIMITS, k=3))
     shortest, longest = sorted(draw.choices(TIMES, k=2))
     alpha, beta = sorted(draw.choices([1, 2, 3, 6, 99, 100], k=2))
-    limit = draw.choice([
-        f"fixed {first}", f"settable {low} {first} {high}",
-        f"aimd {low} {first} {high} {draw.choice([500, 501, 900, 999])} {draw.choice(TIMES)}",
-        f"vegas {low} {first} {high} {alpha} {beta} {draw.choice([0, 0, 1, 2, 10, 1_000_000])}"])
+    limit = draw.choice(
+        [
+            f"fixed {first}",
+            f"settable {low} {first} {high}",
+            f"aimd {low} {first} {high} {draw.choice([500, 501, 900, 999])} {draw.choice(TIMES)}",
+            f"vegas {low} {first} {high} {alpha} {beta} {draw.choice([0, 0, 1, 2, 10, 1_000_000])}",
+        ]
+    )
     size, threshold = draw.choice([1, 1, 2, 3, 10, 1_000_000]), draw.choice([0, 0, 0, *TIMES])
     window = f"window {size} {shortest} {longest} {threshold}"
     keep = f"keep {draw.choice([1, 2, 3, 7, 50, 1_000_000])}" + draw.choice(["", " rolling"])
-    lines = [f"limit {limit}", f"backlog {draw.choice([0, 1, 2, 3, 100, 10_000])}", keep, window,
-             f"timeout {draw.choice(TIMES)}"]
+    lines = [
+        f"limit {limit}",
+        f"backlog {draw.choice([0, 1, 2, 3, 100, 10_000])}",
+        keep,
+        window,
+        f"timeout {draw.choice(TIMES)}",
+    ]
     lines = [it for it in lines if draw.random() < 0.8 and (it != window or draw.random() < 0.5)]
     lines += draw.choice([[], ["promote newest"], ["promote all"], ["promote all"]]) + random_shares(draw)
     draw.shuffle(lines)
@@ -135,6 +167,9 @@ def random_trace(seed, most, settings=None):
     for _ in range(draw.randrange(most + 1)):
         at, held = start + draw.randrange(span), draw.randrange(hold + 1)
         wait = draw.choice(["", " wait", " wait"])
-        calls.append(f"bypass {at}" if draw.random() < 0.05 else
-                     f"arrive {draw.choice(parts)} {at} {held} {draw.choice(OUTCOMES)}{wait}")
+        calls.append(
+            f"bypass {at}"
+            if draw.random() < 0.05
+            else f"arrive {draw.choice(parts)} {at} {held} {draw.choice(OUTCOMES)}{wait}"
+        )
     return settings, calls

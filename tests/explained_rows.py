@@ -10,49 +10,128 @@ WINDOW = VEGAS + "[window]\n"
 # What `--explain` says of a configuration, behind the version, the addresses and what stands before: its lines but that
 # which shows the text. `{}` stands for the number of the line.
 OF_FAULTS = [
-    ('', 'backlog = 10001\n', FIXED, 'line 4: backlog = 10001\nbacklog: how many callers may wait for a permit, '
-     '0 to 10000; 100\n', 'value backlog'),
-    ('', 'keep = []\n', FIXED, 'line 4: keep = []\nkeep: entries of the history that are kept, 1 to 1000000; 4096\n',
-     'kind keep'),
-    ('', 'backlog = 5s\n', FIXED, 'TOML parse error at line 4, column 11\n', 'toml'),
-    ('', '', '', 'limit isn\'t there: a table, [limit]; required\n', 'missing limit'),
-    ('', '[limit]\ninitial = 1\n', '', 'line 4: [limit]\nlimit.kind isn\'t there: "fixed", "settable", "aimd" or '
-     '"vegas"; '
-     'required\n', 'missing limit.kind'),
-    (SETTABLE, 'min = 9\nmax = 8\n', '', 'line 7: max = 8\nlimit.max: permits, min to 10000; 200\nhere from 9 to '
-     '10000\n',
-     'value limit.max'),
-    (PLAIN, 'initial = 0\n', '', 'line 6: initial = 0\nlimit.initial: permits, min to max, of fixed 1 to 10000; 20\n'
-     'here from 1 to 10000\n', 'value limit.initial'),
-    ('limit.kind = "vegas"\n', 'limit.alpha = 9\nlimit.beta = 8\n', '', 'line 6: limit.beta = 8\n'
-     'limit.beta: the limit falls above this queue, permits, alpha to 100; 6\nhere from 9 to 100\n', 'value '
-     'limit.beta'),
-    ('', 'limit = { kind = "none" }\n', '', 'line 4: limit = { kind = "none" }\n'
-     'limit.kind: "fixed", "settable", "aimd" or "vegas"; required\n', 'value limit.kind'),
-    (WINDOW, 'min_us = 8\nmax_us = 7\n', '', 'line 8: max_us = 7\n'
-     'window.max_us: the longest window in microseconds, min_us to 3600000000; 1000000\nhere from 8 to 3600000000\n',
-     'value window.max_us'),
-    (FIXED + LIVE_OF_TWO, '[[class]]\nname = "b"\nshare = 401\n', '', 'class 2 of 2\nline 12: share = 401\n'
-     'class.share: thousandths, 1 to what the classes before leave of 1000; required\nhere from 1 to 400\n',
-     'value class.share'),
-    (FIXED + LIVE_OF_TWO, '[[class]]\nshare = 4\n', '', 'class 2 of 2\nline 10: [[class]]\nclass.name isn\'t there: '
-     '1 to 32 of a-z 0-9 - _, not unknown, not given before; required\n', 'missing class.name'),
-    (FIXED + LIVE_OF_TWO, '[[resolver]]\nkind = "header"\nheader = "A"\n[[resolver]]\nkind = "path"\n', '',
-     'resolver 2 of 2\nline 14: kind = "path"\nresolver.kind: "header", "method" or "route"; required\n',
-     'value resolver.kind'),
-    (FIXED + LIVE_OF_TWO, '[[resolver]]\nkind = "route"\n[resolver.routes]\n"/{a}" = "live"\n"/{b}" = "live"\n', '',
-     'resolver 1 of 1\nline 12: [resolver.routes]\nthe pattern "/{b}": Insertion failed due to conflict with '
-     'previously '
-     'registered route: /{a}\n', 'route'),
-    (FIXED, '[[bypass]]\nkind = "prefix"\nprefix = "/a"\n[[bypass]]\nkind = "prefix"\nprefix = "a"\n', '',
-     'bypass 2 of 2\nline 12: prefix = "a"\nbypass.prefix: paths that begin with this text, itself beginning with /; '
-     'required\n', 'value bypass.prefix'),
-    (FIXED, '[[bypass]]\nkind = "method"\nmethod = "GET"\nzebra = 1\n', '', 'bypass 1 of 1\nline 10: zebra = 1\n'
-     'bypass.zebra isn\'t a key here; those that are: kind method\n', 'unknown bypass.zebra'),
-    ('', 'zebra = 1\n', FIXED, 'line 4: zebra = 1\nzebra isn\'t a key here; those that are: version listen backend '
-     'backlog wait timeout_ms keep promote limit window class resolver bypass\n', 'unknown zebra'),
-    (PLAIN, 'ratio = 900\n', '', 'line 6: ratio = 900\nlimit.ratio isn\'t a key here; those that are: kind initial\n',
-     'unknown limit.ratio'),
+    (
+        "",
+        "backlog = 10001\n",
+        FIXED,
+        "line 4: backlog = 10001\nbacklog: how many callers may wait for a permit, " "0 to 10000; 100\n",
+        "value backlog",
+    ),
+    (
+        "",
+        "keep = []\n",
+        FIXED,
+        "line 4: keep = []\nkeep: entries of the history that are kept, 1 to 1000000; 4096\n",
+        "kind keep",
+    ),
+    ("", "backlog = 5s\n", FIXED, "TOML parse error at line 4, column 11\n", "toml"),
+    ("", "", "", "limit isn't there: a table, [limit]; required\n", "missing limit"),
+    (
+        "",
+        "[limit]\ninitial = 1\n",
+        "",
+        'line 4: [limit]\nlimit.kind isn\'t there: "fixed", "settable", "aimd" or ' '"vegas"; ' "required\n",
+        "missing limit.kind",
+    ),
+    (
+        SETTABLE,
+        "min = 9\nmax = 8\n",
+        "",
+        "line 7: max = 8\nlimit.max: permits, min to 10000; 200\nhere from 9 to " "10000\n",
+        "value limit.max",
+    ),
+    (
+        PLAIN,
+        "initial = 0\n",
+        "",
+        "line 6: initial = 0\nlimit.initial: permits, min to max, of fixed 1 to 10000; 20\n" "here from 1 to 10000\n",
+        "value limit.initial",
+    ),
+    (
+        'limit.kind = "vegas"\n',
+        "limit.alpha = 9\nlimit.beta = 8\n",
+        "",
+        "line 6: limit.beta = 8\n"
+        "limit.beta: the limit falls above this queue, permits, alpha to 100; 6\nhere from 9 to 100\n",
+        "value " "limit.beta",
+    ),
+    (
+        "",
+        'limit = { kind = "none" }\n',
+        "",
+        'line 4: limit = { kind = "none" }\n' 'limit.kind: "fixed", "settable", "aimd" or "vegas"; required\n',
+        "value limit.kind",
+    ),
+    (
+        WINDOW,
+        "min_us = 8\nmax_us = 7\n",
+        "",
+        "line 8: max_us = 7\n"
+        "window.max_us: the longest window in microseconds, min_us to 3600000000; 1000000\nhere from 8 to 3600000000\n",
+        "value window.max_us",
+    ),
+    (
+        FIXED + LIVE_OF_TWO,
+        '[[class]]\nname = "b"\nshare = 401\n',
+        "",
+        "class 2 of 2\nline 12: share = 401\n"
+        "class.share: thousandths, 1 to what the classes before leave of 1000; required\nhere from 1 to 400\n",
+        "value class.share",
+    ),
+    (
+        FIXED + LIVE_OF_TWO,
+        "[[class]]\nshare = 4\n",
+        "",
+        "class 2 of 2\nline 10: [[class]]\nclass.name isn't there: "
+        "1 to 32 of a-z 0-9 - _, not unknown, not given before; required\n",
+        "missing class.name",
+    ),
+    (
+        FIXED + LIVE_OF_TWO,
+        '[[resolver]]\nkind = "header"\nheader = "A"\n[[resolver]]\nkind = "path"\n',
+        "",
+        'resolver 2 of 2\nline 14: kind = "path"\nresolver.kind: "header", "method" or "route"; required\n',
+        "value resolver.kind",
+    ),
+    (
+        FIXED + LIVE_OF_TWO,
+        '[[resolver]]\nkind = "route"\n[resolver.routes]\n"/{a}" = "live"\n"/{b}" = "live"\n',
+        "",
+        'resolver 1 of 1\nline 12: [resolver.routes]\nthe pattern "/{b}": Insertion failed due to conflict with '
+        "previously "
+        "registered route: /{a}\n",
+        "route",
+    ),
+    (
+        FIXED,
+        '[[bypass]]\nkind = "prefix"\nprefix = "/a"\n[[bypass]]\nkind = "prefix"\nprefix = "a"\n',
+        "",
+        'bypass 2 of 2\nline 12: prefix = "a"\nbypass.prefix: paths that begin with this text, itself beginning with /; '
+        "required\n",
+        "value bypass.prefix",
+    ),
+    (
+        FIXED,
+        '[[bypass]]\nkind = "method"\nmethod = "GET"\nzebra = 1\n',
+        "",
+        "bypass 1 of 1\nline 10: zebra = 1\n" "bypass.zebra isn't a key here; those that are: kind method\n",
+        "unknown bypass.zebra",
+    ),
+    (
+        "",
+        "zebra = 1\n",
+        FIXED,
+        "line 4: zebra = 1\nzebra isn't a key here; those that are: version listen backend "
+        "backlog wait timeout_ms keep promote limit window class resolver bypass\n",
+        "unknown zebra",
+    ),
+    (
+        PLAIN,
+        "ratio = 900\n",
+        "",
+        "line 6: ratio = 900\nlimit.ratio isn't a key here; those that are: kind initial\n",
+        "unknown limit.ratio",
+    ),
 ]
 # The same of keys in the text of which each number counts, and of the member that is at fault.
 CLASSES = "".join(f'[[class]]\nname = "{name}"\nshare = 100\n' for name in "abcd")
@@ -60,150 +139,335 @@ BY_METHOD = '[[resolver]]\nkind = "method"\nmethod = "GET"\nclass = "live"\n'
 BYPASS = '[[bypass]]\nkind = "prefix"\nprefix = "/a"\n'
 BY_ROUTE = '[[resolver]]\nkind = "route"\n[resolver.routes]\n'
 OF_FAULTS += [
-    ('', 'timeout_ms = 0\n', FIXED, 'line 4: timeout_ms = 0\n'
-     'timeout_ms: the longest wait in milliseconds, 1 to 3600000; 1000\n', 'value timeout_ms'),
-    ('', 'keep = 0\n', FIXED, 'line 4: keep = 0\nkeep: entries of the history that are kept, 1 to 1000000; 4096\n',
-     'value keep'),
-    ('', 'promote = ""\n', FIXED, 'line 4: promote = ""\npromote: which waiters get room that falls free, '
-     '"newest" or "all"; "newest"\n', 'value promote'),
-    ('', 'wait = 1\n', FIXED, 'line 4: wait = 1\nwait: whether refused callers wait at all, true or false; true\n',
-     'kind wait'),
-    (SETTABLE, 'min = 0\n', '', 'line 6: min = 0\nlimit.min: permits, 1 to 10000; 1\n', 'value limit.min'),
-    (SETTABLE, 'max = 0\n', '', 'line 6: max = 0\nlimit.max: permits, min to 10000; 200\nhere from 1 to 10000\n',
-     'value limit.max'),
-    (SETTABLE, 'initial = 201\n', '', 'line 6: initial = 201\nlimit.initial: permits, min to max, of fixed 1 to '
-     '10000; 20\n'
-     'here from 1 to 200\n', 'value limit.initial'),
-    (AIMD, 'min = 7\nmax = 40\ninitial = 41\n', '', 'line 8: initial = 41\nlimit.initial: permits, min to max, of '
-     'fixed 1 to '
-     '10000; 20\nhere from 7 to 40\n', 'value limit.initial'),
-    (AIMD, 'ratio = 499\n', '', 'line 6: ratio = 499\nlimit.ratio: what a drop leaves in thousandths, 500 to 999; '
-     '900\n',
-     'value limit.ratio'),
-    (AIMD, 'timeout_us = 0\n', '', 'line 6: timeout_us = 0\nlimit.timeout_us: a round trip above it is a drop, '
-     'microseconds, '
-     '1 to 3600000000; 5000000\n', 'value limit.timeout_us'),
-    (VEGAS, 'alpha = 101\n', '', 'line 6: alpha = 101\nlimit.alpha: the limit rises below this queue, permits, 1 to '
-     '100; 3\n',
-     'value limit.alpha'),
-    (VEGAS, 'beta = 2\n', '', 'line 6: beta = 2\nlimit.beta: the limit falls above this queue, permits, alpha to 100; '
-     '6\n'
-     'here from 3 to 100\n', 'value limit.beta'),
-    (VEGAS, 'probe_every = 1000001\n', '', 'line 6: probe_every = 1000001\nlimit.probe_every: samples until the least '
-     'round '
-     'trip is measured anew, 0 to 1000000; 0\n', 'value limit.probe_every'),
-    (WINDOW, 'size = 0\n', '', 'line 7: size = 0\nwindow.size: samples, 1 to 1000000; 10\n', 'value window.size'),
-    (WINDOW, 'min_us = 0\n', '', 'line 7: min_us = 0\nwindow.min_us: the shortest window in microseconds, 1 to '
-     '3600000000; '
-     '1000000\n', 'value window.min_us'),
-    (WINDOW, 'max_us = 5\n', '', 'line 7: max_us = 5\nwindow.max_us: the longest window in microseconds, min_us to '
-     '3600000000; 1000000\nhere from 1000000 to 3600000000\n', 'value window.max_us'),
-    (WINDOW, 'min_rtt_us = -1\n', '', 'line 7: min_rtt_us = -1\nwindow.min_rtt_us: quicker answers are left out, '
-     'microseconds, 0 to 3600000000; 100\n', 'value window.min_rtt_us'),
-    (FIXED, CLASSES + '[[class]]\n', '', 'line 7: [[class]]\nclass: an array of at most four tables, [[class]]; '
-     'none\n', 'value class'),
-    (FIXED + LIVE_OF_TWO, BY_METHOD * 33, '', 'line 10: [[resolver]]\nresolver: an array of at most 32 tables, '
-     '[[resolver]]; none\n', 'value resolver'),
-    (FIXED, BYPASS * 33, '', 'line 7: [[bypass]]\nbypass: an array of at most 32 tables, [[bypass]]; none\n', 'value '
-     'bypass'),
-    (FIXED, '[[class]]\nname = "a"\nshare = 0\n' + LIVE_OF_TWO, '', 'class 1 of 2\nline 9: share = 0\n'
-     'class.share: thousandths, 1 to what the classes before leave of 1000; required\nhere from 1 to 1000\n',
-     'value class.share'),
-    (FIXED + LIVE_OF_TWO, '[[resolver]]\nkind = "path"\n' + BY_METHOD, '', 'resolver 1 of 2\nline 11: kind = "path"\n'
-     'resolver.kind: "header", "method" or "route"; required\n', 'value resolver.kind'),
-    (FIXED, '[[bypass]]\nkind = "path"\n' + BYPASS, '', 'bypass 1 of 2\nline 8: kind = "path"\n'
-     'bypass.kind: "method", "prefix" or "header"; required\n', 'value bypass.kind'),
-    (FIXED + LIVE_OF_TWO, BY_METHOD * 16 + '[[resolver]]\nkind = "path"\n', '', 'resolver 17 of 17\nline 75: kind = '
-     '"path"\n'
-     'resolver.kind: "header", "method" or "route"; required\n', 'value resolver.kind'),
-    (FIXED, BYPASS * 31 + '[[bypass]]\nkind = "path"\n', '', 'bypass 32 of 32\nline 101: kind = "path"\n'
-     'bypass.kind: "method", "prefix" or "header"; required\n', 'value bypass.kind'),
-    (FIXED + LIVE_OF_TWO, BY_METHOD * 16 + BY_ROUTE + '"/{a" = "live"\n', '', 'resolver 17 of 17\nline 76: '
-     '[resolver.routes]\n'
-     'the pattern "/{a": Parameters must be registered with a valid name\n', 'route'),
-    (FIXED + LIVE_OF_TWO, BY_ROUTE + '"/a/{b}" = "live"\n' + BY_ROUTE + '"/{a}" = "live"\n"/c" = "live"\n"/{d}" = '
-     '"live"\n', '',
-     'resolver 2 of 2\nline 16: [resolver.routes]\nthe pattern "/{d}": Insertion failed due to conflict with '
-     'previously '
-     'registered route: /{a}\n', 'route'),
-    (FIXED + LIVE_OF_TWO, BY_METHOD * 16 + BY_METHOD + 'zebra = 1\n', '', 'resolver 17 of 17\nline 78: zebra = 1\n'
-     "resolver.zebra isn't a key here; those that are: kind method class\n", 'unknown resolver.zebra'),
+    (
+        "",
+        "timeout_ms = 0\n",
+        FIXED,
+        "line 4: timeout_ms = 0\n" "timeout_ms: the longest wait in milliseconds, 1 to 3600000; 1000\n",
+        "value timeout_ms",
+    ),
+    (
+        "",
+        "keep = 0\n",
+        FIXED,
+        "line 4: keep = 0\nkeep: entries of the history that are kept, 1 to 1000000; 4096\n",
+        "value keep",
+    ),
+    (
+        "",
+        'promote = ""\n',
+        FIXED,
+        'line 4: promote = ""\npromote: which waiters get room that falls free, ' '"newest" or "all"; "newest"\n',
+        "value promote",
+    ),
+    (
+        "",
+        "wait = 1\n",
+        FIXED,
+        "line 4: wait = 1\nwait: whether refused callers wait at all, true or false; true\n",
+        "kind wait",
+    ),
+    (SETTABLE, "min = 0\n", "", "line 6: min = 0\nlimit.min: permits, 1 to 10000; 1\n", "value limit.min"),
+    (
+        SETTABLE,
+        "max = 0\n",
+        "",
+        "line 6: max = 0\nlimit.max: permits, min to 10000; 200\nhere from 1 to 10000\n",
+        "value limit.max",
+    ),
+    (
+        SETTABLE,
+        "initial = 201\n",
+        "",
+        "line 6: initial = 201\nlimit.initial: permits, min to max, of fixed 1 to "
+        "10000; 20\n"
+        "here from 1 to 200\n",
+        "value limit.initial",
+    ),
+    (
+        AIMD,
+        "min = 7\nmax = 40\ninitial = 41\n",
+        "",
+        "line 8: initial = 41\nlimit.initial: permits, min to max, of " "fixed 1 to " "10000; 20\nhere from 7 to 40\n",
+        "value limit.initial",
+    ),
+    (
+        AIMD,
+        "ratio = 499\n",
+        "",
+        "line 6: ratio = 499\nlimit.ratio: what a drop leaves in thousandths, 500 to 999; " "900\n",
+        "value limit.ratio",
+    ),
+    (
+        AIMD,
+        "timeout_us = 0\n",
+        "",
+        "line 6: timeout_us = 0\nlimit.timeout_us: a round trip above it is a drop, "
+        "microseconds, "
+        "1 to 3600000000; 5000000\n",
+        "value limit.timeout_us",
+    ),
+    (
+        VEGAS,
+        "alpha = 101\n",
+        "",
+        "line 6: alpha = 101\nlimit.alpha: the limit rises below this queue, permits, 1 to " "100; 3\n",
+        "value limit.alpha",
+    ),
+    (
+        VEGAS,
+        "beta = 2\n",
+        "",
+        "line 6: beta = 2\nlimit.beta: the limit falls above this queue, permits, alpha to 100; "
+        "6\n"
+        "here from 3 to 100\n",
+        "value limit.beta",
+    ),
+    (
+        VEGAS,
+        "probe_every = 1000001\n",
+        "",
+        "line 6: probe_every = 1000001\nlimit.probe_every: samples until the least "
+        "round "
+        "trip is measured anew, 0 to 1000000; 0\n",
+        "value limit.probe_every",
+    ),
+    (WINDOW, "size = 0\n", "", "line 7: size = 0\nwindow.size: samples, 1 to 1000000; 10\n", "value window.size"),
+    (
+        WINDOW,
+        "min_us = 0\n",
+        "",
+        "line 7: min_us = 0\nwindow.min_us: the shortest window in microseconds, 1 to " "3600000000; " "1000000\n",
+        "value window.min_us",
+    ),
+    (
+        WINDOW,
+        "max_us = 5\n",
+        "",
+        "line 7: max_us = 5\nwindow.max_us: the longest window in microseconds, min_us to "
+        "3600000000; 1000000\nhere from 1000000 to 3600000000\n",
+        "value window.max_us",
+    ),
+    (
+        WINDOW,
+        "min_rtt_us = -1\n",
+        "",
+        "line 7: min_rtt_us = -1\nwindow.min_rtt_us: quicker answers are left out, "
+        "microseconds, 0 to 3600000000; 100\n",
+        "value window.min_rtt_us",
+    ),
+    (
+        FIXED,
+        CLASSES + "[[class]]\n",
+        "",
+        "line 7: [[class]]\nclass: an array of at most four tables, [[class]]; " "none\n",
+        "value class",
+    ),
+    (
+        FIXED + LIVE_OF_TWO,
+        BY_METHOD * 33,
+        "",
+        "line 10: [[resolver]]\nresolver: an array of at most 32 tables, " "[[resolver]]; none\n",
+        "value resolver",
+    ),
+    (
+        FIXED,
+        BYPASS * 33,
+        "",
+        "line 7: [[bypass]]\nbypass: an array of at most 32 tables, [[bypass]]; none\n",
+        "value " "bypass",
+    ),
+    (
+        FIXED,
+        '[[class]]\nname = "a"\nshare = 0\n' + LIVE_OF_TWO,
+        "",
+        "class 1 of 2\nline 9: share = 0\n"
+        "class.share: thousandths, 1 to what the classes before leave of 1000; required\nhere from 1 to 1000\n",
+        "value class.share",
+    ),
+    (
+        FIXED + LIVE_OF_TWO,
+        '[[resolver]]\nkind = "path"\n' + BY_METHOD,
+        "",
+        'resolver 1 of 2\nline 11: kind = "path"\n' 'resolver.kind: "header", "method" or "route"; required\n',
+        "value resolver.kind",
+    ),
+    (
+        FIXED,
+        '[[bypass]]\nkind = "path"\n' + BYPASS,
+        "",
+        'bypass 1 of 2\nline 8: kind = "path"\n' 'bypass.kind: "method", "prefix" or "header"; required\n',
+        "value bypass.kind",
+    ),
+    (
+        FIXED + LIVE_OF_TWO,
+        BY_METHOD * 16 + '[[resolver]]\nkind = "path"\n',
+        "",
+        "resolver 17 of 17\nline 75: kind = " '"path"\n' 'resolver.kind: "header", "method" or "route"; required\n',
+        "value resolver.kind",
+    ),
+    (
+        FIXED,
+        BYPASS * 31 + '[[bypass]]\nkind = "path"\n',
+        "",
+        'bypass 32 of 32\nline 101: kind = "path"\n' 'bypass.kind: "method", "prefix" or "header"; required\n',
+        "value bypass.kind",
+    ),
+    (
+        FIXED + LIVE_OF_TWO,
+        BY_METHOD * 16 + BY_ROUTE + '"/{a" = "live"\n',
+        "",
+        "resolver 17 of 17\nline 76: "
+        "[resolver.routes]\n"
+        'the pattern "/{a": Parameters must be registered with a valid name\n',
+        "route",
+    ),
+    (
+        FIXED + LIVE_OF_TWO,
+        BY_ROUTE + '"/a/{b}" = "live"\n' + BY_ROUTE + '"/{a}" = "live"\n"/c" = "live"\n"/{d}" = ' '"live"\n',
+        "",
+        'resolver 2 of 2\nline 16: [resolver.routes]\nthe pattern "/{d}": Insertion failed due to conflict with '
+        "previously "
+        "registered route: /{a}\n",
+        "route",
+    ),
+    (
+        FIXED + LIVE_OF_TWO,
+        BY_METHOD * 16 + BY_METHOD + "zebra = 1\n",
+        "",
+        "resolver 17 of 17\nline 78: zebra = 1\n"
+        "resolver.zebra isn't a key here; those that are: kind method class\n",
+        "unknown resolver.zebra",
+    ),
 ]
 # The same in version 1, whose shares are in percent.
 OF_FAULTS_OF_ONE = [
-    (FIXED + LIVE, '[[class]]\nname = "b"\npercent = 41\n', '', 'class 2 of 2\nline 12: percent = 41\n'
-     'class.percent: percent, 1 to what the classes before leave of 100; required\nhere from 1 to 40\n',
-     'value class.percent'),
-    (FIXED, '[[class]]\nname = "b"\npercent = 101\n', '', 'class 1 of 1\nline 9: percent = 101\n'
-     'class.percent: percent, 1 to what the classes before leave of 100; required\nhere from 1 to 100\n',
-     'value class.percent'),
+    (
+        FIXED + LIVE,
+        '[[class]]\nname = "b"\npercent = 41\n',
+        "",
+        "class 2 of 2\nline 12: percent = 41\n"
+        "class.percent: percent, 1 to what the classes before leave of 100; required\nhere from 1 to 40\n",
+        "value class.percent",
+    ),
+    (
+        FIXED,
+        '[[class]]\nname = "b"\npercent = 101\n',
+        "",
+        "class 1 of 1\nline 9: percent = 101\n"
+        "class.percent: percent, 1 to what the classes before leave of 100; required\nhere from 1 to 100\n",
+        "value class.percent",
+    ),
 ]
 # What it says of one without a fault.
 OF_NO_FAULT = [
-    ('backlog = 9\n' + PLAIN + 'initial = 40\n', 'greatest limit 40, shares of it 0 and backlog 9 are 49 together\n'
-     'serve it with --workers 50 or more, at most 64\n'),
-    ('backlog = 9\n' + AIMD + 'max = 40\ninitial = 4\n' + LIVE_OF_TWO,
-     'greatest limit 40, shares of it 24 and backlog 9 are 73 together\n'
-     'too few workers: there are at most 64, and callers past them wait unseen; lower the limit or the backlog\n'
-     'limit.timeout_us = 5000000 is above a second: answers up to that only raise the limit, however long the queue at '
-     'the backend\n'),
-    ('backlog = 9\nwait = false\n' + FIXED, 'greatest limit 4, shares of it 0 and backlog 0 are 4 together\n'
-     'serve it with --workers 5 or more, at most 64\nwait = false: nobody waits, so backlog = 9 has no effect\n'),
-    ('backlog = 23\n' + PLAIN + 'initial = 40\n', 'greatest limit 40, shares of it 0 and backlog 23 are 63 together\n'
-     'serve it with --workers 64 or more, at most 64\n'),
-    ('backlog = 24\n' + PLAIN + 'initial = 40\n', 'greatest limit 40, shares of it 0 and backlog 24 are 64 together\n'
-     'too few workers: there are at most 64, and callers past them wait unseen; lower the limit or the backlog\n'),
-    ('wait = false\n' + FIXED, 'greatest limit 4, shares of it 0 and backlog 0 are 4 together\n'
-     'serve it with --workers 5 or more, at most 64\n'),
+    (
+        "backlog = 9\n" + PLAIN + "initial = 40\n",
+        "greatest limit 40, shares of it 0 and backlog 9 are 49 together\n"
+        "serve it with --workers 50 or more, at most 64\n",
+    ),
+    (
+        "backlog = 9\n" + AIMD + "max = 40\ninitial = 4\n" + LIVE_OF_TWO,
+        "greatest limit 40, shares of it 24 and backlog 9 are 73 together\n"
+        "too few workers: there are at most 64, and callers past them wait unseen; lower the limit or the backlog\n"
+        "limit.timeout_us = 5000000 is above a second: answers up to that only raise the limit, however long the queue at "
+        "the backend\n",
+    ),
+    (
+        "backlog = 9\nwait = false\n" + FIXED,
+        "greatest limit 4, shares of it 0 and backlog 0 are 4 together\n"
+        "serve it with --workers 5 or more, at most 64\nwait = false: nobody waits, so backlog = 9 has no effect\n",
+    ),
+    (
+        "backlog = 23\n" + PLAIN + "initial = 40\n",
+        "greatest limit 40, shares of it 0 and backlog 23 are 63 together\n"
+        "serve it with --workers 64 or more, at most 64\n",
+    ),
+    (
+        "backlog = 24\n" + PLAIN + "initial = 40\n",
+        "greatest limit 40, shares of it 0 and backlog 24 are 64 together\n"
+        "too few workers: there are at most 64, and callers past them wait unseen; lower the limit or the backlog\n",
+    ),
+    (
+        "wait = false\n" + FIXED,
+        "greatest limit 4, shares of it 0 and backlog 0 are 4 together\n"
+        "serve it with --workers 5 or more, at most 64\n",
+    ),
 ]
 # What it says of a limit that may not adapt, and of callers who may not be told apart, behind the words on workers.
-FEW = 'backlog = 9\n'
-ON_WORKERS = ('greatest limit 40, shares of it 0 and backlog 9 are 49 together\n'
-              'serve it with --workers 50 or more, at most 64\n')
-NO_PROBES = 'limit.probe_every = 0: one quick answer, or a drop, can keep the limit low for good\n'
-SLOW_TIMEOUT = ('limit.timeout_us = {} is above a second: answers up to that only raise the limit, however long the '
-                'queue at the backend\n')
-MANY = 'window.size = {} is above twice limit.min = {}: a limit that fell to min can stay there for good\n'
-SHORT = ('window.max_us = {}: where an answer takes a second, {} at once make fewer than {} in a window, and a limit '
-         'that fell to min can stay there for good\n')
-LEARNING, PROBING = AIMD + 'max = 40\ntimeout_us = {}\n', VEGAS + 'max = 40\nprobe_every = 1\n'
-OF_NO_FAULT += [(FEW + lines, ON_WORKERS + words) for lines, words in [
-    (VEGAS + 'max = 40\n', NO_PROBES), (PROBING, ''),
-    (LEARNING.format(1_000_000), ''), (LEARNING.format(1_000_001), SLOW_TIMEOUT.format(1_000_001)),
-    (PROBING + 'min = 5\n[window]\nsize = 11\nmax_us = 2_000_000\n', MANY.format(11, 5)),
-    (PROBING + 'min = 5\n[window]\nsize = 10\nmax_us = 2_000_000\n', ''),
-    (PROBING + 'min = 5\n[window]\nsize = 10\nmax_us = 1_999_999\n', SHORT.format(1_999_999, 5, 10)),
-    (PROBING + 'min = 5\n[window]\n', SHORT.format(1_000_000, 5, 10)),
-    (PROBING + '[window]\nsize = 1\nmin_us = 1\nmax_us = 1\n', ''),
-    (PROBING + '[window]\n', MANY.format(10, 1)),
-    (PROBING + 'min = 16\n[window]\nsize = 2\nmin_us = 50_000\nmax_us = 125_000\n', ''),
-    (PROBING + 'min = 16\n[window]\nsize = 2\nmin_us = 50_000\nmax_us = 124_999\n', SHORT.format(124_999, 16, 2)),
-    (VEGAS + 'max = 40\n[window]\n', NO_PROBES + MANY.format(10, 1)),
-    (LEARNING.format(9_000_000) + '[window]\n', SLOW_TIMEOUT.format(9_000_000) + MANY.format(10, 1)),
-    (PLAIN + 'initial = 40\n[window]\n', ''), (SETTABLE + 'max = 40\n[window]\n', ''),
-    (PLAIN + 'initial = 40\n[[resolver]]\nkind = "header"\nheader = "A"\n',
-     'resolver 1 tells a class by a header, and there is no class\n'),
-    (PLAIN + 'initial = 40\n' + BYPASS + '[[bypass]]\nkind = "method"\nmethod = "Get"\n',
-     'bypass 2 has the method "Get" with small letters: methods are compared byte for byte, and clients send '
-     'capitals\n'),
-    (PLAIN + 'initial = 40\n[[bypass]]\nkind = "method"\nmethod = "M-SEARCH"\n', ''),
-]]
-TOO_FEW = 'too few workers: there are at most 64, and callers past them wait unseen; lower the limit or the backlog\n'
+FEW = "backlog = 9\n"
+ON_WORKERS = (
+    "greatest limit 40, shares of it 0 and backlog 9 are 49 together\n"
+    "serve it with --workers 50 or more, at most 64\n"
+)
+NO_PROBES = "limit.probe_every = 0: one quick answer, or a drop, can keep the limit low for good\n"
+SLOW_TIMEOUT = (
+    "limit.timeout_us = {} is above a second: answers up to that only raise the limit, however long the "
+    "queue at the backend\n"
+)
+MANY = "window.size = {} is above twice limit.min = {}: a limit that fell to min can stay there for good\n"
+SHORT = (
+    "window.max_us = {}: where an answer takes a second, {} at once make fewer than {} in a window, and a limit "
+    "that fell to min can stay there for good\n"
+)
+LEARNING, PROBING = AIMD + "max = 40\ntimeout_us = {}\n", VEGAS + "max = 40\nprobe_every = 1\n"
 OF_NO_FAULT += [
-    ('backlog = 0\n' + PLAIN + 'initial = 64\n',
-     'greatest limit 64, shares of it 0 and backlog 0 are 64 together\n' + TOO_FEW),
-    ('backlog = 0\n' + PLAIN + 'initial = 65\n',
-     'greatest limit 65, shares of it 0 and backlog 0 are 65 together\n' + TOO_FEW
-     + 'a limit above 64 is never reached: there are at most as many workers\n'),
-    ('backlog = 0\n' + FIXED + LIVE_OF_TWO + BY_METHOD.replace("GET", "get"),
-     'greatest limit 4, shares of it 3 and backlog 0 are 7 together\nserve it with --workers 8 or more, at most 64\n'
-     'resolver 1 has the method "get" with small letters: methods are compared byte for byte, and clients send '
-     'capitals\n'),
-    ('backlog = 0\n' + FIXED + LIVE_OF_TWO + '[[resolver]]\nkind = "header"\nheader = "A"\n',
-     'greatest limit 4, shares of it 3 and backlog 0 are 7 together\nserve it with --workers 8 or more, at most 64\n'),
+    (FEW + lines, ON_WORKERS + words)
+    for lines, words in [
+        (VEGAS + "max = 40\n", NO_PROBES),
+        (PROBING, ""),
+        (LEARNING.format(1_000_000), ""),
+        (LEARNING.format(1_000_001), SLOW_TIMEOUT.format(1_000_001)),
+        (PROBING + "min = 5\n[window]\nsize = 11\nmax_us = 2_000_000\n", MANY.format(11, 5)),
+        (PROBING + "min = 5\n[window]\nsize = 10\nmax_us = 2_000_000\n", ""),
+        (PROBING + "min = 5\n[window]\nsize = 10\nmax_us = 1_999_999\n", SHORT.format(1_999_999, 5, 10)),
+        (PROBING + "min = 5\n[window]\n", SHORT.format(1_000_000, 5, 10)),
+        (PROBING + "[window]\nsize = 1\nmin_us = 1\nmax_us = 1\n", ""),
+        (PROBING + "[window]\n", MANY.format(10, 1)),
+        (PROBING + "min = 16\n[window]\nsize = 2\nmin_us = 50_000\nmax_us = 125_000\n", ""),
+        (PROBING + "min = 16\n[window]\nsize = 2\nmin_us = 50_000\nmax_us = 124_999\n", SHORT.format(124_999, 16, 2)),
+        (VEGAS + "max = 40\n[window]\n", NO_PROBES + MANY.format(10, 1)),
+        (LEARNING.format(9_000_000) + "[window]\n", SLOW_TIMEOUT.format(9_000_000) + MANY.format(10, 1)),
+        (PLAIN + "initial = 40\n[window]\n", ""),
+        (SETTABLE + "max = 40\n[window]\n", ""),
+        (
+            PLAIN + 'initial = 40\n[[resolver]]\nkind = "header"\nheader = "A"\n',
+            "resolver 1 tells a class by a header, and there is no class\n",
+        ),
+        (
+            PLAIN + "initial = 40\n" + BYPASS + '[[bypass]]\nkind = "method"\nmethod = "Get"\n',
+            'bypass 2 has the method "Get" with small letters: methods are compared byte for byte, and clients send '
+            "capitals\n",
+        ),
+        (PLAIN + 'initial = 40\n[[bypass]]\nkind = "method"\nmethod = "M-SEARCH"\n', ""),
+    ]
+]
+TOO_FEW = "too few workers: there are at most 64, and callers past them wait unseen; lower the limit or the backlog\n"
+OF_NO_FAULT += [
+    (
+        "backlog = 0\n" + PLAIN + "initial = 64\n",
+        "greatest limit 64, shares of it 0 and backlog 0 are 64 together\n" + TOO_FEW,
+    ),
+    (
+        "backlog = 0\n" + PLAIN + "initial = 65\n",
+        "greatest limit 65, shares of it 0 and backlog 0 are 65 together\n"
+        + TOO_FEW
+        + "a limit above 64 is never reached: there are at most as many workers\n",
+    ),
+    (
+        "backlog = 0\n" + FIXED + LIVE_OF_TWO + BY_METHOD.replace("GET", "get"),
+        "greatest limit 4, shares of it 3 and backlog 0 are 7 together\nserve it with --workers 8 or more, at most 64\n"
+        'resolver 1 has the method "get" with small letters: methods are compared byte for byte, and clients send '
+        "capitals\n",
+    ),
+    (
+        "backlog = 0\n" + FIXED + LIVE_OF_TWO + '[[resolver]]\nkind = "header"\nheader = "A"\n',
+        "greatest limit 4, shares of it 3 and backlog 0 are 7 together\nserve it with --workers 8 or more, at most 64\n",
+    ),
 ]
 # The same of addresses that are one.
 OF_ONE_ADDRESS = [
     ("127.0.0.1:8080", "127.0.0.1:8080", "backend is listen: each request comes back to this gateway\n"),
-    ("127.0.0.1:8080", "127.0.0.1:8081", ""), ("127.0.0.1:8080", "127.0.0.2:8080", ""),
+    ("127.0.0.1:8080", "127.0.0.1:8081", ""),
+    ("127.0.0.1:8080", "127.0.0.2:8080", ""),
 ]

@@ -112,8 +112,13 @@ class Fronts(Judge):
         kinds = ("client_body", "proxy", "fastcgi", "uwsgi", "scgi")
         folders = "".join(f"    {kind}_temp_path {own}/{kind};\n" for kind in kinds)
         pid = re.search("^pid (.*);$", (FRONT / name).read_text(), re.MULTILINE)[1]
-        swaps = {pid: own / "pid", "/var/log/nginx/": f"{own}/", "http {\n": "http {\n" + folders,
-                 "worker_processes auto;": "worker_processes 2;", **swaps}
+        swaps = {
+            pid: own / "pid",
+            "/var/log/nginx/": f"{own}/",
+            "http {\n": "http {\n" + folders,
+            "worker_processes auto;": "worker_processes 2;",
+            **swaps,
+        }
         file = self.configured(name, swaps)
         process = self.start("nginx", "-c", str(file), "-e", str(own / "early.log"), "-g", "daemon off;")
         self.wait_for(port, process, own)
@@ -133,8 +138,17 @@ class Fronts(Judge):
         port = port or free_port()
         file = self.room / f"{port}.toml"
         file.write_text(f'version = 1\nlisten = "127.0.0.1:{port}"\nbackend = "127.0.0.1:{backend}"\n{tables}')
-        process = self.start(self.program, "serve", str(file), "--workers", str(workers), *words,
-                             stdout=subprocess.PIPE, stderr=subprocess.PIPE, text=True)
+        process = self.start(
+            self.program,
+            "serve",
+            str(file),
+            "--workers",
+            str(workers),
+            *words,
+            stdout=subprocess.PIPE,
+            stderr=subprocess.PIPE,
+            text=True,
+        )
         for line in process.stderr:
             if "listening" in line:
                 return process, port
@@ -143,8 +157,26 @@ class Fronts(Judge):
     def certificate(self):
         """A certificate and its key, and a file of both."""
         key, certificate, both = (self.room / it for it in ("key.pem", "certificate.pem", "both.pem"))
-        subprocess.run(["openssl", "req", "-x509", "-newkey", "rsa:2048", "-nodes", "-days", "2", "-subj",
-                        "/CN=www.example.com", "-keyout", key, "-out", certificate], check=True, capture_output=True)
+        subprocess.run(
+            [
+                "openssl",
+                "req",
+                "-x509",
+                "-newkey",
+                "rsa:2048",
+                "-nodes",
+                "-days",
+                "2",
+                "-subj",
+                "/CN=www.example.com",
+                "-keyout",
+                key,
+                "-out",
+                certificate,
+            ],
+            check=True,
+            capture_output=True,
+        )
         both.write_text(certificate.read_text() + key.read_text())
         return certificate, key, both
 

@@ -2,7 +2,18 @@
 import re
 import sys
 
-COUNTERS = ("admitted", "bypassed", "full", "backlog", "waiting", "promoted", "timed-out", "success", "ignored", "dropped")
+COUNTERS = (
+    "admitted",
+    "bypassed",
+    "full",
+    "backlog",
+    "waiting",
+    "promoted",
+    "timed-out",
+    "success",
+    "ignored",
+    "dropped",
+)
 
 
 def counters_line(**counts):

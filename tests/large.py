@@ -26,16 +26,18 @@ def in_chunks(body):
 def post(count, is_chunked):
     """A request with a body of so many bytes, by its length or in chunks."""
     body = b"x" * count
-    coding, text = ((b"Transfer-Encoding: chunked", in_chunks(body)) if is_chunked else
-                    (b"Content-Length: %d" % count, body))
+    coding, text = (
+        (b"Transfer-Encoding: chunked", in_chunks(body)) if is_chunked else (b"Content-Length: %d" % count, body)
+    )
     return b"POST /%d HTTP/1.1\r\nHost: h\r\n%s\r\n\r\n%s" % (count, coding, text)
 
 
 def answer(count, is_chunked):
     """A response with such a body."""
     body = b"y" * count
-    coding, text = ((b"Transfer-Encoding: chunked", in_chunks(body)) if is_chunked else
-                    (b"Content-Length: %d" % count, body))
+    coding, text = (
+        (b"Transfer-Encoding: chunked", in_chunks(body)) if is_chunked else (b"Content-Length: %d" % count, body)
+    )
     return b"HTTP/1.1 200 OK\r\n%s\r\n\r\n%s" % (coding, text)
 
 
@@ -70,6 +72,7 @@ class Large:
     def answers_before_it_reads(self, _):
         """A backend that writes a large answer before it reads a large request is read meanwhile: nobody waits."""
         for is_chunked, reads_on in itertools.product((False, True), repeat=2):
+
             def answers_first(client, is_chunked=is_chunked, reads_on=reads_on):
                 count = length_of(read_head(client))
                 client.sendall(answer(count, is_chunked))
@@ -102,8 +105,11 @@ class Large:
         backend = Scripted(echoes)
         gate = self.gateway(backend, workers=2)
         with ThreadPoolExecutor(2) as pool:
-            self.judge("answers that wait for their requests", [local(502)] * 2,
-                       [*pool.map(gate.ask, [post(8 * MEGABYTE, False)] * 2)])
+            self.judge(
+                "answers that wait for their requests",
+                [local(502)] * 2,
+                [*pool.map(gate.ask, [post(8 * MEGABYTE, False)] * 2)],
+            )
         self.judge("counters of what waits for its request", {"admitted": 2, "dropped": 2}, gate.ending())
         self.judge("both were told", [True] * 2, heard)
         backend.close()

@@ -121,7 +121,7 @@ class Backend:
             if path == b"/closes":
                 return
             if cut := re.fullmatch(rb"/(closes|resets)/(\w+)/(\d+)", path):
-                client.sendall(WHOLE[cut[2].decode()][:int(cut[3])])
+                client.sendall(WHOLE[cut[2].decode()][: int(cut[3])])
                 if cut[1] == b"resets":
                     client.setsockopt(socket.SOL_SOCKET, socket.SO_LINGER, struct.pack("ii", 1, 0))
                 return
@@ -160,21 +160,41 @@ class Gateway:
             if "admission: listen" not in self.log:
                 return
 
-    def start(self, program, room, backend, settings="", workers=1, each=1, words=(), listen="127.0.0.1", version=1,
-              front=(), behind="127.0.0.1", log_to=None, variables=None):
+    def start(
+        self,
+        program,
+        room,
+        backend,
+        settings="",
+        workers=1,
+        each=1,
+        words=(),
+        listen="127.0.0.1",
+        version=1,
+        front=(),
+        behind="127.0.0.1",
+        log_to=None,
+        variables=None,
+    ):
         """`backend` is its port at the address `behind`, or nothing for a gateway that forwards to itself; `front` runs
         the words behind it. With `log_to` its log goes there, and isn't read."""
         self.port, self.log, self.is_listening = free_port(), [], threading.Event()
         self.host = "127.0.0.1" if listen == "0.0.0.0" else listen
         path = pathlib.Path(room) / f"{self.port}.toml"
         top, _, tables = settings.partition("\n\n")
-        path.write_text(f'version = {version}\nlisten = "{listen}:{self.port}"\n'
-                        f'backend = "{behind}:{backend or self.port}"\n'
-                        f"{top}\n{tables or '[limit]' + chr(10) + 'kind = ' + chr(34) + 'fixed' + chr(34)}\n")
+        path.write_text(
+            f'version = {version}\nlisten = "{listen}:{self.port}"\n'
+            f'backend = "{behind}:{backend or self.port}"\n'
+            f"{top}\n{tables or '[limit]' + chr(10) + 'kind = ' + chr(34) + 'fixed' + chr(34)}\n"
+        )
         given = ["serve", str(path), "--workers", str(workers), "--per-worker", str(each), *words]
-        self.process = subprocess.Popen([*front, program, *given], stdout=subprocess.PIPE, text=True,
-                                        stderr=subprocess.PIPE if log_to is None else log_to,
-                                        env={**os.environ, **(variables or {})})
+        self.process = subprocess.Popen(
+            [*front, program, *given],
+            stdout=subprocess.PIPE,
+            text=True,
+            stderr=subprocess.PIPE if log_to is None else log_to,
+            env={**os.environ, **(variables or {})},
+        )
         self.process.owner = threading.current_thread()
         Gateway.running.append(self.process)
         self.reader = threading.Thread(target=self.read_log, daemon=True)

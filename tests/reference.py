@@ -8,7 +8,7 @@ import collections
 import math
 import re
 
-LAST_MOMENT = 2 ** 62
+LAST_MOMENT = 2**62
 HOUR = 3_600_000_000_000
 MOST_SAMPLES = 1_000_000
 SETTINGS = ("limit", "window", "backlog", "keep", "timeout", "promote", "class", "share")
@@ -126,8 +126,14 @@ class Windows:
             rtts = [it.rtt for it in window]
             self.due = end + within(self.shortest, 2 * min(rtts), self.longest)
             if len(window) >= self.size:
-                self.inner.learn(Sample(sample.start, sum(rtts) // len(window), max(it.inflight for it in window),
-                                        any(it.dropped for it in window)))
+                self.inner.learn(
+                    Sample(
+                        sample.start,
+                        sum(rtts) // len(window),
+                        max(it.inflight for it in window),
+                        any(it.dropped for it in window),
+                    )
+                )
 
     def put(self, number):
         return self.inner.put(number)
@@ -263,19 +269,22 @@ class Limiter:
         return ["reset", *self.promote_all(now)]
 
     def look(self, part):
-        return [f"seen limit {self.limit.limit} total {self.total()} waiting {len(self.waiting)} "
-                f"granted {len(self.granted)} inflight {self.inflight(part)} share {self.share(part)}"]
+        return [
+            f"seen limit {self.limit.limit} total {self.total()} waiting {len(self.waiting)} "
+            f"granted {len(self.granted)} inflight {self.inflight(part)} share {self.share(part)}"
+        ]
 
 
-ANSWERS = {word: getattr(Limiter, word)
-           for word in ("acquire", "bypass", "end", "claim", "giveup", "set", "reset", "look")}
+ANSWERS = {
+    word: getattr(Limiter, word) for word in ("acquire", "bypass", "end", "claim", "giveup", "set", "reset", "look")
+}
 
 
 def parted(lines):
     """The settings of a script or a trace, and the lines behind them, with those that say nothing."""
     said = [line for line in lines if line.split() and not line.split()[0].startswith("#")]
     settings = [line for line in said if line.split()[0] in SETTINGS]
-    return settings, said[len(settings):]
+    return settings, said[len(settings) :]
 
 
 def replayed(lines):

@@ -7,10 +7,14 @@
 # A request, and the one form that it is forwarded in.
 FORWARDED = [
     ("GET /a HTTP/1.1|Host: h|X-Class: live|Connection: x-y|X-Y: 1||", "GET /a HTTP/1.1|Host: h|X-Class: live|>"),
-    ("POST /a HTTP/1.1|Host: h|Transfer-Encoding: chunked||3|abc|0||",
-     "POST /a HTTP/1.1|Host: h|Content-Length: 3|>abc"),
-    ("POST /a HTTP/1.0|Content-Length: 3|Content-Length: 3||abc",
-     "POST /a HTTP/1.1|Host: 127.0.0.1:9000|Content-Length: 3|Via: 1.0 admission|Connection: close||abc"),
+    (
+        "POST /a HTTP/1.1|Host: h|Transfer-Encoding: chunked||3|abc|0||",
+        "POST /a HTTP/1.1|Host: h|Content-Length: 3|>abc",
+    ),
+    (
+        "POST /a HTTP/1.0|Content-Length: 3|Content-Length: 3||abc",
+        "POST /a HTTP/1.1|Host: 127.0.0.1:9000|Content-Length: 3|Via: 1.0 admission|Connection: close||abc",
+    ),
     ("POST /a HTTP/1.1|Host: h|Content-Length: 3, 3||abc", "POST /a HTTP/1.1|Host: h|Content-Length: 3|>abc"),
     ("GET HTTP://h2?b HTTP/1.1|Host: h||", "GET /?b HTTP/1.1|Host: h2|>"),
     ("GET http://h2:80/a?b HTTP/1.1|X: 1|HOST: h|Y: 2||", "GET /a?b HTTP/1.1|X: 1|HOST: h2:80|Y: 2|>"),
@@ -28,8 +32,10 @@ OF_ONE_CONNECTION = [
     ("GET / HTTP/1.1|Host: h|X-Y: 1|Connection: a|CONNECTION: x-y||", "GET / HTTP/1.1|Host: h|>"),
     ("GET / HTTP/1.1|Host: h|Connection: host||", "GET / HTTP/1.1|Host: h|>"),
     ("GET / HTTP/1.1|Host: h|Connection: X|X-Y: 1||", "GET / HTTP/1.1|Host: h|X-Y: 1|>"),
-    ("POST / HTTP/1.1|Host: h|Connection: content-length|Content-Length: 3||abc",
-     "POST / HTTP/1.1|Host: h|Content-Length: 3|>abc"),
+    (
+        "POST / HTTP/1.1|Host: h|Connection: content-length|Content-Length: 3||abc",
+        "POST / HTTP/1.1|Host: h|Content-Length: 3|>abc",
+    ),
     ("GET / HTTP/1.1|Host: h|Proxy-Connection: a|Keep-Alive: b||", "GET / HTTP/1.1|Host: h|>"),
     ("GET / HTTP/1.1|Host: h|TE: trailers|Trailer: X||", "GET / HTTP/1.1|Host: h|>"),
     ("GET / HTTP/1.1|Host: h|Connection: upgrade|Upgrade: h2c|Expect: a||", "GET / HTTP/1.1|Host: h|>"),
@@ -71,8 +77,10 @@ LINES = [
     ("GET / HTTP/1.1|Host: h|!#$%&'*+-.^_`~9: a||", "GET / HTTP/1.1|Host: h|!#$%&'*+-.^_`~9: a|>"),
     ("POST / HTTP/1.1|Host: h|Content_Length: 3||", "POST / HTTP/1.1|Host: h|Content_Length: 3|>"),
     ("POST / HTTP/1.1|Host: h|Transfer_Encoding: chunked||", "POST / HTTP/1.1|Host: h|Transfer_Encoding: chunked|>"),
-    ("POST / HTTP/1.1|Host: h|X-Transfer-Encoding: chunked||",
-     "POST / HTTP/1.1|Host: h|X-Transfer-Encoding: chunked|>"),
+    (
+        "POST / HTTP/1.1|Host: h|X-Transfer-Encoding: chunked||",
+        "POST / HTTP/1.1|Host: h|X-Transfer-Encoding: chunked|>",
+    ),
     ("get / HTTP/1.1|Host: h||", "get / HTTP/1.1|Host: h|>"),
     ("trace / HTTP/1.1|Host: h||", "trace / HTTP/1.1|Host: h|>"),
     ("!#$%&'*+-.^_`~ / HTTP/1.1|Host: h||", "!#$%&'*+-.^_`~ / HTTP/1.1|Host: h|>"),
@@ -86,53 +94,78 @@ LENGTHS = [
     ("POST / HTTP/1.1|Host: h|Content-Length: 3,3 ,\t3||abc", "POST / HTTP/1.1|Host: h|Content-Length: 3|>abc"),
     ("POST / HTTP/1.1|Host: h|Content-Length: 003||abc", "POST / HTTP/1.1|Host: h|Content-Length: 3|>abc"),
     ("POST / HTTP/1.1|Host: h|Content-Length: 003, 003||abc", "POST / HTTP/1.1|Host: h|Content-Length: 3|>abc"),
-    ("POST / HTTP/1.1|Host: h|content-length: 3|CONTENT-LENGTH: 3, 3||abc",
-     "POST / HTTP/1.1|Host: h|Content-Length: 3|>abc"),
-    ("POST / HTTP/1.1|Host: h|Content-Length: 00000000000000000000000000003||abc",
-     "POST / HTTP/1.1|Host: h|Content-Length: 3|>abc"),
-    ("POST / HTTP/1.0|Host: h|Content-Length: 3||abc",
-     "POST / HTTP/1.1|Host: h|Content-Length: 3|Via: 1.0 admission|Connection: close||abc"),
-    ("POST / HTTP/1.1|Host: h|Transfer-Encoding: Chunked||3|abc|0||",
-     "POST / HTTP/1.1|Host: h|Content-Length: 3|>abc"),
+    (
+        "POST / HTTP/1.1|Host: h|content-length: 3|CONTENT-LENGTH: 3, 3||abc",
+        "POST / HTTP/1.1|Host: h|Content-Length: 3|>abc",
+    ),
+    (
+        "POST / HTTP/1.1|Host: h|Content-Length: 00000000000000000000000000003||abc",
+        "POST / HTTP/1.1|Host: h|Content-Length: 3|>abc",
+    ),
+    (
+        "POST / HTTP/1.0|Host: h|Content-Length: 3||abc",
+        "POST / HTTP/1.1|Host: h|Content-Length: 3|Via: 1.0 admission|Connection: close||abc",
+    ),
+    ("POST / HTTP/1.1|Host: h|Transfer-Encoding: Chunked||3|abc|0||", "POST / HTTP/1.1|Host: h|Content-Length: 3|>abc"),
     ("POST / HTTP/1.1|Host: h|TRANSFER-ENCODING:CHUNKED||3|abc|0||", "POST / HTTP/1.1|Host: h|Content-Length: 3|>abc"),
-    ("POST / HTTP/1.1|Host: h|Transfer-Encoding: \tchunked\t ||3|abc|0||",
-     "POST / HTTP/1.1|Host: h|Content-Length: 3|>abc"),
+    (
+        "POST / HTTP/1.1|Host: h|Transfer-Encoding: \tchunked\t ||3|abc|0||",
+        "POST / HTTP/1.1|Host: h|Content-Length: 3|>abc",
+    ),
 ]
 # Clients that are told nothing in front, whatever they expect.
 NOT_ASKED = [
-    ("POST / HTTP/1.0|Host: h|Expect: 100-continue|Content-Length: 3||abc",
-     "POST / HTTP/1.1|Host: h|Content-Length: 3|Via: 1.0 admission|Connection: close||abc"),
-    ("POST / HTTP/1.1|Host: h|Expect: 100-continue|Content-Length: 0||",
-     "POST / HTTP/1.1|Host: h|Content-Length: 0|>"),
+    (
+        "POST / HTTP/1.0|Host: h|Expect: 100-continue|Content-Length: 3||abc",
+        "POST / HTTP/1.1|Host: h|Content-Length: 3|Via: 1.0 admission|Connection: close||abc",
+    ),
+    ("POST / HTTP/1.1|Host: h|Expect: 100-continue|Content-Length: 0||", "POST / HTTP/1.1|Host: h|Content-Length: 0|>"),
     ("GET / HTTP/1.1|Host: h|Expect: 100-continue||", "GET / HTTP/1.1|Host: h|>"),
-    ("POST / HTTP/1.1|Host: h|Expect: 100-continued|Content-Length: 3||abc",
-     "POST / HTTP/1.1|Host: h|Content-Length: 3|>abc"),
+    (
+        "POST / HTTP/1.1|Host: h|Expect: 100-continued|Content-Length: 3||abc",
+        "POST / HTTP/1.1|Host: h|Content-Length: 3|>abc",
+    ),
     ("POST / HTTP/1.1|Host: h|Content-Length: 3||abc", "POST / HTTP/1.1|Host: h|Content-Length: 3|>abc"),
 ]
 # Clients that wait to be asked for a body, and are.
 ASKED = [
-    ("POST /a HTTP/1.1|Host: h|Expect: 100-continue|Content-Length: 3||abc",
-     "POST /a HTTP/1.1|Host: h|Content-Length: 3|>abc"),
-    ("POST / HTTP/1.1|Host: h|expect:100-CONTINUE|Transfer-Encoding: chunked||3|abc|0||",
-     "POST / HTTP/1.1|Host: h|Content-Length: 3|>abc"),
-    ("POST / HTTP/1.1|Host: h|Expect: 100-continue|Transfer-Encoding: chunked||0||",
-     "POST / HTTP/1.1|Host: h|Content-Length: 0|>"),
-    ("POST / HTTP/1.1|Host: h|Expect: a|Expect: 100-continue|Content-Length: 3||abc",
-     "POST / HTTP/1.1|Host: h|Content-Length: 3|>abc"),
+    (
+        "POST /a HTTP/1.1|Host: h|Expect: 100-continue|Content-Length: 3||abc",
+        "POST /a HTTP/1.1|Host: h|Content-Length: 3|>abc",
+    ),
+    (
+        "POST / HTTP/1.1|Host: h|expect:100-CONTINUE|Transfer-Encoding: chunked||3|abc|0||",
+        "POST / HTTP/1.1|Host: h|Content-Length: 3|>abc",
+    ),
+    (
+        "POST / HTTP/1.1|Host: h|Expect: 100-continue|Transfer-Encoding: chunked||0||",
+        "POST / HTTP/1.1|Host: h|Content-Length: 0|>",
+    ),
+    (
+        "POST / HTTP/1.1|Host: h|Expect: a|Expect: 100-continue|Content-Length: 3||abc",
+        "POST / HTTP/1.1|Host: h|Content-Length: 3|>abc",
+    ),
 ]
 # A head whose body comes in chunks.
 HEAD = "POST / HTTP/1.1|Host: h|Transfer-Encoding: chunked||"
 # Bodies in chunks behind that head, and what is forwarded behind `Content-Length: `.
 CHUNKS = [
-    ("3;a=b|abc|0||", "3|>abc"), ("3;a=\"b c\";d|abc|0;e||", "3|>abc"), ("3;\x00\xe9|abc|0||", "3|>abc"),
-    ("3 |abc|0\t||", "3|>abc"), ("3 \t;a|abc|0||", "3|>abc"),
+    ("3;a=b|abc|0||", "3|>abc"),
+    ('3;a="b c";d|abc|0;e||', "3|>abc"),
+    ("3;\x00\xe9|abc|0||", "3|>abc"),
+    ("3 |abc|0\t||", "3|>abc"),
+    ("3 \t;a|abc|0||", "3|>abc"),
     ("a|0123456789|A|abcdefghij|0||", "20|>0123456789abcdefghij"),
     ("00b|0123456789A|0B|0123456789B|000||", "22|>0123456789A0123456789B"),
-    ("0000000000000003|abc|0000000000000000||", "3|>abc"), ("6|a||b|0||", "6|>a||b"), ("5|0|||0||", "5|>0||"),
-    ("0||", "0|>"), ("3|abc|0|X: y|Content-Length: 9|Transfer-Encoding: gzip||", "3|>abc"),
+    ("0000000000000003|abc|0000000000000000||", "3|>abc"),
+    ("6|a||b|0||", "6|>a||b"),
+    ("5|0|||0||", "5|>0||"),
+    ("0||", "0|>"),
+    ("3|abc|0|X: y|Content-Length: 9|Transfer-Encoding: gzip||", "3|>abc"),
     ("3|abc|0|X y\n z|: |\x00\n\n", "3|>abc"),
 ]
 
+# fmt: off
 # Requests that are refused at once: a status, and what stands in front of the rows and behind each.
 REFUSED = [
     # Methods.
@@ -241,21 +274,40 @@ REFUSED = [
         "POST / HTTP/1.1|Expect: 100-continue|Content-Length: 3||abc",
     ]),
 ]
+# fmt: on
 # The rows that stand in front of this back: codings, and lengths.
-CODINGS, WRONG_LENGTHS = (next(rows for _, _, ends, rows in REFUSED if ends == back and len(rows) > 20)
-                          for back in ("||3|abc|0||", "||abc"))
+CODINGS, WRONG_LENGTHS = (
+    next(rows for _, _, ends, rows in REFUSED if ends == back and len(rows) > 20) for back in ("||3|abc|0||", "||abc")
+)
 # A coding beside a length is refused whatever they say: each of these rows, between its front and its back.
-BOTH = [("POST / HTTP/1.1|Host: h|Content-Length: 3|Transfer-Encoding: ", "||3|abc|0||", CODINGS),
-        ("POST / HTTP/1.1|Host: h|Transfer-Encoding: chunked|Content-Length: ", "||abc", WRONG_LENGTHS)]
+BOTH = [
+    ("POST / HTTP/1.1|Host: h|Content-Length: 3|Transfer-Encoding: ", "||3|abc|0||", CODINGS),
+    ("POST / HTTP/1.1|Host: h|Transfer-Encoding: chunked|Content-Length: ", "||abc", WRONG_LENGTHS),
+]
 # Requests that their client ends too soon: refused then, and not before.
 EARLY = [
-    "POST / HTTP/1.1|Host: h|Transfer-Encoding: chunked||3|a", "", "|||\n", "GET / HTTP/1.1|Host: h|",
+    "POST / HTTP/1.1|Host: h|Transfer-Encoding: chunked||3|a",
+    "",
+    "|||\n",
+    "GET / HTTP/1.1|Host: h|",
     "CONNECT HTTP/1.3|",
 ]
 # The same behind the head of a body in chunks.
 EARLY_CHUNKS = [
-    "", "3", "3|", "3|a", "3|abc", "3|abc\r", "3|abc|", "3|abc|0", "3|abc|0|", "3|abc|0|X", "3|abc|0|X: y|",
-    "3|abc|0|\r", "800000|abc", "3;a",
+    "",
+    "3",
+    "3|",
+    "3|a",
+    "3|abc",
+    "3|abc\r",
+    "3|abc|",
+    "3|abc|0",
+    "3|abc|0|",
+    "3|abc|0|X",
+    "3|abc|0|X: y|",
+    "3|abc|0|\r",
+    "800000|abc",
+    "3;a",
 ]
 # Clients that are asked for a body, and send no chunk, or end it too soon.
 ASKED_FOR_NO_CHUNK = "POST / HTTP/1.1|Host: h|Expect: 100-continue|Transfer-Encoding: chunked||x|"

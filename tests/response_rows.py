@@ -15,13 +15,19 @@ PASSED_ON = [
     ("HTTP/1.1 299 A\tB|Content-Length: 0||", "HTTP/1.1 299 |Content-Length: 0|>"),
     ("HTTP/1.1 999 A|Content-Length: 1||a", "HTTP/1.1 999 |Content-Length: 1|>a"),
     ("HTTP/1.1 200 \xe9\nX: 1\nContent-Length: 1\n\na", "HTTP/1.1 200 OK|X: 1|Content-Length: 1|>a"),
-    ("HTTP/1.1 200 OK|Connection: x|X: 1|Expect: a|Via: b|Content-Length: 0||",
-     "HTTP/1.1 200 OK|Expect: a|Via: b|Content-Length: 0|>"),
-    ("HTTP/1.1 200 OK|Upgrade: a|Trailer: b|Keep-Alive: c|Host: h|TE: d|Content-Length: 0||",
-     "HTTP/1.1 200 OK|Host: h|Content-Length: 0|>"),
+    (
+        "HTTP/1.1 200 OK|Connection: x|X: 1|Expect: a|Via: b|Content-Length: 0||",
+        "HTTP/1.1 200 OK|Expect: a|Via: b|Content-Length: 0|>",
+    ),
+    (
+        "HTTP/1.1 200 OK|Upgrade: a|Trailer: b|Keep-Alive: c|Host: h|TE: d|Content-Length: 0||",
+        "HTTP/1.1 200 OK|Host: h|Content-Length: 0|>",
+    ),
     ("HTTP/1.1 100 Continue||HTTP/1.1 200 OK|Content-Length: 0||", "HTTP/1.1 200 OK|Content-Length: 0|>"),
-    ("HTTP/1.1 103 A|Content-Length: 3||\n|HTTP/1.1 199 B||HTTP/1.1 200 OK|Content-Length: 0||",
-     "HTTP/1.1 200 OK|Content-Length: 0|>"),
+    (
+        "HTTP/1.1 103 A|Content-Length: 3||\n|HTTP/1.1 199 B||HTTP/1.1 200 OK|Content-Length: 0||",
+        "HTTP/1.1 200 OK|Content-Length: 0|>",
+    ),
 ]
 # Responses without lengths, which the end of the connection ends.
 TO_THEIR_END = [
@@ -35,10 +41,14 @@ WITHOUT_BODY = [
     ("HTTP/1.1 204 A|Transfer-Encoding: gzip|Content-Length: a||", "HTTP/1.1 204 No Content|>"),
     ("HTTP/1.1 304 A||abc", "HTTP/1.1 304 Not Modified|>"),
     ("HTTP/1.1 304 A|Content-Length: 007|X: 1||abc", "HTTP/1.1 304 Not Modified|X: 1|Content-Length: 007|>"),
-    ("HTTP/1.1 304 A|Content-Length: 5, 5|Connection: content-length||",
-     "HTTP/1.1 304 Not Modified|Content-Length: 5|>"),
-    ("HTTP/1.1 304 A|Content-Length: 99999999999999999999||",
-     "HTTP/1.1 304 Not Modified|Content-Length: 99999999999999999999|>"),
+    (
+        "HTTP/1.1 304 A|Content-Length: 5, 5|Connection: content-length||",
+        "HTTP/1.1 304 Not Modified|Content-Length: 5|>",
+    ),
+    (
+        "HTTP/1.1 304 A|Content-Length: 99999999999999999999||",
+        "HTTP/1.1 304 Not Modified|Content-Length: 99999999999999999999|>",
+    ),
     ("HTTP/1.1 304 A|Content-Length: 5|Content-Length: 6||", "HTTP/1.1 304 Not Modified|>"),
     ("HTTP/1.1 304 A|Content-Length: +5||", "HTTP/1.1 304 Not Modified|>"),
 ]
@@ -53,19 +63,37 @@ TO_HEAD = [
     ("HTTP/1.1 204 A|Content-Length: 5||", "HTTP/1.1 204 No Content|>"),
 ]
 # What is no response to HEAD either.
-MALFORMED_TO_HEAD = [
-    "HTTP/1.1 101 A||", "HTTP/1.1 200 OK|X : a||",
-]
+MALFORMED_TO_HEAD = ["HTTP/1.1 101 A||", "HTTP/1.1 200 OK|X : a||"]
 # What is no response: heads, lengths and chunks.
 MALFORMED = [
-    "HTTP/1.1 101 Switching Protocols||", "HTTP/1.1 100 Continue||HTTP/1.1 101 A||", "HTTP/1.1 099 A||",
-    "HTTP/1.1 000 A||", "HTTP/1.1 20 A||", "HTTP/1.1 2000 A||", "HTTP/1.1 +20 A||", "HTTP/1.1 2x0 A||",
-    "HTTP/1.1  200 A||", "HTTP/1.1\t200 A||", "HTTP/1.2 200 A||", "HTTP/2.0 200 A||", "HTTP/2 200 A||",
-    "http/1.1 200 A||", "ICY 200 OK||", " HTTP/1.1 200 A||", "X: a|HTTP/1.1 200 A||", "HTTP/1.1 200 A\x00||",
-    "HTTP/1.1 200 A\rB||", "HTTP/1.1 200 A|X : a||", "HTTP/1.1 200 A|X: a| b||", "HTTP/1.1 200 A| X: a||",
-    "HTTP/1.1 200 A|: a||", "HTTP/1.1 200 A|Transfer-Encoding : chunked||0||",
-    "HTTP/1.1 200 A|Content-Length: 3|Content-Length: 4||abcd", "HTTP/1.1 200 A|Content-Length: +3||abc",
-    "HTTP/1.1 200 A|Content-Length:||", "HTTP/1.0 200 A|Transfer-Encoding: chunked||3|abc|0||",
+    "HTTP/1.1 101 Switching Protocols||",
+    "HTTP/1.1 100 Continue||HTTP/1.1 101 A||",
+    "HTTP/1.1 099 A||",
+    "HTTP/1.1 000 A||",
+    "HTTP/1.1 20 A||",
+    "HTTP/1.1 2000 A||",
+    "HTTP/1.1 +20 A||",
+    "HTTP/1.1 2x0 A||",
+    "HTTP/1.1  200 A||",
+    "HTTP/1.1\t200 A||",
+    "HTTP/1.2 200 A||",
+    "HTTP/2.0 200 A||",
+    "HTTP/2 200 A||",
+    "http/1.1 200 A||",
+    "ICY 200 OK||",
+    " HTTP/1.1 200 A||",
+    "X: a|HTTP/1.1 200 A||",
+    "HTTP/1.1 200 A\x00||",
+    "HTTP/1.1 200 A\rB||",
+    "HTTP/1.1 200 A|X : a||",
+    "HTTP/1.1 200 A|X: a| b||",
+    "HTTP/1.1 200 A| X: a||",
+    "HTTP/1.1 200 A|: a||",
+    "HTTP/1.1 200 A|Transfer-Encoding : chunked||0||",
+    "HTTP/1.1 200 A|Content-Length: 3|Content-Length: 4||abcd",
+    "HTTP/1.1 200 A|Content-Length: +3||abc",
+    "HTTP/1.1 200 A|Content-Length:||",
+    "HTTP/1.0 200 A|Transfer-Encoding: chunked||3|abc|0||",
     "HTTP/1.1 200 A|Transfer-Encoding: chunked||3|abcd",
 ]
 # A coding beside a length.
@@ -79,11 +107,12 @@ UNKNOWN_CODINGS = [
     "HTTP/1.1 200 A|Transfer-Encoding: chunked|Transfer-Encoding: chunked||0||",
 ]
 # Bodies that are too large.
-TOO_LARGE = [
-    "HTTP/1.1 200 A|Content-Length: 8388609||", "HTTP/1.1 200 A|Transfer-Encoding: chunked||3|abc|7ffffe|",
-]
+TOO_LARGE = ["HTTP/1.1 200 A|Content-Length: 8388609||", "HTTP/1.1 200 A|Transfer-Encoding: chunked||3|abc|7ffffe|"]
 # Responses that are cut short.
 CUT = [
-    "", "HTTP/1.1 100 Continue||", "HTTP/1.1 200 A|", "HTTP/1.1 200 A|Content-Length: 3||ab",
+    "",
+    "HTTP/1.1 100 Continue||",
+    "HTTP/1.1 200 A|",
+    "HTTP/1.1 200 A|Content-Length: 3||ab",
     "HTTP/1.1 200 A|Transfer-Encoding: chunked||3|abc|",
 ]

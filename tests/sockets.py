@@ -67,13 +67,19 @@ class Sockets:
     def answers_early(self, _):
         """A backend that answers and closes at the head is told as it answered; one without an answer is 502."""
         by_length = b"POST /plain HTTP/1.1\r\nHost: h\r\nContent-Length: %d\r\n\r\n%s" % (len(MUCH), MUCH)
-        in_chunks = (b"POST /plain HTTP/1.1\r\nHost: h\r\nTransfer-Encoding: chunked\r\n\r\n%x\r\n%s\r\n0\r\n\r\n"
-                     % (len(MUCH), MUCH))
+        in_chunks = b"POST /plain HTTP/1.1\r\nHost: h\r\nTransfer-Encoding: chunked\r\n\r\n%x\r\n%s\r\n0\r\n\r\n" % (
+            len(MUCH),
+            MUCH,
+        )
         told = passed_on(BODY, b"403 Forbidden")
         for what, said, wanted, outcome in (
-                ("by a length", EARLY["length"], told, "success"), ("in chunks", EARLY["chunks"], told, "success"),
-                ("without a length", b"HTTP/1.1 403 Forbidden\r\n\r\n" + BODY, local(502), "dropped"),
-                ("in part", EARLY["length"][:-1], local(502), "dropped"), ("with nothing", b"", local(502), "dropped")):
+            ("by a length", EARLY["length"], told, "success"),
+            ("in chunks", EARLY["chunks"], told, "success"),
+            ("without a length", b"HTTP/1.1 403 Forbidden\r\n\r\n" + BODY, local(502), "dropped"),
+            ("in part", EARLY["length"][:-1], local(502), "dropped"),
+            ("with nothing", b"", local(502), "dropped"),
+        ):
+
             def closes_at_the_head(client, said=said):
                 read_head(client)
                 client.sendall(said)
@@ -206,10 +212,14 @@ class Sockets:
 
         # More than one read takes: what isn't read resets the connection as it is closed.
         whole, garbage = WHOLE["length"], b"no answer at all\r\n\r\n" + b"x" * 30_000
-        for what, said, then, most in (("stays", whole, stays, 0.5), ("drips bytes", whole, drips, 2),
-                                       ("goes on sending", whole, floods, 2),
-                                       ("looks whether it closes first", whole, looks, 0.5),
-                                       ("answers garbage", garbage, ends, 0.2)):
+        for what, said, then, most in (
+            ("stays", whole, stays, 0.5),
+            ("drips bytes", whole, drips, 2),
+            ("goes on sending", whole, floods, 2),
+            ("looks whether it closes first", whole, looks, 0.5),
+            ("answers garbage", garbage, ends, 0.2),
+        ):
+
             def answers(client, said=said, then=then):
                 read_head(client)
                 client.sendall(said)

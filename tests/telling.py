@@ -19,13 +19,15 @@ NO_DESCRIPTOR = "[WARN  admission] no descriptor was free "
 # Words of the warnings on workers and on what they may have.
 OF_WORKERS = ("exceed", "are taken", "too few")
 # The names of a report's numbers, those of two classes among them.
-NAMES = ("limit inflight waiters granted busy class.live class.batch class.unknown admitted bypassed full backlog "
-         "waiting promoted timed-out success ignored dropped 400 413 429 431 500 501 502").split()
+NAMES = (
+    "limit inflight waiters granted busy class.live class.batch class.unknown admitted bypassed full backlog "
+    "waiting promoted timed-out success ignored dropped 400 413 429 431 500 501 502"
+).split()
 
 
 def reports(gate):
     """The reports of a gateway's log, each by the names of its numbers in their order."""
-    return [dict(it.split("=") for it in line[len(REPORT):].split()) for line in gate.log if line.startswith(REPORT)]
+    return [dict(it.split("=") for it in line[len(REPORT) :].split()) for line in gate.log if line.startswith(REPORT)]
 
 
 def until(holds):
@@ -39,6 +41,7 @@ def until(holds):
 
 def troubles(gate, count):
     """The warnings of a gateway's log, but those of its workers, once there are so many."""
+
     def found():
         return [it for it in gate.log if "WARN" in it and not any(words in it for words in OF_WORKERS)]
 
@@ -56,38 +59,71 @@ def waits_to_write(process):
 class Telling:
     def reports(self, backend):
         """Every second a line says what stands, whose numbers add up with what was asked; it ends with the workers."""
-        settings = "\n".join(("wait = false", "", '[limit]\nkind = "fixed"\ninitial = 2',
-                              '[[class]]\nname = "live"\npercent = 60', '[[class]]\nname = "batch"\npercent = 30',
-                              '[[resolver]]\nkind = "header"\nheader = "X-Class"',
-                              '[[bypass]]\nkind = "prefix"\nprefix = "/health"'))
+        settings = "\n".join(
+            (
+                "wait = false",
+                "",
+                '[limit]\nkind = "fixed"\ninitial = 2',
+                '[[class]]\nname = "live"\npercent = 60',
+                '[[class]]\nname = "batch"\npercent = 30',
+                '[[resolver]]\nkind = "header"\nheader = "X-Class"',
+                '[[bypass]]\nkind = "prefix"\nprefix = "/health"',
+            )
+        )
         gate = self.gateway(backend, settings, workers=4, each=6, words=("--report-seconds", "1"))
         held = [Later(gate.ask, b"GET /held HTTP/1.1\r\nHost: h\r\nX-Class: live\r\n\r\n") for _ in range(2)]
         for _ in held:
             self.judge("one is at the backend", True, backend.held.acquire(timeout=PATIENCE))
-        for text in (PLAIN, b"GET /health HTTP/1.1\r\nHost: h\r\n\r\n", b"GET / HTTP/1.1\r\n\r\n",
-                     b"TRACE / HTTP/1.1\r\nHost: h\r\n\r\n",
-                     b"POST / HTTP/1.1\r\nHost: h\r\nContent-Length: 8388609\r\n\r\n",
-                     b"GET / HTTP/1.1\r\nHost: h\r\n" + b"X: y\r\n" * 101 + b"\r\n"):
+        for text in (
+            PLAIN,
+            b"GET /health HTTP/1.1\r\nHost: h\r\n\r\n",
+            b"GET / HTTP/1.1\r\n\r\n",
+            b"TRACE / HTTP/1.1\r\nHost: h\r\n\r\n",
+            b"POST / HTTP/1.1\r\nHost: h\r\nContent-Length: 8388609\r\n\r\n",
+            b"GET / HTTP/1.1\r\nHost: h\r\n" + b"X: y\r\n" * 101 + b"\r\n",
+        ):
             gate.ask(text)
         wanted = dict.fromkeys(NAMES, "0") | {
-            "limit": "2", "inflight": "2", "busy": "2/4", "class.live": "2/2", "class.batch": "0/1", "admitted": "2",
-            "bypassed": "1", "full": "1", "400": "1", "413": "1", "429": "1", "431": "1", "501": "1"}
+            "limit": "2",
+            "inflight": "2",
+            "busy": "2/4",
+            "class.live": "2/2",
+            "class.batch": "0/1",
+            "admitted": "2",
+            "bypassed": "1",
+            "full": "1",
+            "400": "1",
+            "413": "1",
+            "429": "1",
+            "431": "1",
+            "501": "1",
+        }
         self.judge("a report with all of it", True, until(lambda: wanted in reports(gate)))
         self.judge("the names in their order", [NAMES], [list(it) for it in reports(gate)[-1:]])
         backend.release.set()
         self.judge("those who were at the backend", [passed_on(BODY)] * 2, [it.result() for it in held])
         for path in (b"/closes", b"/garbage", b"/busy"):
             gate.ask(b"GET %s HTTP/1.1\r\nHost: h\r\n\r\n" % path)
-        wanted |= {"inflight": "0", "busy": "0/4", "class.live": "0/2", "admitted": "5", "success": "2", "dropped": "3",
-                   "502": "2"}
+        wanted |= {
+            "inflight": "0",
+            "busy": "0/4",
+            "class.live": "0/2",
+            "admitted": "5",
+            "success": "2",
+            "dropped": "3",
+            "502": "2",
+        }
         self.judge("a report after that", True, until(lambda: wanted in reports(gate)))
         begun, count = time.monotonic(), len(reports(gate))
         time.sleep(3)
         self.judge("a report a second", True, 2 <= len(reports(gate)) - count <= 4)
         for _ in range(13):
             gate.ask(PLAIN)
-        self.judge("counters of what was reported", {"admitted": 18, "bypassed": 1, "full": 1, "success": 15, "dropped": 3},
-                   gate.ending())
+        self.judge(
+            "counters of what was reported",
+            {"admitted": 18, "bypassed": 1, "full": 1, "success": 15, "dropped": 3},
+            gate.ending(),
+        )
         self.judge("it ended with its workers", True, time.monotonic() - begun < PATIENCE)
 
     def reports_until_a_stop(self, backend):
@@ -115,14 +151,19 @@ class Telling:
         gate.ask(PLAIN)
         other.ask(b"GET /closes HTTP/1.1\r\nHost: h\r\n\r\n")
         for what, log, line, cause in (
-                ("refused connections", gate.log, UNREACHED, ["error=Connection refused (os error 111)"] * 2),
-                ("broken answers", other.log, BROKEN, ["cause=malformed", "cause=cut off"])):
+            ("refused connections", gate.log, UNREACHED, ["error=Connection refused (os error 111)"] * 2),
+            ("broken answers", other.log, BROKEN, ["cause=malformed", "cause=cut off"]),
+        ):
             until(lambda log=log, line=line: sum(it.startswith(line) for it in log) == 2)
-            self.judge(what, [f"{line}count={count} {why}" for count, why in zip((1, 30), cause)],
-                       [it for it in log if it.startswith(line)])
+            self.judge(
+                what,
+                [f"{line}count={count} {why}" for count, why in zip((1, 30), cause)],
+                [it for it in log if it.startswith(line)],
+            )
 
     def tells_each_trouble(self, backend):
         """A trouble is told whatever else was told a moment ago; and one that doesn't come isn't."""
+
         def breaks(client):
             client.recv(1024)
             reset(client)
@@ -133,14 +174,19 @@ class Telling:
         scripted.socket.shutdown(socket.SHUT_RDWR)
         scripted.close()
         gate.ask(PLAIN)
-        self.judge("troubles of two kinds", [f"{BROKEN}count=1 cause=malformed",
-                                             f"{UNREACHED}count=1 error=Connection refused (os error 111)"],
-                   troubles(gate, 2))
+        self.judge(
+            "troubles of two kinds",
+            [f"{BROKEN}count=1 cause=malformed", f"{UNREACHED}count=1 error=Connection refused (os error 111)"],
+            troubles(gate, 2),
+        )
         scripted = Scripted(breaks)
         gate = self.gateway(scripted)
         gate.ask(b"POST / HTTP/1.1\r\nHost: h\r\nContent-Length: %d\r\n\r\n%s" % (len(MUCH), MUCH))
-        self.judge("a request that isn't taken", [f"{BROKEN}count=1 cause=closed before the request was written"],
-                   troubles(gate, 1))
+        self.judge(
+            "a request that isn't taken",
+            [f"{BROKEN}count=1 cause=closed before the request was written"],
+            troubles(gate, 1),
+        )
         scripted.close()
 
     def counts_answers_that_nobody_reads(self, _):
@@ -195,8 +241,9 @@ class Telling:
             gate = self.gateway(backend, words=("--report-seconds", "3600"))
             begun = time.monotonic()
             self.judge(f"one of a gateway that reports seldom, {turn}", passed_on(BODY), gate.ask(PLAIN))
-            self.judge(f"counters of a gateway that reports seldom, {turn}", {"admitted": 1, "success": 1},
-                       gate.ending())
+            self.judge(
+                f"counters of a gateway that reports seldom, {turn}", {"admitted": 1, "success": 1}, gate.ending()
+            )
             took.append(time.monotonic() - begun)
             self.judge(f"reports in its first hour, {turn}", [], reports(gate))
         self.judge("it ended in less than a second", True, min(took) < 0.9)
@@ -206,21 +253,31 @@ class Telling:
         for soft, count in ((135, 1), (136, 0)):
             front = ("sh", "-c", f'ulimit -Sn {soft} && exec "$@"', "sh")
             gate = Gateway(self.program, self.room, free_port(), "backlog = 0", workers=64, front=front)
-            wanted = ["[WARN  admission] too few descriptors for the workers: requests are answered 502, or not at all "
-                      f"descriptors={soft} wanted=136"] * count
+            wanted = [
+                "[WARN  admission] too few descriptors for the workers: requests are answered 502, or not at all "
+                f"descriptors={soft} wanted=136"
+            ] * count
             self.judge(f"warnings at {soft} descriptors", wanted, [it for it in gate.log if "WARN" in it])
 
     def tells_of_descriptors(self, backend):
         """That no descriptor was free for the backend is told as that, whosever the limit is."""
         for what, how, error in (
-                ("of its own", {"front": ("sh", "-c", 'ulimit -Sn 5 && exec "$@"', "sh")},
-                 "Too many open files (os error 24)"),
-                ("of the system", {"variables": {"LD_PRELOAD": self.library, "SOCKET_REFUSED": "2"}},
-                 "Too many open files in system (os error 23)")):
+            (
+                "of its own",
+                {"front": ("sh", "-c", 'ulimit -Sn 5 && exec "$@"', "sh")},
+                "Too many open files (os error 24)",
+            ),
+            (
+                "of the system",
+                {"variables": {"LD_PRELOAD": self.library, "SOCKET_REFUSED": "2"}},
+                "Too many open files in system (os error 23)",
+            ),
+        ):
             gate = self.gateway(backend, each=1_000_000, **how)
             self.judge(f"without a descriptor {what} for the backend", local(502), gate.ask(PLAIN))
-            self.judge(f"what is told of a descriptor {what}", [f"{NO_DESCRIPTOR}count=1 error={error}"],
-                       troubles(gate, 1))
+            self.judge(
+                f"what is told of a descriptor {what}", [f"{NO_DESCRIPTOR}count=1 error={error}"], troubles(gate, 1)
+            )
 
     def tells_of_clients_without_descriptors(self, backend):
         """That no descriptor was free is told, for clients and for the backend alike, and once."""
@@ -229,5 +286,8 @@ class Telling:
         with gate.connect(), gate.connect():
             self.judge("it is told", True, until(lambda: any(it.startswith(NO_DESCRIPTOR) for it in gate.log)))
             time.sleep(0.5)
-        self.judge("with the system's words", [f"{NO_DESCRIPTOR}count=1 error=Too many open files (os error 24)"],
-                   [it for it in gate.log if it.startswith(NO_DESCRIPTOR)])
+        self.judge(
+            "with the system's words",
+            [f"{NO_DESCRIPTOR}count=1 error=Too many open files (os error 24)"],
+            [it for it in gate.log if it.startswith(NO_DESCRIPTOR)],
+        )

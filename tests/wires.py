@@ -20,9 +20,15 @@ MOMENT, REST = 0.02, 0.001
 OK = b"HTTP/1.1 200 OK\r\nContent-Length: 0\r\n\r\n"
 CONTINUE = b"HTTP/1.1 100 Continue\r\n\r\n"
 PASSED_OK = b"HTTP/1.1 200 OK\r\nContent-Length: 0\r\nConnection: close\r\n\r\n"
-PHRASES = {400: "Bad Request", 413: "Payload Too Large", 429: "Too Many Requests",
-           431: "Request Header Fields Too Large", 500: "Internal Server Error", 501: "Not Implemented",
-           502: "Bad Gateway"}
+PHRASES = {
+    400: "Bad Request",
+    413: "Payload Too Large",
+    429: "Too Many Requests",
+    431: "Request Header Fields Too Large",
+    500: "Internal Server Error",
+    501: "Not Implemented",
+    502: "Bad Gateway",
+}
 
 
 def local(status):
@@ -37,7 +43,7 @@ def bytes_of(row):
 
 def in_pieces(text, size):
     """A text in pieces of so many bytes."""
-    return tuple(text[at:at + size] for at in range(0, len(text), size))
+    return tuple(text[at : at + size] for at in range(0, len(text), size))
 
 
 def reset(client):
