@@ -24,7 +24,7 @@ def closing(program, receipts):
 def main():
     reader_of(__doc__).parse_args()
     bench = Bench("close", "shared_gate")
-    with open(bench.tree / "build.log", "w") as log:
+    with open(bench.tree / "build.log", "w", encoding="utf-8") as log:
         print(f"building, some minutes at most; {log.name} shows the progress", file=sys.stderr)
         program = bench.product((10,), b"", log)
     print("| receipts | ns a receipt | least | greatest |")

@@ -68,7 +68,7 @@ def main():
     if given.seen and is_rolling and not has_history:
         reader.error("--seen is for the plain peer")
     bench = Bench("gate", "shared_gate", ["aimd"])
-    with open(bench.tree / "build.log", "w") as log:
+    with open(bench.tree / "build.log", "w", encoding="utf-8") as log:
         print(f"building, some minutes at most; {log.name} tells how far it is", file=sys.stderr)
         program, plain = bench.product((1, 10, 10, 1, 0, 0, 0), b"", log), bench.peer(log)
     peers = {

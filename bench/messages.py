@@ -73,7 +73,7 @@ def main():
     reader.add_argument("folder", type=sources, nargs="?", metavar="FOLDER")
     folder = reader.parse_args().folder
     bench = Bench("messages", "wire", ["counted_io"])
-    with open(bench.tree / "build.log", "w") as log:
+    with open(bench.tree / "build.log", "w", encoding="utf-8") as log:
         print(f"building, some minutes at most; {log.name} shows the progress", file=sys.stderr)
         library = httparse([folder] if folder else [], bench.tree, log)
         plain = bench.peer(log, "--extern", library)

@@ -24,7 +24,8 @@ def row(name, calls):
     )
     none = sum(it.status == 0 for it in calls)
     print(
-        f"| {name} | {len(calls)} | {len(good) / len(calls):.0%} | {within / len(calls):.0%} | {times} | {none / len(calls):.0%} |",
+        f"| {name} | {len(calls)} | {len(good) / len(calls):.0%} | {within / len(calls):.0%} | {times} | "
+        f"{none / len(calls):.0%} |",
         flush=True,
     )
 

@@ -6,19 +6,19 @@
 
 It starts an origin (nginx, which answers 13 bytes from memory), nginx and HAProxy as proxies, PROGRAM (built), once for
 each number of workers W (by default 64), and a bare proxy of as many threads (`bare_proxy.rs`, plain Rust, which checks
-nothing: the limit of this form, and no competitor), on loopback ports below the ephemeral range. Every request has its own
-connection on both sides. Everything runs on one processor, since on a shared machine a program with more threads gets
-more of it. For each number of clients every round runs `wrk` against each proxy in turn, for S seconds. It prints the
-medians of requests a second, the ratio to nginx by round with its spread, the times of an answer, the user and system
-time of an exchange and its voluntary switches over all rounds, overflows of the accept queues, and the resident memory
-after the last round.
+nothing: the limit of this form, and no competitor), on loopback ports below the ephemeral range. Every request has its
+own connection on both sides. Everything runs on one processor, since on a shared machine a program with more threads
+gets more of it. For each number of clients every round runs `wrk` against each proxy in turn, for S seconds. It prints
+the medians of requests a second, the ratio to nginx by round with its spread, the times of an answer, the user and
+system time of an exchange and its voluntary switches over all rounds, overflows of the accept queues, and the resident
+memory after the last round.
 
 `admission` runs under the scheduling policy batch, as its packaged unit has it, and nginx and the bare proxy once under
-the usual one and once under batch. With --answer the origin answers with BYTES bytes; with --upload each request is a POST of BYTES bytes,
-all of which the origin reads before it answers. With either one more nginx runs without buffering. With --refused the
-limit is one and an exchange without an answer holds it; the refusals of `admission` with 429 and those of nginx's
-`limit_conn` are timed; the bare proxy refuses nobody and isn't there. The ratios are to each nginx and to each bare
-proxy, round by round.
+the usual one and once under batch. With --answer the origin answers with BYTES bytes; with --upload each request is a
+POST of BYTES bytes, all of which the origin reads before it answers. With either one more nginx runs without buffering.
+With --refused the limit is one and an exchange without an answer holds it; the refusals of `admission` with 429 and
+those of nginx's `limit_conn` are timed; the bare proxy refuses nobody and isn't there. The ratios are to each nginx and
+to each bare proxy, round by round.
 
 It ends all processes that it starts. Needs Debian's nginx-light, haproxy and wrk, and rustc.
 """
@@ -84,9 +84,9 @@ ONE_AT_A_TIME = "limit_conn_zone $server_port zone=all:1m; limit_conn_status 429
 def first_port(count):
     """The first of so many free ports in a row, below the ephemeral range as it mostly is."""
     for first in range(20_000 + os.getpid() * 7 % 10_000, 32_000, count):
-        with contextlib.suppress(OSError), contextlib.ExitStack() as held:
+        with contextlib.suppress(OSError), contextlib.ExitStack() as taken:
             for port in range(first, first + count):
-                held.enter_context(socket.create_server(("127.0.0.1", port)))
+                taken.enter_context(socket.create_server(("127.0.0.1", port)))
             return first
     sys.exit(f"proxy.py: no {count} ports in a row are free")
 
@@ -110,7 +110,7 @@ class Servers:
 
     def written(self, name, text):
         file = self.room / name
-        file.write_text(text)
+        file.write_text(text, encoding="utf-8")
         return str(file)
 
     def end(self):
@@ -129,7 +129,7 @@ def family(pid):
     found = [pid]
     for entry in filter(str.isdigit, os.listdir("/proc")):
         try:
-            stat = pathlib.Path(f"/proc/{entry}/stat").read_text()
+            stat = pathlib.Path(f"/proc/{entry}/stat").read_text(encoding="utf-8")
         except OSError:
             continue
         if int(stat.rpartition(")")[2].split()[1]) == pid:
@@ -140,7 +140,7 @@ def family(pid):
 def told(pid, *names):
     """Numbers of a process or a thread, by their names in its status; 0 where it is gone."""
     try:
-        lines = pathlib.Path(f"/proc/{pid}/status").read_text().splitlines()
+        lines = pathlib.Path(f"/proc/{pid}/status").read_text(encoding="utf-8").splitlines()
     except OSError:
         return [0 for _ in names]
     found = {line.partition(":")[0]: line.split()[1] for line in lines if len(line.split()) > 1}
@@ -151,7 +151,7 @@ def spent(pid):
     """The user and the system seconds of a process and its children, and their voluntary switches."""
     user, system, switches = 0, 0, 0
     for one in family(pid):
-        fields = pathlib.Path(f"/proc/{one}/stat").read_text().rpartition(")")[2].split()
+        fields = pathlib.Path(f"/proc/{one}/stat").read_text(encoding="utf-8").rpartition(")")[2].split()
         user, system = user + int(fields[11]), system + int(fields[12])
         threads = os.listdir(f"/proc/{one}/task")
         switches += sum(told(f"{one}/task/{thread}", "voluntary_ctxt_switches")[0] for thread in threads)
@@ -164,8 +164,10 @@ def resident(pid):
 
 
 def overflows():
-    names, numbers = (line.split() for line in pathlib.Path("/proc/net/netstat").read_text().splitlines()[:2])
-    return int(numbers[names.index("ListenOverflows")])
+    """How often an accept queue was full, since the machine began."""
+    lines = pathlib.Path("/proc/net/netstat").read_text(encoding="ascii").splitlines()
+    names, counts = (line.split() for line in lines[:2])
+    return int(counts[names.index("ListenOverflows")])
 
 
 def milliseconds(text):

@@ -4,7 +4,6 @@
 Usage: bench/replay.py PROGRAM. Each script is run by both programs in turn, five times; the least time of each counts,
 and both must write the same text. Needs rustc for the plain program.
 """
-import itertools
 import pathlib
 import random
 import subprocess
@@ -35,17 +34,17 @@ def promotions(number, now):
 
 def raised(number, now):
     """A limit of 1, and nine more calls, which wait until it is set to 10, are promoted at once, claim and end."""
-    late = range(number + 1, number + IN_FLIGHT)
+    waiters = range(number + 1, number + IN_FLIGHT)
     lines = [f"acquire unknown {now} wait" for _ in range(IN_FLIGHT)] + [f"set {IN_FLIGHT} {now}"]
-    lines += [f"claim {waiter}" for waiter in late] + [f"end {out} success {now + 9}" for out in (number, *late)]
-    return lines + [f"set 1 {now + 9}"], len(lines) + len(late) + 1
+    lines += [f"claim {it}" for it in waiters] + [f"end {it} success {now + 9}" for it in (number, *waiters)]
+    return lines + [f"set 1 {now + 9}"], len(lines) + len(waiters) + 1
 
 
 def timeouts(number, now):
     """A full limit, and five more calls, which wait, are asked for once, and give up oldest first."""
-    late = range(number + IN_FLIGHT, number + IN_FLIGHT + 5)
+    waiters = range(number + IN_FLIGHT, number + IN_FLIGHT + 5)
     lines = [f"acquire unknown {now} wait" for _ in range(IN_FLIGHT + 5)]
-    lines += [f"claim {waiter}" for waiter in late] + [f"giveup {waiter}" for waiter in late]
+    lines += [f"claim {it}" for it in waiters] + [f"giveup {it}" for it in waiters]
     lines += [f"end {number + place} success {now + 9}" for place in range(IN_FLIGHT)]
     return lines, len(lines)
 
@@ -77,13 +76,13 @@ def in_drawn_order(waiting):
 
 def repeated(turn, most):
     """Turns of one kind, of so many lines in all at most."""
-    out, number = [], 0
-    for now in itertools.count(0, 10):
-        lines, entries = turn(number, now)
-        if len(out) + len(lines) > most:
-            return out
+    out, number, now = [], 0, 0
+    lines, entries = turn(number, now)
+    while len(out) + len(lines) <= most:
         out += lines
-        number += entries
+        number, now = number + entries, now + 10
+        lines, entries = turn(number, now)
+    return out
 
 
 def run(words, text):

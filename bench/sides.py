@@ -64,8 +64,8 @@ class Bench:
             lines.append(f"{crate}: {' '.join(crates[crate])}\n")
         lines.append(f"{self.name}_bench: {' '.join(used)}\n")
         (self.tree / "crates.txt").write_text("".join(lines))
-        run = ["rt", "run", "--", *map(str, words)]
-        subprocess.run(run, cwd=own, input=given, stdout=log, stderr=log, check=True)
+        command = ["rt", "run", "--", *map(str, words)]
+        subprocess.run(command, cwd=own, input=given, stdout=log, stderr=log, check=True)
         return own / f"out/{self.name}_bench"
 
     def peer(self, log, *flags):

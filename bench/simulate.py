@@ -38,7 +38,7 @@ def main():
             took, needed = (statistics.median(column) for column in zip(*turns))
             ratio = statistics.median(own / peer for own, peer in turns)
             entries = told.count(b"\n")
-            print(f"| {name} | {entries:,} | {took:.3f} s " f"| {needed:.3f} s | {ratio:.2f} |", flush=True)
+            print(f"| {name} | {entries:,} | {took:.3f} s | {needed:.3f} s | {ratio:.2f} |", flush=True)
 
 
 main()

@@ -49,6 +49,7 @@ class Origin:
 
     def __init__(self, slots, seconds, drag=0.0):
         self.slots, self.seconds, self.drag, self.port = slots, seconds, drag, free_port()
+        self.free = asyncio.Semaphore(slots)
         self.speed = multiprocessing.Value("d", 1.0)
         self.held = multiprocessing.Value("i", 0)
         self.is_up = multiprocessing.Event()
@@ -70,7 +71,6 @@ class Origin:
         asyncio.run(self.serve())
 
     async def serve(self):
-        self.free = asyncio.Semaphore(self.slots)
         server = await asyncio.start_server(self.answer, "127.0.0.1", self.port, backlog=4096)
         self.is_up.set()
         async with server:
@@ -106,13 +106,13 @@ class Gateway:
         if report_seconds:
             self.words += ["--report-seconds", str(report_seconds)]
         self.limits = []
+        self.process, self.reader = None, threading.Thread(target=self.note)
 
     def __enter__(self):
         self.process = subprocess.Popen(self.words, stdout=subprocess.DEVNULL, stderr=subprocess.PIPE, text=True)
         said = ""
         for line in self.process.stderr:
             if "listening" in line:
-                self.reader = threading.Thread(target=self.note)
                 self.reader.start()
                 return self
             said = f": {line.strip()}"

@@ -47,6 +47,8 @@ class Wayward:
         self.speed = multiprocessing.Value("d", 1.0)
         self.ahead = multiprocessing.Value("i", AS_EVER)
         self.process = None
+        self.loop, self.served, self.queue = None, 0, collections.deque()
+        self.draw = random.Random(1)
 
     def __enter__(self):
         self.start()
@@ -74,8 +76,7 @@ class Wayward:
         asyncio.run(self.serve(is_up))
 
     async def serve(self, is_up):
-        self.loop, self.served, self.queue = asyncio.get_running_loop(), 0, collections.deque()
-        self.draw = random.Random(1)
+        self.loop = asyncio.get_running_loop()
         await self.loop.create_server(lambda: Exchange(self), "127.0.0.1", self.port, backlog=4096)
         is_up.set()
         while True:

@@ -14,7 +14,7 @@ def built(word):
     path = pathlib.Path(word).resolve()
     if not path.is_file() or not os.access(path, os.X_OK):
         raise argparse.ArgumentTypeError(
-            f"{word} isn't a built program: run ./admission --prove, " "and take crates/admission/out/admission"
+            f"{word} isn't a built program: run ./admission --prove, and take crates/admission/out/admission"
         )
     return str(path)
 
@@ -27,9 +27,9 @@ def above_zero(kind):
             found = kind(word)
         except ValueError:
             found = 0
-        if not found > 0:
-            raise argparse.ArgumentTypeError(f"{word} isn't a number above 0")
-        return found
+        if found > 0:
+            return found
+        raise argparse.ArgumentTypeError(f"{word} isn't a number above 0")
 
     return number
 

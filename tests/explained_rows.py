@@ -14,7 +14,7 @@ OF_FAULTS = [
         "",
         "backlog = 10001\n",
         FIXED,
-        "line 4: backlog = 10001\nbacklog: how many callers may wait for a permit, " "0 to 10000; 100\n",
+        "line 4: backlog = 10001\nbacklog: how many callers may wait for a permit, 0 to 10000; 100\n",
         "value backlog",
     ),
     (
@@ -30,44 +30,44 @@ OF_FAULTS = [
         "",
         "[limit]\ninitial = 1\n",
         "",
-        'line 4: [limit]\nlimit.kind isn\'t there: "fixed", "settable", "aimd" or ' '"vegas"; ' "required\n",
+        'line 4: [limit]\nlimit.kind isn\'t there: "fixed", "settable", "aimd" or "vegas"; required\n',
         "missing limit.kind",
     ),
     (
         SETTABLE,
         "min = 9\nmax = 8\n",
         "",
-        "line 7: max = 8\nlimit.max: permits, min to 10000; 200\nhere from 9 to " "10000\n",
+        "line 7: max = 8\nlimit.max: permits, min to 10000; 200\nhere from 9 to 10000\n",
         "value limit.max",
     ),
     (
         PLAIN,
         "initial = 0\n",
         "",
-        "line 6: initial = 0\nlimit.initial: permits, min to max, of fixed 1 to 10000; 20\n" "here from 1 to 10000\n",
+        "line 6: initial = 0\nlimit.initial: permits, min to max, of fixed 1 to 10000; 20\nhere from 1 to 10000\n",
         "value limit.initial",
     ),
     (
         'limit.kind = "vegas"\n',
         "limit.alpha = 9\nlimit.beta = 8\n",
         "",
-        "line 6: limit.beta = 8\n"
-        "limit.beta: the limit falls above this queue, permits, alpha to 100; 6\nhere from 9 to 100\n",
-        "value " "limit.beta",
+        "line 6: limit.beta = 8\nlimit.beta: the limit falls above this queue, permits, alpha to 100; 6\n"
+        "here from 9 to 100\n",
+        "value limit.beta",
     ),
     (
         "",
         'limit = { kind = "none" }\n',
         "",
-        'line 4: limit = { kind = "none" }\n' 'limit.kind: "fixed", "settable", "aimd" or "vegas"; required\n',
+        'line 4: limit = { kind = "none" }\nlimit.kind: "fixed", "settable", "aimd" or "vegas"; required\n',
         "value limit.kind",
     ),
     (
         WINDOW,
         "min_us = 8\nmax_us = 7\n",
         "",
-        "line 8: max_us = 7\n"
-        "window.max_us: the longest window in microseconds, min_us to 3600000000; 1000000\nhere from 8 to 3600000000\n",
+        "line 8: max_us = 7\nwindow.max_us: the longest window in microseconds, min_us to 3600000000; 1000000\n"
+        "here from 8 to 3600000000\n",
         "value window.max_us",
     ),
     (
@@ -75,15 +75,16 @@ OF_FAULTS = [
         '[[class]]\nname = "b"\nshare = 401\n',
         "",
         "class 2 of 2\nline 12: share = 401\n"
-        "class.share: thousandths, 1 to what the classes before leave of 1000; required\nhere from 1 to 400\n",
+        "class.share: thousandths, 1 to what the classes before leave of 1000; required\n"
+        "here from 1 to 400\n",
         "value class.share",
     ),
     (
         FIXED + LIVE_OF_TWO,
         "[[class]]\nshare = 4\n",
         "",
-        "class 2 of 2\nline 10: [[class]]\nclass.name isn't there: "
-        "1 to 32 of a-z 0-9 - _, not unknown, not given before; required\n",
+        "class 2 of 2\nline 10: [[class]]\n"
+        "class.name isn't there: 1 to 32 of a-z 0-9 - _, not unknown, not given before; required\n",
         "missing class.name",
     ),
     (
@@ -97,32 +98,32 @@ OF_FAULTS = [
         FIXED + LIVE_OF_TWO,
         '[[resolver]]\nkind = "route"\n[resolver.routes]\n"/{a}" = "live"\n"/{b}" = "live"\n',
         "",
-        'resolver 1 of 1\nline 12: [resolver.routes]\nthe pattern "/{b}": Insertion failed due to conflict with '
-        "previously "
-        "registered route: /{a}\n",
+        "resolver 1 of 1\nline 12: [resolver.routes]\n"
+        'the pattern "/{b}": Insertion failed due to conflict with previously registered route: /{a}\n',
         "route",
     ),
     (
         FIXED,
         '[[bypass]]\nkind = "prefix"\nprefix = "/a"\n[[bypass]]\nkind = "prefix"\nprefix = "a"\n',
         "",
-        'bypass 2 of 2\nline 12: prefix = "a"\nbypass.prefix: paths that begin with this text, itself beginning with /; '
-        "required\n",
+        'bypass 2 of 2\nline 12: prefix = "a"\n'
+        "bypass.prefix: paths that begin with this text, itself beginning with /; required\n",
         "value bypass.prefix",
     ),
     (
         FIXED,
         '[[bypass]]\nkind = "method"\nmethod = "GET"\nzebra = 1\n',
         "",
-        "bypass 1 of 1\nline 10: zebra = 1\n" "bypass.zebra isn't a key here; those that are: kind method\n",
+        "bypass 1 of 1\nline 10: zebra = 1\nbypass.zebra isn't a key here; those that are: kind method\n",
         "unknown bypass.zebra",
     ),
     (
         "",
         "zebra = 1\n",
         FIXED,
-        "line 4: zebra = 1\nzebra isn't a key here; those that are: version listen backend "
-        "backlog wait timeout_ms keep promote limit window class resolver bypass\n",
+        "line 4: zebra = 1\n"
+        "zebra isn't a key here; those that are: version listen backend backlog wait timeout_ms keep promote limit "
+        "window class resolver bypass\n",
         "unknown zebra",
     ),
     (
@@ -143,7 +144,7 @@ OF_FAULTS += [
         "",
         "timeout_ms = 0\n",
         FIXED,
-        "line 4: timeout_ms = 0\n" "timeout_ms: the longest wait in milliseconds, 1 to 3600000; 1000\n",
+        "line 4: timeout_ms = 0\ntimeout_ms: the longest wait in milliseconds, 1 to 3600000; 1000\n",
         "value timeout_ms",
     ),
     (
@@ -157,7 +158,7 @@ OF_FAULTS += [
         "",
         'promote = ""\n',
         FIXED,
-        'line 4: promote = ""\npromote: which waiters get room that falls free, ' '"newest" or "all"; "newest"\n',
+        'line 4: promote = ""\npromote: which waiters get room that falls free, "newest" or "all"; "newest"\n',
         "value promote",
     ),
     (
@@ -179,47 +180,43 @@ OF_FAULTS += [
         SETTABLE,
         "initial = 201\n",
         "",
-        "line 6: initial = 201\nlimit.initial: permits, min to max, of fixed 1 to "
-        "10000; 20\n"
-        "here from 1 to 200\n",
+        "line 6: initial = 201\nlimit.initial: permits, min to max, of fixed 1 to 10000; 20\nhere from 1 to 200\n",
         "value limit.initial",
     ),
     (
         AIMD,
         "min = 7\nmax = 40\ninitial = 41\n",
         "",
-        "line 8: initial = 41\nlimit.initial: permits, min to max, of " "fixed 1 to " "10000; 20\nhere from 7 to 40\n",
+        "line 8: initial = 41\nlimit.initial: permits, min to max, of fixed 1 to 10000; 20\nhere from 7 to 40\n",
         "value limit.initial",
     ),
     (
         AIMD,
         "ratio = 499\n",
         "",
-        "line 6: ratio = 499\nlimit.ratio: what a drop leaves in thousandths, 500 to 999; " "900\n",
+        "line 6: ratio = 499\nlimit.ratio: what a drop leaves in thousandths, 500 to 999; 900\n",
         "value limit.ratio",
     ),
     (
         AIMD,
         "timeout_us = 0\n",
         "",
-        "line 6: timeout_us = 0\nlimit.timeout_us: a round trip above it is a drop, "
-        "microseconds, "
-        "1 to 3600000000; 5000000\n",
+        "line 6: timeout_us = 0\n"
+        "limit.timeout_us: a round trip above it is a drop, microseconds, 1 to 3600000000; 5000000\n",
         "value limit.timeout_us",
     ),
     (
         VEGAS,
         "alpha = 101\n",
         "",
-        "line 6: alpha = 101\nlimit.alpha: the limit rises below this queue, permits, 1 to " "100; 3\n",
+        "line 6: alpha = 101\nlimit.alpha: the limit rises below this queue, permits, 1 to 100; 3\n",
         "value limit.alpha",
     ),
     (
         VEGAS,
         "beta = 2\n",
         "",
-        "line 6: beta = 2\nlimit.beta: the limit falls above this queue, permits, alpha to 100; "
-        "6\n"
+        "line 6: beta = 2\nlimit.beta: the limit falls above this queue, permits, alpha to 100; 6\n"
         "here from 3 to 100\n",
         "value limit.beta",
     ),
@@ -227,9 +224,8 @@ OF_FAULTS += [
         VEGAS,
         "probe_every = 1000001\n",
         "",
-        "line 6: probe_every = 1000001\nlimit.probe_every: samples until the least "
-        "round "
-        "trip is measured anew, 0 to 1000000; 0\n",
+        "line 6: probe_every = 1000001\n"
+        "limit.probe_every: samples until the least round trip is measured anew, 0 to 1000000; 0\n",
         "value limit.probe_every",
     ),
     (WINDOW, "size = 0\n", "", "line 7: size = 0\nwindow.size: samples, 1 to 1000000; 10\n", "value window.size"),
@@ -237,37 +233,37 @@ OF_FAULTS += [
         WINDOW,
         "min_us = 0\n",
         "",
-        "line 7: min_us = 0\nwindow.min_us: the shortest window in microseconds, 1 to " "3600000000; " "1000000\n",
+        "line 7: min_us = 0\nwindow.min_us: the shortest window in microseconds, 1 to 3600000000; 1000000\n",
         "value window.min_us",
     ),
     (
         WINDOW,
         "max_us = 5\n",
         "",
-        "line 7: max_us = 5\nwindow.max_us: the longest window in microseconds, min_us to "
-        "3600000000; 1000000\nhere from 1000000 to 3600000000\n",
+        "line 7: max_us = 5\nwindow.max_us: the longest window in microseconds, min_us to 3600000000; 1000000\n"
+        "here from 1000000 to 3600000000\n",
         "value window.max_us",
     ),
     (
         WINDOW,
         "min_rtt_us = -1\n",
         "",
-        "line 7: min_rtt_us = -1\nwindow.min_rtt_us: quicker answers are left out, "
-        "microseconds, 0 to 3600000000; 100\n",
+        "line 7: min_rtt_us = -1\n"
+        "window.min_rtt_us: quicker answers are left out, microseconds, 0 to 3600000000; 100\n",
         "value window.min_rtt_us",
     ),
     (
         FIXED,
         CLASSES + "[[class]]\n",
         "",
-        "line 7: [[class]]\nclass: an array of at most four tables, [[class]]; " "none\n",
+        "line 7: [[class]]\nclass: an array of at most four tables, [[class]]; none\n",
         "value class",
     ),
     (
         FIXED + LIVE_OF_TWO,
         BY_METHOD * 33,
         "",
-        "line 10: [[resolver]]\nresolver: an array of at most 32 tables, " "[[resolver]]; none\n",
+        "line 10: [[resolver]]\nresolver: an array of at most 32 tables, [[resolver]]; none\n",
         "value resolver",
     ),
     (
@@ -275,68 +271,66 @@ OF_FAULTS += [
         BYPASS * 33,
         "",
         "line 7: [[bypass]]\nbypass: an array of at most 32 tables, [[bypass]]; none\n",
-        "value " "bypass",
+        "value bypass",
     ),
     (
         FIXED,
         '[[class]]\nname = "a"\nshare = 0\n' + LIVE_OF_TWO,
         "",
         "class 1 of 2\nline 9: share = 0\n"
-        "class.share: thousandths, 1 to what the classes before leave of 1000; required\nhere from 1 to 1000\n",
+        "class.share: thousandths, 1 to what the classes before leave of 1000; required\n"
+        "here from 1 to 1000\n",
         "value class.share",
     ),
     (
         FIXED + LIVE_OF_TWO,
         '[[resolver]]\nkind = "path"\n' + BY_METHOD,
         "",
-        'resolver 1 of 2\nline 11: kind = "path"\n' 'resolver.kind: "header", "method" or "route"; required\n',
+        'resolver 1 of 2\nline 11: kind = "path"\nresolver.kind: "header", "method" or "route"; required\n',
         "value resolver.kind",
     ),
     (
         FIXED,
         '[[bypass]]\nkind = "path"\n' + BYPASS,
         "",
-        'bypass 1 of 2\nline 8: kind = "path"\n' 'bypass.kind: "method", "prefix" or "header"; required\n',
+        'bypass 1 of 2\nline 8: kind = "path"\nbypass.kind: "method", "prefix" or "header"; required\n',
         "value bypass.kind",
     ),
     (
         FIXED + LIVE_OF_TWO,
         BY_METHOD * 16 + '[[resolver]]\nkind = "path"\n',
         "",
-        "resolver 17 of 17\nline 75: kind = " '"path"\n' 'resolver.kind: "header", "method" or "route"; required\n',
+        'resolver 17 of 17\nline 75: kind = "path"\nresolver.kind: "header", "method" or "route"; required\n',
         "value resolver.kind",
     ),
     (
         FIXED,
         BYPASS * 31 + '[[bypass]]\nkind = "path"\n',
         "",
-        'bypass 32 of 32\nline 101: kind = "path"\n' 'bypass.kind: "method", "prefix" or "header"; required\n',
+        'bypass 32 of 32\nline 101: kind = "path"\nbypass.kind: "method", "prefix" or "header"; required\n',
         "value bypass.kind",
     ),
     (
         FIXED + LIVE_OF_TWO,
         BY_METHOD * 16 + BY_ROUTE + '"/{a" = "live"\n',
         "",
-        "resolver 17 of 17\nline 76: "
-        "[resolver.routes]\n"
+        "resolver 17 of 17\nline 76: [resolver.routes]\n"
         'the pattern "/{a": Parameters must be registered with a valid name\n',
         "route",
     ),
     (
         FIXED + LIVE_OF_TWO,
-        BY_ROUTE + '"/a/{b}" = "live"\n' + BY_ROUTE + '"/{a}" = "live"\n"/c" = "live"\n"/{d}" = ' '"live"\n',
+        BY_ROUTE + '"/a/{b}" = "live"\n' + BY_ROUTE + '"/{a}" = "live"\n"/c" = "live"\n"/{d}" = "live"\n',
         "",
-        'resolver 2 of 2\nline 16: [resolver.routes]\nthe pattern "/{d}": Insertion failed due to conflict with '
-        "previously "
-        "registered route: /{a}\n",
+        "resolver 2 of 2\nline 16: [resolver.routes]\n"
+        'the pattern "/{d}": Insertion failed due to conflict with previously registered route: /{a}\n',
         "route",
     ),
     (
         FIXED + LIVE_OF_TWO,
         BY_METHOD * 16 + BY_METHOD + "zebra = 1\n",
         "",
-        "resolver 17 of 17\nline 78: zebra = 1\n"
-        "resolver.zebra isn't a key here; those that are: kind method class\n",
+        "resolver 17 of 17\nline 78: zebra = 1\nresolver.zebra isn't a key here; those that are: kind method class\n",
         "unknown resolver.zebra",
     ),
 ]
@@ -347,7 +341,8 @@ OF_FAULTS_OF_ONE = [
         '[[class]]\nname = "b"\npercent = 41\n',
         "",
         "class 2 of 2\nline 12: percent = 41\n"
-        "class.percent: percent, 1 to what the classes before leave of 100; required\nhere from 1 to 40\n",
+        "class.percent: percent, 1 to what the classes before leave of 100; required\n"
+        "here from 1 to 40\n",
         "value class.percent",
     ),
     (
@@ -355,7 +350,8 @@ OF_FAULTS_OF_ONE = [
         '[[class]]\nname = "b"\npercent = 101\n',
         "",
         "class 1 of 1\nline 9: percent = 101\n"
-        "class.percent: percent, 1 to what the classes before leave of 100; required\nhere from 1 to 100\n",
+        "class.percent: percent, 1 to what the classes before leave of 100; required\n"
+        "here from 1 to 100\n",
         "value class.percent",
     ),
 ]
@@ -370,8 +366,8 @@ OF_NO_FAULT = [
         "backlog = 9\n" + AIMD + "max = 40\ninitial = 4\n" + LIVE_OF_TWO,
         "greatest limit 40, shares of it 24 and backlog 9 are 73 together\n"
         "too few workers: there are at most 64, and callers past them wait unseen; lower the limit or the backlog\n"
-        "limit.timeout_us = 5000000 is above a second: answers up to that only raise the limit, however long the queue at "
-        "the backend\n",
+        "limit.timeout_us = 5000000 is above a second: answers up to that only raise the limit, however long the "
+        "queue at the backend\n",
     ),
     (
         "backlog = 9\nwait = false\n" + FIXED,
@@ -402,8 +398,8 @@ ON_WORKERS = (
 )
 NO_PROBES = "limit.probe_every = 0: one quick answer, or a drop, can keep the limit low for good\n"
 SLOW_TIMEOUT = (
-    "limit.timeout_us = {} is above a second: answers up to that only raise the limit, however long the "
-    "queue at the backend\n"
+    "limit.timeout_us = {} is above a second: answers up to that only raise the limit, however long the queue "
+    "at the backend\n"
 )
 MANY = "window.size = {} is above twice limit.min = {}: a limit that fell to min can stay there for good\n"
 SHORT = (
@@ -456,13 +452,15 @@ OF_NO_FAULT += [
     ),
     (
         "backlog = 0\n" + FIXED + LIVE_OF_TWO + BY_METHOD.replace("GET", "get"),
-        "greatest limit 4, shares of it 3 and backlog 0 are 7 together\nserve it with --workers 8 or more, at most 64\n"
+        "greatest limit 4, shares of it 3 and backlog 0 are 7 together\n"
+        "serve it with --workers 8 or more, at most 64\n"
         'resolver 1 has the method "get" with small letters: methods are compared byte for byte, and clients send '
         "capitals\n",
     ),
     (
         "backlog = 0\n" + FIXED + LIVE_OF_TWO + '[[resolver]]\nkind = "header"\nheader = "A"\n',
-        "greatest limit 4, shares of it 3 and backlog 0 are 7 together\nserve it with --workers 8 or more, at most 64\n",
+        "greatest limit 4, shares of it 3 and backlog 0 are 7 together\n"
+        "serve it with --workers 8 or more, at most 64\n",
     ),
 ]
 # The same of addresses that are one.

@@ -45,8 +45,8 @@ class Origin:
                 self.release.wait(2 * PATIENCE)
             if path == b"/breaks":
                 return
-            status, more = (429, "Retry-After: 7\r\n") if path == b"/own" else (200, "")
-            client.sendall(f"HTTP/1.1 {status} X\r\nContent-Length: 3\r\n{more}\r\nok\n".encode())
+            number, more = (429, "Retry-After: 7\r\n") if path == b"/own" else (200, "")
+            client.sendall(f"HTTP/1.1 {number} X\r\nContent-Length: 3\r\n{more}\r\nok\n".encode())
 
     def asked(self):
         """What it was given, but health checks."""
@@ -94,7 +94,7 @@ class Fronts(Judge):
         while self.started:
             self.stop(self.started[-1])
 
-    def configured(self, name, swaps, more=""):
+    def configured(self, name, swaps):
         """The path of a file of examples/front/, in which each of these texts was found and replaced."""
         text = (FRONT / name).read_text()
         for old, new in swaps.items():

@@ -41,6 +41,11 @@ def answer(count, is_chunked):
     return b"HTTP/1.1 200 OK\r\n%s\r\n\r\n%s" % (coding, text)
 
 
+def posted(gate, how):
+    """What comes back for such a request."""
+    return gate.ask(post(*how))
+
+
 def length_of(request):
     """How many bytes the body of a request is to have, by its path."""
     return int(request.split(b" ")[1][1:])
@@ -84,7 +89,7 @@ class Large:
             gate = self.gateway(backend, workers=8, each=2)
             asked = [(step * MEGABYTE, sends_chunks) for step in STEPS for sends_chunks in (False, True)]
             with ThreadPoolExecutor(8) as pool:
-                found = [*pool.map(lambda it: gate.ask(post(*it)), asked)]
+                found = [*pool.map(posted, itertools.repeat(gate), asked)]
             what = f"{HOW[is_chunked]}, from a backend that {'reads on' if reads_on else 'ends'}"
             for (count, sends_chunks), text in zip(asked, found):
                 name = f"{count} bytes up, {HOW[sends_chunks]}, and down, {what}"

@@ -42,7 +42,7 @@ class Fixed:
     def learn(self, sample):
         pass
 
-    def put(self, number):
+    def put(self, _number):
         return "refused not settable"
 
     def reset(self):
@@ -213,7 +213,7 @@ class Limiter:
         self.waiting[self.entries] = part
         return ["waiting"]
 
-    def bypass(self, now):
+    def bypass(self, _now):
         return ["bypassed"]
 
     def end(self, number, outcome, now):

@@ -108,7 +108,8 @@ class Sockets:
         self.judge("counters of second requests", {"admitted": 20, "success": 20}, gate.ending())
 
     def is_stopped(self, backend):
-        """A gateway that is stopped and goes on loses nobody inside a head, a body, an answer or before a connection."""
+        """A gateway that is stopped and goes on loses nobody inside a head, a body, an answer, or before a
+        connection."""
         gate = self.gateway(backend, workers=4, each=1, words=("--client-timeout-ms", "60000"))
         with gate.connect() as head, gate.connect() as body, socket.socket() as deaf:
             head.sendall(PLAIN[:9])
@@ -189,7 +190,7 @@ class Sockets:
         """A backend's end is waited for after its answer, for a moment; behind a fault it isn't."""
         seen, swallowed, ended, done = [], [], [], threading.Event()
 
-        def stays(client):
+        def stays(_):
             done.wait(PATIENCE)
 
         def looks(client):
