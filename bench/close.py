@@ -5,6 +5,7 @@ Usage: bench/close.py. The program is close/, over `shared_gate`: one caller mak
 receipts in one list, and closes the gate. It prints the time of closing alone, in nanoseconds a receipt: the median,
 the least and the greatest of nine runs. Needs rt.
 """
+import pathlib
 import statistics
 import sys
 
@@ -14,14 +15,14 @@ from words import reader_of
 RECEIPTS = (10_000, 100_000, 1_000_000)
 
 
-def closing(program, receipts):
+def closing(program: pathlib.Path, receipts: int) -> int:
     """The nanoseconds that one closing took, which accepted a history of all calls."""
     took, _, did = run(program, (receipts,))
     assert did == f"entries {receipts}\n", did
     return took
 
 
-def main():
+def main() -> None:
     reader_of(__doc__).parse_args()
     bench = Bench("close", "shared_gate")
     with open(bench.tree / "build.log", "w", encoding="utf-8") as log:

@@ -15,6 +15,7 @@ With --seen the peer has an atomic word beside its lock, which each call raises 
 reads before that and after. Needs rt and rustc.
 """
 import sys
+from collections.abc import Iterator
 
 from sides import Bench, row
 from words import reader_of
@@ -29,15 +30,17 @@ TIMES = 400_000
 LIMIT = 10_000
 ROLLS_AT = 4_096
 MOST_ENTRIES = 1_000_000
+Words = tuple[int, ...]
+Row = tuple[str, int, Words, Words]
 
 
-def rows(is_still, is_rolling, has_history, is_seen):
+def rows(is_still: bool, is_rolling: bool, has_history: bool, is_seen: int) -> Iterator[Row]:
     """What each row is called, how many times it does what is timed, and the words of the program on either side."""
     kept = (ROLLS_AT if is_rolling else MOST_ENTRIES) if has_history else 0
     for threads in THREADS:
         for held in HELD:
             name = f"pairs, threads {threads}, permits out {held:,}"
-            words = (threads, held, TIMES, 0 if is_still else 1)
+            words: Words = (threads, held, TIMES, 0 if is_still else 1)
             yield name, TIMES, (*words, 1 if is_rolling else 0, 0, 0), (*words, 0, 0, 0, kept, is_seen)
     for waiting in () if is_rolling else WAITING:
         for is_drawn, order in ((0, "oldest first"), (1, "drawn order")):
@@ -46,18 +49,18 @@ def rows(is_still, is_rolling, has_history, is_seen):
             yield name, TIMES, words, (*words, 0, 0, kept, is_seen)
 
 
-def rows_past_waiters(is_seen):
+def rows_past_waiters(is_seen: int) -> Iterator[Row]:
     """The same of endings while others wait that have no room."""
     for promotes_all, rule in ((0, "newest"), (1, "all")):
         for waiting in (0, 10, LIMIT):
-            words = (1, LIMIT, TIMES, 0, 0, waiting, promotes_all)
+            words: Words = (1, LIMIT, TIMES, 0, 0, waiting, promotes_all)
             yield f"pairs, under {rule}, {waiting:,} wait without room", TIMES, words, (*words, 0, is_seen)
     for waiting in PASSED:
         words = (3, LIMIT, PROMOTIONS, waiting)
         yield f"promotions past {waiting:,} who wait without room", PROMOTIONS, words, (*words, 0, 0, 0, 0, is_seen)
 
 
-def main():
+def main() -> None:
     reader = reader_of(__doc__)
     for flag in ("--still", "--rolling", "--history", "--all", "--seen"):
         reader.add_argument(flag, action="store_true")

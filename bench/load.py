@@ -21,15 +21,16 @@ TRACES = [
 ]
 
 
-def rate(program, workers, text):
+def rate(program: str, workers: int, text: bytes) -> float:
     """The calls a second of a run."""
     began = time.monotonic()
     done = subprocess.run([program, "load", "--workers", str(workers)], input=text, capture_output=True, check=True)
     took = time.monotonic() - began
-    return int(re.match(rb"audit ok calls (\d+)\n", done.stdout)[1]) / took
+    (calls_made,) = re.findall(rb"^audit ok calls (\d+)\n", done.stdout)
+    return int(calls_made) / took
 
 
-def main():
+def main() -> None:
     program = program_of(__doc__)
     print(f"| Trace of {CALLS:,} calls | {' | '.join(f'workers {workers}' for workers in WORKERS)} |")
     print("|---" * (1 + len(WORKERS)) + "|")

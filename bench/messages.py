@@ -11,6 +11,7 @@ import argparse
 import pathlib
 import subprocess
 import sys
+import typing
 
 from sides import Bench, row
 from words import reader_of
@@ -22,7 +23,7 @@ CHUNK = 4_096
 BODIES = ((0, 100_000), (KIB, 100_000), (MIB, 300))
 
 
-def request(lines, body, is_chunked):
+def request(lines: int, body: int, is_chunked: bool) -> bytes:
     """A request with so many header lines, and its body in chunks or with a length."""
     out = [b"POST /articles/today?page=2 HTTP/1.1", b"Host: www.example.com"]
     out += [f"X-Field-{number}: a value of some length, number {number}".encode() for number in range(lines - 2)]
@@ -33,42 +34,31 @@ def request(lines, body, is_chunked):
     return b"\r\n".join(out) + b"\r\n\r\n" + (chunks(body) if is_chunked else b"x" * body)
 
 
-def chunks(body):
+def chunks(body: int) -> bytes:
+    """A body of so many bytes in chunks."""
     sizes = [CHUNK] * (body // CHUNK) + [body % CHUNK] * (body % CHUNK > 0)
     return b"".join(b"%x\r\n%s\r\n" % (size, b"x" * size) for size in sizes) + b"0\r\n\r\n"
 
 
-def sources(word):
+def sources(word: str) -> pathlib.Path:
     """A folder with the sources of httparse."""
     if not (pathlib.Path(word) / "src/lib.rs").is_file():
         raise argparse.ArgumentTypeError(f"{word} has no src/lib.rs")
     return pathlib.Path(word)
 
 
-def httparse(given, folder, log):
+def httparse(given: list[pathlib.Path], folder: pathlib.Path, log: typing.IO[str]) -> str:
     """The peer's library, built from its sources."""
-    words = [
-        "rustc",
-        "-O",
-        "--edition",
-        "2018",
-        "--crate-type",
-        "rlib",
-        "--crate-name",
-        "httparse",
-        "--cap-lints",
-        "allow",
-        "-o",
-        folder / "libhttparse.rlib",
-    ]
+    words = "rustc -O --edition 2018 --crate-type rlib --crate-name httparse --cap-lints allow -o".split()
+    library = folder / "libhttparse.rlib"
     found = given or sorted(pathlib.Path("/usr/share/cargo/registry").glob("httparse-*"))
     if not found:
         sys.exit("no sources of httparse: install Debian's librust-httparse-dev, or name their folder")
-    subprocess.run([*words, found[0] / "src/lib.rs"], stdout=log, stderr=log, check=True)
-    return f"httparse={folder / 'libhttparse.rlib'}"
+    subprocess.run([*words, library, found[0] / "src/lib.rs"], stdout=log, stderr=log, check=True)
+    return f"httparse={library}"
 
 
-def main():
+def main() -> None:
     reader = reader_of(__doc__)
     reader.add_argument("folder", type=sources, nargs="?", metavar="FOLDER")
     folder = reader.parse_args().folder

@@ -4,12 +4,16 @@ request has a connection of its own on both sides.
 import contextlib
 import pathlib
 import socket
+import subprocess
 import sys
 import threading
 import time
-from collections.abc import Iterator
+from collections.abc import Callable, Iterator
+
+from running import free_port
 
 WAITING = 120
+# A gateway where nobody waits.
 CONFIG = """version = 1
 listen = "127.0.0.1:{port}"
 backend = "127.0.0.1:{origin}"
@@ -17,7 +21,7 @@ wait = false
 backlog = 0
 [limit]
 kind = "fixed"
-initial = 64
+initial = {limit}
 """
 
 
@@ -43,7 +47,7 @@ def ask(port: int, request: bytes) -> None:
                 server.sendall(request)
                 with server.makefile("rb") as said:
                     status = said.read().split(b" ")[1]
-                assert status == b"200", f"answered {status}"
+                assert status == b"200", f"answered {status!r}"
                 return
         except ConnectionError:
             if time.monotonic() - begun > WAITING:
@@ -54,10 +58,20 @@ def ask(port: int, request: bytes) -> None:
 @contextlib.contextmanager
 def between(room: pathlib.Path, text: bytes) -> Iterator[tuple[int, pathlib.Path]]:
     """The port and the configuration, in a folder, of a gateway before an origin that answers each request so."""
-    with socket.create_server(("127.0.0.1", 0)) as origin, socket.create_server(("127.0.0.1", 0)) as free:
-        port, behind = free.getsockname()[1], origin.getsockname()[1]
-        free.close()
+    with socket.create_server(("127.0.0.1", 0)) as origin:
+        port, behind = free_port(), origin.getsockname()[1]
         threading.Thread(target=answer, args=(origin.dup(), text), daemon=True).start()
         config = room / "gateway.toml"
-        config.write_text(CONFIG.format(port=port, origin=behind), encoding="utf-8")
+        config.write_text(CONFIG.format(port=port, origin=behind, limit=64), encoding="utf-8")
         yield port, config
+
+
+def said_of(tool: Callable[[str], list[str]], room: pathlib.Path, request: bytes, text: bytes, exchanges: int) -> str:
+    """What a tool says that has run one worker of so many exchanges, each with this request and this answer. It is
+    called with the words behind the program's path, which run the worker."""
+    with between(room, text) as (port, config):
+        words = tool(f"serve {config} --workers 1 --per-worker {exchanges}")
+        process = subprocess.Popen(words, stdout=subprocess.PIPE, stderr=subprocess.STDOUT, text=True)
+        for _ in range(exchanges):
+            ask(port, request)
+        return process.communicate(timeout=WAITING)[0]

@@ -6,8 +6,9 @@ and wait for up to a second. The gateway has a fixed limit of 4 and a backlog of
 ms. It prints the share of calls answered with 200, the time of such an answer, and the time of a refusal.
 """
 import asyncio
+from collections.abc import Sequence
 
-from traffic import Gateway, Origin, allow_many_sockets, offer, percentile
+from traffic import Call, Gateway, Origin, allow_many_sockets, offer, percentile
 from words import above_zero, built, reader_of
 
 SLOTS, PAUSE = 4, 0.020
@@ -15,7 +16,8 @@ TIMES = 4
 TABLES = 'backlog = 4\ntimeout_ms = 50\n[limit]\nkind = "fixed"\ninitial = 4\n'
 
 
-def row(name, calls):
+def row(name: str, calls: Sequence[Call]) -> None:
+    """Prints what calls came to."""
     good = [it.seconds * 1000 for it in calls if it.status == 200]
     refused = [it.seconds * 1000 for it in calls if it.status == 429]
     within = sum(it <= 100 for it in good)
@@ -30,7 +32,7 @@ def row(name, calls):
     )
 
 
-def main():
+def main() -> None:
     reader = reader_of(__doc__)
     reader.add_argument("program", type=built, metavar="PROGRAM")
     reader.add_argument("seconds", type=above_zero(float), nargs="?", default=10.0, metavar="SECONDS")

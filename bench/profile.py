@@ -12,14 +12,13 @@ import collections
 import pathlib
 import re
 import shutil
-import subprocess
 import sys
 import tempfile
 
-from one_worker import WAITING, ask, between
+from one_worker import said_of
 
 FEW, MANY = 200, 2_200
-REQUEST = b"GET / HTTP/1.1\r\nHost: 127.0.0.1:%d\r\nConnection: close\r\n\r\n"
+REQUEST = b"GET / HTTP/1.1\r\nHost: 127.0.0.1:40000\r\nConnection: close\r\n\r\n"
 ANSWER = (
     b"HTTP/1.1 200 OK\r\nServer: nginx/1.22.1\r\nDate: Thu, 01 Jan 2026 00:00:00 GMT\r\n"
     b"Content-Type: text/plain\r\nContent-Length: 13\r\nConnection: close\r\n\r\nhello, world\n"
@@ -27,12 +26,14 @@ ANSWER = (
 COSTS = ("alone", "with calls")
 
 
-def counted(file: pathlib.Path) -> tuple[collections.Counter, collections.Counter]:
+def instructions_in(file: pathlib.Path) -> tuple[collections.Counter, collections.Counter]:
     """The instructions by function that callgrind wrote to a file: of functions alone, and with all that they call."""
-    names, alone, whole = {}, collections.Counter(), collections.Counter()
+    names: dict[str, str] = {}
+    alone: collections.Counter = collections.Counter()
+    whole: collections.Counter = collections.Counter()
     caller = callee = None
 
-    def named(text):
+    def named(text: str) -> str:
         """A function's name, which the file has once, and then its number alone."""
         number, _, name = text.partition(" ")
         return names.setdefault(number, name)
@@ -54,28 +55,12 @@ def counted(file: pathlib.Path) -> tuple[collections.Counter, collections.Counte
 def run(program: str, room: pathlib.Path, exchanges: int) -> tuple[collections.Counter, collections.Counter]:
     """The instructions of one run with so many exchanges: of the functions alone, and with their calls."""
     out = room / f"callgrind.{exchanges}"
-    with between(room, ANSWER) as (port, config):
-        words = [
-            "valgrind",
-            "-q",
-            "--tool=callgrind",
-            f"--callgrind-out-file={out}",
-            program,
-            "serve",
-            str(config),
-            "--workers",
-            "1",
-            "--per-worker",
-            str(exchanges),
-        ]
-        process = subprocess.Popen(words, stdout=subprocess.DEVNULL, stderr=subprocess.PIPE, text=True)
-        for _ in range(exchanges):
-            ask(port, REQUEST % port)
-        _, said = process.communicate(timeout=WAITING)
-    return counted(out) if out.exists() else sys.exit(f"profile.py: valgrind says\n{said}")
+    valgrind = ["valgrind", "-q", "--tool=callgrind", f"--callgrind-out-file={out}", program]
+    said = said_of(lambda run: [*valgrind, *run.split()], room, REQUEST, ANSWER, exchanges)
+    return instructions_in(out) if out.exists() else sys.exit(f"profile.py: valgrind says\n{said}")
 
 
-def main():
+def main() -> None:
     reader = argparse.ArgumentParser(description=__doc__, formatter_class=argparse.RawDescriptionHelpFormatter)
     reader.add_argument("program", type=pathlib.Path)
     reader.add_argument("--top", type=int, default=40)

@@ -36,6 +36,11 @@ import sys
 import tempfile
 import threading
 import time
+import typing
+from collections.abc import Iterator, Mapping, Sequence
+
+from one_worker import CONFIG
+from running import stop
 
 TICK = os.sysconf("SC_CLK_TCK")
 PACKAGES = {"nginx": "nginx-light", "haproxy": "haproxy", "wrk": "wrk", "taskset": "util-linux", "rustc": "rustc"}
@@ -58,15 +63,6 @@ frontend clients
 backend origin
   server origin 127.0.0.1:{origin} maxconn 400
 """
-ADMISSION = """version = 1
-listen = "127.0.0.1:{port}"
-backend = "127.0.0.1:{origin}"
-wait = false
-backlog = 0
-[limit]
-kind = "fixed"
-initial = {limit}
-"""
 # What nginx needs to pass on bodies of any size, and so that it passes them on as they come.
 ANY_SIZE = "client_max_body_size 0;"
 UNBUFFERED = f"{ANY_SIZE} proxy_buffering off; proxy_request_buffering off; proxy_http_version 1.1;"
@@ -81,7 +77,7 @@ POLICIES = {"": (), ", batch": BATCH}
 ONE_AT_A_TIME = "limit_conn_zone $server_port zone=all:1m; limit_conn_status 429; limit_conn_log_level info;"
 
 
-def first_port(count):
+def first_port(count: int) -> int:
     """The first of so many free ports in a row, below the ephemeral range as it mostly is."""
     for first in range(20_000 + os.getpid() * 7 % 10_000, 32_000, count):
         with contextlib.suppress(OSError), contextlib.ExitStack() as taken:
@@ -94,37 +90,43 @@ def first_port(count):
 class Servers:
     """The processes of one run, each on the processor that all share."""
 
-    def __init__(self, room, processor):
-        self.room, self.processor, self.started = room, processor, []
+    def __init__(self, room: pathlib.Path, processor: int) -> None:
+        self.room, self.processor = room, processor
+        self.started: list[subprocess.Popen] = []
 
-    def start(self, *words):
+    def start(self, *words: str) -> subprocess.Popen:
         process = subprocess.Popen(
             ["taskset", "-c", str(self.processor), *words], stdout=subprocess.DEVNULL, stderr=subprocess.DEVNULL
         )
         self.started.append(process)
         return process
 
-    def nginx(self, name, port, server, http="", first="", policy=()):
+    def nginx(
+        self, name: str, port: int, server: str, http: str = "", first: str = "", policy: Sequence[str] = ()
+    ) -> subprocess.Popen:
+        """An nginx with these lines of its server, before it, and before all."""
         text = NGINX.format(name=name, room=self.room, port=port, server=server, http=http, first=first)
         return self.start(*policy, "nginx", "-c", self.written(name, text))
 
-    def written(self, name, text):
+    def written(self, name: str, text: str) -> str:
+        """The path of a file with this text."""
         file = self.room / name
         file.write_text(text, encoding="utf-8")
         return str(file)
 
-    def end(self):
+    def end(self) -> None:
         for process in reversed(self.started):
             process.terminate()
         for process in self.started:
-            try:
-                process.wait(5)
-            except subprocess.TimeoutExpired:
-                process.kill()
-                process.wait()
+            stop(process)
 
 
-def family(pid):
+# A port and its process; and the figures of a visit.
+Target = tuple[int, subprocess.Popen]
+Figures = dict[str, typing.Any]
+
+
+def family(pid: int) -> list[int]:
     """A process with its children."""
     found = [pid]
     for entry in filter(str.isdigit, os.listdir("/proc")):
@@ -137,7 +139,7 @@ def family(pid):
     return found
 
 
-def told(pid, *names):
+def told(pid: int | str, *names: str) -> list[int]:
     """Numbers of a process or a thread, by their names in its status; 0 where it is gone."""
     try:
         lines = pathlib.Path(f"/proc/{pid}/status").read_text(encoding="utf-8").splitlines()
@@ -147,7 +149,7 @@ def told(pid, *names):
     return [int(found.get(name, 0)) for name in names]
 
 
-def spent(pid):
+def spent(pid: int) -> tuple[float, float, int]:
     """The user and the system seconds of a process and its children, and their voluntary switches."""
     user, system, switches = 0, 0, 0
     for one in family(pid):
@@ -158,50 +160,44 @@ def spent(pid):
     return user / TICK, system / TICK, switches
 
 
-def resident(pid):
+def resident(pid: int) -> float:
     """The megabytes that a process and its children have in memory."""
     return sum(told(one, "VmRSS")[0] for one in family(pid)) / 1024
 
 
-def overflows():
+def overflows() -> int:
     """How often an accept queue was full, since the machine began."""
     lines = pathlib.Path("/proc/net/netstat").read_text(encoding="ascii").splitlines()
     names, counts = (line.split() for line in lines[:2])
     return int(counts[names.index("ListenOverflows")])
 
 
-def milliseconds(text):
-    number, unit = re.match(r"([\d.]+)(us|ms|s|m)", text).groups()
+def milliseconds(text: str) -> float:
+    """The milliseconds of a time with its unit."""
+    ((number, unit),) = re.findall(r"^([\d.]+)(us|ms|s|m)", text)
     return float(number) * {"us": 0.001, "ms": 1, "s": 1000, "m": 60_000}[unit]
 
 
-def visit(target, clients, seconds, processor, asking):
+def group_of(pattern: str, said: str) -> str:
+    """What the group of a pattern is in a text."""
+    return re.findall(pattern, said)[0]
+
+
+def visit(target: Target, clients: int, seconds: int, processor: int, asking: Sequence[str]) -> Figures:
     """One visit of wrk to a target: its figures by name."""
     port, process = target
     before, dropped = spent(process.pid), overflows()
-    words = [
-        "taskset",
-        "-c",
-        str(processor),
-        "wrk",
-        "-t1",
-        f"-c{clients}",
-        f"-d{seconds}s",
-        "--latency",
-        *asking,
-        "-H",
-        "Connection: close",
-        f"http://127.0.0.1:{port}/",
-    ]
+    wrk = ["taskset", "-c", str(processor), "wrk", "-t1", f"-c{clients}", f"-d{seconds}s", "--latency"]
+    words = [*wrk, *asking, "-H", "Connection: close", f"http://127.0.0.1:{port}/"]
     said = subprocess.run(words, capture_output=True, text=True, check=True).stdout
-    total = max(1, int(re.search(r"(\d+) requests in", said)[1]))
+    total = max(1, int(group_of(r"(\d+) requests in", said)))
     user, system, switches = (after - earlier for after, earlier in zip(spent(process.pid), before))
     wrong = re.search(r"Non-2xx or 3xx responses: (\d+)", said)
     faults = re.search(r"Socket errors: (.*)", said)
     return {
-        "rate": float(re.search(r"Requests/sec:\s+([\d.]+)", said)[1]),
-        "p50": milliseconds(re.search(r"\n\s+50%\s+(\S+)", said)[1]),
-        "p99": milliseconds(re.search(r"\n\s+99%\s+(\S+)", said)[1]),
+        "rate": float(group_of(r"Requests/sec:\s+([\d.]+)", said)),
+        "p50": milliseconds(group_of(r"\n\s+50%\s+(\S+)", said)),
+        "p99": milliseconds(group_of(r"\n\s+99%\s+(\S+)", said)),
         "requests": total,
         "user": user * 1e6,
         "system": system * 1e6,
@@ -213,13 +209,13 @@ def visit(target, clients, seconds, processor, asking):
     }
 
 
-def compared(runs, peers):
+def compared(runs: Sequence[Figures], peers: Sequence[Figures]) -> str:
     """The ratio of the rates to a peer's, round by round, and its spread."""
     ratios = [run["rate"] / peer["rate"] for run, peer in zip(runs, peers)]
     return f"{statistics.median(ratios):.2f} | {min(ratios):.2f} to {max(ratios):.2f}"
 
 
-def tell(clients, found):
+def tell(clients: int, found: Mapping[str, Sequence[Figures]]) -> None:
     """The table of one number of clients."""
     peers = [name for name in found if name.startswith(("nginx", "bare"))]
     columns = ["Proxy", "requests/s"]
@@ -243,7 +239,7 @@ def tell(clients, found):
 
 
 @contextlib.contextmanager
-def asked(port):
+def asked(port: int) -> Iterator[socket.socket]:
     """A connection over which something was asked for."""
     with socket.create_connection(("127.0.0.1", port)) as caller:
         caller.sendall(b"GET / HTTP/1.1\r\nHost: h\r\nConnection: close\r\n\r\n")
@@ -251,7 +247,7 @@ def asked(port):
 
 
 @contextlib.contextmanager
-def held(port, is_refused):
+def held(port: int, is_refused: bool) -> Iterator[None]:
     """Somebody's request at a port that isn't answered meanwhile, where the others are to be refused, and are."""
     if not is_refused:
         yield
@@ -260,15 +256,15 @@ def held(port, is_refused):
         time.sleep(0.2)
         with asked(port) as other:
             status = other.recv(12)[-3:]
-        assert status == b"429", f"answered {status} in place of 429"
+        assert status == b"429", f"answered {status!r} in place of 429"
         yield
 
 
-def silent_origin(port):
+def silent_origin(port: int) -> None:
     """Takes connections and answers none, until it is closed."""
     listener = socket.create_server(("127.0.0.1", port), backlog=64)
 
-    def accept():
+    def accept() -> None:
         kept = []
         with contextlib.suppress(OSError):
             while True:
@@ -277,7 +273,7 @@ def silent_origin(port):
     threading.Thread(target=accept, daemon=True).start()
 
 
-def start_origin(servers, port, given):
+def start_origin(servers: Servers, port: int, given: argparse.Namespace) -> dict[str, Target]:
     """What stands behind all proxies, and is timed alone as well where it answers."""
     if given.refused:
         silent_origin(port)
@@ -292,20 +288,20 @@ def start_origin(servers, port, given):
     return {"origin alone": (port, servers.started[-1])}
 
 
-def targets_of(servers, program, port, given):
+def targets_of(servers: Servers, program: str, port: int, given: argparse.Namespace) -> dict[str, Target]:
     """The proxies by name, each with its port and its process."""
     ports = itertools.count(port)
     origin = next(ports)
     found = start_origin(servers, origin, given)
 
-    def nginx(name, server, http="", policy=()):
+    def nginx(name: str, server: str, http: str = "", policy: Sequence[str] = ()) -> None:
         own = next(ports)
         pass_on = f"location / {{ proxy_pass http://127.0.0.1:{origin}; proxy_set_header Connection close; }}"
         found[name] = (own, servers.nginx(f"proxy_{own}", own, f"{server} {pass_on}", http, policy=policy))
 
-    alone = ("limit_conn all 1;", ONE_AT_A_TIME) if given.refused else (ANY_SIZE,)
+    alone = ("limit_conn all 1;", ONE_AT_A_TIME) if given.refused else (ANY_SIZE, "")
     nginx("nginx", *alone)
-    nginx("nginx, batch", *alone, policy=BATCH)
+    nginx("nginx, batch", *alone, BATCH)
     if not given.refused:
         own = next(ports)
         file = servers.written("haproxy", HAPROXY.format(port=own, origin=origin))
@@ -319,31 +315,31 @@ def targets_of(servers, program, port, given):
         nginx("nginx, unbuffered", UNBUFFERED)
     for count in given.workers:
         own, limit = next(ports), 1 if given.refused else 64
-        file = servers.written(f"admission_{count}.toml", ADMISSION.format(port=own, origin=origin, limit=limit))
+        file = servers.written(f"admission_{count}.toml", CONFIG.format(port=own, origin=origin, limit=limit))
         words = (*BATCH, program, "serve", file, "--workers", str(count))
         found[f"admission, {count} workers"] = (own, servers.start(*words))
     return found
 
 
-def bare_program(servers):
+def bare_program(servers: Servers) -> str:
     """The bare proxy, built."""
     program = servers.room / "bare_proxy"
     subprocess.run(["rustc", "-O", "--edition", "2021", "-o", program, BARE], check=True)
     return str(program)
 
 
-def asking_of(servers, upload):
+def asking_of(servers: Servers, upload: int) -> list[str]:
     """The script of wrk that sends bodies."""
     script = f'wrk.method = "POST"\nwrk.body = string.rep("x", {upload})\n'
     return ["-s", servers.written("upload.lua", script)] if upload else []
 
 
-def numbers(text):
+def numbers(text: str) -> list[int]:
     """Numbers with commas between them."""
     return [int(word) for word in text.split(",")]
 
 
-def main():
+def main() -> None:
     reader = argparse.ArgumentParser(description=__doc__, formatter_class=argparse.RawDescriptionHelpFormatter)
     reader.add_argument("program", type=pathlib.Path)
     reader.add_argument("--seconds", type=int, default=3)
@@ -373,7 +369,7 @@ def main():
             if gone:
                 sys.exit(f"proxy.py: {', '.join(gone)} didn't start; is a port from {first} on taken?")
             for clients in given.clients:
-                found = {name: [] for name in targets}
+                found: dict[str, list[Figures]] = {name: [] for name in targets}
                 for turn in range(given.rounds):
                     names = list(targets)
                     for name in names[turn % len(names) :] + names[: turn % len(names)]:

@@ -9,6 +9,7 @@ import random
 import subprocess
 import tempfile
 import time
+from collections.abc import Callable, Iterable
 
 from words import program_of
 
@@ -16,14 +17,16 @@ HERE = pathlib.Path(__file__).resolve().parent
 TURNS = 5
 IN_FLIGHT = 10
 CROWD = 8_000
+# Lines, and how many entries they add.
+Turn = tuple[list[str], int]
 
 
-def looks(number, now):
+def looks(number: int, now: int) -> Turn:
     """One call with a look at it: three entries."""
     return [f"acquire unknown {now}", "look unknown", f"end {number} success {now + 5}"], 3
 
 
-def promotions(number, now):
+def promotions(number: int, now: int) -> Turn:
     """A full limit, and one more call, which waits, is promoted, gets its permit and ends it."""
     last = number + IN_FLIGHT
     lines = [f"acquire unknown {now} wait" for _ in range(IN_FLIGHT + 1)]
@@ -32,7 +35,7 @@ def promotions(number, now):
     return lines, len(lines) + 1
 
 
-def raised(number, now):
+def raised(number: int, now: int) -> Turn:
     """A limit of 1, and nine more calls, which wait until it is set to 10, are promoted at once, claim and end."""
     waiters = range(number + 1, number + IN_FLIGHT)
     lines = [f"acquire unknown {now} wait" for _ in range(IN_FLIGHT)] + [f"set {IN_FLIGHT} {now}"]
@@ -40,7 +43,7 @@ def raised(number, now):
     return lines + [f"set 1 {now + 9}"], len(lines) + len(waiters) + 1
 
 
-def timeouts(number, now):
+def timeouts(number: int, now: int) -> Turn:
     """A full limit, and five more calls, which wait, are asked for once, and give up oldest first."""
     waiters = range(number + IN_FLIGHT, number + IN_FLIGHT + 5)
     lines = [f"acquire unknown {now} wait" for _ in range(IN_FLIGHT + 5)]
@@ -49,7 +52,7 @@ def timeouts(number, now):
     return lines, len(lines)
 
 
-def crowds(most):
+def crowds(most: int) -> list[str]:
     """A full limit; one of those in flight ends, drawn at random, and another comes in its place."""
     drawn, out, open_now = random.Random(1), ["acquire unknown 0"] * CROWD, list(range(CROWD))
     for number in range(CROWD, most - CROWD, 2):
@@ -59,7 +62,7 @@ def crowds(most):
     return out
 
 
-def late(most, order):
+def late(most: int, order: Callable[[list[int]], Iterable[int]]) -> list[str]:
     """A full limit, behind which a crowd waits and gives up again in this order."""
     out, number = [f"backlog {CROWD}"] + ["acquire unknown 0"] * IN_FLIGHT, IN_FLIGHT
     while number + 2 * CROWD <= most:
@@ -70,13 +73,15 @@ def late(most, order):
     return out
 
 
-def in_drawn_order(waiting):
+def in_drawn_order(waiting: list[int]) -> list[int]:
+    """The same in an order of chance."""
     return random.Random(1).sample(waiting, len(waiting))
 
 
-def repeated(turn, most):
+def repeated(turn: Callable[[int, int], Turn], most: int) -> list[str]:
     """Turns of one kind, of so many lines in all at most."""
-    out, number, now = [], 0, 0
+    out: list[str] = []
+    number, now = 0, 0
     lines, entries = turn(number, now)
     while len(out) + len(lines) <= most:
         out += lines
@@ -85,7 +90,8 @@ def repeated(turn, most):
     return out
 
 
-def run(words, text):
+def run(words: list[str], text: bytes) -> tuple[float, bytes]:
+    """The seconds of one run, and what it wrote."""
     began = time.monotonic()
     done = subprocess.run(words, input=text, capture_output=True, check=True)
     return time.monotonic() - began, done.stdout
@@ -108,14 +114,15 @@ SCRIPTS = [
 ]
 
 
-def main():
+def main() -> None:
     program = program_of(__doc__)
     with tempfile.TemporaryDirectory() as folder:
         plain = f"{folder}/plain"
         subprocess.run(["rustc", "-O", "--edition", "2021", "-o", plain, HERE / "plain.rs"], check=True)
         for name, limit, lines in SCRIPTS:
             text = ("\n".join(lines) + "\n").encode()
-            ours, theirs = [], []
+            ours: list[float] = []
+            theirs: list[float] = []
             for _ in range(TURNS):
                 took, wrote = run([program, "replay", "--limit", str(limit)], text)
                 ours.append(took)

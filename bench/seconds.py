@@ -25,6 +25,8 @@ import resource
 import subprocess
 import sys
 import time
+import typing
+from collections.abc import Iterator
 
 TOP = pathlib.Path(__file__).resolve().parent.parent
 PAUSE = 0.5
@@ -34,14 +36,20 @@ KINDS = ("proof", "tests", "wrong bodies", "running")
 SUBREAPER = 36
 
 
+# A number of a process and the moment at which it began; and the crate and the kind that one is for.
+Key = tuple[int, bytes]
+Purpose = tuple[str, str]
+
+
 class Process:
     """A process: its parent, what it is for, and the seconds that it has taken."""
 
-    def __init__(self, parent):
-        self.parent, self.purpose, self.seconds, self.began = parent, None, 0.0, time.monotonic()
+    def __init__(self, parent: Key) -> None:
+        self.parent, self.seconds, self.began = parent, 0.0, time.monotonic()
+        self.purpose: Purpose | None = None
 
 
-def read(path):
+def read(path: str) -> bytes:
     """A file of /proc, or nothing where its process has ended."""
     try:
         return pathlib.Path(path).read_bytes()
@@ -49,21 +57,22 @@ def read(path):
         return b""
 
 
-def link(path):
+def link(path: str) -> str:
+    """What a link of /proc leads to, or nothing where its process has ended."""
     try:
         return os.readlink(path)
     except OSError:
         return ""
 
 
-def crate_in(path):
+def crate_in(path: str) -> str | None:
     """The crate in whose folder a path lies, or nothing."""
     parts = pathlib.PurePath(path).parts
     places = [at for at, part in enumerate(parts[:-1]) if part == "crates"]
     return parts[places[-1] + 1] if places else None
 
 
-def purpose(number):
+def purpose(number: int) -> Purpose | None:
     """The crate and the kind that a process is for, by its own words, or nothing where its parent tells it."""
     words = read(f"/proc/{number}/cmdline").decode(errors="replace").split("\0")
     if "--crate-name" in words[:-1]:
@@ -72,20 +81,24 @@ def purpose(number):
             return name, "wrong bodies"
         return name, "tests" if "--test" in words else "proof"
     program = link(f"/proc/{number}/exe").removesuffix(" (deleted)")
-    name = crate_in(program)
-    return (name, "running") if name and pathlib.PurePath(program).parent.name == "out" else None
+    crate = crate_in(program)
+    return (crate, "running") if crate and pathlib.PurePath(program).parent.name == "out" else None
+
+
+# The seconds of each crate and kind.
+Sums = collections.defaultdict[Purpose, float]
 
 
 class Watch:
     """The processes below this one."""
 
-    def __init__(self, log):
-        self.running, self.log = {}, log
-        self.sums = collections.Counter()
+    def __init__(self, log: typing.IO[str] | None) -> None:
+        self.running: dict[Key, Process] = {}
+        self.log, self.sums = log, Sums(float)
 
-    def look(self):
+    def look(self) -> None:
         """Looks at all processes once. One that isn't there any more counts with what it had at the look before."""
-        found = {}
+        found: dict[int, tuple[int, float, bytes]] = {}
         for entry in os.scandir("/proc"):
             if entry.name.isdigit():
                 fields = read(f"/proc/{entry.name}/stat").rpartition(b")")[2].split()
@@ -107,13 +120,13 @@ class Watch:
             process.purpose = purpose(number) or process.purpose
             process.seconds = seconds
 
-    def purpose_of(self, process):
+    def purpose_of(self, process: Process | None) -> Purpose | None:
         """What a process is for: by its own words, or else by those of the nearest above it."""
         while process and not process.purpose:
             process = self.running.get(process.parent)
         return process.purpose if process else None
 
-    def end_others(self, left):
+    def end_others(self, left: set[Key]) -> None:
         """Adds up those that have ended. Their parents may have ended with them, so all are looked at first."""
         ended = {key: self.purpose_of(self.running[key]) for key in self.running.keys() - left}
         for key, what in ended.items():
@@ -125,16 +138,17 @@ class Watch:
                     print(f"{what[0]}: {what[1]}, {told} seconds", file=self.log, flush=True)
 
 
-def stolen():
+def stolen() -> float:
     """The seconds that the host took of the processors since the machine began."""
     return int(read("/proc/stat").split()[8]) / TICKS
 
 
-def edits_of(crate):
+def edits_of(crate: str) -> int:
+    """How many wrong bodies a crate has."""
     return len([*TOP.glob(f"crates/{crate}/must-fail/*.edit")])
 
 
-def rows(sums):
+def rows(sums: Sums) -> Iterator[str]:
     """The rows of docs/GATE.md, in the order of crates.txt."""
     text = (TOP / "crates.txt").read_text(encoding="utf-8")
     order = [line.partition(":")[0] for line in text.splitlines() if ":" in line]
@@ -146,13 +160,13 @@ def rows(sums):
         yield f"| {name} | {proof} | {edits_of(name) or ''} | {bodies or ''} |"
 
 
-def minutes(sums):
+def minutes(sums: Sums) -> str:
     """The minutes of each kind, in words."""
     spent = {kind: sum(seconds for (_, it), seconds in sums.items() if it == kind) for kind in KINDS}
     return ", ".join(f"{kind} {seconds / 60:.1f}" for kind, seconds in spent.items())
 
 
-def run(command, log):
+def run(command: list[str], log: typing.IO[str] | None) -> tuple[int, Sums, float]:
     """Runs a command under watch. Returns its status, the sums by crate and kind, and the seconds by the clock."""
     ctypes.CDLL(None).prctl(SUBREAPER, 1, 0, 0, 0)
     began, watch = time.monotonic(), Watch(log)
@@ -164,7 +178,7 @@ def run(command, log):
     return started.returncode, watch.sums, time.monotonic() - began
 
 
-def main():
+def main() -> None:
     parser = argparse.ArgumentParser(usage=__doc__)
     parser.add_argument("--log", type=argparse.FileType("w"))
     parser.add_argument("command", nargs=argparse.REMAINDER)

@@ -10,33 +10,37 @@ import resource
 import shutil
 import statistics
 import subprocess
+import typing
+from collections.abc import Iterable, Mapping, Sequence
 
 HERE = pathlib.Path(__file__).resolve().parent
 TOP = HERE.parent
 TURNS = 9
+# A program, its words, and its input where it has one.
+Side = tuple[pathlib.Path, Sequence[object]] | tuple[pathlib.Path, Sequence[object], bytes]
 
 
 class Bench:
     """A benchmark's name, the library that it is about, and the libraries that its program names."""
 
-    def __init__(self, name, library, others=()):
+    def __init__(self, name: str, library: str, others: Sequence[str] = ()) -> None:
         self.name, self.libraries = name, (library, *others)
         self.tree = TOP / "crates" / library / "out/bench"
         self.tree.mkdir(parents=True, exist_ok=True)
 
-    def needs(self):
+    def needs(self) -> dict[str, list[str]]:
         """The line of each crate of crates.txt, as its libraries."""
         lines = (TOP / "crates.txt").read_text().splitlines()
         return {name: rest.split() for name, rest in (line.split(":") for line in lines if ":" in line)}
 
-    def below(self, crates, names):
+    def below(self, crates: Mapping[str, Sequence[str]], names: Iterable[str]) -> set[str]:
         """All crates that these stand on, themselves among them, and the kit's."""
-        found = set()
+        found: set[str] = set()
         for name in names:
             found |= {name} | self.below(crates, crates.get(name, []))
         return found
 
-    def link(self, crate):
+    def link(self, crate: str) -> None:
         """What a crate above reads of a crate: its sources and its built library."""
         for part in ("src", "specs", "proofs", "out/rlib"):
             if (TOP / "crates" / crate / part).is_dir():
@@ -44,7 +48,7 @@ class Bench:
                     TOP / "crates" / crate / part, self.tree / "crates" / crate / part, copy_function=os.link
                 )
 
-    def product(self, words, given, log):
+    def product(self, words: Sequence[object], given: bytes, log: typing.IO[str]) -> pathlib.Path:
         """Proves and builds the product's side, and runs it once with these words and this input."""
         for library in self.libraries:
             subprocess.run(["rt", "lib"], cwd=TOP / "crates" / library, stdout=log, stderr=log, check=True)
@@ -68,20 +72,30 @@ class Bench:
         subprocess.run(command, cwd=own, input=given, stdout=log, stderr=log, check=True)
         return own / f"out/{self.name}_bench"
 
-    def peer(self, log, *flags):
+    def peer(self, log: typing.IO[str], *flags: str) -> pathlib.Path:
         """Builds the peer, `plain_NAME.rs`."""
         program = self.tree / f"plain_{self.name}"
-        words = ["rustc", "-O", "--edition", "2021", *flags, "-o", program, HERE / f"plain_{self.name}.rs"]
+        words: list[str | pathlib.Path] = [
+            "rustc",
+            "-O",
+            "--edition",
+            "2021",
+            *flags,
+            "-o",
+            program,
+            HERE / f"plain_{self.name}.rs",
+        ]
         subprocess.run(words, stdout=log, stderr=log, check=True)
         return program
 
 
-def processor_time():
+def processor_time() -> float:
+    """The seconds of a processor that all that was run took so far."""
     used = resource.getrusage(resource.RUSAGE_CHILDREN)
     return used.ru_utime + used.ru_stime
 
 
-def run(program, words, given=b""):
+def run(program: pathlib.Path, words: Sequence[object], given: bytes = b"") -> tuple[int, float, str]:
     """The nanoseconds that were timed, the processor seconds of the whole run, and what was done."""
     before = processor_time()
     done = subprocess.run([program, *map(str, words)], input=given, capture_output=True, check=True)
@@ -89,7 +103,7 @@ def run(program, words, given=b""):
     return int(took), processor_time() - before, did
 
 
-def row(ours, theirs):
+def row(ours: Side, theirs: Side) -> list[float]:
     """The medians of the turns: either side's nanoseconds, their ratio, and that of processor times."""
     turns = []
     for _ in range(TURNS):

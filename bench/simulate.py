@@ -18,13 +18,14 @@ HERE = pathlib.Path(__file__).resolve().parent
 TURNS = 9
 
 
-def run(words, text):
+def run(words: list[str], text: bytes) -> tuple[float, bytes]:
+    """The seconds of one run, and what it wrote."""
     began = time.monotonic()
     done = subprocess.run(words, input=text, capture_output=True, check=True)
     return time.monotonic() - began, done.stdout
 
 
-def main():
+def main() -> None:
     ours = [program_of(__doc__), "simulate"]
     with tempfile.TemporaryDirectory() as folder:
         theirs = [f"{folder}/plain"]

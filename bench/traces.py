@@ -1,5 +1,6 @@
 """Traces of 100,000 random calls, for the benchmarks of `simulate` and `load`."""
 import random
+from collections.abc import Iterable, Iterator, Sequence
 
 CALLS = 100_000
 MILLISECOND = 1_000_000
@@ -7,7 +8,7 @@ MILLISECOND = 1_000_000
 KEEP = "keep 1000000"
 
 
-def calls(classes, between, duration, ending=""):
+def calls(classes: Sequence[str], between: float, duration: float, ending: str = "") -> Iterator[str]:
     """Calls of these classes in turn, so many milliseconds apart and so long, both by chance."""
     drawn, now = random.Random(1), 0.0
     for place in range(CALLS):
@@ -17,7 +18,8 @@ def calls(classes, between, duration, ending=""):
         yield f"arrive {classes[place % len(classes)]} {int(now)} {took} {outcome}{ending}"
 
 
-def text_of(settings, lines):
+def text_of(settings: Iterable[str], lines: Iterable[str]) -> bytes:
+    """A trace."""
     return ("\n".join([KEEP, *settings, *lines]) + "\n").encode()
 
 

@@ -9,24 +9,33 @@ import pathlib
 import re
 import resource
 import signal
-import socket
 import subprocess
 import tempfile
 import threading
 import time
+import typing
+from collections.abc import Iterator, Sequence
+
+from running import free_port
 
 TOP = pathlib.Path(__file__).resolve().parent.parent
 ANSWER = b"HTTP/1.1 200 OK\r\nContent-Length: 13\r\nConnection: close\r\n\r\nhello, world\n"
 STARTING = 10
+# Two classes, told apart by a header.
+CLASSES = """[[class]]
+name = "live"
+percent = 60
+[[class]]
+name = "batch"
+percent = 30
+[[resolver]]
+kind = "header"
+header = "X-Class"
+"""
 
 
-def free_port():
-    with socket.socket() as found:
-        found.bind(("127.0.0.1", 0))
-        return found.getsockname()[1]
-
-
-def allow_many_sockets():
+def allow_many_sockets() -> None:
+    """Lets this process have as many sockets as it may."""
     _, most = resource.getrlimit(resource.RLIMIT_NOFILE)
     resource.setrlimit(resource.RLIMIT_NOFILE, (min(most, 65_536), most))
 
@@ -47,36 +56,36 @@ class Origin:
     """A backend in a process of its own: it serves `slots` requests at a time, each in `seconds` divided by its
     speed, and slower by `drag` of that for each request that waits."""
 
-    def __init__(self, slots, seconds, drag=0.0):
+    def __init__(self, slots: int, seconds: float, drag: float = 0.0) -> None:
         self.slots, self.seconds, self.drag, self.port = slots, seconds, drag, free_port()
         self.free = asyncio.Semaphore(slots)
-        self.speed = multiprocessing.Value("d", 1.0)
-        self.held = multiprocessing.Value("i", 0)
+        self.speed: typing.Any = multiprocessing.Value("d", 1.0)
+        self.held: typing.Any = multiprocessing.Value("i", 0)
         self.is_up = multiprocessing.Event()
         self.process = multiprocessing.Process(target=self.run, daemon=True)
 
-    def __enter__(self):
+    def __enter__(self) -> "Origin":
         self.process.start()
         if not self.is_up.wait(STARTING):
             raise RuntimeError("the origin didn't start")
         return self
 
-    def __exit__(self, *_):
+    def __exit__(self, *_: object) -> None:
         self.process.terminate()
         self.process.join()
 
-    def run(self):
+    def run(self) -> None:
         signal.signal(signal.SIGINT, signal.SIG_IGN)
         allow_many_sockets()
         asyncio.run(self.serve())
 
-    async def serve(self):
+    async def serve(self) -> None:
         server = await asyncio.start_server(self.answer, "127.0.0.1", self.port, backlog=4096)
         self.is_up.set()
         async with server:
             await server.serve_forever()
 
-    async def answer(self, reader, writer):
+    async def answer(self, reader: asyncio.StreamReader, writer: asyncio.StreamWriter) -> None:
         self.held.value += 1
         try:
             await reader.readuntil(b"\r\n\r\n")
@@ -92,11 +101,28 @@ class Origin:
             writer.close()
 
 
+class Listens(typing.Protocol):
+    """A backend on loopback."""
+
+    port: int
+
+
 class Gateway:
     """The program over a configuration of its own. `tables` is what stands below the addresses. If it reports every
     `report_seconds`, `limits` gets pairs of a moment of time.perf_counter and the limit then."""
 
-    def __init__(self, program, origin, tables, workers=64, report_seconds=None, version=1):
+    process: subprocess.Popen[str]
+    log: typing.IO[str]
+
+    def __init__(
+        self,
+        program: str,
+        origin: Listens,
+        tables: str,
+        workers: int = 64,
+        report_seconds: int | None = None,
+        version: int = 1,
+    ) -> None:
         self.port = free_port()
         self.room = tempfile.TemporaryDirectory(prefix="admission-")
         self.file = pathlib.Path(self.room.name) / "gateway.toml"
@@ -105,33 +131,34 @@ class Gateway:
         self.words = [program, "serve", str(self.file), "--workers", str(workers)]
         if report_seconds:
             self.words += ["--report-seconds", str(report_seconds)]
-        self.limits = []
-        self.process, self.reader = None, threading.Thread(target=self.note)
+        self.limits: list[tuple[float, int]] = []
+        self.reader = threading.Thread(target=self.note)
 
-    def __enter__(self):
+    def __enter__(self) -> "Gateway":
         self.process = subprocess.Popen(self.words, stdout=subprocess.DEVNULL, stderr=subprocess.PIPE, text=True)
-        said = ""
-        for line in self.process.stderr:
+        assert self.process.stderr
+        self.log, said = self.process.stderr, ""
+        for line in self.log:
             if "listening" in line:
                 self.reader.start()
                 return self
             said = f": {line.strip()}"
         status = self.process.wait()
-        self.process.stderr.close()
+        self.log.close()
         self.room.cleanup()
         raise RuntimeError(f"the gateway ended with status {status}{said}")
 
-    def note(self):
+    def note(self) -> None:
         """Notes the limit of each report, and reads the log to its end."""
-        for line in self.process.stderr:
+        for line in self.log:
             if found := re.search(r"\breport limit=(\d+)", line):
                 self.limits.append((time.perf_counter(), int(found[1])))
 
-    def __exit__(self, *_):
+    def __exit__(self, *_: object) -> None:
         self.process.terminate()
         self.process.wait()
         self.reader.join()
-        self.process.stderr.close()
+        self.log.close()
         self.room.cleanup()
 
 
@@ -145,7 +172,8 @@ class Call:
     seconds: float
 
 
-async def call(port, name, patience, found, begun):
+async def call(port: int, name: str, patience: float, found: list[Call], begun: float) -> None:
+    """Makes one call of a class, and adds it to what was found since a moment."""
     at = time.perf_counter()
     status, writer = 0, None
     try:
@@ -162,9 +190,12 @@ async def call(port, name, patience, found, begun):
     found.append(Call(at - begun, name, status, time.perf_counter() - at))
 
 
-async def offer(port, rate, seconds, names=("unknown",), patience=1.0):
+async def offer(
+    port: int, rate: float, seconds: float, names: Sequence[str] = ("unknown",), patience: float = 1.0
+) -> list[Call]:
     """So many calls a second, whether or not those before are answered: of these classes in turns."""
-    found, begun, calls = [], time.perf_counter(), []
+    found: list[Call] = []
+    begun, calls = time.perf_counter(), []
     for number in range(int(rate * seconds)):
         pause = begun + number / rate - time.perf_counter()
         if pause > 0:
@@ -174,17 +205,19 @@ async def offer(port, rate, seconds, names=("unknown",), patience=1.0):
     return found
 
 
-def percentile(values, part):
+def percentile(values: Sequence[float], part: float) -> float:
+    """The value that such a part of the values lie below."""
     ordered = sorted(values)
     return ordered[min(len(ordered) - 1, int(len(ordered) * part))] if ordered else float("nan")
 
 
 @contextlib.contextmanager
-def watched(origin, pause=0.1):
+def watched(origin: Origin, pause: float = 0.1) -> Iterator[list[tuple[float, int]]]:
     """How many requests the origin holds, sampled every so often: pairs of a time and a number."""
-    found, is_done = [], False
+    found: list[tuple[float, int]] = []
+    is_done = False
 
-    async def watch():
+    async def watch() -> None:
         begun = time.perf_counter()
         while not is_done:
             found.append((time.perf_counter() - begun, origin.held.value))

@@ -6,8 +6,11 @@ import multiprocessing
 import random
 import signal
 import time
+import typing
+from multiprocessing.synchronize import Event
 
-from traffic import ANSWER, STARTING, Call, allow_many_sockets, free_port, offer
+from running import free_port
+from traffic import ANSWER, STARTING, Call, allow_many_sockets, offer
 
 BUSY = b"HTTP/1.1 503 Service Unavailable\r\nContent-Length: 0\r\nConnection: close\r\n\r\n"
 # What `ahead` says: serve all, answer all of them 503 at once, or serve the next one at once or in a tenth of its time.
@@ -20,17 +23,19 @@ WATCH = 0.02
 class Exchange(asyncio.Protocol):
     """One connection to the backend, with one request on it, which comes in one piece."""
 
-    def __init__(self, backend: "Wayward"):
-        self.backend, self.transport = backend, None
+    transport: asyncio.Transport
 
-    def connection_made(self, transport):
-        self.transport = transport
+    def __init__(self, backend: "Wayward") -> None:
+        self.backend = backend
 
-    def data_received(self, data):
+    def connection_made(self, transport: asyncio.BaseTransport) -> None:
+        self.transport = typing.cast(asyncio.Transport, transport)
+
+    def data_received(self, data: bytes) -> None:
         if data.endswith(b"\r\n\r\n"):
             self.backend.take(self)
 
-    def answer(self, text: bytes):
+    def answer(self, text: bytes) -> None:
         self.transport.write(text)
         self.transport.close()
 
@@ -41,23 +46,26 @@ class Wayward:
     wait as it has slots. Its slots, its speed and what is ahead can be changed while it serves, and it can be killed.
     """
 
-    def __init__(self, slots: int, seconds: float, drag: float, spread: float = 0.0):
+    process: multiprocessing.Process
+    loop: asyncio.AbstractEventLoop
+
+    def __init__(self, slots: int, seconds: float, drag: float, spread: float = 0.0) -> None:
         self.seconds, self.drag, self.spread, self.port = seconds, drag, spread, free_port()
-        self.slots = multiprocessing.Value("i", slots)
-        self.speed = multiprocessing.Value("d", 1.0)
-        self.ahead = multiprocessing.Value("i", AS_EVER)
-        self.process = None
-        self.loop, self.served, self.queue = None, 0, collections.deque()
+        self.slots: typing.Any = multiprocessing.Value("i", slots)
+        self.speed: typing.Any = multiprocessing.Value("d", 1.0)
+        self.ahead: typing.Any = multiprocessing.Value("i", AS_EVER)
+        self.served = 0
+        self.queue: collections.deque[Exchange] = collections.deque()
         self.draw = random.Random(1)
 
-    def __enter__(self):
+    def __enter__(self) -> "Wayward":
         self.start()
         return self
 
-    def __exit__(self, *_):
+    def __exit__(self, *_: object) -> None:
         self.kill()
 
-    def start(self):
+    def start(self) -> None:
         is_up = multiprocessing.Event()
         self.process = multiprocessing.Process(target=self.run, args=(is_up,))
         self.process.start()
@@ -65,17 +73,17 @@ class Wayward:
             self.kill()
             raise RuntimeError("the backend didn't start")
 
-    def kill(self):
+    def kill(self) -> None:
         """Ends it at once, with all that it serves."""
         self.process.kill()
         self.process.join()
 
-    def run(self, is_up):
+    def run(self, is_up: Event) -> None:
         signal.signal(signal.SIGINT, signal.SIG_IGN)
         allow_many_sockets()
         asyncio.run(self.serve(is_up))
 
-    async def serve(self, is_up):
+    async def serve(self, is_up: Event) -> None:
         self.loop = asyncio.get_running_loop()
         await self.loop.create_server(lambda: Exchange(self), "127.0.0.1", self.port, backlog=4096)
         is_up.set()
@@ -83,7 +91,7 @@ class Wayward:
             await asyncio.sleep(WATCH)
             self.fill()
 
-    def take(self, exchange: Exchange):
+    def take(self, exchange: Exchange) -> None:
         ahead = self.ahead.value
         if ahead == REFUSING:
             exchange.answer(BUSY)
@@ -94,7 +102,7 @@ class Wayward:
             self.queue.append(exchange)
             self.fill()
 
-    def fill(self):
+    def fill(self) -> None:
         """Begins to serve as many as there are slots for."""
         while self.queue and self.served < self.slots.value:
             exchange, self.served = self.queue.popleft(), self.served + 1
@@ -102,13 +110,14 @@ class Wayward:
             slower = 1 + self.drag * len(self.queue) / self.slots.value
             self.loop.call_later(self.seconds / self.speed.value * varied * slower, self.end, exchange)
 
-    def end(self, exchange: Exchange):
+    def end(self, exchange: Exchange) -> None:
         self.served -= 1
         exchange.answer(ANSWER)
         self.fill()
 
 
 def offered(port: int, rate: float, seconds: float, patience: float) -> list[Call]:
+    """Calls of one process."""
     allow_many_sockets()
     return asyncio.run(offer(port, rate, seconds, patience=patience))
 
@@ -116,7 +125,7 @@ def offered(port: int, rate: float, seconds: float, patience: float) -> list[Cal
 class Callers:
     """So many calls a second for so many seconds, whether or not those before are answered."""
 
-    def __init__(self, port: int, rate: float, seconds: float, patience: float):
+    def __init__(self, port: int, rate: float, seconds: float, patience: float) -> None:
         parts = 1 + int(rate // CALLS_A_PROCESS)
         self.pool = concurrent.futures.ProcessPoolExecutor(parts, multiprocessing.get_context("fork"))
         self.begun = time.perf_counter()
@@ -126,7 +135,7 @@ class Callers:
             time.sleep(max(0.0, self.begun + part / rate - time.perf_counter()))
             self.parts.append(self.pool.submit(offered, port, rate / parts, seconds, patience))
 
-    def wait_until(self, at: float):
+    def wait_until(self, at: float) -> None:
         time.sleep(max(0.0, self.begun + at - time.perf_counter()))
 
     def calls(self) -> list[Call]:

@@ -1,15 +1,20 @@
 """The command lines of the benchmarks: `--help`, and the built program that they run."""
 import argparse
+import contextlib
 import os
 import pathlib
+import typing
+from collections.abc import Callable
+
+Number = typing.TypeVar("Number", int, float)
 
 
-def reader_of(text):
+def reader_of(text: str | None) -> argparse.ArgumentParser:
     """A reader of words whose `--help` is this text."""
     return argparse.ArgumentParser(description=text, formatter_class=argparse.RawDescriptionHelpFormatter)
 
 
-def built(word):
+def built(word: str) -> str:
     """The path of a built program."""
     path = pathlib.Path(word).resolve()
     if not path.is_file() or not os.access(path, os.X_OK):
@@ -19,22 +24,19 @@ def built(word):
     return str(path)
 
 
-def above_zero(kind):
+def above_zero(kind: Callable[[str], Number]) -> Callable[[str], Number]:
     """Numbers of this kind above 0."""
 
-    def number(word):
-        try:
-            found = kind(word)
-        except ValueError:
-            found = 0
-        if found > 0:
-            return found
+    def number(word: str) -> Number:
+        with contextlib.suppress(ValueError):
+            if (found := kind(word)) > 0:
+                return found
         raise argparse.ArgumentTypeError(f"{word} isn't a number above 0")
 
     return number
 
 
-def program_of(text):
+def program_of(text: str | None) -> str:
     """The one word of a benchmark that takes the built program."""
     reader = reader_of(text)
     reader.add_argument("program", type=built, metavar="PROGRAM")

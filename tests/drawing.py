@@ -5,6 +5,7 @@ of its numbers name something.
 """
 import itertools
 import random
+from collections.abc import Callable, Collection, Iterator
 
 from reference import HOUR, LAST_MOMENT, SHARES, Limiter
 
@@ -45,10 +46,14 @@ MOMENTS = [
 ]
 
 
-def flowing(step, start=0):
+# Moments by what they are drawn with.
+Moments = Callable[[random.Random], Iterator[int]]
+
+
+def flowing(step: int, start: int = 0) -> Moments:
     """Moments that rise by so much in the mean, with one now and then that lies before."""
 
-    def moments(draw):
+    def moments(draw: random.Random) -> Iterator[int]:
         now = start
         while True:
             now += int(draw.random() * (2 * step + 1))
@@ -57,7 +62,7 @@ def flowing(step, start=0):
     return moments
 
 
-def random_moments(seed):
+def random_moments(seed: object) -> Moments:
     """Moments that flow fast or slowly, up to the last one too, or that leap."""
     draw = random.Random(f"moments of {seed}")
     step = draw.choice([0, 1, 10, 1_000, HOUR // 10])
@@ -69,27 +74,29 @@ def random_moments(seed):
 class Draw:
     """Lines of a script, drawn by what the reference has."""
 
-    def __init__(self, seed, settings, moments):
+    def __init__(self, seed: int | str, settings: list[str], moments: Moments) -> None:
         self.random = random.Random(seed)
         self.limiter = Limiter(settings)
         self.parts = [*self.limiter.thousandths, "unknown"]
         self.moments = moments(self.random)
 
-    def script(self, count):
+    def script(self, count: int) -> tuple[list[str], list[str]]:
         """So many lines, and what each is answered."""
-        lines, answers = [], []
+        lines: list[str] = []
+        answers: list[str] = []
         for event in self.events(count):
             lines.append(self.line(event))
             answers.append(self.limiter.answer(lines[-1]))
         return lines, answers
 
-    def events(self, count):
+    def events(self, count: int) -> Iterator[str]:
         """What is drawn, one after the other: in two of three phases many come."""
         for start in range(0, count, PHASE):
             weights = SLACK if start // PHASE % 3 == 2 else BUSY
             yield from self.random.choices([*weights], [*weights.values()], k=min(PHASE, count - start))
 
-    def line(self, event):
+    def line(self, event: str) -> str:
+        """A line of this event."""
         limiter, draw, now = self.limiter, self.random, next(self.moments)
         match event:
             case "acquire":
@@ -108,7 +115,7 @@ class Draw:
                 return f"look {draw.choice(self.parts)}"
         return f"{event} {now}"
 
-    def number(self, *preferred):
+    def number(self, *preferred: Collection[int]) -> int:
         """A number of the first of these that has any, most often, or any that was given out or soon will be."""
         for numbers in preferred:
             if numbers and self.random.random() < 0.8:
@@ -116,7 +123,7 @@ class Draw:
         return self.random.randrange(self.limiter.entries + 3)
 
 
-def random_settings(seed):
+def random_settings(seed: object) -> list[str]:
     """Setting lines with numbers at the ends of their ranges, in any order; any of them may be left out."""
     draw = random.Random(f"settings of {seed}")
     low, first, high = sorted(draw.choices(LIMITS, k=3))
@@ -141,14 +148,16 @@ def random_settings(seed):
         f"timeout {draw.choice(TIMES)}",
     ]
     lines = [it for it in lines if draw.random() < 0.8 and (it != window or draw.random() < 0.5)]
-    lines += draw.choice([[], ["promote newest"], ["promote all"], ["promote all"]]) + random_shares(draw)
+    promotions: list[list[str]] = [[], ["promote newest"], ["promote all"], ["promote all"]]
+    lines += draw.choice(promotions) + random_shares(draw)
     draw.shuffle(lines)
     return lines
 
 
-def random_shares(draw):
+def random_shares(draw: random.Random) -> list[str]:
     """Lines of classes, in percent or in thousandths, as far as the limit suffices."""
-    lines, left = [], 1_000
+    lines: list[str] = []
+    left = 1_000
     for name in draw.sample(NAMES, draw.randrange(5)):
         kind = draw.choice([*SHARES])
         number = min(draw.choice(THOUSANDTHS), left) // SHARES[kind]
@@ -157,10 +166,11 @@ def random_shares(draw):
     return lines
 
 
-def random_trace(seed, most, settings=None):
+def random_trace(seed: int | str, most: int, settings: list[str] | None = None) -> tuple[list[str], list[str]]:
     """Setting lines, where none are given, and up to so many calls of a trace."""
     draw = random.Random(seed)
-    settings, calls = settings or random_settings(seed), []
+    settings = settings or random_settings(seed)
+    calls: list[str] = []
     parts = [it.split()[1] for it in settings if it.split()[0] in SHARES] + ["unknown"]
     span, hold = draw.choice([1, 100, 1_000, 10_000]), draw.choice([1, 10, 100, HOUR])
     start = draw.choice([0, 0, 0, LAST_MOMENT - span // 2])

@@ -3,12 +3,14 @@ import contextlib
 import itertools
 import pathlib
 import socket
+import subprocess
 import time
 from concurrent.futures import ThreadPoolExecutor
 
-from loopback import FIVE, Scripted, read_all, read_head
+from loopback import FIVE, Backend, Gateway, Scripted, read_all, read_head
+from running import until
+from served import Served
 from sockets import PLAIN, passed_on, unbroken
-from telling import until
 from wires import local
 
 MEGABYTE = 1_000_000
@@ -19,39 +21,39 @@ HALF = 2_500_000
 INTERIM = b"HTTP/1.1 103 Early Hints\r\nLink: </a>\r\n\r\n"
 
 
-def in_chunks(body):
+def in_chunks(body: bytes) -> bytes:
+    """A body in one chunk."""
     return b"%x\r\n%s\r\n0\r\n\r\n" % (len(body), body)
 
 
-def post(count, is_chunked):
-    """A request with a body of so many bytes, by its length or in chunks."""
-    body = b"x" * count
-    coding, text = (
-        (b"Transfer-Encoding: chunked", in_chunks(body)) if is_chunked else (b"Content-Length: %d" % count, body)
-    )
-    return b"POST /%d HTTP/1.1\r\nHost: h\r\n%s\r\n\r\n%s" % (count, coding, text)
+def framed(body: bytes, is_chunked: bool) -> bytes:
+    """The last line of a head and what follows it: a body by its length, or in chunks."""
+    if is_chunked:
+        return b"Transfer-Encoding: chunked\r\n\r\n" + in_chunks(body)
+    return b"Content-Length: %d\r\n\r\n" % len(body) + body
 
 
-def answer(count, is_chunked):
+def post(count: int, is_chunked: bool) -> bytes:
+    """A request with a body of so many bytes."""
+    return b"POST /%d HTTP/1.1\r\nHost: h\r\n" % count + framed(b"x" * count, is_chunked)
+
+
+def answer(count: int, is_chunked: bool) -> bytes:
     """A response with such a body."""
-    body = b"y" * count
-    coding, text = (
-        (b"Transfer-Encoding: chunked", in_chunks(body)) if is_chunked else (b"Content-Length: %d" % count, body)
-    )
-    return b"HTTP/1.1 200 OK\r\n%s\r\n\r\n%s" % (coding, text)
+    return b"HTTP/1.1 200 OK\r\n" + framed(b"y" * count, is_chunked)
 
 
-def posted(gate, how):
+def posted(gate: Gateway, how: tuple[int, bool]) -> bytes:
     """What comes back for such a request."""
     return gate.ask(post(*how))
 
 
-def length_of(request):
+def length_of(request: bytes) -> int:
     """How many bytes the body of a request is to have, by its path."""
     return int(request.split(b" ")[1][1:])
 
 
-def on_the_way(port, client):
+def on_the_way(port: int, client: socket.socket) -> int:
     """How many bytes of what was sent from a port the system holds, at both ends of a client's connection."""
     here, held = client.getsockname()[1], 0
     for line in pathlib.Path("/proc/net/tcp").read_text(encoding="ascii").splitlines()[1:]:
@@ -62,23 +64,23 @@ def on_the_way(port, client):
     return held
 
 
-def rests(process):
+def rests(process: subprocess.Popen[str]) -> bool:
     """Whether each thread of a process waits for something, or it has ended."""
-    states = set()
+    states: set[str] = set()
     for it in pathlib.Path(f"/proc/{process.pid}/task").glob("*/stat"):
         with contextlib.suppress(OSError):
             states.add(it.read_text().rpartition(")")[2].split()[0])
     return states <= set("SZX")
 
 
-class Large:
-    """Cases that a `Judge` with a `gateway` takes on; each is given a backend of its own."""
+class Large(Served):
+    """Cases on large bodies."""
 
-    def answers_before_it_reads(self, _):
+    def answers_before_it_reads(self, _: Backend) -> None:
         """A backend that writes a large answer before it reads a large request is read meanwhile: nobody waits."""
         for is_chunked, reads_on in itertools.product((False, True), repeat=2):
 
-            def answers_first(client, is_chunked=is_chunked, reads_on=reads_on):
+            def answers_first(client: socket.socket, is_chunked: bool = is_chunked, reads_on: bool = reads_on) -> None:
                 count = length_of(read_head(client))
                 client.sendall(answer(count, is_chunked))
                 if not reads_on:
@@ -97,11 +99,11 @@ class Large:
             self.judge(f"counters of answers {what}", {"admitted": 16, "success": 16}, gate.ending())
             backend.close()
 
-    def is_told_that_no_more_comes(self, _):
+    def is_told_that_no_more_comes(self, _: Backend) -> None:
         """A backend that stops in its early answer, to wait for the rest of its request, is told that there is none."""
         heard = []
 
-        def echoes(client):
+        def echoes(client: socket.socket) -> None:
             count = length_of(read_head(client))
             whole = answer(count, False)
             client.sendall(whole[:-1])
@@ -119,11 +121,11 @@ class Large:
         self.judge("both were told", [True] * 2, heard)
         backend.close()
 
-    def goes_on_behind_an_interim_response(self, _):
+    def goes_on_behind_an_interim_response(self, _: Backend) -> None:
         """An interim response is no answer: a backend that sends one, and reads on late, gets the whole request."""
         given = []
 
-        def hints(client):
+        def hints(client: socket.socket) -> None:
             head = read_head(client)
             client.sendall(INTERIM)
             time.sleep(1.5)
@@ -140,11 +142,11 @@ class Large:
         self.judge("counters behind an interim response", {"admitted": 1, "success": 1}, gate.ending())
         backend.close()
 
-    def is_read_late(self, backend):
+    def is_read_late(self, backend: Backend) -> None:
         """A client that sends more while it still reads a large answer, which is written by then, gets all of it."""
         gate = self.gateway(backend, workers=3)
 
-        def reads_late(_):
+        def reads_late(_: int) -> tuple[int, str | None]:
             with socket.socket() as client:
                 # What isn't read lies with the gateway's system.
                 client.setsockopt(socket.SOL_SOCKET, socket.SO_RCVBUF, 65_536)

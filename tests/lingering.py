@@ -4,7 +4,8 @@ import signal
 import socket
 import time
 
-from loopback import BODY, read_all
+from loopback import BODY, Backend, read_all
+from served import Served
 from sockets import PLAIN, TRIES, passed_on, timed
 from wires import local
 
@@ -13,7 +14,7 @@ FEW = 3
 NO_HOST = b"GET /plain HTTP/1.1\r\n\r\n"
 
 
-def breaks_behind(client):
+def breaks_behind(client: socket.socket) -> str | None:
     """How a connection that was answered to its end breaks where its client sends more."""
     for _ in range(2):
         time.sleep(0.1)
@@ -26,10 +27,10 @@ def breaks_behind(client):
     return None
 
 
-class Lingering:
-    """Cases that a `Judge` with a `gateway` takes on; each is given a backend of its own."""
+class Lingering(Served):
+    """Cases on what follows an answer."""
 
-    def hears_what_was_read_ahead(self, backend):
+    def hears_what_was_read_ahead(self, backend: Backend) -> None:
         """A client whose second request was read with its first may go on sending, and isn't reset."""
         gate = self.gateway(backend, each=2)
         with gate.connect() as client:
@@ -39,7 +40,7 @@ class Lingering:
         self.judge("another one", passed_on(BODY), gate.ask(PLAIN))
         self.judge("counters of who sends two at once", {"admitted": 2, "success": 2}, gate.ending())
 
-    def lingers_through_a_stop(self, backend):
+    def lingers_through_a_stop(self, backend: Backend) -> None:
         """A gateway that is stopped and goes on while it lingers goes on lingering."""
         gate = self.gateway(backend)
         with gate.connect() as client:
@@ -53,7 +54,7 @@ class Lingering:
             self.judge("it may send more behind a stop", None, breaks_behind(client))
         self.judge("counters of who was answered early", {}, gate.ending())
 
-    def lingers_no_longer_than_a_client_may(self, backend):
+    def lingers_no_longer_than_a_client_may(self, backend: Backend) -> None:
         """The client's own time bounds how long it holds a worker, where that is less than two seconds."""
         gate = self.gateway(backend, each=2 * TRIES, words=("--client-timeout-ms", "300"))
         took = []
@@ -67,7 +68,7 @@ class Lingering:
         self.judge("it waited for less than two seconds", True, min(took) < 1.5)
         self.judge("counters of short times", {"admitted": TRIES, "success": TRIES}, gate.ending())
 
-    def lingers_for_nobody_who_took_nothing(self, backend):
+    def lingers_for_nobody_who_took_nothing(self, backend: Backend) -> None:
         """Behind an answer that its client didn't take in time a worker serves the next one at once."""
         gate = self.gateway(backend, each=2 * FEW, words=("--client-timeout-ms", "2000"))
         took = []
@@ -83,7 +84,7 @@ class Lingering:
         self.judge("it waited for the deaf one's time alone", True, min(took) < 3.5)
         self.judge("counters of deaf clients", {"admitted": 2 * FEW, "success": 2 * FEW}, gate.ending())
 
-    def rests_for_a_moment(self, backend):
+    def rests_for_a_moment(self, backend: Backend) -> None:
         """A connection that can't be had counts as one of a worker's, and the next is tried a moment later."""
         gate = self.gateway(backend, each=100)
         hard = resource.prlimit(gate.process.pid, resource.RLIMIT_NOFILE)[1]

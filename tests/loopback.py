@@ -9,10 +9,12 @@ import struct
 import subprocess
 import threading
 import time
+import typing
+from collections.abc import Callable, Sequence
 
 from judging import counts_of
+from running import PATIENCE, free_port
 
-PATIENCE = 20
 BODY = b"hello, world\n"
 LARGE, FIVE = 8_000_000, 5_000_000
 # The same body by a length, and in chunks.
@@ -22,22 +24,8 @@ WHOLE = {
 }
 
 
-chosen, choosing = set(), threading.Lock()
-
-
-def free_port():
-    """A port that was free a moment ago, another one at each call: gateways that start side by side share none."""
-    with choosing:
-        while True:
-            with socket.socket() as found:
-                found.bind(("127.0.0.1", 0))
-                port = found.getsockname()[1]
-            if port not in chosen:
-                chosen.add(port)
-                return port
-
-
-def read_all(client):
+def read_all(client: socket.socket) -> bytes:
+    """All that comes up to the end of a connection, or up to its reset."""
     pieces = []
     with contextlib.suppress(ConnectionResetError):
         while piece := client.recv(65536):
@@ -45,7 +33,7 @@ def read_all(client):
     return b"".join(pieces)
 
 
-def read_head(client):
+def read_head(client: socket.socket) -> bytes:
     """What comes up to an empty line; what follows it soon may stay unread."""
     text = b""
     while b"\r\n\r\n" not in text and (piece := client.recv(64)):
@@ -53,47 +41,62 @@ def read_head(client):
     return text
 
 
-class Scripted:
-    """A backend that does the same with each of its connections, on a thread each, and counts them."""
+class Listener:
+    """A backend that serves each of its connections on a thread, and counts them."""
 
-    def __init__(self, serve):
-        self.accepted, self.serve = 0, serve
-        self.socket = socket.create_server(("127.0.0.1", 0), backlog=128)
-        self.port = self.socket.getsockname()[1]
+    # What ends a connection and is no fault of the backend's.
+    usual: tuple[type[Exception], ...] = (OSError,)
+
+    def __init__(self, port: int = 0, backlog: int = 128) -> None:
+        self.accepted = 0
+        self.socket = socket.create_server(("127.0.0.1", port), backlog=backlog)
+        self.port: int = self.socket.getsockname()[1]
         threading.Thread(target=self.accept, daemon=True).start()
 
-    def accept(self):
+    def accept(self) -> None:
         with contextlib.suppress(OSError):
             while True:
                 client, _ = self.socket.accept()
                 self.accepted += 1
                 threading.Thread(target=self.answer, args=(client,), daemon=True).start()
 
-    def answer(self, client):
-        with client, contextlib.suppress(OSError):
+    def answer(self, client: socket.socket) -> None:
+        with client, contextlib.suppress(*self.usual):
             self.serve(client)
 
-    def close(self):
+    def serve(self, client: socket.socket) -> None:
+        """What is done with a connection, before it is closed."""
+        raise NotImplementedError
+
+    def close(self) -> None:
         self.socket.close()
 
 
-class Backend:
-    """A backend on threads, which answers by the path, and keeps what it was given."""
+class Scripted(Listener):
+    """A backend that does the same with each of its connections."""
 
-    def __init__(self):
-        self.given, self.release, self.held = [], threading.Event(), threading.Semaphore(0)
-        self.both, self.stayed = threading.Barrier(2), queue.SimpleQueue()
-        self.socket = socket.create_server(("127.0.0.1", 0), backlog=128)
-        self.port = self.socket.getsockname()[1]
-        threading.Thread(target=self.accept, daemon=True).start()
+    def __init__(self, script: Callable[[socket.socket], object]) -> None:
+        self.script = script
+        super().__init__()
 
-    def accept(self):
-        with contextlib.suppress(OSError):
-            while True:
-                client, _ = self.socket.accept()
-                threading.Thread(target=self.serve, args=(client,), daemon=True).start()
+    def serve(self, client: socket.socket) -> None:
+        self.script(client)
 
-    def request(self, client):
+
+class Backend(Listener):
+    """A backend which answers by the path, and keeps what it was given."""
+
+    usual = (OSError, threading.BrokenBarrierError)
+
+    def __init__(self) -> None:
+        self.given: list[bytes] = []
+        self.release, self.held = threading.Event(), threading.Semaphore(0)
+        self.both = threading.Barrier(2)
+        self.stayed: queue.SimpleQueue[bool] = queue.SimpleQueue()
+        super().__init__()
+
+    def request(self, client: socket.socket) -> bytes:
+        """A request with the body that its length says, or what comes of one that ends before."""
         text = b""
         while b"\r\n\r\n" not in text:
             piece = client.recv(65536)
@@ -106,54 +109,54 @@ class Backend:
             text += piece
         return text
 
-    def serve(self, client):
-        with client, contextlib.suppress(OSError, threading.BrokenBarrierError):
-            text = self.request(client)
-            self.given.append(text)
-            path = text.split(b" ")[1] if b" " in text else b""
-            if path == b"/held":
-                self.held.release()
-                self.release.wait(PATIENCE)
-            elif path == b"/both":
-                self.both.wait(PATIENCE)
-            elif path == b"/rests":
-                time.sleep(1.5)
-            if path == b"/closes":
-                return
-            if cut := re.fullmatch(rb"/(closes|resets)/(\w+)/(\d+)", path):
-                client.sendall(WHOLE[cut[2].decode()][: int(cut[3])])
-                if cut[1] == b"resets":
-                    client.setsockopt(socket.SOL_SOCKET, socket.SO_LINGER, struct.pack("ii", 1, 0))
-                return
-            if path == b"/busy":
-                client.sendall(b"HTTP/1.1 503 Busy\r\nContent-Length: 2\r\n\r\nno")
-            elif path == b"/garbage":
-                client.sendall(b"no answer at all\r\n\r\n")
-            else:
-                body = {b"/large": b"x" * LARGE, b"/five": b"x" * FIVE}.get(path, BODY)
-                client.sendall(b"HTTP/1.1 200 OK\r\nContent-Length: %d\r\n\r\n%s" % (len(body), body))
-                if path == b"/stays":
-                    self.stayed.put(self.release.wait(PATIENCE))
+    def serve(self, client: socket.socket) -> None:
+        text = self.request(client)
+        self.given.append(text)
+        path = text.split(b" ")[1] if b" " in text else b""
+        if path == b"/held":
+            self.held.release()
+            self.release.wait(PATIENCE)
+        elif path == b"/both":
+            self.both.wait(PATIENCE)
+        elif path == b"/rests":
+            time.sleep(1.5)
+        if path == b"/closes":
+            return
+        if cut := re.fullmatch(rb"/(closes|resets)/(\w+)/(\d+)", path):
+            client.sendall(WHOLE[cut[2].decode()][: int(cut[3])])
+            if cut[1] == b"resets":
+                client.setsockopt(socket.SOL_SOCKET, socket.SO_LINGER, struct.pack("ii", 1, 0))
+            return
+        if path == b"/busy":
+            client.sendall(b"HTTP/1.1 503 Busy\r\nContent-Length: 2\r\n\r\nno")
+        elif path == b"/garbage":
+            client.sendall(b"no answer at all\r\n\r\n")
+        else:
+            body = {b"/large": b"x" * LARGE, b"/five": b"x" * FIVE}.get(path, BODY)
+            client.sendall(b"HTTP/1.1 200 OK\r\nContent-Length: %d\r\n\r\n%s" % (len(body), body))
+            if path == b"/stays":
+                self.stayed.put(self.release.wait(PATIENCE))
 
-    def close(self):
+    def close(self) -> None:
         self.release.set()
-        self.socket.close()
+        super().close()
 
 
 class Gateway:
     """One run of the program, whose log is read as it comes."""
 
-    running = []
+    running: list[tuple[threading.Thread, subprocess.Popen[str]]] = []
 
     @classmethod
-    def end_all(cls):
-        """No gateway is left that this thread started."""
-        for process in [it for it in cls.running if it.owner is threading.current_thread()]:
-            cls.running.remove(process)
-            process.kill()
-            process.wait()
+    def end_all(cls, of_any_thread: bool = False) -> None:
+        """No gateway is left that this thread started, or any."""
+        for owner, process in [*cls.running]:
+            if of_any_thread or owner is threading.current_thread():
+                cls.running.remove((owner, process))
+                process.kill()
+                process.wait()
 
-    def __init__(self, *given, **how):
+    def __init__(self, *given: typing.Any, **how: typing.Any) -> None:
         # Another program may take a port between its choice and its binding.
         for _ in range(3):
             self.start(*given, **how)
@@ -162,23 +165,24 @@ class Gateway:
 
     def start(
         self,
-        program,
-        room,
-        backend,
-        settings="",
-        workers=1,
-        each=1,
-        words=(),
-        listen="127.0.0.1",
-        version=1,
-        front=(),
-        behind="127.0.0.1",
-        log_to=None,
-        variables=None,
-    ):
+        program: str,
+        room: str,
+        backend: int | None,
+        settings: str = "",
+        workers: int = 1,
+        each: int = 1,
+        words: Sequence[str] = (),
+        listen: str = "127.0.0.1",
+        version: int = 1,
+        front: Sequence[str] = (),
+        behind: str = "127.0.0.1",
+        log_to: int | None = None,
+        variables: dict[str, str] | None = None,
+    ) -> None:
         """`backend` is its port at the address `behind`, or nothing for a gateway that forwards to itself; `front` runs
         the words behind it. With `log_to` its log goes there, and isn't read."""
-        self.port, self.log, self.is_listening = free_port(), [], threading.Event()
+        self.port, self.is_listening = free_port(), threading.Event()
+        self.log: list[str] = []
         self.host = "127.0.0.1" if listen == "0.0.0.0" else listen
         path = pathlib.Path(room) / f"{self.port}.toml"
         top, _, tables = settings.partition("\n\n")
@@ -195,23 +199,22 @@ class Gateway:
             stderr=subprocess.PIPE if log_to is None else log_to,
             env={**os.environ, **(variables or {})},
         )
-        self.process.owner = threading.current_thread()
-        Gateway.running.append(self.process)
+        Gateway.running.append((threading.current_thread(), self.process))
         self.reader = threading.Thread(target=self.read_log, daemon=True)
         self.reader.start()
         self.is_listening.wait(PATIENCE)
 
-    def read_log(self):
+    def read_log(self) -> None:
         for line in self.process.stderr or ():
             self.log.append(line.rstrip("\n"))
             if "listening" in line:
                 self.is_listening.set()
         self.is_listening.set()
 
-    def connect(self):
+    def connect(self) -> socket.socket:
         return socket.create_connection((self.host, self.port), timeout=PATIENCE)
 
-    def ask(self, *pieces, pause=0.0):
+    def ask(self, *pieces: bytes, pause: float = 0.0) -> bytes:
         """All that comes back for a request, which is sent in these pieces."""
         with self.connect() as client:
             for piece in pieces:
@@ -219,7 +222,7 @@ class Gateway:
                 time.sleep(pause)
             return read_all(client)
 
-    def ending(self):
+    def ending(self) -> object:
         """The counters that it printed, by name, once it has ended with status 0."""
         try:
             self.process.wait(timeout=PATIENCE)
@@ -227,7 +230,7 @@ class Gateway:
             self.process.kill()
             return "didn't end"
         self.reader.join(PATIENCE)
-        out = self.process.stdout.read()
+        out = self.process.stdout.read() if self.process.stdout else ""
         counts = counts_of(out)
         if counts is None or self.process.returncode:
             return out, self.process.returncode, self.log
@@ -237,15 +240,15 @@ class Gateway:
 class Later:
     """A call on a thread of its own, whose result is asked for later."""
 
-    def __init__(self, call, *given):
-        self.found = None
+    def __init__(self, call: Callable, *given: object) -> None:
+        self.found: typing.Any = None
         self.thread = threading.Thread(target=self.run, args=(call, given), daemon=True)
         self.thread.start()
 
-    def run(self, call, given):
+    def run(self, call: Callable, given: Sequence[object]) -> None:
         with contextlib.suppress(OSError):
             self.found = call(*given)
 
-    def result(self):
+    def result(self) -> typing.Any:
         self.thread.join(PATIENCE)
         return self.found

@@ -4,9 +4,10 @@ answer to lines without faults.
 It is written to be read: each quantity is counted where it is needed, and nothing is shared with the program. Permits
 and waiters are ordered by number, the newest last.
 """
-import collections
 import math
 import re
+import typing
+from collections.abc import Callable, Sequence
 
 LAST_MOMENT = 2**62
 HOUR = 3_600_000_000_000
@@ -15,20 +16,35 @@ SETTINGS = ("limit", "window", "backlog", "keep", "timeout", "promote", "class",
 # How many thousandths of the limit are one in the number of such a line.
 SHARES = {"class": 10, "share": 1}
 
-Permit = collections.namedtuple("Permit", "part start inflight")
-Sample = collections.namedtuple("Sample", "start rtt inflight dropped")
+
+class Permit(typing.NamedTuple):
+    """A permit: its part, when it was given, and how many were out then."""
+
+    part: str
+    start: int
+    inflight: int
 
 
-def moment(number):
+class Sample(typing.NamedTuple):
+    """What a limit learns of an ending."""
+
+    start: int
+    rtt: int
+    inflight: int
+    dropped: bool
+
+
+def moment(number: int) -> int:
+    """A moment, which is the last one where it would be later."""
     return min(number, LAST_MOMENT)
 
 
-def within(least, number, most):
+def within(least: int, number: int, most: int) -> int:
     """The number, brought between two others."""
     return min(max(number, least), most)
 
 
-def sample_of(permit, now, dropped):
+def sample_of(permit: Permit, now: int, dropped: bool) -> Sample:
     """What the ending of a permit teaches."""
     return Sample(permit.start, within(1, moment(now) - permit.start, HOUR), permit.inflight, dropped)
 
@@ -36,25 +52,28 @@ def sample_of(permit, now, dropped):
 class Fixed:
     """A limit that neither learns nor is set."""
 
-    def __init__(self, first):
+    def __init__(self, first: int) -> None:
         self.limit = self.first = first
 
-    def learn(self, sample):
-        pass
+    def learn(self, sample: Sample) -> None:
+        """Moves the limit by a sample."""
 
-    def put(self, _number):
+    def put(self, _number: int) -> str:
+        """What is answered where the limit is set by hand."""
         return "refused not settable"
 
-    def reset(self):
+    def reset(self) -> None:
         self.limit = self.first
 
 
 class Settable(Fixed):
-    def __init__(self, least, first, most):
+    """A limit that is set by hand."""
+
+    def __init__(self, least: int, first: int, most: int) -> None:
         super().__init__(first)
         self.least, self.most = least, most
 
-    def put(self, number):
+    def put(self, number: int) -> str:
         if not self.least <= number <= self.most:
             return "refused out of range"
         self.limit = number
@@ -62,11 +81,13 @@ class Settable(Fixed):
 
 
 class Aimd(Fixed):
-    def __init__(self, least, first, most, ratio, timeout):
+    """A limit that rises by one, and falls to a part of itself."""
+
+    def __init__(self, least: int, first: int, most: int, ratio: int, timeout: int) -> None:
         super().__init__(first)
         self.least, self.most, self.ratio, self.timeout = least, most, ratio, timeout
 
-    def learn(self, sample):
+    def learn(self, sample: Sample) -> None:
         wanted = self.limit
         if sample.dropped or sample.rtt > self.timeout:
             wanted = self.limit * self.ratio // 1000
@@ -76,30 +97,34 @@ class Aimd(Fixed):
 
 
 class Vegas(Fixed):
-    def __init__(self, least, first, most, alpha, beta, probe):
+    """A limit that moves by the queue which round trips tell of, beside the least of them."""
+
+    base: int | None
+
+    def __init__(self, least: int, first: int, most: int, alpha: int, beta: int, probe: int) -> None:
         super().__init__(first)
         self.least, self.most, self.alpha, self.beta, self.probe = least, most, alpha, beta, probe
         self.base, self.samples = None, 0
 
-    def learn(self, sample):
+    def learn(self, sample: Sample) -> None:
         self.samples += 1
         is_probe = self.probe > 0 and self.samples % self.probe == 0
         if is_probe or self.base is None or sample.rtt < self.base:
             self.base = sample.rtt
         else:
-            self.limit = within(self.least, self.limit + self.change(sample), self.most)
+            self.limit = within(self.least, self.limit + self.change(sample, self.base), self.most)
 
-    def change(self, sample):
+    def change(self, sample: Sample, base: int) -> int:
         """One more, one less or none, of a sample that is measured against the base."""
         if sample.dropped:
             return -1
         if 2 * sample.inflight < self.limit:
             return 0
         # The least whole number that is no less than this fraction.
-        queue = -(-self.limit * (sample.rtt - self.base) // sample.rtt)
+        queue = -(-self.limit * (sample.rtt - base) // sample.rtt)
         return 1 if queue < self.alpha else -1 if queue > self.beta else 0
 
-    def reset(self):
+    def reset(self) -> None:
         super().reset()
         self.base, self.samples = None, 0
 
@@ -107,16 +132,18 @@ class Vegas(Fixed):
 class Windows:
     """A limit that learns the means of windows."""
 
-    def __init__(self, inner, size, shortest, longest, threshold):
+    window: list[Sample]
+
+    def __init__(self, inner: Fixed, size: int, shortest: int, longest: int, threshold: int) -> None:
         self.inner, self.size, self.threshold = inner, size, threshold
         self.shortest, self.longest = shortest, longest
         self.window, self.due = [], 0
 
     @property
-    def limit(self):
+    def limit(self) -> int:
         return self.inner.limit
 
-    def learn(self, sample):
+    def learn(self, sample: Sample) -> None:
         if sample.rtt < self.threshold:
             return
         self.window.append(sample)
@@ -135,18 +162,18 @@ class Windows:
                     )
                 )
 
-    def put(self, number):
+    def put(self, number: int) -> str:
         return self.inner.put(number)
 
-    def reset(self):
+    def reset(self) -> None:
         self.inner.reset()
         self.window, self.due = [], 0
 
 
-KINDS = {"fixed": Fixed, "settable": Settable, "aimd": Aimd, "vegas": Vegas}
+KINDS: dict[str, Callable[..., Fixed]] = {"fixed": Fixed, "settable": Settable, "aimd": Aimd, "vegas": Vegas}
 
 
-def limit_of(limit, window):
+def limit_of(limit: Sequence[str], window: Sequence[str] | None) -> Fixed | Windows:
     """The limit of the words behind `limit` and `window`."""
     kind, *numbers = limit
     made = KINDS[kind](*map(int, numbers))
@@ -156,34 +183,37 @@ def limit_of(limit, window):
 class Limiter:
     """What is answered to a script, line by line, behind its settings."""
 
-    def __init__(self, settings):
+    def __init__(self, settings: Sequence[str]) -> None:
         rows = [line.split() for line in settings]
         words = {kind: rest for kind, *rest in rows}
         self.thousandths = {rest[0]: SHARES[kind] * int(rest[1]) for kind, *rest in rows if kind in SHARES}
-        self.limit = limit_of(words.get("limit", ["fixed", 20]), words.get("window"))
-        self.room = int(words.get("backlog", [100])[0])
-        self.timeout = int(words.get("timeout", [1_000_000_000])[0])
-        kept, *rolling = words.get("keep", [100_000])
-        self.kept = math.inf if rolling else int(kept)
+        self.limit = limit_of(words.get("limit", ["fixed", "20"]), words.get("window"))
+        self.room = int(words.get("backlog", ["100"])[0])
+        self.timeout = int(words.get("timeout", ["1000000000"])[0])
+        kept, *rolling = words.get("keep", ["100000"])
+        self.kept: float = math.inf if rolling else int(kept)
         self.promotes_all = words.get("promote") == ["all"]
         self.entries = 0
-        self.open, self.granted, self.waiting = {}, {}, {}
+        self.open: dict[int, Permit] = {}
+        self.granted: dict[int, Permit] = {}
+        # The parts of those who wait.
+        self.waiting: dict[int, str] = {}
 
-    def total(self):
+    def total(self) -> int:
         return len(self.open) + len(self.granted)
 
-    def inflight(self, part):
+    def inflight(self, part: str) -> int:
         return sum(it.part == part for held in (self.open, self.granted) for it in held.values())
 
-    def share(self, part):
+    def share(self, part: str) -> int:
         if part not in self.thousandths:
             return 0
         return max(1, -(-self.limit.limit * self.thousandths[part] // 1000))
 
-    def has_room(self, part):
+    def has_room(self, part: str) -> bool:
         return self.total() < self.limit.limit or self.inflight(part) < self.share(part)
 
-    def answer(self, line):
+    def answer(self, line: str) -> str:
         """The text of a line: nothing, `- not open`, `- exhausted`, or its entries."""
         word, *rest = line.split() or ["#"]
         if word.startswith("#"):
@@ -194,15 +224,16 @@ class Limiter:
             return "- exhausted\n"
         return "".join(map(self.entry, ANSWERS[word](self, *rest)))
 
-    def is_owed(self, word, rest):
+    def is_owed(self, word: str, rest: Sequence[str]) -> bool:
         """Whether this is an ending, or a giving up of what waits or lies granted."""
         return word == "end" or word == "giveup" and (int(rest[0]) in self.waiting or int(rest[0]) in self.granted)
 
-    def entry(self, text):
+    def entry(self, text: str) -> str:
+        """The next entry, of this text."""
         number, self.entries = self.entries, self.entries + 1
         return f"{number} {text}\n"
 
-    def acquire(self, part, now, wait=None):
+    def acquire(self, part: str, now: str, wait: str | None = None) -> list[str]:
         if self.has_room(part):
             permit = self.open[self.entries] = Permit(part, moment(int(now)), self.total() + 1)
             return [f"admitted {part} inflight {permit.inflight}"]
@@ -213,10 +244,10 @@ class Limiter:
         self.waiting[self.entries] = part
         return ["waiting"]
 
-    def bypass(self, _now):
+    def bypass(self, _now: str) -> list[str]:
         return ["bypassed"]
 
-    def end(self, number, outcome, now):
+    def end(self, number: str, outcome: str, now: str) -> list[str]:
         """The sample is learnt before any waiter is looked at."""
         permit = self.open.pop(int(number))
         if outcome != "ignored":
@@ -224,13 +255,14 @@ class Limiter:
         told = self.promote_all(now) if self.promotes_all else self.promote_newest(now)
         return [f"ended promoted {len(told)}", *told]
 
-    def promote_newest(self, now):
+    def promote_newest(self, now: str) -> list[str]:
         """The newest waiter is promoted where it has room, and nobody else is looked at."""
         newest = next(reversed(self.waiting), None)
-        has_room = newest is not None and self.has_room(self.waiting[newest])
-        return [self.promote(newest, now)] if has_room else []
+        if newest is None or not self.has_room(self.waiting[newest]):
+            return []
+        return [self.promote(newest, now)]
 
-    def promote_all(self, now):
+    def promote_all(self, now: str) -> list[str]:
         """The newest of the waiters that have room is promoted, again and again until none has room; under `newest`
         none is."""
         told = []
@@ -238,56 +270,56 @@ class Limiter:
             told.append(self.promote(waiter, now))
         return told
 
-    def newest_with_room(self):
+    def newest_with_room(self) -> int | None:
         parts = {part for part in {*self.waiting.values()} if self.has_room(part)}
         return next((waiter for waiter, part in reversed(self.waiting.items()) if part in parts), None)
 
-    def promote(self, waiter, now):
+    def promote(self, waiter: int, now: str) -> str:
         """Has a waiter's permit lie granted, and tells of it."""
         got = self.granted[waiter] = Permit(self.waiting.pop(waiter), moment(int(now)), self.total() + 1)
         return f"promoted {waiter} inflight {got.inflight}"
 
-    def claim(self, number):
+    def claim(self, number: str) -> list[str]:
         return self.handed_out(int(number)) or ["still waiting" if int(number) in self.waiting else "lost"]
 
-    def giveup(self, number):
+    def giveup(self, number: str) -> list[str]:
         return self.handed_out(int(number)) or ["timed out" if self.waiting.pop(int(number), None) else "lost"]
 
-    def handed_out(self, number):
+    def handed_out(self, number: int) -> list[str]:
         """Hands a permit out that lies granted, and tells of it."""
         if number not in self.granted:
             return []
         permit = self.open[number] = self.granted.pop(number)
         return [f"granted inflight {permit.inflight}"]
 
-    def set(self, number, now):
+    def set(self, number: str, now: str) -> list[str]:
         told = self.limit.put(int(number))
         return [told, *(self.promote_all(now) if told == "limit set" else [])]
 
-    def reset(self, now):
+    def reset(self, now: str) -> list[str]:
         self.limit.reset()
         return ["reset", *self.promote_all(now)]
 
-    def look(self, part):
+    def look(self, part: str) -> list[str]:
         return [
             f"seen limit {self.limit.limit} total {self.total()} waiting {len(self.waiting)} "
             f"granted {len(self.granted)} inflight {self.inflight(part)} share {self.share(part)}"
         ]
 
 
-ANSWERS = {
+ANSWERS: dict[str, Callable[..., list[str]]] = {
     word: getattr(Limiter, word) for word in ("acquire", "bypass", "end", "claim", "giveup", "set", "reset", "look")
 }
 
 
-def parted(lines):
+def parted(lines: Sequence[str]) -> tuple[Sequence[str], Sequence[str]]:
     """The settings of a script or a trace, and the lines behind them, with those that say nothing."""
     said = [line for line in lines if line.split() and not line.split()[0].startswith("#")]
     settings = [line for line in said if line.split()[0] in SETTINGS]
     return settings, said[len(settings) :]
 
 
-def replayed(lines):
+def replayed(lines: Sequence[str]) -> str:
     """What `replay` answers to the lines of a script."""
     settings, events = parted(lines)
     limiter = Limiter(settings)
@@ -302,26 +334,28 @@ class Course:
     """The calls of a trace in virtual time. Of each call, by its place, at most one action is pending: its moment, its
     kind, its place, and the line of a script that does it."""
 
-    def __init__(self, lines):
+    def __init__(self, lines: Sequence[str]) -> None:
         settings, calls = parted(lines)
         self.limiter = Limiter(settings)
         self.calls = [call.split() for call in calls]
-        self.places, self.out = {}, []
-        self.pending = {}
+        self.places: dict[int, int] = {}
+        self.out: list[str] = []
+        self.pending: dict[int, tuple[int, int, int, str]] = {}
         for place, (kind, *words) in enumerate(self.calls):
             at = moment(int(words[0 if kind == "bypass" else 1]))
             wait = "wait" if len(words) == 5 else ""
             line = f"bypass {at}" if kind == "bypass" else f"acquire {words[0]} {at} {wait}"
             self.pending[place] = (at, ARRIVING, place, line)
 
-    def run(self):
+    def run(self) -> str:
         """All that is written, once nothing is pending."""
         while self.pending:
             at, _, place, line = min(self.pending.values())
             self.do(at, place, line)
         return "".join(self.out)
 
-    def do(self, at, place, line):
+    def do(self, at: int, place: int, line: str) -> None:
+        """Does what is pending at a place."""
         del self.pending[place]
         answer = self.limiter.answer(line)
         self.out.append(answer)
@@ -338,13 +372,13 @@ class Course:
         for waiter in re.findall(r"^\d+ promoted (\d+) ", answer, re.MULTILINE):
             self.do(at, self.places[int(waiter)], f"giveup {waiter}")
 
-    def holds(self, at, place, number):
+    def holds(self, at: int, place: int, number: int) -> None:
         """The call at this place got the permit of this number."""
         duration, outcome = self.calls[place][3:5]
         end = moment(at + int(duration))
         self.pending[place] = (end, ENDING, place, f"end {number} {outcome} {end}")
 
 
-def simulated(lines):
+def simulated(lines: Sequence[str]) -> str:
     """What `simulate` answers to the lines of a trace."""
     return Course(lines).run()

@@ -4,8 +4,8 @@
 `docs/FORMATS.md` and from RFC 9110 and RFC 9112; most of them are known to be read in two ways by other programs.
 """
 
-# A request, and the one form that it is forwarded in.
-FORWARDED = [
+# A request, and the one form that it is forwarded in: first without a body, in chunks, and of HTTP/1.0.
+USUAL = [
     ("GET /a HTTP/1.1|Host: h|X-Class: live|Connection: x-y|X-Y: 1||", "GET /a HTTP/1.1|Host: h|X-Class: live|>"),
     (
         "POST /a HTTP/1.1|Host: h|Transfer-Encoding: chunked||3|abc|0||",
@@ -15,6 +15,9 @@ FORWARDED = [
         "POST /a HTTP/1.0|Content-Length: 3|Content-Length: 3||abc",
         "POST /a HTTP/1.1|Host: 127.0.0.1:9000|Content-Length: 3|Via: 1.0 admission|Connection: close||abc",
     ),
+]
+FORWARDED = [
+    *USUAL,
     ("POST /a HTTP/1.1|Host: h|Content-Length: 3, 3||abc", "POST /a HTTP/1.1|Host: h|Content-Length: 3|>abc"),
     ("GET HTTP://h2?b HTTP/1.1|Host: h||", "GET /?b HTTP/1.1|Host: h2|>"),
     ("GET http://h2:80/a?b HTTP/1.1|X: 1|HOST: h|Y: 2||", "GET /a?b HTTP/1.1|X: 1|HOST: h2:80|Y: 2|>"),

@@ -3,11 +3,16 @@ import os
 import resource
 import signal
 import socket
+import subprocess
 import threading
 import time
+import typing
+from collections.abc import Callable
 from concurrent.futures import ThreadPoolExecutor
 
-from loopback import BODY, FIVE, LARGE, PATIENCE, WHOLE, Later, Scripted, read_all, read_head
+from loopback import BODY, FIVE, LARGE, WHOLE, Backend, Later, Scripted, read_all, read_head
+from running import PATIENCE
+from served import Served
 from wires import CONTINUE, local
 
 PLAIN = b"GET /plain HTTP/1.1\r\nHost: h\r\n\r\n"
@@ -25,17 +30,18 @@ STOPS = 12
 TRIES = 5
 
 
-def passed_on(body, status=b"200 OK"):
+def passed_on(body: bytes, status: bytes = b"200 OK") -> bytes:
+    """A response with this body, as it is passed on."""
     return b"HTTP/1.1 %s\r\nContent-Length: %d\r\nConnection: close\r\n\r\n%s" % (status, len(body), body)
 
 
-def timed(call, *given):
+def timed(call: Callable, *given: object) -> tuple[typing.Any, float]:
     """What a call gives, and how many seconds it took."""
     begun = time.monotonic()
     return call(*given), time.monotonic() - begun
 
 
-def unbroken(client, text):
+def unbroken(client: socket.socket, text: bytes) -> tuple[bytes, str | None]:
     """All that comes of a client that sends a text, and how its connection broke: a reset may take the answer."""
     found = b""
     try:
@@ -47,24 +53,24 @@ def unbroken(client, text):
     return found, None
 
 
-def drips(client):
+def drips(client: socket.socket) -> None:
     """Sends a byte after another, for longer than anybody should listen."""
     for _ in range(500):
         time.sleep(0.015)
         client.sendall(b"x")
 
 
-def processor_time(process):
+def processor_time(process: subprocess.Popen[str]) -> float:
     """The seconds of a processor that a process took so far."""
     with open(f"/proc/{process.pid}/stat", encoding="ascii") as file:
         user, system = file.read().rpartition(")")[2].split()[11:13]
     return (int(user) + int(system)) / os.sysconf("SC_CLK_TCK")
 
 
-class Sockets:
-    """Cases that a `Judge` with a `gateway` takes on; each is given a backend of its own."""
+class Sockets(Served):
+    """Cases on connections."""
 
-    def answers_early(self, _):
+    def answers_early(self, _: Backend) -> None:
         """A backend that answers and closes at the head is told as it answered; one without an answer is 502."""
         by_length = b"POST /plain HTTP/1.1\r\nHost: h\r\nContent-Length: %d\r\n\r\n%s" % (len(MUCH), MUCH)
         in_chunks = b"POST /plain HTTP/1.1\r\nHost: h\r\nTransfer-Encoding: chunked\r\n\r\n%x\r\n%s\r\n0\r\n\r\n" % (
@@ -80,7 +86,7 @@ class Sockets:
             ("with nothing", b"", local(502), "dropped"),
         ):
 
-            def closes_at_the_head(client, said=said):
+            def closes_at_the_head(client: socket.socket, said: bytes = said) -> None:
                 read_head(client)
                 client.sendall(said)
 
@@ -92,11 +98,11 @@ class Sockets:
             self.judge(f"counters of early answers {what}", {"admitted": 6, outcome: 6}, gate.ending())
             backend.close()
 
-    def resets_nobody(self, backend):
+    def resets_nobody(self, backend: Backend) -> None:
         """A client that has sent a second request by the time that its large answer is written gets all of it."""
         gate = self.gateway(backend, workers=4, each=5)
 
-        def asks_twice(_):
+        def asks_twice(_: int) -> tuple[int, str | None]:
             with gate.connect() as client:
                 client.sendall(b"GET /five HTTP/1.1\r\nHost: h\r\n\r\n")
                 time.sleep(0.05)
@@ -107,7 +113,7 @@ class Sockets:
             self.judge("large answers before second requests", [(FIVE, None)] * 20, [*pool.map(asks_twice, range(20))])
         self.judge("counters of second requests", {"admitted": 20, "success": 20}, gate.ending())
 
-    def is_stopped(self, backend):
+    def is_stopped(self, backend: Backend) -> None:
         """A gateway that is stopped and goes on loses nobody inside a head, a body, an answer, or before a
         connection."""
         gate = self.gateway(backend, workers=4, each=1, words=("--client-timeout-ms", "60000"))
@@ -132,7 +138,7 @@ class Sockets:
         self.judge("before a connection", passed_on(BODY), gate.ask(PLAIN))
         self.judge("counters of a gateway that was stopped", {"admitted": 4, "success": 4}, gate.ending())
 
-    def listens_where_it_is_told(self, backend):
+    def listens_where_it_is_told(self, backend: Backend) -> None:
         """It binds the configured address alone."""
         gate = self.gateway(backend, listen="127.0.0.2")
         try:
@@ -144,7 +150,7 @@ class Sockets:
         self.judge("its own address", passed_on(BODY), gate.ask(PLAIN))
         self.judge("counters of its own address", {"admitted": 1, "success": 1}, gate.ending())
 
-    def begins_anew_behind_a_continue(self, backend):
+    def begins_anew_behind_a_continue(self, backend: Backend) -> None:
         """The time to take an answer isn't that of the text which asked for the body."""
         gate = self.gateway(backend, words=("--client-timeout-ms", "3000"))
         with gate.connect() as client:
@@ -155,7 +161,7 @@ class Sockets:
             self.judge("answered 3.5 seconds later", passed_on(BODY), read_all(client))
         self.judge("counters of who was asked", {"admitted": 1, "success": 1}, gate.ending())
 
-    def is_short_of_descriptors(self, backend):
+    def is_short_of_descriptors(self, backend: Backend) -> None:
         """A worker that gets no connection rests and tries again: it serves once there are descriptors."""
         front = ("sh", "-c", 'ulimit -Sn 6 && exec "$@"', "sh")
         gate = self.gateway(backend, workers=3, each=1_000_000, front=front, words=("--client-timeout-ms", "60000"))
@@ -171,7 +177,7 @@ class Sockets:
             resource.prlimit(gate.process.pid, resource.RLIMIT_NOFILE, (64, hard))
             self.judge("all are served then", [passed_on(BODY)] * 3, [it.result() for it in waiting])
 
-    def lingers_a_while(self, backend):
+    def lingers_a_while(self, backend: Backend) -> None:
         """Whoever is answered early sees the end of its answer, and holds a worker for two seconds; others for none."""
         gate = self.gateway(backend, each=4, words=("--client-timeout-ms", "60000"))
         with gate.connect() as early, gate.connect() as served:
@@ -186,14 +192,17 @@ class Sockets:
         self.judge("another one", passed_on(BODY), gate.ask(PLAIN))
         self.judge("counters of who lingers", {"admitted": 3, "success": 3}, gate.ending())
 
-    def ends_with_its_backend(self, _):
+    def ends_with_its_backend(self, _: Backend) -> None:
         """A backend's end is waited for after its answer, for a moment; behind a fault it isn't."""
-        seen, swallowed, ended, done = [], [], [], threading.Event()
+        seen: list[bytes | None] = []
+        ended: list[bytes | str] = []
+        swallowed: list[int] = []
+        done = threading.Event()
 
-        def stays(_):
+        def stays(_: socket.socket) -> None:
             done.wait(PATIENCE)
 
-        def looks(client):
+        def looks(client: socket.socket) -> None:
             time.sleep(0.012)
             client.setblocking(False)
             try:
@@ -201,11 +210,11 @@ class Sockets:
             except BlockingIOError:
                 seen.append(None)
 
-        def floods(client):
+        def floods(client: socket.socket) -> None:
             client.sendall(FLOOD)
             swallowed.append(len(FLOOD))
 
-        def ends(client):
+        def ends(client: socket.socket) -> None:
             try:
                 ended.append(client.recv(1))
             except ConnectionResetError:
@@ -221,7 +230,9 @@ class Sockets:
             ("answers garbage", garbage, ends, 0.2),
         ):
 
-            def answers(client, said=said, then=then):
+            def answers(
+                client: socket.socket, said: bytes = said, then: Callable[[socket.socket], None] = then
+            ) -> None:
                 read_head(client)
                 client.sendall(said)
                 then(client)

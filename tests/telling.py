@@ -5,10 +5,14 @@ import os
 import pathlib
 import signal
 import socket
+import subprocess
 import threading
 import time
+import typing
 
-from loopback import BODY, PATIENCE, Gateway, Later, Scripted, free_port, read_head
+from loopback import BODY, Backend, Gateway, Later, Scripted, read_head
+from running import PATIENCE, free_port, until
+from served import Served
 from sockets import MUCH, PLAIN, TRIES, passed_on
 from wires import local, reset
 
@@ -25,39 +29,37 @@ NAMES = (
 ).split()
 
 
-def reports(gate):
+def lines_of(gate: Gateway, begin: str) -> list[str]:
+    """The lines of a gateway's log that begin so."""
+    return [line for line in gate.log if line.startswith(begin)]
+
+
+def reports(gate: Gateway) -> list[dict[str, str]]:
     """The reports of a gateway's log, each by the names of its numbers in their order."""
-    return [dict(it.split("=") for it in line[len(REPORT) :].split()) for line in gate.log if line.startswith(REPORT)]
+    return [dict(it.split("=") for it in line[len(REPORT) :].split()) for line in lines_of(gate, REPORT)]
 
 
-def until(holds):
-    """Waits until it holds, and says whether it does."""
-    for _ in range(20 * PATIENCE):
-        if holds():
-            return True
-        time.sleep(0.05)
-    return False
-
-
-def troubles(gate, count):
+def troubles(gate: Gateway, count: int) -> list[str]:
     """The warnings of a gateway's log, but those of its workers, once there are so many."""
 
-    def found():
+    def found() -> list[str]:
         return [it for it in gate.log if "WARN" in it and not any(words in it for words in OF_WORKERS)]
 
     until(lambda: len(found()) >= count)
     return found()
 
 
-def waits_to_write(process):
+def waits_to_write(process: subprocess.Popen[str]) -> bool:
     """Whether a thread of a process waits for a pipe that takes no more."""
     with contextlib.suppress(OSError):
         return any("pipe" in it.read_text() for it in pathlib.Path(f"/proc/{process.pid}/task").glob("*/wchan"))
     return False
 
 
-class Telling:
-    def reports(self, backend):
+class Telling(Served):
+    """Cases on what the log tells."""
+
+    def reports(self, backend: Backend) -> None:
         """Every second a line says what stands, whose numbers add up with what was asked; it ends with the workers."""
         settings = "\n".join(
             (
@@ -126,7 +128,7 @@ class Telling:
         )
         self.judge("it ended with its workers", True, time.monotonic() - begun < PATIENCE)
 
-    def reports_until_a_stop(self, backend):
+    def reports_until_a_stop(self, backend: Backend) -> None:
         """A stop loses at most a second of counters; without the option nothing is reported."""
         gate = self.gateway(backend, workers=2, each=1_000_000, words=("--report-seconds", "1"))
         quiet = self.gateway(backend, workers=1, each=1_000_000)
@@ -140,7 +142,7 @@ class Telling:
         self.judge("what was counted before the stop", ["5"], [it["success"] for it in reports(gate)[-1:]])
         self.judge("reports that nobody asked for", [], reports(quiet))
 
-    def tells_troubles(self, backend):
+    def tells_troubles(self, backend: Backend) -> None:
         """Refused connections and broken answers are told once in ten seconds, with their count."""
         gate = Gateway(self.program, self.room, free_port(), workers=2, each=1_000_000)
         other = self.gateway(backend, workers=2, each=1_000_000)
@@ -150,21 +152,18 @@ class Telling:
         time.sleep(10.5)
         gate.ask(PLAIN)
         other.ask(b"GET /closes HTTP/1.1\r\nHost: h\r\n\r\n")
-        for what, log, line, cause in (
-            ("refused connections", gate.log, UNREACHED, ["error=Connection refused (os error 111)"] * 2),
-            ("broken answers", other.log, BROKEN, ["cause=malformed", "cause=cut off"]),
+        for what, it, line, causes in (
+            ("refused connections", gate, UNREACHED, ["error=Connection refused (os error 111)"] * 2),
+            ("broken answers", other, BROKEN, ["cause=malformed", "cause=cut off"]),
         ):
-            until(lambda log=log, line=line: sum(it.startswith(line) for it in log) == 2)
-            self.judge(
-                what,
-                [f"{line}count={count} {why}" for count, why in zip((1, 30), cause)],
-                [it for it in log if it.startswith(line)],
-            )
+            until(lambda it, line: len(lines_of(it, line)) == 2, it, line)
+            wanted = [f"{line}count={count} {why}" for count, why in zip((1, 30), causes)]
+            self.judge(what, wanted, lines_of(it, line))
 
-    def tells_each_trouble(self, backend):
+    def tells_each_trouble(self, backend: Backend) -> None:
         """A trouble is told whatever else was told a moment ago; and one that doesn't come isn't."""
 
-        def breaks(client):
+        def breaks(client: socket.socket) -> None:
             client.recv(1024)
             reset(client)
 
@@ -189,11 +188,11 @@ class Telling:
         )
         scripted.close()
 
-    def counts_answers_that_nobody_reads(self, _):
+    def counts_answers_that_nobody_reads(self, _: Backend) -> None:
         """An answer of the gateway's own is reported also where its client has gone."""
         held, release = threading.Event(), threading.Event()
 
-        def closes_late(client):
+        def closes_late(client: socket.socket) -> None:
             read_head(client)
             held.set()
             release.wait(PATIENCE)
@@ -208,7 +207,7 @@ class Telling:
         self.judge("a report of its answer", True, until(lambda: [it["502"] for it in reports(gate)][-1:] == ["1"]))
         scripted.close()
 
-    def serves_beside_a_full_log(self, _):
+    def serves_beside_a_full_log(self, _: Backend) -> None:
         """A log that takes no more holds whoever tells of a trouble, and no other worker. There are more workers than
         clients, since who takes the last free one tells that too."""
         read_end, write_end = os.pipe()
@@ -234,7 +233,7 @@ class Telling:
         os.close(read_end)
         os.close(write_end)
 
-    def reports_in_time(self, backend):
+    def reports_in_time(self, backend: Backend) -> None:
         """Nothing is reported before the first time has gone by, and the last worker's end ends the reports at once."""
         took = []
         for turn in range(TRIES):
@@ -248,7 +247,7 @@ class Telling:
             self.judge(f"reports in its first hour, {turn}", [], reports(gate))
         self.judge("it ended in less than a second", True, min(took) < 0.9)
 
-    def warns_of_descriptors(self, _):
+    def warns_of_descriptors(self, _: Backend) -> None:
         """Whether workers exceed the descriptors is told by the limit that holds."""
         for soft, count in ((135, 1), (136, 0)):
             front = ("sh", "-c", f'ulimit -Sn {soft} && exec "$@"', "sh")
@@ -259,19 +258,13 @@ class Telling:
             ] * count
             self.judge(f"warnings at {soft} descriptors", wanted, [it for it in gate.log if "WARN" in it])
 
-    def tells_of_descriptors(self, backend):
+    def tells_of_descriptors(self, backend: Backend) -> None:
         """That no descriptor was free for the backend is told as that, whosever the limit is."""
+        few: dict[str, typing.Any] = {"front": ("sh", "-c", 'ulimit -Sn 5 && exec "$@"', "sh")}
+        none: dict[str, typing.Any] = {"variables": {"LD_PRELOAD": self.library, "SOCKET_REFUSED": "2"}}
         for what, how, error in (
-            (
-                "of its own",
-                {"front": ("sh", "-c", 'ulimit -Sn 5 && exec "$@"', "sh")},
-                "Too many open files (os error 24)",
-            ),
-            (
-                "of the system",
-                {"variables": {"LD_PRELOAD": self.library, "SOCKET_REFUSED": "2"}},
-                "Too many open files in system (os error 23)",
-            ),
+            ("of its own", few, "Too many open files (os error 24)"),
+            ("of the system", none, "Too many open files in system (os error 23)"),
         ):
             gate = self.gateway(backend, each=1_000_000, **how)
             self.judge(f"without a descriptor {what} for the backend", local(502), gate.ask(PLAIN))
@@ -279,15 +272,15 @@ class Telling:
                 f"what is told of a descriptor {what}", [f"{NO_DESCRIPTOR}count=1 error={error}"], troubles(gate, 1)
             )
 
-    def tells_of_clients_without_descriptors(self, backend):
+    def tells_of_clients_without_descriptors(self, backend: Backend) -> None:
         """That no descriptor was free is told, for clients and for the backend alike, and once."""
         front = ("sh", "-c", 'ulimit -Sn 6 && exec "$@"', "sh")
         gate = self.gateway(backend, workers=3, each=1_000_000, front=front, words=("--client-timeout-ms", "60000"))
         with gate.connect(), gate.connect():
-            self.judge("it is told", True, until(lambda: any(it.startswith(NO_DESCRIPTOR) for it in gate.log)))
+            self.judge("it is told", True, until(lambda: lines_of(gate, NO_DESCRIPTOR)))
             time.sleep(0.5)
         self.judge(
             "with the system's words",
             [f"{NO_DESCRIPTOR}count=1 error=Too many open files (os error 24)"],
-            [it for it in gate.log if it.startswith(NO_DESCRIPTOR)],
+            lines_of(gate, NO_DESCRIPTOR),
         )

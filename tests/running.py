@@ -1,0 +1,42 @@
+"""Programs that a script runs on loopback: a port for each, a wait for what comes of them, and their end."""
+import socket
+import subprocess
+import threading
+import time
+from collections.abc import Callable
+
+# The seconds that a script waits for anything.
+PATIENCE = 20
+
+chosen: set[int] = set()
+choosing = threading.Lock()
+
+
+def free_port() -> int:
+    """A port that was free a moment ago, another one at each call: programs that start side by side share none."""
+    with choosing:
+        while True:
+            with socket.socket() as found:
+                found.bind(("127.0.0.1", 0))
+                port = found.getsockname()[1]
+            if port not in chosen:
+                chosen.add(port)
+                return port
+
+
+def until(holds: Callable[..., object], *given: object, seconds: float = PATIENCE) -> bool:
+    """Waits until a call holds, for so many seconds at most, and says whether it does."""
+    end = time.monotonic() + seconds
+    while not (found := holds(*given)) and time.monotonic() < end:
+        time.sleep(0.05)
+    return bool(found)
+
+
+def stop(process: subprocess.Popen) -> None:
+    """Ends a process, with force where it doesn't end in five seconds."""
+    process.terminate()
+    try:
+        process.wait(5)
+    except subprocess.TimeoutExpired:
+        process.kill()
+        process.wait()
