@@ -7,9 +7,8 @@ the two lines.
 """
 import re
 import statistics
-import subprocess
-import time
 
+from sides import timed
 from traces import CALLS, calls, text_of
 from words import program_of
 
@@ -23,10 +22,8 @@ TRACES = [
 
 def rate(program: str, workers: int, text: bytes) -> float:
     """The calls a second of a run."""
-    began = time.monotonic()
-    done = subprocess.run([program, "load", "--workers", str(workers)], input=text, capture_output=True, check=True)
-    took = time.monotonic() - began
-    (calls_made,) = re.findall(rb"^audit ok calls (\d+)\n", done.stdout)
+    took, wrote = timed([program, "load", "--workers", str(workers)], text)
+    (calls_made,) = re.findall(rb"^audit ok calls (\d+)\n", wrote)
     return int(calls_made) / took
 
 

@@ -7,7 +7,6 @@ prints the instructions of one exchange by function, those of the function itsel
 difference of two runs, divided by the difference of their exchanges, so that the start doesn't count. What the kernel
 does isn't in it. With --keep the files of callgrind stay in FOLDER. Needs valgrind.
 """
-import argparse
 import collections
 import pathlib
 import re
@@ -16,6 +15,7 @@ import sys
 import tempfile
 
 from one_worker import said_of
+from words import built, reader_of
 
 FEW, MANY = 200, 2_200
 REQUEST = b"GET / HTTP/1.1\r\nHost: 127.0.0.1:40000\r\nConnection: close\r\n\r\n"
@@ -61,8 +61,8 @@ def run(program: str, room: pathlib.Path, exchanges: int) -> tuple[collections.C
 
 
 def main() -> None:
-    reader = argparse.ArgumentParser(description=__doc__, formatter_class=argparse.RawDescriptionHelpFormatter)
-    reader.add_argument("program", type=pathlib.Path)
+    reader = reader_of(__doc__)
+    reader.add_argument("program", type=built, metavar="PROGRAM")
     reader.add_argument("--top", type=int, default=40)
     reader.add_argument("--keep", type=pathlib.Path)
     given = reader.parse_args()
@@ -71,7 +71,7 @@ def main() -> None:
     with tempfile.TemporaryDirectory(prefix="admission-bench-") as folder:
         room = given.keep or pathlib.Path(folder)
         room.mkdir(parents=True, exist_ok=True)
-        few, many = (run(str(given.program.resolve()), room, times) for times in (FEW, MANY))
+        few, many = (run(given.program, room, times) for times in (FEW, MANY))
     for cost, less, more in zip(COSTS, few, many):
         each = {name: (more[name] - less[name]) / (MANY - FEW) for name in more}
         print(f"\nInstructions of one exchange by function, {cost}")

@@ -41,6 +41,7 @@ from collections.abc import Iterator, Mapping, Sequence
 
 from one_worker import CONFIG
 from running import stop
+from words import built, reader_of
 
 TICK = os.sysconf("SC_CLK_TCK")
 PACKAGES = {"nginx": "nginx-light", "haproxy": "haproxy", "wrk": "wrk", "taskset": "util-linux", "rustc": "rustc"}
@@ -340,8 +341,8 @@ def numbers(text: str) -> list[int]:
 
 
 def main() -> None:
-    reader = argparse.ArgumentParser(description=__doc__, formatter_class=argparse.RawDescriptionHelpFormatter)
-    reader.add_argument("program", type=pathlib.Path)
+    reader = reader_of(__doc__)
+    reader.add_argument("program", type=built, metavar="PROGRAM")
     reader.add_argument("--seconds", type=int, default=3)
     reader.add_argument("--rounds", type=int, default=8)
     reader.add_argument("--workers", type=numbers, default=[64])
@@ -354,15 +355,13 @@ def main() -> None:
     missing = [package for name, package in PACKAGES.items() if not shutil.which(name)]
     if missing:
         sys.exit(f"proxy.py: {', '.join(missing)} isn't installed")
-    if not os.access(given.program, os.X_OK):
-        sys.exit(f"proxy.py: {given.program} isn't a built program")
     processor = max(os.sched_getaffinity(0))
     with tempfile.TemporaryDirectory(prefix="admission-bench-") as folder:
         os.chmod(folder, 0o755)
         servers = Servers(pathlib.Path(folder), processor)
         try:
             first = first_port(5 + 3 * len(given.workers))
-            targets = targets_of(servers, str(given.program.resolve()), first, given)
+            targets = targets_of(servers, given.program, first, given)
             asking = asking_of(servers, given.upload)
             time.sleep(1.5)
             gone = [name for name, (_, process) in targets.items() if process.poll() is not None]

@@ -8,9 +8,9 @@ import pathlib
 import random
 import subprocess
 import tempfile
-import time
 from collections.abc import Callable, Iterable
 
+from sides import timed
 from words import program_of
 
 HERE = pathlib.Path(__file__).resolve().parent
@@ -90,13 +90,6 @@ def repeated(turn: Callable[[int, int], Turn], most: int) -> list[str]:
     return out
 
 
-def run(words: list[str], text: bytes) -> tuple[float, bytes]:
-    """The seconds of one run, and what it wrote."""
-    began = time.monotonic()
-    done = subprocess.run(words, input=text, capture_output=True, check=True)
-    return time.monotonic() - began, done.stdout
-
-
 SCRIPTS = [
     ("acquire, look, end; all entries kept", IN_FLIGHT, repeated(looks, 99_000)),
     ("the same, past the entries that are kept", IN_FLIGHT, repeated(looks, 600_000)),
@@ -124,9 +117,9 @@ def main() -> None:
             ours: list[float] = []
             theirs: list[float] = []
             for _ in range(TURNS):
-                took, wrote = run([program, "replay", "--limit", str(limit)], text)
+                took, wrote = timed([program, "replay", "--limit", str(limit)], text)
                 ours.append(took)
-                took, wanted = run([plain, str(limit)], text)
+                took, wanted = timed([plain, str(limit)], text)
                 theirs.append(took)
                 assert wrote == wanted, f"{name}: the texts differ"
             ratio = min(ours) / min(theirs)

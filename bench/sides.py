@@ -10,6 +10,7 @@ import resource
 import shutil
 import statistics
 import subprocess
+import time
 import typing
 from collections.abc import Iterable, Mapping, Sequence
 
@@ -101,6 +102,13 @@ def run(program: pathlib.Path, words: Sequence[object], given: bytes = b"") -> t
     done = subprocess.run([program, *map(str, words)], input=given, capture_output=True, check=True)
     took, _, did = done.stdout.decode().partition(" ")
     return int(took), processor_time() - before, did
+
+
+def timed(words: Sequence[str], given: bytes) -> tuple[float, bytes]:
+    """The seconds of the whole run of a program with this input, and what it wrote."""
+    began = time.monotonic()
+    done = subprocess.run(words, input=given, capture_output=True, check=True)
+    return time.monotonic() - began, done.stdout
 
 
 def row(ours: Side, theirs: Side) -> list[float]:

@@ -9,20 +9,13 @@ import pathlib
 import statistics
 import subprocess
 import tempfile
-import time
 
+from sides import timed
 from traces import CALLS, TRACES
 from words import program_of
 
 HERE = pathlib.Path(__file__).resolve().parent
 TURNS = 9
-
-
-def run(words: list[str], text: bytes) -> tuple[float, bytes]:
-    """The seconds of one run, and what it wrote."""
-    began = time.monotonic()
-    done = subprocess.run(words, input=text, capture_output=True, check=True)
-    return time.monotonic() - began, done.stdout
 
 
 def main() -> None:
@@ -33,9 +26,9 @@ def main() -> None:
         print(f"| Trace of {CALLS:,} calls | entries | admission | plain | ratio |")
         print("|---|---|---|---|---|")
         for name, text in TRACES:
-            told = run(ours, text)[1]
-            assert told == run(theirs, text)[1], f"{name}: the texts differ"
-            turns = [(run(ours, text)[0], run(theirs, text)[0]) for _ in range(TURNS)]
+            told = timed(ours, text)[1]
+            assert told == timed(theirs, text)[1], f"{name}: the texts differ"
+            turns = [(timed(ours, text)[0], timed(theirs, text)[0]) for _ in range(TURNS)]
             took, needed = (statistics.median(column) for column in zip(*turns))
             ratio = statistics.median(own / peer for own, peer in turns)
             entries = told.count(b"\n")

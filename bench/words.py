@@ -6,12 +6,20 @@ import pathlib
 import typing
 from collections.abc import Callable
 
+PROVED = pathlib.Path(__file__).resolve().parent.parent / "crates/admission/out/admission"
 Number = typing.TypeVar("Number", int, float)
 
 
 def reader_of(text: str | None) -> argparse.ArgumentParser:
     """A reader of words whose `--help` is this text."""
     return argparse.ArgumentParser(description=text, formatter_class=argparse.RawDescriptionHelpFormatter)
+
+
+def reader_with_program(text: str | None) -> argparse.ArgumentParser:
+    """The same with `--program`, which is the proved program where none is named."""
+    reader = reader_of(text)
+    reader.add_argument("--program", type=built, default=str(PROVED), metavar="PROGRAM")
+    return reader
 
 
 def built(word: str) -> str:
