@@ -1,0 +1,117 @@
+"""Rows of `tests/keys`: what `check --explain` says of configurations without a fault."""
+from config_texts import AIMD, BY_METHOD, BYPASS, FIXED, LIVE_OF_TWO, PLAIN, SETTABLE, VEGAS
+
+# Lines behind the version and the addresses, and what it says of them.
+OF_NO_FAULT = [
+    (
+        "backlog = 9\n" + PLAIN + "initial = 40\n",
+        "greatest limit 40, shares of it 0 and backlog 9 are 49 together\n"
+        "serve it with --workers 50 or more, at most 64\n",
+    ),
+    (
+        "backlog = 9\n" + AIMD + "max = 40\ninitial = 4\n" + LIVE_OF_TWO,
+        "greatest limit 40, shares of it 24 and backlog 9 are 73 together\n"
+        "too few workers: there are at most 64, and callers past them wait unseen; lower the limit or the backlog\n"
+        "limit.timeout_us = 5000000 is above a second: answers up to that only raise the limit, however long the "
+        "queue at the backend\n",
+    ),
+    (
+        "backlog = 9\nwait = false\n" + FIXED,
+        "greatest limit 4, shares of it 0 and backlog 0 are 4 together\n"
+        "serve it with --workers 5 or more, at most 64\nwait = false: nobody waits, so backlog = 9 has no effect\n",
+    ),
+    (
+        "backlog = 23\n" + PLAIN + "initial = 40\n",
+        "greatest limit 40, shares of it 0 and backlog 23 are 63 together\n"
+        "serve it with --workers 64 or more, at most 64\n",
+    ),
+    (
+        "backlog = 24\n" + PLAIN + "initial = 40\n",
+        "greatest limit 40, shares of it 0 and backlog 24 are 64 together\n"
+        "too few workers: there are at most 64, and callers past them wait unseen; lower the limit or the backlog\n",
+    ),
+    (
+        "wait = false\n" + FIXED,
+        "greatest limit 4, shares of it 0 and backlog 0 are 4 together\n"
+        "serve it with --workers 5 or more, at most 64\n",
+    ),
+]
+# What it says of a limit that may not adapt, and of callers who may not be told apart, behind the words on workers.
+FEW = "backlog = 9\n"
+ON_WORKERS = (
+    "greatest limit 40, shares of it 0 and backlog 9 are 49 together\n"
+    "serve it with --workers 50 or more, at most 64\n"
+)
+NO_PROBES = "limit.probe_every = 0: one quick answer, or a drop, can keep the limit low for good\n"
+SLOW_TIMEOUT = (
+    "limit.timeout_us = {} is above a second: answers up to that only raise the limit, however long the queue "
+    "at the backend\n"
+)
+MANY = "window.size = {} is above twice limit.min = {}: a limit that fell to min can stay there for good\n"
+SHORT = (
+    "window.max_us = {}: where an answer takes a second, {} at once make fewer than {} in a window, and a limit "
+    "that fell to min can stay there for good\n"
+)
+LEARNING, PROBING = AIMD + "max = 40\ntimeout_us = {}\n", VEGAS + "max = 40\nprobe_every = 1\n"
+OF_NO_FAULT += [
+    (FEW + lines, ON_WORKERS + words)
+    for lines, words in [
+        (VEGAS + "max = 40\n", NO_PROBES),
+        (PROBING, ""),
+        (LEARNING.format(1_000_000), ""),
+        (LEARNING.format(1_000_001), SLOW_TIMEOUT.format(1_000_001)),
+        (PROBING + "min = 5\n[window]\nsize = 11\nmax_us = 2_000_000\n", MANY.format(11, 5)),
+        (PROBING + "min = 5\n[window]\nsize = 10\nmax_us = 2_000_000\n", ""),
+        (PROBING + "min = 5\n[window]\nsize = 10\nmax_us = 1_999_999\n", SHORT.format(1_999_999, 5, 10)),
+        (PROBING + "min = 5\n[window]\n", SHORT.format(1_000_000, 5, 10)),
+        (PROBING + "[window]\nsize = 1\nmin_us = 1\nmax_us = 1\n", ""),
+        (PROBING + "[window]\n", MANY.format(10, 1)),
+        (PROBING + "min = 16\n[window]\nsize = 2\nmin_us = 50_000\nmax_us = 125_000\n", ""),
+        (PROBING + "min = 16\n[window]\nsize = 2\nmin_us = 50_000\nmax_us = 124_999\n", SHORT.format(124_999, 16, 2)),
+        (VEGAS + "max = 40\n[window]\n", NO_PROBES + MANY.format(10, 1)),
+        (LEARNING.format(9_000_000) + "[window]\n", SLOW_TIMEOUT.format(9_000_000) + MANY.format(10, 1)),
+        (PLAIN + "initial = 40\n[window]\n", ""),
+        (SETTABLE + "max = 40\n[window]\n", ""),
+        (
+            PLAIN + 'initial = 40\n[[resolver]]\nkind = "header"\nheader = "A"\n',
+            "resolver 1 tells a class by a header, and there is no class\n",
+        ),
+        (
+            PLAIN + "initial = 40\n" + BYPASS + '[[bypass]]\nkind = "method"\nmethod = "Get"\n',
+            'bypass 2 has the method "Get" with small letters: methods are compared byte for byte, and clients send '
+            "capitals\n",
+        ),
+        (PLAIN + 'initial = 40\n[[bypass]]\nkind = "method"\nmethod = "M-SEARCH"\n', ""),
+    ]
+]
+TOO_FEW = "too few workers: there are at most 64, and callers past them wait unseen; lower the limit or the backlog\n"
+OF_NO_FAULT += [
+    (
+        "backlog = 0\n" + PLAIN + "initial = 64\n",
+        "greatest limit 64, shares of it 0 and backlog 0 are 64 together\n" + TOO_FEW,
+    ),
+    (
+        "backlog = 0\n" + PLAIN + "initial = 65\n",
+        "greatest limit 65, shares of it 0 and backlog 0 are 65 together\n"
+        + TOO_FEW
+        + "a limit above 64 is never reached: there are at most as many workers\n",
+    ),
+    (
+        "backlog = 0\n" + FIXED + LIVE_OF_TWO + BY_METHOD.replace("GET", "get"),
+        "greatest limit 4, shares of it 3 and backlog 0 are 7 together\n"
+        "serve it with --workers 8 or more, at most 64\n"
+        'resolver 1 has the method "get" with small letters: methods are compared byte for byte, and clients send '
+        "capitals\n",
+    ),
+    (
+        "backlog = 0\n" + FIXED + LIVE_OF_TWO + '[[resolver]]\nkind = "header"\nheader = "A"\n',
+        "greatest limit 4, shares of it 3 and backlog 0 are 7 together\n"
+        "serve it with --workers 8 or more, at most 64\n",
+    ),
+]
+# The same of addresses that are one.
+OF_ONE_ADDRESS = [
+    ("127.0.0.1:8080", "127.0.0.1:8080", "backend is listen: each request comes back to this gateway\n"),
+    ("127.0.0.1:8080", "127.0.0.1:8081", ""),
+    ("127.0.0.1:8080", "127.0.0.2:8080", ""),
+]
