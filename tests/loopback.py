@@ -222,7 +222,7 @@ class Gateway:
                 time.sleep(pause)
             return read_all(client)
 
-    def ending(self) -> object:
+    def ending(self) -> typing.Any:
         """The counters that it printed, by name, once it has ended with status 0."""
         try:
             self.process.wait(timeout=PATIENCE)
