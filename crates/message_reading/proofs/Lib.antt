@@ -2,6 +2,7 @@ mod Bodies
 mod Copies
 mod Finals
 mod Gathers
+mod HeadCuts
 mod HeadEnds
 mod HeadProgress
 mod JoinedBytes

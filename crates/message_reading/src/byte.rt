@@ -1,13 +1,12 @@
 // One byte of a reader, or some.
-ghost use Rattle.std.specs.Prelude.{◌≡◌, ◌≤◌, ◌<◌, ◌⊎◌, ◌++◌, max, ℕ, List, [], length, IfOk, IfErr, IfSome, IsErrOf, OnErr, OnOk};
-ghost use Rattle.std.specs.Io.{StopsAt};
+ghost use Rattle.std.specs.Prelude.{◌≡◌, ◌≤◌, ◌<◌, ◌⊎◌, ◌++◌, max, ℕ, List, [], length, IfOk, IfErr, IsErrOf, OnErr, OnOk};
 ghost use Rattle.counted_io.specs.Counted.{inner_of, calls_of, failures_of};
 ghost use Rattle.counted_io.specs.Effects.{Gave, IfLeft};
 ghost use Rattle.message_reading.specs.PlainBody.{byte_is, crlf_of};
 ghost use Rattle.message_reading.specs.Reading.{By, HasFailed, Reads, byte_of, once_more};
 
 use crate::fault::{Fault, MessageFault};
-use counted_io::{AppendFault, Counted};
+use counted_io::{AppendFault, Counted, Cut, UpTo};
 use std::io::{BufRead, Read};
 
 /// The next byte, unless the reader made `limit` calls already.
@@ -30,20 +29,18 @@ pub(crate) fn read_byte<R: Read>(reader: &mut Counted<R>, limit: u64) -> Result<
     }
 }
 
-// Puts some of the next bytes behind those of `into`, at most `most` of them, and no further than
-// the first `stop` where one is named.
-fn append<R: BufRead>(
+// Puts some of the next bytes behind those of `into`, as far as they are wanted.
+fn append<R: BufRead, C: Cut>(
     reader: &mut Counted<R>,
     limit: u64,
-    stop: Option<u8>,
-    most: usize,
+    cut: &mut C,
     into: &mut Vec<u8>,
 ) -> Result<usize, MessageFault>
     ensures gave { IfOk result (λ n. (part : List ℕ) × (length part ≡ n)
         × (into.new.items ≡ into.old.items ++ part)
-        × Gave R.remaining reader.old reader.new part × IfSome stop (λ stop. StopsAt part stop)) }
-    ensures fits { IfOk result (λ n. n ≤ most) }
-    ensures end { IfOk result (λ n. n ≡ 0 → 0 < most
+        × Gave R.remaining reader.old reader.new part × C.wants cut.old cut.new part) }
+    ensures fits { IfOk result (λ n. n ≤ C.room cut.old) }
+    ensures end { IfOk result (λ n. n ≡ 0 → 0 < C.room cut.old
         → IfLeft R.remaining reader.old (λ left. left ≡ [])) }
     ensures unchanged { OnErr result (into.new.items ≡ into.old.items) }
     ensures faults { IfErr result (λ fault. (fault ≡ MessageFault.TurnLimit)
@@ -57,7 +54,7 @@ fn append<R: BufRead>(
     if reader.calls() >= limit {
         return Err(MessageFault::TurnLimit);
     }
-    match reader.append(stop, most, into) {
+    match reader.append(cut, into) {
         Ok(count) => Ok(count),
         Err(AppendFault::Read) => Err(MessageFault::Read),
         Err(AppendFault::Memory) => Err(MessageFault::Memory),
@@ -91,25 +88,24 @@ pub(crate) fn read_some<R: BufRead>(
     ensures few { calls_of reader.new ≤ max limit (calls_of reader.old) }
     ensures goes_on { calls_of reader.old ≤ calls_of reader.new }
 {
-    append(reader, limit, None, most, into)
+    append(reader, limit, &mut UpTo { most }, into)
 }
 
-/// Puts the next bytes behind those of `into`, at most `most` of them, and no further than the
-/// first LF among them.
+/// Puts the next bytes behind those of `into`, as far as the reader shows them and they are wanted:
+/// one at least.
 ///
-/// It is one at least, and as many as the reader shows where it has them at hand. The faults are
-/// `TurnLimit`, where the reader made `limit` calls already, `Read`, `Early` at its end, and
-/// `Memory`, where a growth was refused; after each of them `into` is as it was.
-pub(crate) fn read_line_part<R: BufRead>(
+/// The faults are `TurnLimit`, where the reader made `limit` calls already, `Read`, `Early` at its
+/// end, and `Memory`, where a growth was refused; after each of them `into` is as it was.
+pub(crate) fn read_wanted<R: BufRead, C: Cut>(
     reader: &mut Counted<R>,
     limit: u64,
-    most: usize,
+    cut: &mut C,
     into: &mut Vec<u8>,
 ) -> Result<(), MessageFault>
-    requires { 0 < most }
-    ensures gave { OnOk result ((part : List ℕ) × (0 < length part) × (length part ≤ most)
-        × (into.new.items ≡ into.old.items ++ part)
-        × Gave R.remaining reader.old reader.new part × StopsAt part 10) }
+    requires { 0 < C.room cut.old }
+    ensures gave { OnOk result ((part : List ℕ) × (0 < length part)
+        × (length part ≤ C.room cut.old) × (into.new.items ≡ into.old.items ++ part)
+        × Gave R.remaining reader.old reader.new part × C.wants cut.old cut.new part) }
     ensures unchanged { OnErr result (into.new.items ≡ into.old.items) }
     ensures faults { IfErr result (λ fault. (fault ≡ MessageFault.TurnLimit)
         ⊎ (fault ≡ MessageFault.Read) ⊎ (fault ≡ MessageFault.Memory)
@@ -122,7 +118,7 @@ pub(crate) fn read_line_part<R: BufRead>(
     ensures few { calls_of reader.new ≤ max limit (calls_of reader.old) }
     ensures reads { once_more limit (calls_of reader.old) ≤ calls_of reader.new }
 {
-    match append(reader, limit, Some(b'\n'), most, into)? {
+    match append(reader, limit, cut, into)? {
         0 => Err(MessageFault::from(Fault::Early)),
         _ => Ok(()),
     }

@@ -1,13 +1,14 @@
 // The bytes of a head.
 ghost use Rattle.std.specs.Prelude.{◌≡◌, ◌≤◌, ◌<◌, ◌-◌, ◌⊎◌, ◌++◌, max, ℕ, List, [], length, IsErrOf, IfErr, IfOk, OnErr, OnOk};
-ghost use Rattle.std.specs.Io.{StopsAt};
 ghost use Rattle.counted_io.specs.Counted.{inner_of, calls_of, failures_of};
 ghost use Rattle.counted_io.specs.Effects.{Gave, IfLeft};
 ghost use Rattle.message_reading.specs.Reading.{By, HasFailed, Reads, once_more};
 ghost use Rattle.message_reading.specs.HeadBytes.{ends_head, head_of, line_ends};
+ghost use Rattle.message_reading.specs.Progress.{HeadPasses};
 
-use crate::byte::read_line_part;
+use crate::byte::read_wanted;
 use crate::fault::{Fault, MessageFault};
+use crate::head_cut::HeadCut;
 use crate::progress::Progress;
 use counted_io::Counted;
 use std::alloc::Global;
@@ -48,7 +49,8 @@ impl Seen {
         }
     }
 
-    // Adds the next bytes of the reader, no further than an LF, and tells whether all are a head.
+    // Adds the next bytes that the reader shows, up to a head's end, and tells whether all are a
+    // head.
     fn read_on<R: BufRead>(
         &mut self,
         reader: &mut Counted<R>,
@@ -57,7 +59,7 @@ impl Seen {
         requires { length self.old < 65536 }
         ensures gave { OnOk result ((part : List ℕ) × (0 < length part)
             × (length part ≤ 65536 - length self.old) × (self.new ≡ self.old ++ part)
-            × Gave R.remaining reader.old reader.new part × StopsAt part 10) }
+            × Gave R.remaining reader.old reader.new part × HeadPasses self.old part) }
         ensures ends { IfOk result (λ ends. ends ≡ ends_head self.new) }
         ensures faults { IfErr result (λ fault. (fault ≡ MessageFault.TurnLimit)
             ⊎ (fault ≡ MessageFault.Read) ⊎ (fault ≡ MessageFault.Memory)
@@ -70,9 +72,9 @@ impl Seen {
         ensures few { calls_of reader.new ≤ max limit (calls_of reader.old) }
         ensures reads { once_more limit (calls_of reader.old) ≤ calls_of reader.new }
     {
-        let before = self.bytes.len();
-        read_line_part(reader, limit, MOST_HEAD - before, &mut self.bytes)?;
-        self.progress = self.progress.through(&self.bytes[before..]);
+        let mut cut = HeadCut::new(self.progress, MOST_HEAD - self.bytes.len());
+        read_wanted(reader, limit, &mut cut, &mut self.bytes)?;
+        self.progress = cut.progress();
         Ok(self.progress.ends())
     }
 

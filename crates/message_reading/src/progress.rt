@@ -1,10 +1,11 @@
 // What of the bytes of a head decides on the next one.
-ghost use Rattle.std.specs.Prelude.{◌≡◌, ◌<◌, ◌≤◌, ◌+◌, ◌++◌, ◌∷◌, [], ℕ, List, ◌&&◌, length};
+ghost use Rattle.std.specs.Prelude.{◌≡◌, ◌<◌, ◌≤◌, ◌+◌, ◌++◌, ◌∷◌, ◌≢◌, ◌-◌, [], ℕ, List, All, ◌&&◌, length, take};
 ghost use Rattle.std.specs.Io.{StopsAt};
 ghost use Rattle.message_reading.specs.HeadBytes.{ended_by, ends_head, stays_blank};
-ghost use Rattle.message_reading.specs.Progress.{IsProgress, lines_of};
+ghost use Rattle.message_reading.specs.Progress.{IsCut, IsProgress, lines_of};
 
 use crate::ending::ends_empty;
+use memchr::memchr;
 
 /// What is kept beside the bytes of a head so far.
 #[derive(Clone, Copy, Drop)]
@@ -54,7 +55,9 @@ impl Progress {
     // What is kept after these bytes, one after the other.
     fn by_bytes(self, piece: &[u8]) -> Progress
         requires { lines_of self + length piece.now ≤ 18446744073709551615 }
-        ensures { (text : List ℕ) → IsProgress text self → IsProgress (text ++ piece.now) result }
+        ensures is { (text : List ℕ) → IsProgress text self
+            → IsProgress (text ++ piece.now) result }
+        ensures few { lines_of result ≤ lines_of self + length piece.now }
     {
         let mut progress = self;
         for byte in piece {
@@ -68,7 +71,9 @@ impl Progress {
     fn past(self, piece: &[u8]) -> Progress
         requires room { lines_of self + length piece.now ≤ 18446744073709551615 }
         requires stops { StopsAt piece.now 10 }
-        ensures { (text : List ℕ) → IsProgress text self → IsProgress (text ++ piece.now) result }
+        ensures is { (text : List ℕ) → IsProgress text self
+            → IsProgress (text ++ piece.now) result }
+        ensures few { lines_of result ≤ lines_of self + length piece.now }
     {
         let len = piece.len();
         if self.blank || len < 3 {
@@ -88,7 +93,9 @@ impl Progress {
     pub(crate) fn through(self, piece: &[u8]) -> Progress
         requires room { lines_of self + length piece.now ≤ 18446744073709551615 }
         requires stops { StopsAt piece.now 10 }
-        ensures { (text : List ℕ) → IsProgress text self → IsProgress (text ++ piece.now) result }
+        ensures is { (text : List ℕ) → IsProgress text self
+            → IsProgress (text ++ piece.now) result }
+        ensures few { lines_of result ≤ lines_of self + length piece.now }
     {
         let mut progress = self;
         let mut at = 0;
@@ -97,6 +104,28 @@ impl Progress {
             at += 1;
         }
         progress.past(&piece[at..])
+    }
+
+    /// What is kept after these bytes up to the end of a head among them, or after all of them, and
+    /// how many it is.
+    pub(crate) fn until_end(self, bytes: &[u8]) -> (Progress, usize)
+        requires room { lines_of self + length bytes.now ≤ 65536 }
+        ensures bound { result.1 ≤ length bytes.now }
+        ensures some { 0 < length bytes.now → 0 < result.1 }
+        ensures few { lines_of result.0 ≤ lines_of self + result.1 }
+        ensures cut { IsCut self result.0 (take result.1 bytes.now) }
+    {
+        let mut progress = self;
+        let mut at = 0;
+        while at < bytes.len() {
+            let len = line_len(&bytes[at..]);
+            progress = progress.through(&bytes[at..at + len]);
+            at += len;
+            if progress.ends() {
+                return (progress, at);
+            }
+        }
+        (progress, at)
     }
 
     /// The bytes are a head, or more.
@@ -127,4 +156,16 @@ fn ended(blank: bool, byte: u8) -> usize
     ensures most { result ≤ 1 }
 {
     if byte == b'\n' && !blank { 1 } else { 0 }
+}
+
+// How many bytes there are up to and including the first LF, or in all.
+fn line_len(bytes: &[u8]) -> usize
+    ensures bound { result ≤ length bytes.now }
+    ensures some { 0 < length bytes.now → 0 < result }
+    ensures before { All (λ b. b ≢ 10) (take (result - 1) bytes.now) }
+{
+    match memchr(b'\n', bytes) {
+        Some(at) => at + 1,
+        None => bytes.len(),
+    }
 }

@@ -3,7 +3,6 @@ use Rattle.counted_io.specs.Counted.{inner_of}
 use Rattle.message_reading.specs.declared.fault.Fault.TheVariants.{HeadTooLarge}
 use Rattle.message_reading.specs.HeadBytes.{ends_head, limit_lines}
 use Rattle.message_reading.proofs.Gathers.{gathered_over}
-use Rattle.message_reading.proofs.HeadProgress.{head_ends_in_lf}
 use Rattle.message_reading.proofs.HeadEnds.{head_given}
 use Rattle.message_reading.proofs.Pieces.{goes_on_piece, found_piece}
 use Rattle.message_reading.proofs.head_bytes.read_head.Goals as goal
@@ -16,10 +15,9 @@ loop-seen-preserved g c =
     let room : length c.loop-seen.seen + length gave.0 ≤ 65536 =
     omega (arith, gave.2, invariant.fits) in
     let more : ends_head (c.loop-seen.seen ++ gave.0) ≡ false = search rules in
-    let on = goes_on_piece ends_head 65536 HeadTooLarge 10 head_ends_in_lf
-    (left (inner_of c.args.reader.now)) (left (inner_of c.loop-seen.reader))
-    (left (inner_of c.read_on.new.reader)) c.loop-seen.seen gave.0 invariant.on gave.4 gave.1
-    gave.5 room more in
+    let on = goes_on_piece ends_head 65536 HeadTooLarge (left (inner_of c.args.reader.now))
+    (left (inner_of c.loop-seen.reader)) (left (inner_of c.read_on.new.reader)) c.loop-seen.seen
+    gave.0 invariant.on gave.4 gave.5 more in
     record {
       on = rw gave.3 on;
       fits = rw gave.3 (rw length-append room);
@@ -34,14 +32,11 @@ returns-then-branch-clause-head g c =
     let left = g.R.Read.remaining in
     let gave = c.in_ok-read_on.ensures.gave in
     let invariant = c.loop-seen.invariant in
-    let room : length c.loop-seen.seen + length gave.0 ≤ 65536 =
-    omega (arith, gave.2, invariant.fits) in
     let end : ends_head (c.loop-seen.seen ++ gave.0) ≡ true = search rules in
     let old = left (inner_of c.args.reader.now) in
     let new = left (inner_of c.read_on.new.reader) in
-    let found = found_piece ends_head 65536 HeadTooLarge 10 head_ends_in_lf old
-    (left (inner_of c.loop-seen.reader)) new c.loop-seen.seen gave.0 invariant.on gave.4 gave.1
-    gave.5 room end in
+    let found = found_piece ends_head 65536 HeadTooLarge old (left (inner_of c.loop-seen.reader))
+    new c.loop-seen.seen gave.0 invariant.on gave.4 gave.5 end in
     let head = c.into_head.ensures in
     head_given old new c.read_on.new.self c.into_head.result (rw gave.3 found) head.head head.lines
     head.fault head.too_large

@@ -2,33 +2,33 @@ use Rattle.std.proofs.Common.{arith, rules}
 use Rattle.std.proofs.lemmas.Grind.{common_steps}
 use Rattle.message_reading.proofs.head_bytes.Seen.read_on.Goals as goal
 
-pub returns-in_err-read_line_part-clause-gave : goal.returns-in_err-read_line_part-clause-gave
-returns-in_err-read_line_part-clause-gave g c = search rules
+pub returns-in_err-read_wanted-clause-gave : goal.returns-in_err-read_wanted-clause-gave
+returns-in_err-read_wanted-clause-gave g c = search rules
 
-pub returns-in_err-read_line_part-clause-ends : goal.returns-in_err-read_line_part-clause-ends
-returns-in_err-read_line_part-clause-ends g c = search rules
+pub returns-in_err-read_wanted-clause-ends : goal.returns-in_err-read_wanted-clause-ends
+returns-in_err-read_wanted-clause-ends g c = search rules
 
-pub returns-in_err-read_line_part-clause-faults : goal.returns-in_err-read_line_part-clause-faults
-returns-in_err-read_line_part-clause-faults g c = search rules
+pub returns-in_err-read_wanted-clause-faults : goal.returns-in_err-read_wanted-clause-faults
+returns-in_err-read_wanted-clause-faults g c = search rules
 
-pub returns-in_err-read_line_part-clause-early : goal.returns-in_err-read_line_part-clause-early
-returns-in_err-read_line_part-clause-early g c = search rules
+pub returns-in_err-read_wanted-clause-early : goal.returns-in_err-read_wanted-clause-early
+returns-in_err-read_wanted-clause-early g c = search rules
 
-pub returns-in_err-read_line_part-clause-read : goal.returns-in_err-read_line_part-clause-read
-returns-in_err-read_line_part-clause-read g c = search rules
+pub returns-in_err-read_wanted-clause-read : goal.returns-in_err-read_wanted-clause-read
+returns-in_err-read_wanted-clause-read g c = search rules
 
-pub returns-in_err-read_line_part-clause-unfailing :
-    goal.returns-in_err-read_line_part-clause-unfailing
-returns-in_err-read_line_part-clause-unfailing g c = search rules
+pub returns-in_err-read_wanted-clause-unfailing :
+    goal.returns-in_err-read_wanted-clause-unfailing
+returns-in_err-read_wanted-clause-unfailing g c = search rules
 
-pub returns-in_err-read_line_part-clause-turns : goal.returns-in_err-read_line_part-clause-turns
-returns-in_err-read_line_part-clause-turns g c = search rules
+pub returns-in_err-read_wanted-clause-turns : goal.returns-in_err-read_wanted-clause-turns
+returns-in_err-read_wanted-clause-turns g c = search rules
 
-pub returns-in_err-read_line_part-clause-few : goal.returns-in_err-read_line_part-clause-few
-returns-in_err-read_line_part-clause-few g c = search rules
+pub returns-in_err-read_wanted-clause-few : goal.returns-in_err-read_wanted-clause-few
+returns-in_err-read_wanted-clause-few g c = search rules
 
-pub returns-in_err-read_line_part-clause-reads : goal.returns-in_err-read_line_part-clause-reads
-returns-in_err-read_line_part-clause-reads g c = search rules
+pub returns-in_err-read_wanted-clause-reads : goal.returns-in_err-read_wanted-clause-reads
+returns-in_err-read_wanted-clause-reads g c = search rules
 
 pub returns-clause-gave : goal.returns-clause-gave
 returns-clause-gave g c = search rules

@@ -17,8 +17,8 @@ loop-byte-preserved c =
       few = omega (arith, c.after-progress.ensures.few, c.loop-byte.invariant.few);
     }
 
-pub returns : goal.returns
-returns c = λ text is.
+pub returns-clause-is : goal.returns-clause-is
+returns-clause-is c = λ text is.
     subst (λ seen. IsProgress (text ++ seen) c.loop-byte.progress)
     (take_all c.loop-byte.byte-index c.args.piece.now (search rules))
     (c.loop-byte.invariant.is text is)

@@ -3,8 +3,8 @@ use Rattle.std.proofs.lemmas.Grind.{common_steps}
 use Rattle.message_reading.proofs.LastBytes.{progress_behind}
 use Rattle.message_reading.proofs.progress.Progress.past.Goals as goal
 
-pub returns : goal.returns
-returns c = λ text is.
+pub returns-clause-is : goal.returns-clause-is
+returns-clause-is c = λ text is.
     let piece = c.args.piece.now in
     let long : 3 ≤ length piece = grind (arith, common_steps) in
     let begun : c.args.self.blank ≡ false = search rules in

@@ -18,11 +18,11 @@ loop-at-preserved c =
       inside = omega arith;
     }
 
-pub returns : goal.returns
-returns c = λ text is.
+pub returns-clause-is : goal.returns-clause-is
+returns-clause-is c = λ text is.
     let at = c.loop-at.at in
     let piece = c.args.piece.now in
-    let past = c.past.ensures (text ++ take at piece) (c.loop-at.invariant.is text is) in
+    let past = c.past.ensures.is (text ++ take at piece) (c.loop-at.invariant.is text is) in
     let rest : take (length piece - at) (drop at piece) ≡ drop at piece =
     take_rest piece at in
     subst (λ seen. IsProgress seen c.past.result)

@@ -1,6 +1,6 @@
 use Rattle.std.proofs.Common.{arith, rules}
 use Rattle.std.proofs.lemmas.Grind.{common_steps}
-use Rattle.message_reading.proofs.byte.read_line_part.Goals as goal
+use Rattle.message_reading.proofs.byte.read_wanted.Goals as goal
 
 pub returns-in_err-append-clause-gave : goal.returns-in_err-append-clause-gave
 returns-in_err-append-clause-gave g c = search rules
