@@ -4,4 +4,5 @@ pub mod Digits
 pub mod Lists
 pub mod First
 pub mod Short
+mod Usual
 pub mod PartLengths

@@ -7,7 +7,8 @@ ghost use Rattle.message_fields.specs.Lines.{is_named};
 ghost use Rattle.message_fields.specs.Parts.{parts, parts_named};
 ghost use Rattle.message_fields.specs.Lengths.{is_digits, limited, length_digits, length_of};
 
-use super::lines::{first_value, is_named};
+use super::lines::first_length;
+use super::names::is_content_length;
 use super::parts::{first_part, is_every_part};
 use message_parts::Header;
 
@@ -52,7 +53,7 @@ fn agrees(line: &Header, part: &[u8]) -> bool
     ensures { result ≡ (not (is_named (codes "content-length") line.now)
         || list_all (bytes_eq part.now) (parts line.now.value)) }
 {
-    !is_named(line, b"content-length") || is_every_part(line.value.as_slice(), part)
+    !is_content_length(line.name.as_slice()) || is_every_part(line.value.as_slice(), part)
 }
 
 /// Whether each part of each line of Content-Length is this one.
@@ -77,7 +78,7 @@ fn is_length(lines: &[Header], part: &[u8]) -> bool
 pub fn length_digits(lines: &[Header]) -> Option<&[u8]>
     ensures { option_map (λ digits. digits.now) result ≡ length_digits lines.now }
 {
-    let first = first_part(first_value(lines, b"content-length")?);
+    let first = first_part(first_length(lines)?);
     if is_length(lines, first) {
         Some(first)
     } else {

@@ -14,7 +14,9 @@ mod passed;
 mod target;
 
 pub use length::{LengthFault, length_digits, length_of};
-pub use lines::{asks_continue, count_named, first_value, is_chunked_alone};
-pub use names::is_same_name;
+pub use lines::{
+    asks_continue, count_hosts, count_lengths, count_named, first_value, is_chunked_alone,
+};
+pub use names::{is_host, is_same_name};
 pub use passed::{is_passed, is_passed_in_request};
 pub use target::{authority, is_target, is_whole_server, local_part, wants_slash};

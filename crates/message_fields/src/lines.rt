@@ -1,9 +1,9 @@
 // The lines of a name.
-ghost use Rattle.std.specs.Prelude.{◌≡◌, ◌&&◌, option_map};
+ghost use Rattle.std.specs.Prelude.{◌≡◌, ◌&&◌, codes, option_map};
 ghost use Rattle.message_fields.specs.Names.{same_name};
 ghost use Rattle.message_fields.specs.Lines.{is_named, count_named, first_value, has_word, is_chunked_alone, asks_continue};
 
-use super::names::is_same_name;
+use super::names::{is_content_length, is_host, is_same_name};
 use message_parts::Header;
 
 /// Whether the line has the name.
@@ -19,6 +19,40 @@ pub fn count_named(lines: &[Header], name: &[u8]) -> usize
     ensures { result ≡ count_named name.now lines.now }
 {
     lines.iter().filter(|line| is_named(line, name)).count()
+}
+
+/// How many lines are Host.
+pub fn count_hosts(lines: &[Header]) -> usize
+    ensures { result ≡ count_named (codes "host") lines.now }
+{
+    lines
+        .iter()
+        .filter(|line| is_host(line.name.as_slice()))
+        .count()
+}
+
+/// How many lines are Content-Length.
+pub fn count_lengths(lines: &[Header]) -> usize
+    ensures { result ≡ count_named (codes "content-length") lines.now }
+{
+    lines
+        .iter()
+        .filter(|line| is_content_length(line.name.as_slice()))
+        .count()
+}
+
+/// The value of the first line of Content-Length.
+pub(crate) fn first_length(lines: &[Header]) -> Option<&[u8]>
+    ensures { option_map (λ value. value.now) result
+        ≡ first_value (codes "content-length") lines.now }
+{
+    match lines
+        .iter()
+        .find(|line| is_content_length(line.name.as_slice()))
+    {
+        Some(line) => Some(line.value.as_slice()),
+        None => None,
+    }
 }
 
 /// The value of the first line of the name.

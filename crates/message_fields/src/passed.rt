@@ -7,7 +7,7 @@ ghost use Rattle.message_fields.specs.Parts.{parts};
 ghost use Rattle.message_fields.specs.Passed.{is_of_connection, is_of_coding, is_own, is_connection_option, is_passed, is_passed_in_request};
 
 use super::lines::is_named;
-use super::names::is_same_name;
+use super::names::{is_connection, is_content_length, is_host, is_same_name};
 use super::parts::has_part;
 use message_parts::Header;
 
@@ -16,7 +16,7 @@ use message_parts::Header;
 fn is_of_connection(name: &[u8]) -> bool
     ensures { result ≡ is_of_connection name.now }
 {
-    is_same_name(name, b"connection")
+    is_connection(name)
         || is_same_name(name, b"proxy-connection")
         || is_same_name(name, b"keep-alive")
         || is_same_name(name, b"upgrade")
@@ -30,7 +30,7 @@ fn is_of_coding(name: &[u8]) -> bool
     is_same_name(name, b"te")
         || is_same_name(name, b"trailer")
         || is_same_name(name, b"transfer-encoding")
-        || is_same_name(name, b"content-length")
+        || is_content_length(name)
 }
 
 /// Whether the field is of one connection alone.
@@ -51,7 +51,7 @@ fn names_field(line: &Header, name: &[u8]) -> bool
     if value.len() < name.len() {
         return false;
     }
-    is_named(line, b"connection") && has_part(value, name)
+    is_connection(line.name.as_slice()) && has_part(value, name)
 }
 
 /// Whether a Connection line names the field.
@@ -67,7 +67,7 @@ fn is_connection_option(lines: &[Header], name: &[u8]) -> bool
 pub fn is_passed(lines: &[Header], line: &Header) -> bool
     ensures { result ≡ is_passed lines.now line.now }
 {
-    is_named(line, b"host")
+    is_host(line.name.as_slice())
         || (!is_own(line.name.as_slice()) && !is_connection_option(lines, line.name.as_slice()))
 }
 

@@ -5,7 +5,9 @@ ghost use Rattle.message_reading.specs.Framing.{coded, hosts_fit, lengths_of, is
 use crate::fault::Fault;
 use crate::request_head::RequestHead;
 use crate::response_head::ResponseHead;
-use message_fields::{LengthFault, count_named, is_chunked_alone, is_target, length_of};
+use message_fields::{
+    LengthFault, count_hosts, count_lengths, count_named, is_chunked_alone, is_target, length_of,
+};
 use message_parts::{Header, Method};
 
 /// How the body of a message is delimited.
@@ -51,7 +53,7 @@ fn lengths_of(minor: u8, lines: &[Header], without: Framing) -> Result<Framing, 
     ensures { result ≡ lengths_of minor lines.now without }
 {
     let codings = count_named(lines, b"transfer-encoding");
-    let lengths = count_named(lines, b"content-length");
+    let lengths = count_lengths(lines);
     if codings > 0 && lengths > 0 {
         return Err(Fault::BothLengths);
     }
@@ -93,7 +95,7 @@ pub(crate) fn frame_request(head: &RequestHead) -> Result<Framing, Fault>
     if !is_target(method, head.target.as_str().as_bytes()) {
         return Err(Fault::Malformed);
     }
-    if !hosts_fit(head.minor, count_named(lines, b"host")) {
+    if !hosts_fit(head.minor, count_hosts(lines)) {
         return Err(Fault::Malformed);
     }
     lengths_of(head.minor, lines, Framing::Bodiless)

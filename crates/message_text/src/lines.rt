@@ -11,7 +11,7 @@ ghost use Rattle.message_text.specs.Forwarded.{hosted, length_lines, lent};
 
 use super::number::write_decimal;
 use counted_io::{Counted, WriteFault, write_all};
-use message_fields::{is_passed, is_passed_in_request, is_same_name};
+use message_fields::{is_host, is_passed, is_passed_in_request};
 use message_parts::Header;
 use std::io::Write;
 
@@ -102,7 +102,7 @@ fn write_hosted<W: Write>(
     let Some(authority) = authority else {
         return write_kept(writer, line);
     };
-    if is_same_name(line.name.as_slice(), b"host") {
+    if is_host(line.name.as_slice()) {
         write_line(writer, line.name.as_slice(), authority)
     } else {
         write_kept(writer, line)

@@ -1,8 +1,8 @@
 use Rattle.std.proofs.Common.{rules}
 use Rattle.message_fields.proofs.passed.is_passed.Goals as goal
 
-pub returns-then-is_named : goal.returns-then-is_named
-returns-then-is_named c = search rules
+pub returns-then-is_host : goal.returns-then-is_host
+returns-then-is_host c = search rules
 
 pub returns-then-not-is_own : goal.returns-then-not-is_own
 returns-then-not-is_own c = search rules

@@ -1,0 +1,10 @@
+use Rattle.std.proofs.Common.{rules, ◌≡◌, true}
+use Rattle.std.specs.Prelude.{codes}
+use Rattle.message_fields.proofs.Usual.{usual_connection, written_so}
+use Rattle.message_fields.proofs.names.is_connection.Goals as goal
+
+pub returns-then-eq : goal.returns-then-eq
+returns-then-eq c =
+    let found : c.eq.result ≡ true = search rules in
+    let is : c.args.name.now ≡ codes "Connection" = search rules in
+    written_so _ _ (codes "Connection") (codes "connection") found is usual_connection

@@ -1,0 +1,10 @@
+use Rattle.std.proofs.Common.{rules, ◌≡◌, true}
+use Rattle.std.specs.Prelude.{codes}
+use Rattle.message_fields.proofs.Usual.{usual_length, written_so}
+use Rattle.message_fields.proofs.names.is_content_length.Goals as goal
+
+pub returns-then-eq : goal.returns-then-eq
+returns-then-eq c =
+    let found : c.eq.result ≡ true = search rules in
+    let is : c.args.name.now ≡ codes "Content-Length" = search rules in
+    written_so _ _ (codes "Content-Length") (codes "content-length") found is usual_length
