@@ -1,4 +1,5 @@
 pub mod Kept
 pub mod Texts
 pub mod Apart
+mod Commonest
 pub mod Unambiguous

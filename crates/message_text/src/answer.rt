@@ -1,5 +1,5 @@
 // A response as it is written to the client.
-ghost use Rattle.std.specs.Prelude.{◌≡◌, ◌≤◌, true, OnOk, OnErr, codes, option_map, unwrap_or, if◌then◌else◌, [], ◌++◌};
+ghost use Rattle.std.specs.Prelude.{◌≡◌, ◌≤◌, true, OnOk, OnErr, IfSome, codes, option_map, unwrap_or, if◌then◌else◌, [], ◌++◌};
 ghost use Rattle.counted_io.specs.Counted.{failures_of, flushes_of, is_flushed};
 ghost use Rattle.counted_io.specs.Count.{raised};
 ghost use Rattle.counted_io.specs.Effects.{Wrote};
@@ -30,7 +30,23 @@ pub struct Answer<'a> {
     pub body: Option<&'a [u8]>,
 }
 
-/// Writes the first line of an answer.
+/// The first line of an answer with one of the commonest statuses.
+#[tactic(auto, unfolding(crate::specs::Answer::status_text, crate::specs::Answer::phrase_of))]
+fn common_line(status: u16) -> Option<&'static [u8]>
+    ensures { IfSome result (λ line. line.now ≡ status_text status) }
+{
+    match status {
+        200 => Some(b"HTTP/1.1 200 OK\r\n"),
+        204 => Some(b"HTTP/1.1 204 No Content\r\n"),
+        302 => Some(b"HTTP/1.1 302 Found\r\n"),
+        304 => Some(b"HTTP/1.1 304 Not Modified\r\n"),
+        404 => Some(b"HTTP/1.1 404 Not Found\r\n"),
+        429 => Some(b"HTTP/1.1 429 Too Many Requests\r\n"),
+        _ => None,
+    }
+}
+
+/// Writes the first line of an answer: in one piece, where it is a common one.
 #[tactic(auto, unfolding(crate::specs::Answer::status_text))]
 fn write_status<W: Write>(writer: &mut Counted<W>, status: u16) -> Result<(), WriteFault>
     requires three_digits { (100 ≤ status) × (status ≤ 999) }
@@ -39,6 +55,9 @@ fn write_status<W: Write>(writer: &mut Counted<W>, status: u16) -> Result<(), Wr
     ensures failed { OnErr result (IsWriteCause writer.old writer.new) }
     ensures flushes { flushes_of writer.new ≡ flushes_of writer.old }
 {
+    if let Some(line) = common_line(status) {
+        return write_all(writer, line);
+    }
     write_all(writer, b"HTTP/1.1 ")?;
     write_decimal(writer, u64::from(status))?;
     write_all(writer, b" ")?;
