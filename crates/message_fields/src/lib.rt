@@ -11,6 +11,7 @@ mod lines;
 mod names;
 mod parts;
 mod passed;
+mod passing;
 mod target;
 
 pub use length::{LengthFault, length_digits, length_of};
@@ -18,5 +19,5 @@ pub use lines::{
     asks_continue, count_hosts, count_lengths, count_named, first_value, is_chunked_alone,
 };
 pub use names::{is_host, is_same_name};
-pub use passed::{is_passed, is_passed_in_request};
+pub use passing::Passing;
 pub use target::{authority, is_target, is_whole_server, local_part, wants_slash};

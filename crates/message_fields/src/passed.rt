@@ -1,14 +1,16 @@
 // The lines that are passed on.
-ghost use Rattle.std.specs.Prelude.{◌≡◌, ◌&&◌, codes};
+ghost use Rattle.std.specs.Prelude.{◌≡◌, ◌<◌, ◌&&◌, ℕ, List, codes, false, length};
 ghost use Rattle.std.specs.List.{list_any};
 ghost use Rattle.message_fields.specs.Names.{same_name};
 ghost use Rattle.message_fields.specs.Lines.{is_named};
 ghost use Rattle.message_fields.specs.Parts.{parts};
 ghost use Rattle.message_fields.specs.Passed.{is_of_connection, is_of_coding, is_own, is_connection_option, is_passed, is_passed_in_request};
+ghost use Rattle.message_fields.specs.Passing.{lines_of};
 
 use super::lines::is_named;
 use super::names::{is_connection, is_content_length, is_host, is_same_name};
 use super::parts::has_part;
+use super::passing::Passing;
 use message_parts::Header;
 
 /// Whether the field says how one connection is used.
@@ -61,19 +63,62 @@ fn is_connection_option(lines: &[Header], name: &[u8]) -> bool
     lines.iter().any(|line| names_field(line, name))
 }
 
-/// Whether a line of a message with these lines is passed on: Host always, and another line where
-/// its field is not of one connection alone and no Connection line names it. Content-Length is not
-/// passed on, since it is written anew.
-pub fn is_passed(lines: &[Header], line: &Header) -> bool
-    ensures { result ≡ is_passed lines.now line.now }
+/// How long the value of a Connection line is; 0 of any other line.
+fn options_len(line: &Header) -> usize
+    ensures { (name : List ℕ) → result < length name → (is_named (codes "connection") line.now
+        && list_any (λ part. same_name part name) (parts line.now.value)) ≡ false }
 {
-    is_host(line.name.as_slice())
-        || (!is_own(line.name.as_slice()) && !is_connection_option(lines, line.name.as_slice()))
+    if is_connection(line.name.as_slice()) {
+        line.value.as_slice().len()
+    } else {
+        0
+    }
 }
 
-/// Whether a line of a request with these lines is passed on: as in any message, and Expect never.
-pub fn is_passed_in_request(lines: &[Header], line: &Header) -> bool
-    ensures { result ≡ is_passed_in_request lines.now line.now }
+/// How long the longest value of a Connection line is; 0 where there is no such line.
+fn longest_options(lines: &[Header]) -> usize
+    ensures { (name : List ℕ) → result < length name
+        → is_connection_option lines.now name ≡ false }
 {
-    is_passed(lines, line) && !is_named(line, b"expect")
+    let mut longest = 0;
+    for line in lines {
+        longest = longest.max(options_len(line));
+    }
+    longest
+}
+
+impl<'a> Passing<'a> {
+    /// These lines, of which the Connection lines are looked at once.
+    pub fn new(lines: &'a [Header]) -> Passing<'a>
+        ensures { lines_of result ≡ lines.now }
+    {
+        Passing {
+            lines,
+            longest: longest_options(lines),
+        }
+    }
+
+    // Whether a Connection line names the field.
+    fn is_option(&self, name: &[u8]) -> bool
+        ensures { result ≡ is_connection_option (lines_of self.now) name.now }
+    {
+        name.len() <= self.longest && is_connection_option(self.lines, name)
+    }
+
+    /// Whether a line of the message is passed on: Host always, and another line where its field is
+    /// not of one connection alone and no Connection line names it. Content-Length is not passed
+    /// on, since it is written anew.
+    pub fn is_passed(&self, line: &Header) -> bool
+        ensures { result ≡ is_passed (lines_of self.now) line.now }
+    {
+        let name = line.name.as_slice();
+        is_host(name) || (!is_own(name) && !self.is_option(name))
+    }
+
+    /// Whether a line is passed on where the message is a request: as in any, and Expect never.
+    pub fn is_passed_in_request(&self, line: &Header) -> bool
+        ensures { result ≡ is_passed_in_request (lines_of self.now) line.now }
+    {
+        self.is_passed(line) && !is_named(line, b"expect")
+    }
 }

@@ -6,12 +6,13 @@ ghost use Rattle.counted_io.specs.Effects.{Wrote};
 ghost use Rattle.counted_io.specs.Causes.{IsWriteCause};
 ghost use Rattle.message_fields.specs.Lines.{is_named};
 ghost use Rattle.message_fields.specs.Passed.{is_passed, is_passed_in_request, request_lines, response_lines};
+ghost use Rattle.message_fields.specs.Passing.{lines_of};
 ghost use Rattle.message_text.specs.Line.{line_of, line_text, lines_text, length_line};
 ghost use Rattle.message_text.specs.Forwarded.{hosted, length_lines, lent};
 
 use super::number::write_decimal;
 use counted_io::{Counted, WriteFault, write_all};
-use message_fields::{is_host, is_passed, is_passed_in_request};
+use message_fields::{Passing, is_host};
 use message_parts::Header;
 use std::io::Write;
 
@@ -112,19 +113,19 @@ fn write_hosted<W: Write>(
 /// Writes a line of a request with these lines, where it is passed on.
 fn write_passed_in_request<W: Write>(
     writer: &mut Counted<W>,
-    lines: &[Header],
+    passing: &Passing<'_>,
     line: &Header,
     authority: Option<&[u8]>,
 ) -> Result<(), WriteFault>
     ensures all { OnOk result (Wrote W.contents writer.old writer.new
-        (if is_passed_in_request lines.now line.now
+        (if is_passed_in_request (lines_of passing.now) line.now
         then line_text (hosted (lent authority.entry) line.now)
         else [])) }
     ensures unfailing { OnOk result (failures_of writer.new ≡ failures_of writer.old) }
     ensures failed { OnErr result (IsWriteCause writer.old writer.new) }
     ensures flushes { flushes_of writer.new ≡ flushes_of writer.old }
 {
-    if !is_passed_in_request(lines, line) {
+    if !passing.is_passed_in_request(line) {
         return Ok(());
     }
     write_hosted(writer, line, authority)
@@ -143,8 +144,9 @@ pub fn write_request_lines<W: Write>(
     ensures failed { OnErr result (IsWriteCause writer.old writer.new) }
     ensures flushes { flushes_of writer.new ≡ flushes_of writer.old }
 {
+    let passing = Passing::new(lines);
     for line in lines {
-        write_passed_in_request(writer, lines, line, authority)?;
+        write_passed_in_request(writer, &passing, line, authority)?;
     }
     Ok(())
 }
@@ -152,16 +154,16 @@ pub fn write_request_lines<W: Write>(
 /// Writes a line of a response with these lines, where it is passed on.
 fn write_passed<W: Write>(
     writer: &mut Counted<W>,
-    lines: &[Header],
+    passing: &Passing<'_>,
     line: &Header,
 ) -> Result<(), WriteFault>
     ensures all { OnOk result (Wrote W.contents writer.old writer.new
-        (if is_passed lines.now line.now then line_text line.now else [])) }
+        (if is_passed (lines_of passing.now) line.now then line_text line.now else [])) }
     ensures unfailing { OnOk result (failures_of writer.new ≡ failures_of writer.old) }
     ensures failed { OnErr result (IsWriteCause writer.old writer.new) }
     ensures flushes { flushes_of writer.new ≡ flushes_of writer.old }
 {
-    if !is_passed(lines, line) {
+    if !passing.is_passed(line) {
         return Ok(());
     }
     write_kept(writer, line)
@@ -178,8 +180,9 @@ pub fn write_response_lines<W: Write>(
     ensures failed { OnErr result (IsWriteCause writer.old writer.new) }
     ensures flushes { flushes_of writer.new ≡ flushes_of writer.old }
 {
+    let passing = Passing::new(lines);
     for line in lines {
-        write_passed(writer, lines, line)?;
+        write_passed(writer, &passing, line)?;
     }
     Ok(())
 }

@@ -1,5 +1,5 @@
 use Rattle.std.proofs.Common.{rules}
-use Rattle.message_fields.proofs.passed.is_passed.Goals as goal
+use Rattle.message_fields.proofs.passing.Passing.is_passed.Goals as goal
 
 pub returns-then-is_host : goal.returns-then-is_host
 returns-then-is_host c = search rules

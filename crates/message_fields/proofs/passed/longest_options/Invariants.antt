@@ -1,0 +1,15 @@
+use Rattle.std.proofs.Common.{◌≡◌, ◌<◌, ◌&&◌, ℕ, List, false, length, take}
+use Rattle.std.specs.Prelude.{codes}
+use Rattle.std.specs.List.{list_any}
+use Rattle.message_fields.specs.Names.{same_name}
+use Rattle.message_fields.specs.Lines.{is_named}
+use Rattle.message_fields.specs.Parts.{parts}
+use Rattle.message_fields.proofs.passed.longest_options.Given as goal
+
+-- none of the lines so far names a field of a longer name
+abbrev pub invariant-loop-line : goal.invariant-loop-line
+invariant-loop-line l =
+    (name : List ℕ) → l.longest < length name
+    → list_any (λ line. is_named (codes "connection") line
+    && list_any (λ part. same_name part name) (parts line.value)) (take l.line-index l.lines)
+    ≡ false
