@@ -7,6 +7,7 @@ use commands::{Run, words};
 use config_check::check_file;
 use counted_io::Counted;
 use fault_lines::tell_unread_words;
+use file_opening::SystemFiles;
 use load_command::run_load;
 use serve_command::{Service, serve_file};
 use std::env;
@@ -28,6 +29,7 @@ fn main(rt: HostRuntime) -> ExitCode {
             return ExitCode::from(error.exit_code() as u8);
         }
     };
+    let files = SystemFiles::new(&rt);
     let mut writer = Counted::new(rt.stdout());
     ExitCode::from(match run {
         Run::Text(task) => {
@@ -35,7 +37,7 @@ fn main(rt: HostRuntime) -> ExitCode {
             run_text(alloc, task, &mut reader, &mut writer, &mut errors)
         }
         Run::Check { path, explain } => {
-            check_file(&rt, alloc, path, explain, &mut writer, &mut errors)
+            check_file(&files, alloc, path, explain, &mut writer, &mut errors)
         }
         Run::Load { limit, workers } => {
             let mut reader = Counted::new(rt.stdin());
@@ -64,7 +66,7 @@ fn main(rt: HostRuntime) -> ExitCode {
                 client_timeout_ms,
                 report_seconds,
             };
-            serve_file(&rt, alloc, &service, &mut writer, &mut errors)
+            serve_file(&rt, &files, alloc, &service, &mut writer, &mut errors)
         }
     })
 }

@@ -1,7 +1,7 @@
 -- Settings that were had, and why they weren't.
 use Rattle.std.proofs.Common.{◌≡◌, ◌⊎◌, inl, inr, ℕ, true, List, Option, Result, Ok, Err, IfOk, IfErr, OnOk, IsErrAnd, refl, sym, subst}
 use Rattle.counted_io.specs.declared.counted.Counted.{Counted}
-use Rattle.counted_io.specs.Counted.{failures_of}
+use Rattle.counted_io.specs.Counted.{failures_of, inner_of}
 use Rattle.counted_io.specs.Effects.{Wrote}
 use Rattle.config_check.specs.declared.check_fault.CheckFault.{CheckFault}
 use Rattle.config_check.specs.declared.check_fault.CheckFault.TheVariants as Check
@@ -37,18 +37,21 @@ why_behind contents old between new words bytes (Err f) wrote is =
     inr (between, words, wrote, is)
 
 -- what is said of a reader is said of a file that was opened
-pub had_of_file : {F X : Type 0} (items : X → List ℕ) (remaining : F → Option (List ℕ))
-    (before after : Counted F) (r : Result X CheckFault)
-    → IfOk r (λ x. Held remaining before (items x))
+pub had_of_file : {F X : Type 0} (items : X → List ℕ) (Opened : F → Type 0)
+    (remaining : F → Option (List ℕ)) (before after : Counted F) (r : Result X CheckFault)
+    → Opened (inner_of before) → IfOk r (λ x. Held remaining before (items x))
     → OnOk r (failures_of after ≡ failures_of before)
-    → IfOk r (λ x. (b : Counted F) × (a : Counted F) × Held remaining b (items x)
-    × (failures_of a ≡ failures_of b))
-had_of_file items remaining before after (Ok x) held same = (before, after, held, same)
-had_of_file items remaining before after (Err f) held same = tt
+    → IfOk r (λ x. (b : Counted F) × (a : Counted F) × Opened (inner_of b)
+    × Held remaining b (items x) × (failures_of a ≡ failures_of b))
+had_of_file items Opened remaining before after (Ok x) opened held same =
+    (before, after, opened, held, same)
+had_of_file items Opened remaining before after (Err f) opened held same = tt
 
-pub unread_of_file : {F X : Type 0} (remaining : F → Option (List ℕ)) (before after : Counted F)
-    (r : Result X CheckFault) → IfErr r (IsUnread remaining before after)
-    → IfErr r (λ fault. (fault ≡ Check.Read) ⊎ (b : Counted F) × (a : Counted F)
-    × IsUnread remaining b a fault)
-unread_of_file remaining before after (Ok x) why = tt
-unread_of_file remaining before after (Err f) why = inr (before, after, why)
+pub unread_of_file : {F X : Type 0} (Unopened : Type 0) (Opened : F → Type 0)
+    (remaining : F → Option (List ℕ)) (before after : Counted F) (r : Result X CheckFault)
+    → Opened (inner_of before) → IfErr r (IsUnread remaining before after)
+    → IfErr r (λ fault. ((fault ≡ Check.Read) × Unopened) ⊎ (b : Counted F) × (a : Counted F)
+    × Opened (inner_of b) × IsUnread remaining b a fault)
+unread_of_file Unopened Opened remaining before after (Ok x) opened why = tt
+unread_of_file Unopened Opened remaining before after (Err f) opened why =
+    inr (before, after, opened, why)

@@ -4,7 +4,7 @@ use Rattle.toml.specs.Data.{Members}
 use Rattle.toml.specs.Errors.{IsBlank}
 use Rattle.counted_io.specs.declared.counted.Counted.{Counted}
 use Rattle.counted_io.specs.Causes.{IsMemoryCause, IsReadCause, IsWriteCause}
-use Rattle.counted_io.specs.Counted.{failures_of, is_flushed}
+use Rattle.counted_io.specs.Counted.{failures_of, inner_of, is_flushed}
 use Rattle.counted_io.specs.Effects.{IfLeft, Wrote}
 use Rattle.config_values.specs.declared.fault.ConfigFault.{ConfigFault}
 use Rattle.config_values.specs.declared.fault.ConfigFault.TheVariants as Config
@@ -102,18 +102,19 @@ IsWhyAfter true contents old new bytes fault =
     ((fault ≡ Check.Write) × IsWriteCause old new)
     ⊎ AfterWords true contents old (λ between. IsWhy between new bytes fault)
 
--- why the configuration of a file isn't accepted: no file was opened, or its bytes were not had,
--- and then nothing but an explanation is written; or no read failed, and it is why its bytes aren't
--- accepted
-abbrev pub IsWhyOfFile : {F W : Type 0} → Bool → (F → Option (List ℕ)) → (W → Option (List ℕ))
-    → Counted W → Counted W → CheckFault → Type 0
-IsWhyOfFile {F} explain remaining contents old new fault =
-    (((fault ≡ Check.Read)
-    ⊎ (before : Counted _) × (after : Counted _) × IsUnread remaining before after fault)
+-- why the configuration of a file isn't accepted, which couldn't be opened, or was: none was, or
+-- its bytes were not had, and then nothing but an explanation is written; or no read failed, and it
+-- is why its bytes aren't accepted
+abbrev pub IsWhyOfFile : {F W : Type 0} → Bool → Type 0 → (F → Type 0) → (F → Option (List ℕ))
+    → (W → Option (List ℕ)) → Counted W → Counted W → CheckFault → Type 0
+IsWhyOfFile {F} explain Unopened Opened remaining contents old new fault =
+    ((((fault ≡ Check.Read) × Unopened)
+    ⊎ (before : Counted F) × (after : Counted F) × Opened (inner_of before)
+    × IsUnread remaining before after fault)
     × (explain ≡ false → new ≡ old))
     ⊎ ((before : Counted F) × (after : Counted F) × (bytes : List ℕ)
-    × (failures_of after ≡ failures_of before) × Held remaining before bytes
-    × IsWhyAfter explain contents old new bytes fault)
+    × Opened (inner_of before) × (failures_of after ≡ failures_of before)
+    × Held remaining before bytes × IsWhyAfter explain contents old new bytes fault)
 
 -- REFUSED: the line of a fault is told, and this fault is why
 abbrev pub IsRefused : {E : Type 0} → (E → Option (List ℕ)) → Counted E → Counted E

@@ -1,6 +1,7 @@
 // A configuration, checked.
 ghost use Rattle.std.specs.Prelude.{◌≡◌, ◌⊎◌, ℕ, true, List, IfErr, OnOk};
 ghost use Rattle.counted_io.specs.declared.counted.Counted.{Counted as CountedValue};
+ghost use Rattle.counted_io.specs.Counted.{inner_of};
 ghost use Rattle.config_check.specs.Check.{Held, IsAccepted, IsAcceptedAfter, IsRefused, IsWhy, IsWhyAfter, IsWhyOfFile};
 ghost use Rattle.config_check.specs.CheckFault.{check_fault_text};
 ghost use Rattle.fault_lines.specs.FaultLine.{IsTold, fault_line};
@@ -11,18 +12,17 @@ use super::explained::{write_explanation, write_why_unread};
 use super::reading::{read_bytes, read_file_text};
 use counted_io::Counted;
 use fault_lines::{DONE, FAULT};
+use file_opening::Opener;
 use std::alloc::Global;
-use std::fs::Files;
 use std::io::Write;
 
-/// Checks the configuration in the file of a path, as [`check_text`] does, and answers the exit
-/// status.
+/// Checks the configuration in the file that is opened at a path, as [`check_text`] does, and
+/// answers the exit status.
 ///
 /// A file that can't be opened or read, isn't at its end after 2^25 reads, or has more than 1 MiB
 /// is reported as one that can't be read; where an explanation is asked for, its path and the
-/// system's words are written before, if they can be. Of opening no contract speaks, so which path
-/// was opened, and why that failed, is left open; what is said is said of a file's bytes.
-pub fn check_file<F: Files, W: Write, E: Write>(
+/// system's words are written before, if they can be.
+pub fn check_file<F: Opener, W: Write, E: Write>(
     files: &F,
     alloc: Global,
     path: &str,
@@ -32,13 +32,14 @@ pub fn check_file<F: Files, W: Write, E: Write>(
 ) -> u8
     ensures status { (result ≡ 0) ⊎ (result ≡ 1) }
     ensures accepted { result ≡ 0 → (file : CountedValue F.File) × (bytes : List ℕ)
-        × Held F.File.remaining file bytes
+        × F.opened path.now (inner_of file) × Held F.File.remaining file bytes
         × IsAcceptedAfter explain W.contents writer.old writer.new bytes }
     ensures quiet { result ≡ 0 → errors.new ≡ errors.old }
 
     // The first fault is told: of a file whose bytes were not had, or of its bytes.
     ensures refused { result ≡ 1 → IsRefused E.contents errors.old errors.new
-        (IsWhyOfFile explain F.File.remaining W.contents writer.old writer.new) }
+        (IsWhyOfFile explain (F.unopened path.now) (F.opened path.now) F.File.remaining
+        W.contents writer.old writer.new) }
 {
     match read_file_text(files, alloc, path) {
         Ok(text) => check_text(alloc, &text, explain, writer, errors),

@@ -5,8 +5,8 @@ ghost use Rattle.counted_io.specs.Causes.{IsWriteCause};
 
 use config_explain::{explanation, why_unread};
 use counted_io::{Counted, WriteFault, write_and_flush};
+use file_opening::Opener;
 use std::alloc::Global;
-use std::fs::Files;
 use std::io::Write;
 
 /// Writes what there is to say of the bytes of a configuration; nothing where it is out of memory.
@@ -26,7 +26,7 @@ pub(crate) fn write_explanation<W: Write>(
 }
 
 /// Writes why a file can't be read, if that is asked for, and if it can be.
-pub(crate) fn write_why_unread<F: Files, W: Write>(
+pub(crate) fn write_why_unread<F: Opener, W: Write>(
     files: &F,
     alloc: Global,
     path: &str,

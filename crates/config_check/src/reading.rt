@@ -2,15 +2,15 @@
 ghost use Rattle.std.specs.Prelude.{◌≡◌, ◌≤◌, ◌+◌, ◌⊎◌, Ok, IfErr, IfOk, OnOk};
 ghost use Rattle.counted_io.specs.declared.counted.Counted.{Counted as CountedValue};
 ghost use Rattle.counted_io.specs.Causes.{HasRead};
-ghost use Rattle.counted_io.specs.Counted.{calls_of, failures_of};
+ghost use Rattle.counted_io.specs.Counted.{calls_of, failures_of, inner_of};
 ghost use Rattle.gate_config.specs.Settings.{AreSound};
 ghost use Rattle.config_check.specs.Check.{Held, IsFaultOf, IsUnread, Says, most_reads};
 
 use super::check_fault::CheckFault;
 use counted_io::{Counted, read_all};
+use file_opening::Opener;
 use gate_config::{Settings, read};
 use std::alloc::Global;
-use std::fs::{File, Files};
 use std::io::Read;
 
 /// The most bytes of a configuration: 1 MiB.
@@ -19,19 +19,26 @@ const MOST_CONFIG: usize = 1_048_576;
 /// The most reads that it may take: 2^25.
 const MOST_READS: u64 = 33_554_432;
 
-/// The text of the configuration in the file of a path: at most 1 MiB, in at most 2^25 reads.
+/// The text of the configuration in the file that is opened at a path: at most 1 MiB, in at most
+/// 2^25 reads.
 ///
 /// A file that can't be opened or read, isn't at its end after so many reads, or has more is told
 /// as one that can't be read; else the fault is that of running out of memory.
-pub fn read_file_text<F: Files>(files: &F, alloc: Global, path: &str) -> Result<Vec<u8>, CheckFault>
+pub fn read_file_text<F: Opener>(
+    files: &F,
+    alloc: Global,
+    path: &str,
+) -> Result<Vec<u8>, CheckFault>
     ensures text { IfOk result (λ text. (before : CountedValue F.File)
-        × (after : CountedValue F.File) × Held F.File.remaining before text.items
+        × (after : CountedValue F.File) × F.opened path.now (inner_of before)
+        × Held F.File.remaining before text.items
         × (failures_of after ≡ failures_of before)) }
-    ensures refused { IfErr result (λ fault. (fault ≡ CheckFault.Read)
+    ensures refused { IfErr result (λ fault. ((fault ≡ CheckFault.Read) × F.unopened path.now)
         ⊎ (before : CountedValue F.File) × (after : CountedValue F.File)
+        × F.opened path.now (inner_of before)
         × IsUnread F.File.remaining before after fault) }
 {
-    match File::open(files, path) {
+    match files.open(path) {
         Ok(file) => read_text(alloc, &mut Counted::new(file)),
         Err(_) => Err(CheckFault::Read),
     }

@@ -1,11 +1,11 @@
 // Why a file can't be read.
+use file_opening::Opener;
 use std::alloc::{AllocError, Global};
-use std::fs::{File, Files};
 use std::io::Read;
 
 /// What is said of a file that can't be read: its path and the system's words.
-pub fn why_unread<F: Files>(files: &F, alloc: Global, path: &str) -> Result<String, AllocError> {
-    let mut file = match File::open(files, path) {
+pub fn why_unread<F: Opener>(files: &F, alloc: Global, path: &str) -> Result<String, AllocError> {
+    let mut file = match files.open(path) {
         Ok(file) => file,
         Err(error) => return format!(in alloc; "{path}: {error}\n"),
     };

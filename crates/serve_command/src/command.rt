@@ -1,8 +1,11 @@
 // The gateway of a configuration, from its file to its counters.
-ghost use Rattle.std.specs.Prelude.{◌≡◌, ◌≤◌, ◌⊎◌, IfErr, OnOk};
+ghost use Rattle.std.specs.Prelude.{◌≡◌, ◌≤◌, ◌⊎◌, IfErr, IfOk, Ok, OnOk};
+ghost use Rattle.limit_kinds.specs.AnyKinds.{any_rules};
 ghost use Rattle.gate_config.specs.Settings.{AreSound};
+ghost use Rattle.shared_gate.specs.Reported.{AreCountersOf};
 ghost use Rattle.fault_lines.specs.FaultLine.{IsTold, fault_line};
-ghost use Rattle.serve_command.specs.Command.{HasServed, IsOfServing, IsWhyOfService};
+ghost use Rattle.config_check.specs.Check.{Says};
+ghost use Rattle.serve_command.specs.Command.{HasServed, IsOfServing, IsWhyOfService, making_of};
 ghost use Rattle.serve_command.specs.ServiceFault.{service_fault_text};
 
 use crate::config_text::ConfigText;
@@ -13,13 +16,13 @@ use clocks::ProgramClock;
 use config_check::{read_bytes, read_file_text};
 use counted_io::Counted;
 use fault_lines::{DONE, FAULT};
+use file_opening::Opener;
 use gate_config::Settings;
 use limiter_core::Counters;
 use log::Log;
 use serve_reports::{Watcher, write_counters};
 use serving::WorkerSettings;
 use std::alloc::Global;
-use std::fs::Files;
 use std::io::Write;
 use std::net::{Net, SocketAddr, SocketAddrV4};
 use std::sync::Wait;
@@ -50,21 +53,23 @@ pub struct Service<'a> {
     pub report_seconds: Option<u32>,
 }
 
-/// Serves clients by the configuration in a file, and at the end of all workers writes the line of
-/// the gate's counters to `writer`; or the line of the first fault to `errors`. Answers the exit
-/// status.
+/// Serves clients by the configuration in the file that is opened at the path, and at the end of
+/// all workers writes the line of the gate's counters to `writer`; or the line of the first fault
+/// to `errors`. Answers the exit status.
 ///
 /// Once the address is bound the log says so. Either line is flushed. Where the line of a fault
 /// can't be written itself, it is dropped.
-pub fn serve_file<R, W, E>(
+pub fn serve_file<R, F, W, E>(
     rt: &R,
+    files: &F,
     alloc: Global,
     service: &Service<'_>,
     writer: &mut Counted<W>,
     errors: &mut Counted<E>,
 ) -> u8
 where
-    R: Files + Net + Threads + Wait + SystemClock + Log + Sync,
+    R: Net + Threads + Wait + SystemClock + Log + Sync,
+    F: Opener,
     W: Write,
     E: Write,
     R::Stream: Send + Sync,
@@ -74,63 +79,73 @@ where
     ensures status { (result ≡ 0) ⊎ (result ≡ 1) }
 
     // The line of counters is written, and nothing else.
-    ensures served { result ≡ 0 → HasServed R.File.remaining W.contents writer.old writer.new }
+    ensures served { result ≡ 0 → HasServed (F.opened service.now.path.now) F.File.remaining
+        W.contents writer.old writer.new }
     ensures quiet { result ≡ 0 → errors.new ≡ errors.old }
 
     // The first fault is told.
     ensures refused { result ≡ 1 → (fault : ServiceFault)
         × IsTold E.contents errors.old errors.new (fault_line (service_fault_text fault))
-        × IsWhyOfService R.File.remaining writer.old writer.new fault }
+        × IsWhyOfService (F.unopened service.now.path.now) (F.opened service.now.path.now)
+        F.File.remaining writer.old writer.new fault }
 {
-    match serve_and_count(rt, alloc, service, writer) {
+    match serve_and_count(rt, files, alloc, service, writer) {
         Ok(()) => DONE,
         Err(fault) => report(errors, fault),
     }
 }
 
 /// Serves, and writes the counters.
-fn serve_and_count<R, W>(
+fn serve_and_count<R, F, W>(
     rt: &R,
+    files: &F,
     alloc: Global,
     service: &Service<'_>,
     writer: &mut Counted<W>,
 ) -> Result<(), ServiceFault>
 where
-    R: Files + Net + Threads + Wait + SystemClock + Log + Sync,
+    R: Net + Threads + Wait + SystemClock + Log + Sync,
+    F: Opener,
     W: Write,
     R::Stream: Send + Sync,
     R::Listener: Send + Sync,
     requires some { 1 ≤ service.now.workers }
     requires few { service.now.workers ≤ 64 }
-    ensures served { OnOk result (HasServed R.File.remaining W.contents writer.old writer.new) }
-    ensures refused { IfErr result (IsWhyOfService R.File.remaining writer.old writer.new) }
+    ensures served { OnOk result (HasServed (F.opened service.now.path.now) F.File.remaining
+        W.contents writer.old writer.new) }
+    ensures refused { IfErr result (IsWhyOfService (F.unopened service.now.path.now)
+        (F.opened service.now.path.now) F.File.remaining writer.old writer.new) }
 {
-    let text = read_file_text(rt, alloc, service.path)?;
+    let text = read_file_text(files, alloc, service.path)?;
     let settings = read_bytes(alloc, &text)?;
-    let counters = serve_settings(rt, alloc, &ConfigText::new(text), &settings, service)?;
+    let counters = serve_settings(rt, files, alloc, &ConfigText::new(text), &settings, service)?;
     write_counters(writer, &counters)?;
     Ok(())
 }
 
 /// Serves by these settings, which are those of the text.
-fn serve_settings<R>(
+fn serve_settings<R, F>(
     rt: &R,
+    files: &F,
     alloc: Global,
     text: &ConfigText,
     settings: &Settings,
     service: &Service<'_>,
 ) -> Result<Counters, ServiceFault>
 where
-    R: Files + Net + Threads + Wait + SystemClock + Log + Sync,
+    R: Net + Threads + Wait + SystemClock + Log + Sync,
+    F: Opener,
     R::Stream: Send + Sync,
     R::Listener: Send + Sync,
+    requires says { Says text.now.bytes.items (Ok settings.now) }
     requires sound { AreSound settings.now }
     requires some { 1 ≤ service.now.workers }
     requires few { service.now.workers ≤ 64 }
-    ensures { IfErr result IsOfServing }
+    ensures counted { IfOk result (AreCountersOf any_rules (making_of settings.now)) }
+    ensures refused { IfErr result IsOfServing }
 {
     let front = bind(rt, settings.listen.socket())?;
-    log_listening(rt, alloc, settings, service.workers);
+    log_listening(rt, files, alloc, settings, service.workers);
     let clock = ProgramClock::start(rt);
     let watch = Watcher::new(rt, alloc, service.workers);
     let common = WorkerSettings {

@@ -1,7 +1,7 @@
 // How many descriptors the system gives this program.
 use config_check::read_file_text;
+use file_opening::Opener;
 use std::alloc::Global;
-use std::fs::Files;
 
 /// Where Linux tells a process its limits, a line each.
 const LIMITS: &str = "/proc/self/limits";
@@ -10,7 +10,7 @@ const LIMITS: &str = "/proc/self/limits";
 const LINE: &str = "Max open files";
 
 /// How many descriptors this program may have, where the system tells that.
-pub(crate) fn most_descriptors<F: Files>(files: &F, alloc: Global) -> Option<u64> {
+pub(crate) fn most_descriptors<F: Opener>(files: &F, alloc: Global) -> Option<u64> {
     let text = read_file_text(files, alloc, LIMITS).ok()?;
     told_in(str::from_utf8(&text).ok()?)
 }

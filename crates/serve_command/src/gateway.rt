@@ -1,10 +1,13 @@
 // The gate of a configuration, and its workers.
-ghost use Rattle.std.specs.Prelude.{◌≡◌, ◌≤◌, true};
+ghost use Rattle.std.specs.Prelude.{◌≡◌, ◌≤◌, true, IfOk};
 ghost use Rattle.limit_kinds.specs.AnyKinds.{any_rules};
 ghost use Rattle.gate_ledgers.specs.Course.{course_of};
 ghost use Rattle.gate_ledgers.specs.Names.{AreNamed, AreWhole};
 ghost use Rattle.gate_config.specs.Settings.{AreSound};
+ghost use Rattle.gate_history.specs.Book.{made_as};
 ghost use Rattle.shared_gate.specs.Log.{CallsLegal};
+ghost use Rattle.shared_gate.specs.Reported.{AreCountersOf};
+ghost use Rattle.serve_command.specs.Command.{making_of};
 
 use clocks::Clock;
 use gate_config::Settings;
@@ -44,7 +47,9 @@ where
     L::To: Send + Sync,
     R::Stream: Send + Sync,
     R::Listener: Send + Sync,
+    requires given { S.gives common.now.source.now settings.now }
     requires sound { AreSound settings.now }
+    ensures { IfOk result (AreCountersOf any_rules (making_of settings.now)) }
 {
     let word = Word::new(common.alloc)?;
     serve_named::<Brand, R, L, C, S, W>(rt, common, settings, workers, Blanks::new(), word)
@@ -83,6 +88,7 @@ where
     requires sound { AreSound settings.now }
     requires legal { CallsLegal any_rules settings.now.table settings.now.backlog
         settings.now.promote settings.now.limit M.legal }
+    ensures { IfOk result (AreCountersOf any_rules (making_of settings.now)) }
 {
     let (gate, passes) = open_gate::<M>(common.alloc, settings, blanks, word, workers)?;
     serve_through(rt, common, settings, &gate, passes)
@@ -110,6 +116,8 @@ where
     L::To: Send + Sync,
     R::Stream: Send + Sync,
     R::Listener: Send + Sync,
+    ensures { IfOk result (AreCountersOf G.rules
+        (made_as M.rows M.room M.promote M.kept M.is_rolling M.limit)) }
 {
     let ports = make_ports(rt, common.alloc, gate, common.clock, passes)?;
     let _left = serve(rt, common, settings, &View::new(rt, gate), ports)?;

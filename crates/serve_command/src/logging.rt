@@ -4,11 +4,11 @@ ghost use Rattle.gate_config.specs.Settings.{AreSound};
 ghost use Rattle.serve_command.specs.Command.{most_inside};
 
 use crate::descriptors::most_descriptors;
+use file_opening::Opener;
 use gate_config::Settings;
 use limit_laws::Limit;
 use log::{Log, error, info, warn};
 use std::alloc::Global;
-use std::fs::Files;
 use std::io::Error;
 use std::net::SocketAddrV4;
 
@@ -21,8 +21,9 @@ const MOST_WORKERS: u64 = 64;
 /// where the workers may want more descriptors than the system gives; one where the backend is this
 /// gateway itself, since each request would then take one worker after the other; and at last where
 /// clients are listened for, by how many workers, and the kind of limit.
-pub(crate) fn log_listening<R: Files + Log>(
+pub(crate) fn log_listening<R: Log, F: Opener>(
     rt: &R,
+    files: &F,
     alloc: Global,
     settings: &Settings,
     workers: u32,
@@ -35,7 +36,7 @@ pub(crate) fn log_listening<R: Files + Log>(
         warn!(rt; target: "admission", inside, workers, wanted;
             "limit, shares and backlog exceed the workers: past these nobody is served or refused");
     }
-    log_descriptors(rt, alloc, workers);
+    log_descriptors(rt, files, alloc, workers);
     let address = settings.listen.socket();
     let backend = settings.backend.socket();
     if leads_back(address, backend) {
@@ -53,9 +54,9 @@ pub(crate) fn log_unbound<R: Log>(rt: &R, address: SocketAddrV4, error: &Error) 
 
 /// Logs a warning where each worker with a client and a backend would want more descriptors than
 /// the system gives, with some for the program itself.
-fn log_descriptors<R: Files + Log>(rt: &R, alloc: Global, workers: u32) {
+fn log_descriptors<R: Log, F: Opener>(rt: &R, files: &F, alloc: Global, workers: u32) {
     let wanted = 2 * u64::from(workers) + 8;
-    let Some(descriptors) = most_descriptors(rt, alloc) else {
+    let Some(descriptors) = most_descriptors(files, alloc) else {
         return;
     };
     if descriptors < wanted {

@@ -11,6 +11,7 @@ returns-in-Ok-clause-accepted g c is =
       had.0,
       bytes,
       had.2,
+      had.3,
       subst (λ (xs : List ℕ). IsAcceptedAfter c.args.explain g.W.Write.contents
           c.args.writer.now c.check_text.new.writer xs) same (c.check_text.ensures.accepted is),
     )
@@ -27,8 +28,9 @@ returns-in-Ok-clause-refused g c is =
         had.0,
         had.1,
         bytes,
-        had.3,
         had.2,
+        had.4,
+        had.3,
         subst (λ (xs : List ℕ). IsWhyAfter c.args.explain g.W.Write.contents
             c.args.writer.now c.check_text.new.writer xs why.0) same why.2,
       ),

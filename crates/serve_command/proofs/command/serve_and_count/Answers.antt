@@ -1,7 +1,7 @@
 use Rattle.std.proofs.Common.{rules, ◌≡◌, ℕ, List, Ok, Err, subst}
 use Rattle.config_check.specs.Check.{IsFaultOf, Says}
 use Rattle.serve_command.specs.declared.fault.ServiceFault.TheVariants as Service
-use Rattle.serve_command.proofs.Whys.{why_unread, why_unset}
+use Rattle.serve_command.proofs.Whys.{why_unread, why_unserved, why_unset, why_unwritten}
 use Rattle.serve_command.proofs.command.serve_and_count.Goals as goal
 
 pub returns-in_err-text-clause-refused :
@@ -9,8 +9,9 @@ pub returns-in_err-text-clause-refused :
 returns-in_err-text-clause-refused g c =
     let fault = c.in_err-text.field-0.0 in
     let is : c.from_residual.result ≡ Err (Service.Config fault) = search rules in
-    why_unread g.R.File.Read.remaining c.args.writer.now c.from_residual.result fault is
-    c.in_err-text.ensures.refused
+    let path = c.args.service.now.path.now in
+    why_unread (g.F.Opener.unopened path) (g.F.Opener.opened path) g.F.File.Read.remaining
+    c.args.writer.now c.from_residual.result fault is c.in_err-text.ensures.refused
 
 pub returns-in_err-settings-clause-refused : goal.returns-in_err-settings-clause-refused
 returns-in_err-settings-clause-refused g c =
@@ -18,22 +19,51 @@ returns-in_err-settings-clause-refused g c =
     let is : c.from_residual-in_err-settings.result ≡ Err (Service.Config fault) = search rules in
     let bytes = c.in_ok-text.text.items in
     let same : c.deref.result.now ≡ bytes = search rules in
-    why_unset g.R.File.Read.remaining c.args.writer.now c.from_residual-in_err-settings.result
-    fault is bytes c.in_ok-text.ensures.text
+    let path = c.args.service.now.path.now in
+    why_unset (g.F.Opener.unopened path) (g.F.Opener.opened path) g.F.File.Read.remaining
+    c.args.writer.now c.from_residual-in_err-settings.result fault is bytes
+    c.in_ok-text.ensures.text
     (subst (λ (xs : List ℕ). IsFaultOf xs fault) same c.in_err-settings.ensures.refused)
+
+pub returns-in_err-counters-clause-refused : goal.returns-in_err-counters-clause-refused
+returns-in_err-counters-clause-refused g c =
+    let had = c.in_ok-text.ensures.text in
+    let bytes = c.in_ok-text.text.items in
+    let s = c.in_ok-settings.settings in
+    let says : Says bytes (Ok s) = search rules in
+    let fault = c.in_err-counters.field-0.0 in
+    let is : c.from_residual-in_err-counters.result ≡ Err fault = search rules in
+    let path = c.args.service.now.path.now in
+    why_unserved (g.F.Opener.unopened path) (g.F.Opener.opened path) g.F.File.Read.remaining
+    c.args.writer.now c.from_residual-in_err-counters.result fault is
+    c.in_err-counters.ensures.refused
+    (s, (had.0, bytes, had.2, had.3, says))
+
+pub returns-in_err-write_counters-clause-refused :
+    goal.returns-in_err-write_counters-clause-refused
+returns-in_err-write_counters-clause-refused g c =
+    let had = c.in_ok-text.ensures.text in
+    let bytes = c.in_ok-text.text.items in
+    let s = c.in_ok-settings.settings in
+    let says : Says bytes (Ok s) = search rules in
+    let is : c.from_residual-in_err-write_counters.result ≡ Err Service.Write = search rules in
+    let path = c.args.service.now.path.now in
+    why_unwritten (g.F.Opener.unopened path) (g.F.Opener.opened path) g.F.File.Read.remaining
+    c.args.writer.now c.write_counters.new.writer c.from_residual-in_err-write_counters.result is
+    c.in_err-write_counters.ensures.failed
+    (s, (had.0, bytes, had.2, had.3, says))
 
 -- the file and its text, its settings, and the counters that were written
 pub returns-clause-served : goal.returns-clause-served
 returns-clause-served g c =
     let had = c.in_ok-text.ensures.text in
     let bytes = c.in_ok-text.text.items in
-    let says : Says bytes (Ok c.in_ok-settings.settings) = search rules in (
-      had.0,
-      bytes,
-      c.in_ok-settings.settings,
-      had.2,
-      says,
+    let s = c.in_ok-settings.settings in
+    let says : Says bytes (Ok s) = search rules in (
+      s,
+      (had.0, bytes, had.2, had.3, says),
       c.in_ok-counters.counters,
+      c.in_ok-counters.ensures.counted,
       c.in_ok-write_counters.ensures.all,
       c.in_ok-write_counters.ensures.unfailing,
       c.in_ok-write_counters.ensures.flushed,
