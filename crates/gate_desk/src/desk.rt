@@ -1,0 +1,112 @@
+// The desk of a gateway that serves.
+ghost use Rattle.std.specs.Prelude.{◌≡◌};
+ghost use Rattle.gate_desk.specs.Desk.{outcome_of};
+
+use clocks::Clock;
+use gate_history::{Receipt, Spent};
+use gate_port::Report;
+use limit_laws::{Limit, SetFault};
+use limiter_core::Reply;
+use log::{Log, warn};
+use operator_serving::{ChangeFault, Desk};
+use partitions::PartitionTable;
+use serve_reports::{Noted, Watcher};
+use shared_gate::{GateNaming, Pass, SharedGate};
+use std::sync::Wait;
+use std::time::{Clock as SystemClock, Duration};
+use timed_io::Listener;
+
+/// Where an operator looks at a gateway and changes it, by a pass of its own.
+#[derive(Drop)]
+pub struct GateDesk<'a, G: Limit, M: GateNaming, R: SystemClock, L, C> {
+    /// What locks, logs and tells the time.
+    pub rt: &'a R,
+    /// The gate that stands between clients and the backend.
+    pub gate: &'a SharedGate<G, M>,
+    /// The pass by which its limit is changed.
+    pub pass: Pass<M>,
+    /// What noted exchanges and troubles.
+    pub watch: &'a Watcher<'a, R>,
+    /// Where clients come from.
+    pub front: &'a L,
+    /// The clock of the gate's moments.
+    pub clock: &'a C,
+    /// The classes of callers, with their shares.
+    pub table: PartitionTable,
+    /// How long a connection that waits may still be accepted as the gateway drains.
+    pub most: Duration,
+}
+
+impl<'a, G, M, R, L, C> Desk for GateDesk<'a, G, M, R, L, C>
+where
+    G: Limit,
+    M: GateNaming,
+    R: SystemClock + Wait + Log,
+    L: Listener,
+    C: Clock,
+{
+    ghost use Rattle.gate_history.specs.Book.{made_as};
+    ghost use Rattle.gate_desk.specs.Desk.{DoneBy, ShownBy};
+
+    ghost rows = { λ desk. desk.table };
+
+    ghost shows = { λ desk sight. ShownBy G.rules
+        (made_as M.rows M.room M.promote M.kept M.is_rolling M.limit) sight };
+
+    ghost does = { λ before after deed. DoneBy before.pass after.pass deed };
+
+    fn table(&self) -> &PartitionTable {
+        &self.table
+    }
+
+    fn report(&self) -> Report {
+        self.gate.report(self.rt)
+    }
+
+    fn noted(&self) -> Noted {
+        self.watch.noted()
+    }
+
+    fn is_accepting(&self) -> bool {
+        self.front.is_open()
+    }
+
+    fn set_limit(&mut self, n: u32) -> Result<(), ChangeFault> {
+        let now = self.clock.now();
+        let told = self.gate.set_limit(self.rt, &mut self.pass, n, now);
+        let outcome = outcome_of(told);
+        if outcome.is_ok() {
+            warn!(self.rt; target: "admission", limit = n; "the operator set the limit");
+        }
+        outcome
+    }
+
+    fn reset(&mut self) -> Result<(), ChangeFault> {
+        let now = self.clock.now();
+        let told = self.gate.reset(self.rt, &mut self.pass, now);
+        let outcome = outcome_of(told);
+        if outcome.is_ok() {
+            warn!(self.rt; target: "admission", "the operator reset the limit");
+        }
+        outcome
+    }
+
+    fn drain(&mut self) {
+        warn!(self.rt; target: "admission", "the operator drains the gateway");
+        self.front.close(self.rt, self.most);
+    }
+}
+
+/// What became of a change, by what the gate told.
+fn outcome_of<M: GateNaming>(told: Result<Receipt<M>, Spent<M>>) -> Result<(), ChangeFault>
+    ensures { result ≡ outcome_of told }
+{
+    match told {
+        Ok(receipt) => match receipt.reply() {
+            Reply::Refused(SetFault::NotSettable) => Err(ChangeFault::NotSettable),
+            Reply::Refused(SetFault::OutOfRange) => Err(ChangeFault::OutOfRange),
+            _ => Ok(()),
+        },
+        Err(_) => Err(ChangeFault::Exhausted),
+    }
+}

@@ -1,0 +1,65 @@
+// The thread of an operator.
+use crate::desk::GateDesk;
+use clocks::Clock;
+use limit_laws::Limit;
+use log::Log;
+use operator_serving::{Buffers, Operating, operate};
+use shared_gate::GateNaming;
+use std::alloc::AllocError;
+use std::sync::Wait;
+use std::time::Clock as SystemClock;
+use tasks::Task;
+use timed_io::Listener;
+
+/// Serves one operator after the other at a gateway's desk, until their listener is closed.
+#[derive(Drop)]
+pub struct Operator<'a, G: Limit, M: GateNaming, R: SystemClock, L, C> {
+    common: &'a Operating<'a, L, C>,
+    desk: GateDesk<'a, G, M, R, L, C>,
+    buffers: Buffers,
+}
+
+impl<'a, G: Limit, M: GateNaming, R: SystemClock, L, C> Operator<'a, G, M, R, L, C> {
+    /// One who was asked nothing yet. It fails only out of memory.
+    pub fn new(
+        common: &'a Operating<'a, L, C>,
+        desk: GateDesk<'a, G, M, R, L, C>,
+    ) -> Result<Operator<'a, G, M, R, L, C>, AllocError> {
+        let buffers = Buffers::new(common.alloc)?;
+        Ok(Operator {
+            common,
+            desk,
+            buffers,
+        })
+    }
+}
+
+impl<'a, G, M, R, L, C> Task for Operator<'a, G, M, R, L, C>
+where
+    G: Limit,
+    M: GateNaming,
+    R: SystemClock + Wait + Log,
+    L: Listener,
+    C: Clock,
+{
+    type Done = ();
+
+    ghost use Rattle.gate_history.specs.Book.{made_as};
+    ghost use Rattle.gate_desk.specs.Desk.{DoneBy, ShownBy};
+    ghost use Rattle.gate_desk.specs.Operator.{HasOperated};
+
+    ghost makes = { λ operator _. HasOperated operator.desk (λ desk. desk.table)
+        (λ _ sight. ShownBy G.rules
+        (made_as M.rows M.room M.promote M.kept M.is_rolling M.limit) sight)
+        (λ before after deed. DoneBy before.pass after.pass deed)
+        operator.common.now.host.now operator.common.now.page.now };
+
+    fn run(self) {
+        let Operator {
+            common,
+            mut desk,
+            mut buffers,
+        } = self;
+        operate(desk.rt, common, &mut desk, &mut buffers);
+    }
+}
