@@ -58,6 +58,7 @@ fn main(rt: HostRuntime) -> ExitCode {
             per_worker,
             client_timeout_ms,
             report_seconds,
+            admin,
         } => {
             let service = Service {
                 path,
@@ -65,6 +66,7 @@ fn main(rt: HostRuntime) -> ExitCode {
                 per_worker,
                 client_timeout_ms,
                 report_seconds,
+                admin,
             };
             serve_file(&rt, &files, alloc, &service, &mut writer, &mut errors)
         }

@@ -2,6 +2,10 @@
 use Rattle.std.specs.Prelude.{◌≡◌, ◌≤◌, ℕ, List, [], ◌∷◌, Option, Some, None, IfSome, Bool, true, false, codes, pos}
 use Rattle.std.specs.Option.{option_map_or}
 use Rattle.std.specs.Str.{bytes_eq}
+use Rattle.std.specs.Net.Addr.{IsLoopbackV4}
+use Rattle.std.specs.Net.Grammar.{IsSocketV4Text}
+use Rattle.std.specs.Net.Socket.{v4_ip, v4_port}
+use Rattle.std.specs.declared.net.socket_addr.SocketAddrV4.{SocketAddrV4}
 use Rattle.std.specs.Str.Parse.{IsNumeral, digits_value, without_leading_plus}
 use Rattle.clap.specs.Words.{App, Row, Rule, Text, app_of, first_of, new_app, new_rule, one_of, with_rule, with_subcommand}
 use Rattle.limit_laws.specs.Algorithm.{greatest_limit}
@@ -53,6 +57,13 @@ report_rule = record (new_rule (codes "report-seconds")) {
   parser = Some (Parser.Signed (pos 1) (pos 3600));
 }
 
+-- `--admin ADDRESS`, none where it isn't given
+abbrev pub admin_rule : Rule
+admin_rule = record (new_rule (codes "admin")) {
+  long = Some (codes "admin");
+  value_names = 1;
+}
+
 -- `--explain`
 abbrev pub explain_rule : Rule
 explain_rule = record (new_rule (codes "explain")) {
@@ -78,8 +89,8 @@ check_app = with_rule (with_rule (new_app (codes "check")) config_rule) explain_
 
 abbrev pub serve_app : App
 serve_app =
-    with_rule (with_rule (with_rule (with_rule (with_rule (new_app (codes "serve")) config_rule)
-    workers_rule) per_worker_rule) client_timeout_rule) report_rule
+    with_rule (with_rule (with_rule (with_rule (with_rule (with_rule (new_app (codes "serve"))
+    config_rule) workers_rule) per_worker_rule) client_timeout_rule) report_rule) admin_rule
 
 -- a command that has a version, and subcommands of which one is required
 abbrev pub asking : Text → App
@@ -116,6 +127,16 @@ abbrev pub HasOptional : List Row → Text → ℕ → ℕ → Option ℕ → Ty
 HasOptional rows id low high None = first_of id rows ≡ None
 HasOptional rows id low high (Some n) = HasNumber rows id low high n
 
+-- the text that the rows have for an option is that of a loopback address with a port from 1 up
+abbrev pub HasLoopback : List Row → Text → SocketAddrV4 → Type 0
+HasLoopback rows id a = (text : Text) × (one_of id rows ≡ Some text) × IsSocketV4Text text a
+    × IsLoopbackV4 (v4_ip a) × (1 ≤ v4_port a)
+
+-- the rows have no text for an option, or that of such an address
+abbrev pub MayHaveLoopback : List Row → Text → Option SocketAddrV4 → Type 0
+MayHaveLoopback rows id None = first_of id rows ≡ None
+MayHaveLoopback rows id (Some a) = HasLoopback rows id a
+
 -- the rows have a flag
 abbrev pub is_set : Text → List Row → Bool
 is_set id rows = option_map_or (λ text. bytes_eq text (codes "true")) (first_of id rows) false
@@ -127,7 +148,7 @@ IsTaskOf name rows (Replay limit) =
 IsTaskOf name rows (Simulate limit) =
     (name ≡ codes "simulate") × HasNumber rows (codes "limit") 1 greatest_limit limit
 
--- the run is that of this subcommand, with the numbers and the path that its rows have
+-- the run is that of this subcommand, with the numbers, the path and the address that its rows have
 abbrev pub IsCommandOf : Text → List Row → Run → Type 0
 IsCommandOf name rows (OfText task) = IsTaskOf name rows task
 IsCommandOf name rows (Load limit workers) =
@@ -136,12 +157,13 @@ IsCommandOf name rows (Load limit workers) =
 IsCommandOf name rows (Check path explain) =
     (name ≡ codes "check") × (first_of (codes "config") rows ≡ Some path.now)
     × (explain ≡ is_set (codes "explain") rows)
-IsCommandOf name rows (Serve path workers per_worker client_timeout report) =
+IsCommandOf name rows (Serve path workers per_worker client_timeout report admin) =
     (name ≡ codes "serve") × (first_of (codes "config") rows ≡ Some path.now)
     × HasNumber rows (codes "workers") 1 64 workers
     × HasNumber rows (codes "per-worker") 1 1000000000 per_worker
     × HasNumber rows (codes "client-timeout-ms") 1 3600000 client_timeout
     × HasOptional rows (codes "report-seconds") 1 3600 report
+    × MayHaveLoopback rows (codes "admin") admin
 
 -- the run is that of the subcommand which the words name
 abbrev pub IsRunOf : Option (Text × List Row) → Run → Type 0
@@ -163,7 +185,8 @@ KeepsRanges (OfText task) = (1 ≤ limit_of task) × (limit_of task ≤ greatest
 KeepsRanges (Load limit workers) =
     (1 ≤ limit) × (limit ≤ greatest_limit) × (1 ≤ workers) × (workers ≤ 64)
 KeepsRanges (Check path explain) = Unit {0}
-KeepsRanges (Serve path workers per_worker client_timeout report) =
+KeepsRanges (Serve path workers per_worker client_timeout report admin) =
     (1 ≤ workers) × (workers ≤ 64) × (1 ≤ per_worker) × (per_worker ≤ 1000000000)
     × (1 ≤ client_timeout) × (client_timeout ≤ 3600000)
     × IfSome report (λ seconds. (1 ≤ seconds) × (seconds ≤ 3600))
+    × IfSome admin (λ a. IsLoopbackV4 (v4_ip a) × (1 ≤ v4_port a))

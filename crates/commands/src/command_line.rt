@@ -1,15 +1,20 @@
 // The words of a command line.
 ghost use Rattle.std.specs.Prelude.{◌≡◌, ◌⊎◌, ℕ, map, codes, string_bytes, [], IfErr, IfOk, IfSome};
-ghost use Rattle.std.specs.Prelude.{IsNone, OnOk, Option};
+ghost use Rattle.std.specs.Prelude.{IsErr, IsNone, OnOk, Option};
 ghost use Rattle.clap.specs.Words.{HasKind, fault_of, found_of, rows_of, subcommand_of, subcommand_rows_of};
 ghost use Rattle.commands.specs.CommandLine.{HasNumber, HasOptional, IsCommandOf, IsRunOf, KeepsRanges};
 ghost use Rattle.commands.specs.CommandLine.{NamesNoRun, admission_app, is_set};
 ghost use Rattle.commands.specs.declared.command_line.Run.{Run as RunValue};
 
 use super::interface::command;
+use super::loopback::optional_loopback;
 use clap::error::ErrorKind;
 use clap::{ArgMatches, Error};
 use std::alloc::{AllocError, Global};
+use std::net::SocketAddrV4;
+
+/// What an operator's address is to be.
+const WANTED: &str = "a loopback IPv4 address with a port is wanted, such as 127.0.0.1:9901";
 
 /// What the words ask for: a command, with its path and its numbers.
 #[derive(Clone, Copy)]
@@ -31,13 +36,15 @@ pub enum Run<'a> {
     /// Clients are served by the configuration in the file of this path. There are 1 to 64 workers;
     /// each ends once it has served `per_worker` connections, 1 to 1,000,000,000. A client may take
     /// 1 to 3,600,000 milliseconds for its request, and again for its answer. What stands is logged
-    /// every `report_seconds`, 1 to 3,600, where they are given.
+    /// every `report_seconds`, 1 to 3,600, where they are given. An operator is served at `admin`,
+    /// a loopback address with a port from 1 up, where it is given.
     Serve {
         path: &'a str,
         workers: u32,
         per_worker: u32,
         client_timeout_ms: u32,
         report_seconds: Option<u32>,
+        admin: Option<SocketAddrV4>,
     },
 }
 
@@ -141,12 +148,14 @@ fn serve_run<'a>(matches: &ArgMatches<'a>) -> Option<Run<'a>>
     let per_worker = number(matches, "per-worker", 1, 1_000_000_000)?;
     let client_timeout_ms = number(matches, "client-timeout-ms", 1, 3_600_000)?;
     let report_seconds = optional_number(matches, "report-seconds", 1, 3_600)?;
+    let admin = optional_loopback(matches, "admin")?;
     Some(Run::Serve {
         path,
         workers,
         per_worker,
         client_timeout_ms,
         report_seconds,
+        admin,
     })
 }
 
@@ -181,22 +190,42 @@ fn named_run<'a>(matches: &ArgMatches<'a>) -> Option<Run<'a>>
     run_of(name, found)
 }
 
-/// The run of the words, where the subcommand that they name has one.
-fn run_among<'a>(alloc: Global, list: &'a [String]) -> Result<Option<Run<'a>>, Error>
+/// The run of the words, where the subcommand that they name has one; else the operator's address,
+/// where they give one.
+fn run_among<'a>(
+    alloc: Global,
+    list: &'a [String],
+) -> Result<Result<Run<'a>, Option<&'a str>>, Error>
     ensures run { IfOk result (λ run.
-        IfSome run (IsRunOf (subcommand_of admission_app (map string_bytes list.now)))) }
-    ensures none { IfOk result (λ run. IsNone run
+        IfOk run (IsRunOf (subcommand_of admission_app (map string_bytes list.now)))) }
+    ensures none { IfOk result (λ run. IsErr run
         → NamesNoRun (subcommand_of admission_app (map string_bytes list.now))) }
     ensures faultless { OnOk result (fault_of admission_app (map string_bytes list.now) ≡ []) }
     ensures refused { IfErr result (HasKind (fault_of admission_app (map string_bytes list.now))) }
 {
     let matches = command(alloc)?.try_get_matches_from(list)?;
-    Ok(named_run(&matches))
+    match named_run(&matches) {
+        Some(run) => Ok(Ok(run)),
+        None => Ok(Err(admin_of(&matches))),
+    }
 }
 
-/// The error of words that name no run.
-fn unnamed(alloc: Global) -> Result<Error, AllocError> {
-    command(alloc)?.error(ErrorKind::MissingSubcommand, "no command is named")
+/// The text that a subcommand gives for the operator's address.
+fn admin_of<'a>(matches: &ArgMatches<'a>) -> Option<&'a str> {
+    let (_, found) = matches.subcommand()?;
+    found.get_str("admin")
+}
+
+/// The error of words that name no run: an operator's address that isn't one, or no command.
+fn unnamed(alloc: Global, admin: Option<&str>) -> Result<Error, AllocError> {
+    let Some(text) = admin else {
+        return command(alloc)?.error(ErrorKind::MissingSubcommand, "no command is named");
+    };
+    let fault = format!(in alloc;
+        "invalid value '{}' for '--admin <ADDRESS>': {}",
+        text, WANTED
+    )?;
+    command(alloc)?.error(ErrorKind::ValueValidation, fault.as_str())
 }
 
 /// Reads the words, the program's name first.
@@ -215,7 +244,7 @@ pub fn words<'a>(alloc: Global, list: &'a [String]) -> Result<Run<'a>, Error>
         ⊎ NamesNoRun (subcommand_of admission_app (map string_bytes list.now))) }
 {
     match run_among(alloc, list)? {
-        Some(run) => Ok(run),
-        None => Err(unnamed(alloc)?),
+        Ok(run) => Ok(run),
+        Err(admin) => Err(unnamed(alloc, admin)?),
     }
 }

@@ -1,7 +1,7 @@
 // The commands, and the words that each takes.
 ghost use Rattle.std.specs.Prelude.{◌≡◌, false, Ok, IfOk};
 ghost use Rattle.clap.specs.Words.{App, Rule, app_of, new_app, rule_of, with_rule, with_subcommand};
-ghost use Rattle.commands.specs.CommandLine.{IsWithoutGlobals, admission_app, check_app};
+ghost use Rattle.commands.specs.CommandLine.{IsWithoutGlobals, admin_rule, admission_app, check_app};
 ghost use Rattle.commands.specs.CommandLine.{client_timeout_rule, config_rule, limit_rule};
 ghost use Rattle.commands.specs.CommandLine.{load_app, offline_app, option_rule, per_worker_rule};
 ghost use Rattle.commands.specs.CommandLine.{replay_app, serve_app, simulate_app, text_app};
@@ -85,6 +85,17 @@ fn report_option<'a>(alloc: Global) -> Arg<'a>
         .value_name("N")
         .help("Seconds between two lines of the report, 1 to 3600; without it none")
         .value_parser(value_parser!(u32).range(1..=3_600))
+}
+
+/// `--admin ADDRESS`.
+fn admin_option<'a>(alloc: Global) -> Arg<'a>
+    ensures rule { rule_of result ≡ admin_rule }
+    ensures local { result.global ≡ false }
+{
+    Arg::new(alloc, "admin")
+        .long("admin")
+        .value_name("ADDRESS")
+        .help("A loopback address for the operator, such as 127.0.0.1:9901; without it none")
 }
 
 /// `--explain`.
@@ -194,7 +205,8 @@ fn check_command<'a>(alloc: Global) -> Result<Command<'a>, AllocError>
     with_argument(check, explain_flag(alloc))
 }
 
-/// `serve CONFIG [--workers W] [--per-worker M] [--client-timeout-ms T] [--report-seconds N]`.
+/// `serve CONFIG [--workers W] [--per-worker M] [--client-timeout-ms T] [--report-seconds N]
+/// [--admin ADDRESS]`.
 fn serve_command<'a>(alloc: Global) -> Result<Command<'a>, AllocError>
     ensures { IfOk result (IsWithoutGlobals serve_app) }
 {
@@ -202,7 +214,8 @@ fn serve_command<'a>(alloc: Global) -> Result<Command<'a>, AllocError>
     let serve = with_argument(serve, workers_option(alloc));
     let serve = with_argument(serve, per_worker_option(alloc));
     let serve = with_argument(serve, client_timeout_option(alloc));
-    with_argument(serve, report_option(alloc))
+    let serve = with_argument(serve, report_option(alloc));
+    with_argument(serve, admin_option(alloc))
 }
 
 /// The command, with a subcommand, where both were made.

@@ -7,5 +7,6 @@
 mod command_line;
 mod help;
 mod interface;
+mod loopback;
 
 pub use command_line::{Run, TextTask, words};

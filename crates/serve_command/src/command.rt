@@ -8,10 +8,11 @@ ghost use Rattle.config_check.specs.Check.{Says};
 ghost use Rattle.serve_command.specs.Command.{HasServed, IsOfServing, IsWhyOfService, making_of};
 ghost use Rattle.serve_command.specs.ServiceFault.{service_fault_text};
 
+use crate::admin::AdminAddress;
 use crate::config_text::ConfigText;
 use crate::fault::{ServiceFault, tell_service_fault};
-use crate::gateway::serve_gateway;
-use crate::logging::{log_listening, log_unbound};
+use crate::logging::{log_admin, log_listening, log_unbound};
+use crate::standing::{Standing, serve_standing};
 use clocks::ProgramClock;
 use config_check::{read_bytes, read_file_text};
 use counted_io::Counted;
@@ -20,8 +21,8 @@ use file_opening::Opener;
 use gate_config::Settings;
 use limiter_core::Counters;
 use log::Log;
+use operator_calls::host_name;
 use serve_reports::{Watcher, write_counters};
-use serving::WorkerSettings;
 use std::alloc::Global;
 use std::io::Write;
 use std::net::{Net, SocketAddr, SocketAddrV4};
@@ -29,12 +30,6 @@ use std::sync::Wait;
 use std::thread::Threads;
 use std::time::Clock as SystemClock;
 use timed_io::BoundListener;
-
-/// The nanoseconds of a millisecond.
-const MILLI: u64 = 1_000_000;
-
-/// The nanoseconds of a second.
-const SECOND: u64 = 1_000_000_000;
 
 /// What a gateway is asked to do.
 #[derive(Clone, Copy)]
@@ -51,6 +46,9 @@ pub struct Service<'a> {
     /// How many seconds there are from one line of the report to the next, 1 to 3,600; there is
     /// none without it.
     pub report_seconds: Option<u32>,
+    /// A loopback address at which an operator looks at the gateway and changes it; there is none
+    /// without it.
+    pub admin: Option<SocketAddrV4>,
 }
 
 /// Serves clients by the configuration in the file that is opened at the path, and at the end of
@@ -145,20 +143,19 @@ where
     ensures refused { IfErr result IsOfServing }
 {
     let front = bind(rt, settings.listen.socket())?;
+    let admin = bind_admin(rt, alloc, service.admin)?;
     log_listening(rt, files, alloc, settings, service.workers);
     let clock = ProgramClock::start(rt);
     let watch = Watcher::new(rt, alloc, service.workers);
-    let common = WorkerSettings {
-        listener: &front,
-        source: text,
+    let standing = Standing {
+        front: &front,
+        admin: &admin,
+        text,
         clock: &clock,
-        per_worker: u64::from(service.per_worker),
-        client_timeout_ns: u64::from(service.client_timeout_ms) * MILLI,
-        report_every_ns: report_time(service.report_seconds),
         watch: &watch,
         alloc,
     };
-    Ok(serve_gateway(rt, &common, settings, service.workers as usize)?)
+    Ok(serve_standing(rt, &standing, settings, service)?)
 }
 
 /// What listens at an address; where it can't be bound, the log has the system's reason.
@@ -174,12 +171,23 @@ fn bind<R: Net + Log>(rt: &R, address: SocketAddrV4) -> Result<BoundListener, Se
     }
 }
 
-/// So many seconds in nanoseconds.
-fn report_time(seconds: Option<u32>) -> Option<u64> {
-    match seconds {
-        Some(seconds) => Some(u64::from(seconds) * SECOND),
-        None => None,
-    }
+/// The operator's address, where there is one, once it is bound; the log says so.
+fn bind_admin<R: Net + Log>(
+    rt: &R,
+    alloc: Global,
+    address: Option<SocketAddrV4>,
+) -> Result<Option<AdminAddress>, ServiceFault>
+    ensures { IfErr result IsOfServing }
+{
+    let Some(address) = address else {
+        return Ok(None);
+    };
+    let Ok(host) = host_name(alloc, address) else {
+        return Err(ServiceFault::Memory);
+    };
+    let listener = bind(rt, address)?;
+    log_admin(rt, address);
+    Ok(Some(AdminAddress { listener, host }))
 }
 
 /// Tells a fault, and answers the status after it.

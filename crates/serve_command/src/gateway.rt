@@ -11,12 +11,15 @@ ghost use Rattle.serve_command.specs.Command.{making_of};
 
 use clocks::Clock;
 use gate_config::Settings;
+use gate_desk::{GateDesk, Operator};
 use gate_history::Blanks;
 use gate_opening::open_gate;
 use limit_laws::Limit;
 use limiter_core::Counters;
+use log::Log;
+use operator_serving::Operating;
 use ports::{Port, View};
-use proxy::Watch;
+use serve_reports::Watcher;
 use serving::{ServeFault, Source, WorkerSettings, serve};
 use shared_gate::{GateNaming, Pass, SharedGate, Word};
 use std::alloc::{AllocError, Global};
@@ -24,24 +27,23 @@ use std::marker::Brand;
 use std::net::Net;
 use std::sync::Wait;
 use std::thread::Threads;
-use std::time::Clock as SystemClock;
-use tcp_backend::BackendWatch;
+use std::time::{Clock as SystemClock, Duration};
 use timed_io::Listener;
 
 /// Serves clients through the gate of the settings, by so many workers, and tells the gate's
 /// counters once all have ended. The settings are those that the workers' source gives.
-pub(crate) fn serve_gateway<R, L, C, S, W>(
+pub(crate) fn serve_gateway<R, L, C, S>(
     rt: &R,
-    common: &WorkerSettings<'_, L, C, S, W>,
+    common: &WorkerSettings<'_, L, C, S, Watcher<'_, R>>,
     settings: &Settings,
     workers: usize,
+    operating: Option<&Operating<'_, L, C>>,
 ) -> Result<Counters, ServeFault>
 where
-    R: Net + Threads + Wait + SystemClock + Sync,
+    R: Net + Threads + Wait + SystemClock + Log + Sync,
     L: Listener + Sync,
     C: Clock + Sync,
     S: Source + Sync,
-    W: Watch + BackendWatch + Sync,
     L::Stream: Send + Sync,
     L::From: Send + Sync,
     L::To: Send + Sync,
@@ -52,25 +54,33 @@ where
     ensures { IfOk result (AreCountersOf any_rules (making_of settings.now)) }
 {
     let word = Word::new(common.alloc)?;
-    serve_named::<Brand, R, L, C, S, W>(rt, common, settings, workers, Blanks::new(), word)
+    serve_named::<Brand, R, L, C, S>(
+        rt,
+        common,
+        settings,
+        workers,
+        operating,
+        Blanks::new(),
+        word,
+    )
 }
 
 /// Serves clients through the gate of the settings, which has these names.
-fn serve_named<M, R, L, C, S, W>(
+fn serve_named<M, R, L, C, S>(
     rt: &R,
-    common: &WorkerSettings<'_, L, C, S, W>,
+    common: &WorkerSettings<'_, L, C, S, Watcher<'_, R>>,
     settings: &Settings,
     workers: usize,
+    operating: Option<&Operating<'_, L, C>>,
     blanks: Blanks,
     word: Word,
 ) -> Result<Counters, ServeFault>
 where
     M: GateNaming + Send + Sync,
-    R: Net + Threads + Wait + SystemClock + Sync,
+    R: Net + Threads + Wait + SystemClock + Log + Sync,
     L: Listener + Sync,
     C: Clock + Sync,
     S: Source + Sync,
-    W: Watch + BackendWatch + Sync,
     L::Stream: Send + Sync,
     L::From: Send + Sync,
     L::To: Send + Sync,
@@ -90,27 +100,28 @@ where
         settings.now.promote settings.now.limit M.legal }
     ensures { IfOk result (AreCountersOf any_rules (making_of settings.now)) }
 {
-    let (gate, passes) = open_gate::<M>(common.alloc, settings, blanks, word, workers)?;
-    serve_through(rt, common, settings, &gate, passes)
+    let count = workers.saturating_add(usize::from(operating.is_some()));
+    let (gate, passes) = open_gate::<M>(common.alloc, settings, blanks, word, count)?;
+    serve_through(rt, common, settings, operating, &gate, passes)
 }
 
 /// Serves clients through a gate, by one worker for each pass. Which limit the gate has isn't told
 /// apart here.
-fn serve_through<M, R, G, L, C, S, W>(
+fn serve_through<M, R, G, L, C, S>(
     rt: &R,
-    common: &WorkerSettings<'_, L, C, S, W>,
+    common: &WorkerSettings<'_, L, C, S, Watcher<'_, R>>,
     settings: &Settings,
+    operating: Option<&Operating<'_, L, C>>,
     gate: &SharedGate<G, M>,
-    passes: Vec<Pass<M>>,
+    mut passes: Vec<Pass<M>>,
 ) -> Result<Counters, ServeFault>
 where
     M: GateNaming + Send + Sync,
-    R: Net + Threads + Wait + SystemClock + Sync,
+    R: Net + Threads + Wait + SystemClock + Log + Sync,
     G: Limit + Send,
     L: Listener + Sync,
     C: Clock + Sync,
     S: Source + Sync,
-    W: Watch + BackendWatch + Sync,
     L::Stream: Send + Sync,
     L::From: Send + Sync,
     L::To: Send + Sync,
@@ -119,9 +130,41 @@ where
     ensures { IfOk result (AreCountersOf G.rules
         (made_as M.rows M.room M.promote M.kept M.is_rolling M.limit)) }
 {
+    let operator = make_operator(rt, common, settings, operating, gate, &mut passes)?;
     let ports = make_ports(rt, common.alloc, gate, common.clock, passes)?;
-    let _left = serve(rt, common, settings, &View::new(rt, gate), ports)?;
+    let _left = serve(rt, common, settings, &View::new(rt, gate), ports, operator)?;
     Ok(gate.counters(rt))
+}
+
+/// Who serves operators by the last of the passes, where they have an address.
+fn make_operator<'a, M: GateNaming, R: SystemClock, G: Limit, L, C, S>(
+    rt: &'a R,
+    common: &WorkerSettings<'a, L, C, S, Watcher<'a, R>>,
+    settings: &Settings,
+    operating: Option<&'a Operating<'a, L, C>>,
+    gate: &'a SharedGate<G, M>,
+    passes: &mut Vec<Pass<M>>,
+) -> Result<Option<Operator<'a, G, M, R, L, C>>, AllocError> {
+    let Some(operating) = operating else {
+        return Ok(None);
+    };
+    let Some(pass) = passes.pop() else {
+        return Ok(None);
+    };
+    let Ok(table) = settings.table.copy() else {
+        return Err(AllocError);
+    };
+    let desk = GateDesk {
+        rt,
+        gate,
+        pass,
+        watch: common.watch,
+        front: common.listener,
+        clock: common.clock,
+        table,
+        most: Duration::from_nanos(common.client_timeout_ns),
+    };
+    Ok(Some(Operator::new(operating, desk)?))
 }
 
 /// A port for each pass.

@@ -5,12 +5,14 @@
 //! what is written and the exit status; of sockets, threads and the log it says nothing.
 #![tactic(auto)]
 
+mod admin;
 mod command;
 mod config_text;
 mod descriptors;
 mod fault;
 mod gateway;
 mod logging;
+mod standing;
 
 pub use command::{Service, serve_file};
 pub use fault::ServiceFault;

@@ -47,6 +47,11 @@ pub(crate) fn log_listening<R: Log, F: Opener>(
     info!(rt; target: "admission", address:%, workers, limit; "listening");
 }
 
+/// Logs where an operator is listened for.
+pub(crate) fn log_admin<R: Log>(rt: &R, address: SocketAddrV4) {
+    info!(rt; target: "admission", address:%; "listening for the operator");
+}
+
 /// Logs why an address can't be bound.
 pub(crate) fn log_unbound<R: Log>(rt: &R, address: SocketAddrV4, error: &Error) {
     error!(rt; target: "admission", address:%, error:%; "the address can't be bound");

@@ -1,9 +1,8 @@
 -- Many workers.
-use Rattle.std.proofs.Common.{◌≡◌, ◌∙◌, ℕ, ◌+◌, ◌≤◌, Bool, true, false, List, [], ◌∷◌, ◌++◌}
-use Rattle.std.proofs.Common.{Option, None, Result, Ok, Err, IfOk, ap, sym, subst, refl, arith}
-use Rattle.std.proofs.Common.{true≢false}
+use Rattle.std.proofs.Common.{◌≡◌, ℕ, Bool, true, false, List, [], ◌∷◌, ◌++◌}
+use Rattle.std.proofs.Common.{Option, None, Some, IfSome, Result, Ok, Err, IfOk, ap, sym, subst, arith}
+use Rattle.std.proofs.Common.{option_to_list, true≢false}
 use Rattle.std.specs.List.{AllZip, list_all}
-use Rattle.counted_io.specs.Count.{count_end}
 use Rattle.gate_config.specs.declared.settings.Settings.{Settings}
 use Rattle.limiter_core.specs.declared.event.Entry.{Entry}
 use Rattle.gate_port.specs.Shown.{Shown}
@@ -23,7 +22,7 @@ use Rattle.serving.specs.Doors.{failed_of, given_of, is_closed}
 use Rattle.serving.specs.Turns.{IsRun, Place}
 use Rattle.serving.specs.Visits.{Visits}
 use Rattle.serving.specs.Workers.{AreWithin, Begins, HasRun, HasWorked, Makes}
-use Rattle.serving.specs.Workers.{ended_in, has_begun, workers_in}
+use Rattle.serving.specs.Workers.{ended_in, has_begun, tasks_in, workers_in}
 
 -- one more at the end of two lists
 pub one_more : {X Y : Type 0} (R : X → Y → Type 0) (xs : List X) (ys : List Y) (x : X) (y : Y)
@@ -34,19 +33,31 @@ one_more R (w ∷ ws) [] x y all own = absurd all
 one_more R (w ∷ ws) (z ∷ zs) x y all own = (all.0, one_more R ws zs x y all.1 own)
 
 -- one more worker among some hands
-pub one_worker : {A P B X : Type 0} (hands : List (Hand A P B X)) (h : Hand A P B X)
+pub one_worker : {A P B T X : Type 0} (hands : List (Hand A P B T X)) (h : Hand A P B T X)
     (w : Worker A P B) → workers_in (h ∷ []) ≡ w ∷ []
     → workers_in (hands ++ h ∷ []) ≡ workers_in hands ++ w ∷ []
 one_worker [] h w same = same
 one_worker (hand.Reporter context every ∷ hands) h w same = one_worker hands h w same
+one_worker (hand.Beside task ∷ hands) h w same = one_worker hands h w same
 one_worker {A} {P} {B} (hand.Worker context worker ∷ hands) h w same =
     ap (λ (ws : List (Worker A P B)). worker ∷ ws) (one_worker hands h w same)
 
-pub one_within : {A P B X : Type 0} (x : X) (hands : List (Hand A P B X)) (h : Hand A P B X)
+-- the tasks beside them are the same
+pub no_task : {A P B T X : Type 0} (hands : List (Hand A P B T X)) (h : Hand A P B T X)
+    → tasks_in (h ∷ []) ≡ [] → tasks_in (hands ++ h ∷ []) ≡ tasks_in hands
+no_task [] h none = none
+no_task (hand.Reporter context every ∷ hands) h none = no_task hands h none
+no_task {A} {P} {B} {T} (hand.Beside task ∷ hands) h none =
+    ap (λ (ts : List T). task ∷ ts) (no_task hands h none)
+no_task (hand.Worker context worker ∷ hands) h none = no_task hands h none
+
+pub one_within : {A P B T X : Type 0} (x : X) (hands : List (Hand A P B T X))
+    (h : Hand A P B T X)
     → AreWithin x hands → AreWithin x (h ∷ []) → AreWithin x (hands ++ h ∷ [])
 one_within x [] h all own = own
 one_within x (hand.Reporter context every ∷ hands) h all own =
     (all.0, one_within x hands h all.1 own)
+one_within x (hand.Beside task ∷ hands) h all own = one_within x hands h all own
 one_within x (hand.Worker context worker ∷ hands) h all own =
     (all.0, one_within x hands h all.1 own)
 
@@ -55,49 +66,94 @@ pub on_ok : {T E : Type 0} (r : Result T E) (P Q : T → Type 0) → IfOk r P
 on_ok (Ok v) P Q p f = f v p
 on_ok (Err e) P Q p f = tt
 
-module _ {A P B S R G L C W : Type 0} (given failed : A → ℕ) (closed : A → Bool)
+-- each of them has it
+abbrev Each : {T : Type 0} → (T → Type 0) → List T → Type 0
+Each P [] = Unit {0}
+Each P (t ∷ ts) = P t × Each P ts
+
+the_one : {T : Type 0} (P : T → Type 0) (task : Option T) → Each P (option_to_list task)
+    → IfSome task P
+the_one P None each = tt
+the_one P (Some task) each = each.0
+
+module _ {A P B T S R G L C W : Type 0} (given failed : A → ℕ) (closed : A → Bool)
     (visits : A → Option Visits) (shown : P → Option Shown) (known : P → Option (List Entry))
     (forwarded : B → ℕ) (log : B → Option (List Forwarded))
-    (gives : S → Settings → Type 0) (lacks : S → Type 0)
+    (gives : S → Settings → Type 0) (lacks : S → Type 0) (made : T → Type 0) where
+  abbrev Made : Hand A P B T (Context R G L C S W) → Left A P B → Type 0
+  Made = Makes given failed closed visits shown known forwarded log gives lacks made
+
+  made_in : (hands : List (Hand A P B T (Context R G L C S W))) (lefts : List (Left A P B))
+      → AllZip Made hands lefts → Each made (tasks_in hands)
+  made_in [] [] all = tt
+  made_in [] (l ∷ ls) all = absurd all
+  made_in (h ∷ hs) [] all = absurd all
+  made_in (hand.Reporter context every ∷ hs) (l ∷ ls) all = made_in hs ls all.1
+  made_in (hand.Beside task ∷ hs) (left.Unbegun ∷ ls) all = absurd all.0
+  made_in (hand.Beside task ∷ hs) (left.Reported ∷ ls) all = absurd all.0
+  made_in (hand.Beside task ∷ hs) (left.Beside ∷ ls) all = (all.0, made_in hs ls all.1)
+  made_in (hand.Beside task ∷ hs) (left.Worked ended ∷ ls) all = absurd all.0
+  made_in (hand.Worker context worker ∷ hs) (l ∷ ls) all = made_in hs ls all.1
+
+  -- what the task beside them made, where there is one
+  pub all_made : (task : Option T) (hands : List (Hand A P B T (Context R G L C S W)))
+      (lefts : List (Left A P B)) → tasks_in hands ≡ option_to_list task → AllZip Made hands lefts
+      → IfSome task made
+  all_made task hands lefts same all =
+      the_one made task (subst (λ (ts : List T). Each made ts) same (made_in hands lefts all))
+
+module _ {A P B T S R G L C W : Type 0} (given failed : A → ℕ) (closed : A → Bool)
+    (visits : A → Option Visits) (shown : P → Option Shown) (known : P → Option (List Entry))
+    (forwarded : B → ℕ) (log : B → Option (List Forwarded))
+    (gives : S → Settings → Type 0) (lacks : S → Type 0) (made : T → Type 0)
     (x : Context R G L C S W) where
   abbrev Worked : Worker A P B → Ended A P B → Type 0
   Worked = HasWorked given failed closed visits shown known forwarded log gives lacks
       x.common.now.source.now x.common.now.per_worker
 
-  worked_in : (hands : List (Hand A P B (Context R G L C S W))) (lefts : List (Left A P B))
-      → AllZip (Makes given failed closed visits shown known forwarded log gives lacks) hands lefts
-      → AreWithin x hands → list_all has_begun lefts ≡ true
+  abbrev All : List (Hand A P B T (Context R G L C S W)) → List (Left A P B) → Type 0
+  All = AllZip (Made given failed closed visits shown known forwarded log gives lacks made)
+
+  worked_in : (hands : List (Hand A P B T (Context R G L C S W))) (lefts : List (Left A P B))
+      → All hands lefts → AreWithin x hands → list_all has_begun lefts ≡ true
       → AllZip Worked (workers_in hands) (ended_in lefts)
-  worked_in [] [] made within begun = tt
-  worked_in [] (l ∷ ls) made within begun = absurd made
-  worked_in (h ∷ hs) [] made within begun = absurd made
-  worked_in (hand.Reporter context every ∷ hs) (left.Unbegun ∷ ls) made within begun =
+  worked_in [] [] all within begun = tt
+  worked_in [] (l ∷ ls) all within begun = absurd all
+  worked_in (h ∷ hs) [] all within begun = absurd all
+  worked_in (hand.Reporter context every ∷ hs) (left.Unbegun ∷ ls) all within begun =
       absurd (true≢false (sym begun))
-  worked_in (hand.Reporter context every ∷ hs) (left.Reported ∷ ls) made within begun =
-      worked_in hs ls made.1 within.1 begun
-  worked_in (hand.Reporter context every ∷ hs) (left.Worked ended ∷ ls) made within begun =
-      absurd made.0
-  worked_in (hand.Worker context worker ∷ hs) (left.Unbegun ∷ ls) made within begun =
+  worked_in (hand.Reporter context every ∷ hs) (left.Reported ∷ ls) all within begun =
+      worked_in hs ls all.1 within.1 begun
+  worked_in (hand.Reporter context every ∷ hs) (left.Worked ended ∷ ls) all within begun =
+      absurd all.0
+  worked_in (hand.Reporter context every ∷ hs) (left.Beside ∷ ls) all within begun =
+      absurd all.0
+  worked_in (hand.Beside task ∷ hs) (left.Unbegun ∷ ls) all within begun = absurd all.0
+  worked_in (hand.Beside task ∷ hs) (left.Reported ∷ ls) all within begun = absurd all.0
+  worked_in (hand.Beside task ∷ hs) (left.Beside ∷ ls) all within begun =
+      worked_in hs ls all.1 within begun
+  worked_in (hand.Beside task ∷ hs) (left.Worked ended ∷ ls) all within begun = absurd all.0
+  worked_in (hand.Worker context worker ∷ hs) (left.Unbegun ∷ ls) all within begun =
       absurd (true≢false (sym begun))
-  worked_in (hand.Worker context worker ∷ hs) (left.Reported ∷ ls) made within begun =
-      absurd made.0
-  worked_in (hand.Worker context worker ∷ hs) (left.Worked ended ∷ ls) made within begun = (
+  worked_in (hand.Worker context worker ∷ hs) (left.Reported ∷ ls) all within begun =
+      absurd all.0
+  worked_in (hand.Worker context worker ∷ hs) (left.Beside ∷ ls) all within begun =
+      absurd all.0
+  worked_in (hand.Worker context worker ∷ hs) (left.Worked ended ∷ ls) all within begun = (
     subst (λ (c : Context R G L C S W). HasWorked given failed closed visits shown known
         forwarded log gives lacks c.common.now.source.now c.common.now.per_worker worker ended)
-        within.0 made.0,
-    worked_in hs ls made.1 within.1 begun,
+        within.0 all.0,
+    worked_in hs ls all.1 within.1 begun,
   )
 
   -- what the workers leave, where all hands began in the same context
   pub all_worked : (workers : List (Worker A P B))
-      (hands : List (Hand A P B (Context R G L C S W))) (lefts : List (Left A P B))
-      → workers_in hands ≡ workers
-      → AllZip (Makes given failed closed visits shown known forwarded log gives lacks) hands lefts
-      → AreWithin x hands → list_all has_begun lefts ≡ true
-      → AllZip Worked workers (ended_in lefts)
-  all_worked workers hands lefts same made within begun =
+      (hands : List (Hand A P B T (Context R G L C S W))) (lefts : List (Left A P B))
+      → workers_in hands ≡ workers → All hands lefts → AreWithin x hands
+      → list_all has_begun lefts ≡ true → AllZip Worked workers (ended_in lefts)
+  all_worked workers hands lefts same all within begun =
       subst (λ (ws : List (Worker A P B)). AllZip Worked ws (ended_in lefts)) same
-      (worked_in hands lefts made within begun)
+      (worked_in hands lefts all within begun)
 
 -- what stands at a worker's end, or at its start
 abbrev from : {P : Type 0} → (P → Option Shown) → (P → Option (List Entry)) → ℕ → ℕ → Bool → P → ℕ

@@ -1,5 +1,5 @@
 -- How many requests a backend was given.
-use Rattle.std.proofs.Common.{◌≡◌, ◌∙◌, ap, sym, ℕ, List, Option, Result, Ok, Err, if◌then◌else◌}
+use Rattle.std.proofs.Common.{◌≡◌, ◌∙◌, ap, sym, Option, Result, Ok, Err, if◌then◌else◌}
 use Rattle.counted_io.specs.Count.{raised}
 use Rattle.wire.specs.declared.fault.WireFault.{WireFault}
 use Rattle.message_parts.specs.declared.request.Request.{Request}

@@ -8,7 +8,6 @@ use Rattle.counted_io.specs.declared.counted.Counted.{Counted}
 use Rattle.counted_io.specs.Counted.{calls_of, failures_of, flushes_of, inner_of, is_flushed}
 use Rattle.message_parts.specs.declared.request.Request.{Request}
 use Rattle.wire.specs.declared.fault.WireFault.{WireFault}
-use Rattle.wire.specs.declared.fault.WireFault.TheVariants as fault
 use Rattle.gate_config.specs.declared.settings.Settings.{Settings}
 use Rattle.backend.specs.declared.answer.Answer.{Answer}
 use Rattle.proxy.specs.declared.told.Exchange.{Exchange}

@@ -21,15 +21,24 @@ use Rattle.serving.specs.Turns.{IsRun, Place}
 use Rattle.serving.specs.Visits.{Visits}
 
 -- the workers among some hands, in order
-abbrev pub workers_in : {A P B X : Type 0} → List (Hand A P B X) → List (Worker A P B)
+abbrev pub workers_in : {A P B T X : Type 0} → List (Hand A P B T X) → List (Worker A P B)
 workers_in [] = []
 workers_in (hand.Reporter context every ∷ hands) = workers_in hands
+workers_in (hand.Beside task ∷ hands) = workers_in hands
 workers_in (hand.Worker context worker ∷ hands) = worker ∷ workers_in hands
 
--- all hands are in this context
-abbrev pub AreWithin : {A P B X : Type 0} → X → List (Hand A P B X) → Type 0
+-- the tasks beside them
+abbrev pub tasks_in : {A P B T X : Type 0} → List (Hand A P B T X) → List T
+tasks_in [] = []
+tasks_in (hand.Reporter context every ∷ hands) = tasks_in hands
+tasks_in (hand.Beside task ∷ hands) = task ∷ tasks_in hands
+tasks_in (hand.Worker context worker ∷ hands) = tasks_in hands
+
+-- all hands that are in a context are in this one
+abbrev pub AreWithin : {A P B T X : Type 0} → X → List (Hand A P B T X) → Type 0
 AreWithin x [] = ⊤
 AreWithin x (hand.Reporter context every ∷ hands) = (context.now ≡ x) × AreWithin x hands
+AreWithin x (hand.Beside task ∷ hands) = AreWithin x hands
 AreWithin x (hand.Worker context worker ∷ hands) = (context.now ≡ x) × AreWithin x hands
 
 -- what the workers among them left
@@ -37,12 +46,14 @@ abbrev pub ended_in : {A P B : Type 0} → List (Left A P B) → List (Ended A P
 ended_in [] = []
 ended_in (left.Unbegun ∷ lefts) = ended_in lefts
 ended_in (left.Reported ∷ lefts) = ended_in lefts
+ended_in (left.Beside ∷ lefts) = ended_in lefts
 ended_in (left.Worked ended ∷ lefts) = ended ∷ ended_in lefts
 
 -- whether it had the memory to begin
 abbrev pub has_begun : {A P B : Type 0} → Left A P B → Bool
 has_begun left.Unbegun = false
 has_begun left.Reported = true
+has_begun left.Beside = true
 has_begun (left.Worked ended) = true
 
 -- what is known of doors, ports and backends, and which settings a source gives or lacks
@@ -87,18 +98,29 @@ module _ {A P B S : Type 0} (given failed : A → ℕ) (closed : A → Bool)
   abbrev pub Leaves : S → ℕ → Worker A P B → Left A P B → Type 0
   Leaves source most worker left.Unbegun = lacks source
   Leaves source most worker left.Reported = ⊥
+  Leaves source most worker left.Beside = ⊥
   Leaves source most worker (left.Worked ended) = HasWorked source most worker ended
 
   -- what whoever reports leaves
   abbrev pub Reports : S → Left A P B → Type 0
   Reports source left.Unbegun = lacks source
   Reports source left.Reported = ⊤
+  Reports source left.Beside = ⊥
   Reports source (left.Worked ended) = ⊥
 
+  -- what the task beside the workers leaves, which is to make this
+  abbrev pub IsMade : Type 0 → Left A P B → Type 0
+  IsMade made left.Unbegun = ⊥
+  IsMade made left.Reported = ⊥
+  IsMade made left.Beside = made
+  IsMade made (left.Worked ended) = ⊥
+
   -- what each hand leaves
-  abbrev pub Makes : {R G L C W : Type 0} → Hand A P B (Context R G L C S W) → Left A P B → Type 0
-  Makes (hand.Reporter context every) left = Reports context.now.common.now.source.now left
-  Makes (hand.Worker context worker) left =
+  abbrev pub Makes : {T R G L C W : Type 0} → (T → Type 0)
+      → Hand A P B T (Context R G L C S W) → Left A P B → Type 0
+  Makes made (hand.Reporter context every) left = Reports context.now.common.now.source.now left
+  Makes made (hand.Beside task) left = IsMade (made task) left
+  Makes made (hand.Worker context worker) left =
       Leaves context.now.common.now.source.now context.now.common.now.per_worker worker left
 
 -- a new worker, with this port, a backend that was given nothing, and a door without a visit

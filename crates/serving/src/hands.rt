@@ -10,8 +10,9 @@ use clocks::Clock;
 use gate_port::{GatePort, GateView};
 use proxy::Watch;
 use std::sync::Wait;
-use std::time::Clock as SystemClock;
+use std::time::{Clock as SystemClock, Duration};
 use tasks::Task;
+use timed_io::Listener;
 
 /// What a worker owns.
 #[derive(Drop)]
@@ -44,10 +45,12 @@ pub(crate) struct Context<'a, R, G, L, C, S, W> {
     pub(crate) present: Present,
 }
 
-/// Whoever has a thread, in a context: who reports every so many nanoseconds, or a worker.
+/// Whoever has a thread: who reports in a context every so many nanoseconds, a task beside the
+/// workers, or a worker in a context.
 #[derive(Drop)]
-pub(crate) enum Hand<'a, A, P, B, X> {
+pub(crate) enum Hand<'a, A, P, B, T, X> {
     Reporter(&'a X, u64),
+    Beside(T),
     Worker(&'a X, Worker<A, P, B>),
 }
 
@@ -58,18 +61,21 @@ pub enum Left<A, P, B> {
     Unbegun,
     /// It reported.
     Reported,
+    /// It was the task beside the workers.
+    Beside,
     /// It served.
     Worked(Ended<A, P, B>),
 }
 
-impl<'a, R, G, A, P, B, L, C, S, W> Task for Hand<'a, A, P, B, Context<'a, R, G, L, C, S, W>>
+impl<'a, R, G, A, P, B, T, L, C, S, W> Task for Hand<'a, A, P, B, T, Context<'a, R, G, L, C, S, W>>
 where
     R: Wait + SystemClock + Sync,
     G: GateView + Sync,
     A: Accepts + Send + Drop,
     P: GatePort + Send + Drop,
-    L: Sync,
     B: Backend + Send + Drop,
+    T: Task<Done = ()> + Send + Drop,
+    L: Listener + Sync,
     C: Clock + Sync,
     S: Source + Sync,
     W: Watch + Sync,
@@ -79,16 +85,33 @@ where
     ghost use Rattle.serving.specs.Workers.{Makes};
 
     ghost makes = { Makes A.given A.failed A.closed A.visits P.shown P.known B.forwarded B.shown
-        S.gives S.lacks };
+        S.gives S.lacks (λ task. T.makes task tt) };
 
     fn run(self) -> Left<A, P, B> {
         match self {
             Hand::Reporter(context, every) => run_reports(context, every),
+            Hand::Beside(task) => {
+                task.run();
+                Left::Beside
+            }
             Hand::Worker(context, worker) => {
                 let left = run_one(context, worker);
-                context.present.leave(context.rt);
+                leave(context);
                 left
             }
+        }
+    }
+}
+
+/// One worker ends. The last one closes the listener of the task beside the workers.
+fn leave<R, G, L, C, S, W>(context: &Context<'_, R, G, L, C, S, W>)
+where
+    R: Wait + SystemClock,
+    L: Listener,
+{
+    if context.present.leave(context.rt) {
+        if let Some(listener) = context.common.beside {
+            listener.close(context.rt, Duration::from_millis(0));
         }
     }
 }

@@ -33,13 +33,15 @@ impl Present {
         }
     }
 
-    /// One of them ends; with the last one whoever rests here wakes.
-    pub(crate) fn leave(&self, rt: &impl Wait) {
+    /// One of them ends; with the last one whoever rests here wakes. Whether it is the last one.
+    pub(crate) fn leave(&self, rt: &impl Wait) -> bool {
         let mut count = self.count.lock(rt);
         *count = count.saturating_sub(1);
-        if *count == 0 {
-            self.left.notify_all();
+        if *count > 0 {
+            return false;
         }
+        self.left.notify_all();
+        true
     }
 
     /// Rests until the clock has reached a moment, or all workers have ended; whether some haven't.

@@ -1,8 +1,8 @@
 // Workers that serve through one gate.
-ghost use Rattle.std.specs.Prelude.{◌≡◌, [], IfOk};
+ghost use Rattle.std.specs.Prelude.{◌≡◌, [], IfOk, IfSome, option_to_list};
 ghost use Rattle.std.specs.List.{AllZip, list_all};
 ghost use Rattle.serving.specs.Workers.{AreWithin, Begins, HasRun, HasWorked};
-ghost use Rattle.serving.specs.Workers.{ended_in, has_begun, workers_in};
+ghost use Rattle.serving.specs.Workers.{ended_in, has_begun, tasks_in, workers_in};
 
 use crate::doors::{Accepts, Door};
 use crate::fault::ServeFault;
@@ -19,29 +19,32 @@ use std::net::Net;
 use std::sync::Wait;
 use std::thread::Threads;
 use std::time::Clock as SystemClock;
-use tasks::run_tasks;
+use tasks::{Task, run_tasks};
 use tcp_backend::{BackendWatch, TcpBackend};
 use timed_io::Listener;
 
 /// Serves clients by one worker for each port, each on a thread of its own with a door, and with a
 /// connection of its own to the backend of the settings, until all have ended; and tells what they
-/// left, in the order of the ports. Where reports are wanted one more thread has them of the gate:
-/// it is started last, once all workers were, and tells what it left first.
+/// left, in the order of the ports. A task beside them has one more thread, and where reports are
+/// wanted one has them of the gate: these are started last, once all workers were, and tell what
+/// they left first. The task is to end once the last worker has closed its listener.
 ///
 /// The settings are those that the workers' source gives. `Memory` comes before any worker is
 /// started, or where one had none for its settings, once all have ended; `Thread` once those that
 /// were started have.
-pub fn serve<'l, R, G, P, L, C, S, W>(
+pub fn serve<'l, R, G, P, T, L, C, S, W>(
     rt: &'l R,
     common: &WorkerSettings<'l, L, C, S, W>,
     settings: &Settings,
     gate: &G,
     ports: Vec<P>,
+    beside: Option<T>,
 ) -> Result<Vec<Left<Door<'l, L, W>, P, TcpBackend<&'l R, &'l W>>>, ServeFault>
 where
     R: Net + Threads + Wait + SystemClock + Sync,
     G: GateView + Sync,
     P: GatePort + Send + Drop,
+    T: Task<Done = ()> + Send + Drop,
     L: Listener + Sync,
     C: Clock + Sync,
     S: Source + Sync,
@@ -53,11 +56,12 @@ where
     L::To: Send + Sync,
     R::Stream: Send + Sync,
     R::Listener: Send + Sync,
-    ensures { IfOk result (λ lefts.
+    ensures ran { IfOk result (λ lefts.
         AllZip (HasRun S.gives P.shown P.known common.now) ports.items (ended_in lefts.items)) }
+    ensures beside { IfOk result (λ _. IfSome beside (λ task. T.makes task tt)) }
 {
     let workers = make_workers(rt, common, settings, ports)?;
-    serve_by(rt, common, gate, workers)
+    serve_by(rt, common, gate, workers, beside)
 }
 
 /// A worker for each port, with a door, and with a backend at the address of the settings.
@@ -84,12 +88,14 @@ fn make_workers<'l, R: Net, P: Drop, L, C, S, W>(
     Ok(workers)
 }
 
-/// Serves clients by these workers. Which doors and backends they have isn't told apart here.
-fn serve_by<R, G, A, P, B, L, C, S, W>(
+/// Serves clients by these workers, with a task beside them. Which doors and backends they have
+/// isn't told apart here.
+fn serve_by<R, G, A, P, B, T, L, C, S, W>(
     rt: &R,
     common: &WorkerSettings<'_, L, C, S, W>,
     gate: &G,
     workers: Vec<Worker<A, P, B>>,
+    beside: Option<T>,
 ) -> Result<Vec<Left<A, P, B>>, ServeFault>
 where
     R: Threads + Wait + SystemClock + Sync,
@@ -97,7 +103,8 @@ where
     A: Accepts + Send + Drop,
     P: GatePort + Send + Drop,
     B: Backend + Send + Drop,
-    L: Sync,
+    T: Task<Done = ()> + Send + Drop,
+    L: Listener + Sync,
     C: Clock + Sync,
     S: Source + Sync,
     W: Watch + Sync,
@@ -106,9 +113,14 @@ where
     A::Stream: Send + Sync,
     A::From: Send + Sync,
     A::To: Send + Sync,
-    ensures { IfOk result (λ lefts. AllZip (HasWorked A.given A.failed A.closed A.visits P.shown
-        P.known B.forwarded B.shown S.gives S.lacks common.now.source.now common.now.per_worker)
+    L::Stream: Send + Sync,
+    L::From: Send + Sync,
+    L::To: Send + Sync,
+    ensures worked { IfOk result (λ lefts. AllZip (HasWorked A.given A.failed A.closed A.visits
+        P.shown P.known B.forwarded B.shown S.gives S.lacks
+        common.now.source.now common.now.per_worker)
         workers.items (ended_in lefts.items)) }
+    ensures beside { IfOk result (λ _. IfSome beside (λ task. T.makes task tt)) }
 {
     let context = Context {
         rt,
@@ -116,7 +128,13 @@ where
         gate,
         present: Present::new(workers.len()),
     };
-    let hands = make_hands(common.alloc, &context, common.report_every_ns, workers)?;
+    let hands = make_hands(
+        common.alloc,
+        &context,
+        common.report_every_ns,
+        beside,
+        workers,
+    )?;
     let lefts = run_tasks(rt, common.alloc, hands)?;
     if !have_begun(&lefts) {
         return Err(ServeFault::Memory);
@@ -124,17 +142,20 @@ where
     Ok(lefts)
 }
 
-/// Whoever reports every so many nanoseconds, where that is wanted, and the workers.
-fn make_hands<'a, A: Drop, P: Drop, B: Drop, X>(
+/// Whoever reports every so many nanoseconds, where that is wanted, a task beside the workers, and
+/// the workers.
+fn make_hands<'a, A: Drop, P: Drop, B: Drop, T: Drop, X>(
     alloc: Global,
     context: &'a X,
     every: Option<u64>,
+    beside: Option<T>,
     workers: Vec<Worker<A, P, B>>,
-) -> Result<Vec<Hand<'a, A, P, B, X>>, AllocError>
+) -> Result<Vec<Hand<'a, A, P, B, T, X>>, AllocError>
     ensures all { IfOk result (λ hands. workers_in hands.items ≡ workers.items) }
+    ensures beside { IfOk result (λ hands. tasks_in hands.items ≡ option_to_list beside) }
     ensures within { IfOk result (λ hands. AreWithin context.now hands.items) }
 {
-    let mut hands = make_reporter(alloc, context, every)?;
+    let mut hands = make_others(alloc, context, every, beside)?;
     hands.reserve(workers.len())?;
     for worker in workers {
         hands.push_reserved(Hand::Worker(context, worker));
@@ -142,20 +163,24 @@ fn make_hands<'a, A: Drop, P: Drop, B: Drop, X>(
     Ok(hands)
 }
 
-/// Whoever reports, where that is wanted.
-fn make_reporter<'a, A: Drop, P: Drop, B: Drop, X>(
+/// Who isn't a worker: whoever reports, where that is wanted, and a task beside the workers.
+fn make_others<'a, A: Drop, P: Drop, B: Drop, T: Drop, X>(
     alloc: Global,
     context: &'a X,
     every: Option<u64>,
-) -> Result<Vec<Hand<'a, A, P, B, X>>, AllocError>
+    beside: Option<T>,
+) -> Result<Vec<Hand<'a, A, P, B, T, X>>, AllocError>
     ensures none { IfOk result (λ hands. workers_in hands.items ≡ []) }
+    ensures beside { IfOk result (λ hands. tasks_in hands.items ≡ option_to_list beside) }
     ensures within { IfOk result (λ hands. AreWithin context.now hands.items) }
 {
-    let mut hands = Vec::new(alloc);
-    let Some(every) = every else {
-        return Ok(hands);
-    };
-    hands.push(Hand::Reporter(context, every))?;
+    let mut hands = Vec::with_capacity(alloc, 2)?;
+    if let Some(every) = every {
+        hands.push_reserved(Hand::Reporter(context, every));
+    }
+    if let Some(task) = beside {
+        hands.push_reserved(Hand::Beside(task));
+    }
     Ok(hands)
 }
 
@@ -172,6 +197,6 @@ fn has_begun<A, P, B>(left: &Left<A, P, B>) -> bool
 {
     match left {
         Left::Unbegun => false,
-        Left::Reported | Left::Worked(_) => true,
+        Left::Reported | Left::Beside | Left::Worked(_) => true,
     }
 }

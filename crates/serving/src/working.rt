@@ -65,6 +65,9 @@ pub trait Source {
 pub struct WorkerSettings<'a, L, C, S, W> {
     /// Where clients come from.
     pub listener: &'a L,
+    /// Where those come from whom a task beside the workers serves: the last worker that ends
+    /// closes it.
+    pub beside: Option<&'a L>,
     /// Where a worker has its settings from.
     pub source: &'a S,
     /// The clock of deadlines.

@@ -18,6 +18,9 @@ whether a file is right before anything is served. A connection carries one requ
                          and its permit is ended as always
   --report-seconds N     seconds between two lines of the report in the log, 1 to 3600; without it
                          there are none
+  --admin ADDRESS        an address from 127.0.0.0 to 127.255.255.255, and a port, at which the
+                         operator of this machine sees what stands and changes it; without it there
+                         is none
 
 For example, with this file as gate.toml
 

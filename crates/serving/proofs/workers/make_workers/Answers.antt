@@ -1,5 +1,4 @@
-use Rattle.std.proofs.Common.{rules, subst, sym, refl}
-use Rattle.serving.specs.Workers.{Begins}
+use Rattle.std.proofs.Common.{rules}
 use Rattle.serving.proofs.All.{one_more}
 use Rattle.serving.proofs.workers.make_workers.Goals as goal
 

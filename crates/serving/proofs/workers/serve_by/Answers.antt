@@ -1,11 +1,19 @@
 use Rattle.std.proofs.Common.{rules}
-use Rattle.serving.proofs.All.{all_worked}
+use Rattle.serving.proofs.All.{all_made, all_worked}
 use Rattle.serving.proofs.workers.serve_by.Goals as goal
 
-pub returns : goal.returns
-returns g c =
+pub returns-clause-worked : goal.returns-clause-worked
+returns-clause-worked g c =
     all_worked g.A.Accepts.given g.A.Accepts.failed g.A.Accepts.closed g.A.Accepts.visits
     g.P.GatePort.shown g.P.GatePort.known g.B.Backend.forwarded g.B.Backend.shown
-    g.S.Source.gives g.S.Source.lacks _
+    g.S.Source.gives g.S.Source.lacks (λ task. g.T.Task.makes task tt) _
     c.args.workers.items c.in_ok-hands.hands.items c.in_ok-lefts.lefts.items
     c.in_ok-hands.ensures.all c.in_ok-lefts.ensures c.in_ok-hands.ensures.within (search rules)
+
+pub returns-clause-beside : goal.returns-clause-beside
+returns-clause-beside g c =
+    all_made g.A.Accepts.given g.A.Accepts.failed g.A.Accepts.closed g.A.Accepts.visits
+    g.P.GatePort.shown g.P.GatePort.known g.B.Backend.forwarded g.B.Backend.shown
+    g.S.Source.gives g.S.Source.lacks (λ task. g.T.Task.makes task tt)
+    c.args.beside c.in_ok-hands.hands.items c.in_ok-lefts.lefts.items
+    c.in_ok-hands.ensures.beside c.in_ok-lefts.ensures

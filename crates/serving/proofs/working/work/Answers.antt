@@ -1,4 +1,4 @@
-use Rattle.std.proofs.Common.{rules, ◌≡◌, ◌≤◌, ◌∙◌, arith, refl}
+use Rattle.std.proofs.Common.{rules, ◌≡◌, ◌∙◌, arith, refl}
 use Rattle.counted_io.specs.Count.{raised}
 use Rattle.serving.specs.Turns.{Missing, Serving}
 use Rattle.serving.proofs.Runs.{all_failed, all_given, back_of, begins, forwarded_at_most, goes_on}
