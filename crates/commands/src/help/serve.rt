@@ -18,9 +18,9 @@ whether a file is right before anything is served. A connection carries one requ
                          and its permit is ended as always
   --report-seconds N     seconds between two lines of the report in the log, 1 to 3600; without it
                          there are none
-  --admin ADDRESS        an address from 127.0.0.0 to 127.255.255.255, and a port, at which the
-                         operator of this machine sees what stands and changes it; without it there
-                         is none
+  --admin ADDRESS        a loopback address of IPv4 with a port, such as 127.0.0.1:9901, at which
+                         the operator of this machine sees what stands and changes it; without it
+                         there is none
 
 For example, with this file as gate.toml
 
@@ -75,6 +75,17 @@ and those that wait, each class as in flight/share, the counters since the start
 exchanges ended in each status of the gateway's own:
 `report limit=L inflight=I waiters=V granted=G class.NAME=C/S class.unknown=C admitted=A ..
 dropped=D 400=N 413=N 429=N 431=N 500=N 501=N 502=N`. So a stop loses N seconds of counters at most.
+
+With --admin each connection to ADDRESS carries one call. Its Host has to be the address itself, and
+a POST needs the line `X-Admission: yes`, so that no page in a browser can send one:
+
+  GET /         a page that draws the last minutes in a browser
+  GET /metrics  what stands, in the text format of Prometheus
+  GET /health   200 while clients are accepted, 503 once the gateway drains
+  POST /limit   the limit is set to the number in the body, where its kind is settable
+  POST /reset   the algorithm of the limit begins anew
+  POST /drain   nobody is accepted any more; the program ends once those inside, or waiting to be
+                accepted, are served
 
 At its end `serve` writes its counters to standard output, in one line:
 `admitted A bypassed B full F backlog G waiting W promoted P timed-out T success S ignored I
