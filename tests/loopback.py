@@ -146,6 +146,11 @@ class Gateway:
     """One run of the program, whose log is read as it comes."""
 
     running: list[tuple[threading.Thread, subprocess.Popen[str]]] = []
+    # Of the run that is under way: its process, its log, who reads that, and whether it came to listen.
+    process: subprocess.Popen[str]
+    log: list[str]
+    reader: threading.Thread
+    is_listening: threading.Event
 
     @classmethod
     def end_all(cls, of_any_thread: bool = False) -> None:
@@ -199,10 +204,15 @@ class Gateway:
             stderr=subprocess.PIPE if log_to is None else log_to,
             env={**os.environ, **(variables or {})},
         )
+        self.reader = self.followed()
+
+    def followed(self) -> threading.Thread:
+        """Who reads the log of the process that was started, once it listens."""
         Gateway.running.append((threading.current_thread(), self.process))
-        self.reader = threading.Thread(target=self.read_log, daemon=True)
-        self.reader.start()
+        reader = threading.Thread(target=self.read_log, daemon=True)
+        reader.start()
         self.is_listening.wait(PATIENCE)
+        return reader
 
     def read_log(self) -> None:
         for line in self.process.stderr or ():

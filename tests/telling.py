@@ -16,6 +16,15 @@ from served import Served
 from sockets import MUCH, PLAIN, TRIES, passed_on
 from wires import local, reset
 
+# At a full gateway one that is refused, one that passes the limit, and one for each status of a fault of reading.
+OF_EACH_ANSWER = (
+    PLAIN,
+    b"GET /health HTTP/1.1\r\nHost: h\r\n\r\n",
+    b"GET / HTTP/1.1\r\n\r\n",
+    b"TRACE / HTTP/1.1\r\nHost: h\r\n\r\n",
+    b"POST / HTTP/1.1\r\nHost: h\r\nContent-Length: 8388609\r\n\r\n",
+    b"GET / HTTP/1.1\r\nHost: h\r\n" + b"X: y\r\n" * 101 + b"\r\n",
+)
 REPORT = "[INFO  admission] report "
 UNREACHED = "[WARN  admission] the backend can't be reached "
 BROKEN = "[WARN  admission] the backend broke an answer "
@@ -76,14 +85,7 @@ class Telling(Served):
         held = [Later(gate.ask, b"GET /held HTTP/1.1\r\nHost: h\r\nX-Class: live\r\n\r\n") for _ in range(2)]
         for _ in held:
             self.judge("one is at the backend", True, backend.held.acquire(timeout=PATIENCE))
-        for text in (
-            PLAIN,
-            b"GET /health HTTP/1.1\r\nHost: h\r\n\r\n",
-            b"GET / HTTP/1.1\r\n\r\n",
-            b"TRACE / HTTP/1.1\r\nHost: h\r\n\r\n",
-            b"POST / HTTP/1.1\r\nHost: h\r\nContent-Length: 8388609\r\n\r\n",
-            b"GET / HTTP/1.1\r\nHost: h\r\n" + b"X: y\r\n" * 101 + b"\r\n",
-        ):
+        for text in OF_EACH_ANSWER:
             gate.ask(text)
         wanted = dict.fromkeys(NAMES, "0") | {
             "limit": "2",

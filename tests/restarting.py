@@ -1,0 +1,210 @@
+"""Cases of `tests/serve` and `tests/fronts` on a drain and a start while clients come: none of them is lost."""
+
+import collections
+import contextlib
+import http.client
+import itertools
+import socket
+import subprocess
+import threading
+import time
+import typing
+from collections.abc import Callable
+
+from fronting import TOP, Fronts, Origin, status
+from judging import counts_of
+from loopback import BODY, Backend, Later, read_all
+from operating import HELD, Operated, Operating, or_refused
+from operator_rows import DRAINED, told
+from running import PATIENCE, free_port, until
+from sockets import PLAIN, TRIES, passed_on, unbroken
+
+# Clients that wait to be accepted as a gateway drains, and callers that come across drains and starts.
+QUEUED, CALLERS = 20, 8
+# How often a gateway is drained and started anew while callers come, and how many calls come before each drain.
+RESTARTS, CALLS = 3, 50
+# For how long requests come behind a front meanwhile.
+SECONDS = 10
+
+
+def is_let_in(port: int) -> bool:
+    """Whether a client comes to be connected within a moment."""
+    try:
+        socket.create_connection(("127.0.0.1", port), timeout=0.5).close()
+    except TimeoutError:
+        return False
+    return True
+
+
+class Callers:
+    """Threads that call one after the other, each call with its number, up to so many or to the end; `answers` has what
+    each was answered, but for calls that were answered None."""
+
+    def __init__(self, call: Callable[[int], object], most: int | None = None) -> None:
+        self.call, self.most = call, most
+        self.answers: list[object] = []
+        self.numbers, self.is_over = itertools.count(), threading.Event()
+        self.callers = [Later(self.run) for _ in range(CALLERS)]
+
+    def run(self) -> None:
+        for number in self.numbers:
+            if self.is_over.is_set() or (self.most is not None and number >= self.most):
+                return
+            answer = self.call(number)
+            if answer is not None:
+                self.answers.append(answer)
+
+    def have(self, more: int) -> bool:
+        """Whether so many more calls come to be answered."""
+        before = len(self.answers)
+        return until(lambda: len(self.answers) >= before + more)
+
+    def counted(self) -> dict[object, int]:
+        """How often there was each answer, once no caller calls any more."""
+        if self.most is None:
+            self.is_over.set()
+        for it in self.callers:
+            it.thread.join(10 * PATIENCE)
+        return dict(collections.Counter(self.answers))
+
+
+class Restarting(Operating):
+    """Cases on drains and starts."""
+
+    def serves_its_queue(self, backend: Backend) -> None:
+        """Who waits to be accepted as a drain begins is served, also where that takes longer than half a second; then
+        nobody joins them."""
+        gate = self.operated(backend, workers=1, words=("--client-timeout-ms", "60000"))
+        held = Later(gate.ask, HELD)
+        self.judge("one is at the backend", True, backend.held.acquire(timeout=PATIENCE))
+        with contextlib.ExitStack() as stack:
+            queued = [stack.enter_context(gate.connect()) for _ in range(QUEUED)]
+            for client in queued:
+                client.sendall(PLAIN)
+            drain = Later(gate.call, "POST /drain")
+            # Nothing outside shows that the queue was made short: that is half a second later.
+            time.sleep(1.5)
+            self.judge("the drain waits with the queue", None, drain.found)
+            self.judge("who comes later is let in", False, is_let_in(gate.port))
+            backend.release.set()
+            self.judge("who was inside", passed_on(BODY), held.result())
+            self.judge("who was queued", [passed_on(BODY)] * QUEUED, [read_all(it) for it in queued])
+        self.judge("the drain behind them", told(DRAINED), drain.result())
+        self.judge("counters of the queue", {"admitted": QUEUED + 1, "success": QUEUED + 1}, gate.ending())
+
+    def takes_who_comes_at_once(self, backend: Backend) -> None:
+        """Within the half second that the queue is left alone whoever comes is served; who comes later is refused."""
+        found = [self.answer_of_a_late_client(backend) for _ in range(TRIES)]
+        self.judge("who came", True, passed_on(BODY) in found and {*found} <= {passed_on(BODY), "refused"})
+
+    def answer_of_a_late_client(self, backend: Backend) -> bytes | str:
+        """What a client is answered that comes while a drain waits with another one, whom no worker has accepted."""
+        gate = self.operated(backend, workers=1, words=("--client-timeout-ms", "60000"))
+        backend.release.clear()
+        held = Later(gate.ask, HELD)
+        self.judge("one is at the backend", True, backend.held.acquire(timeout=PATIENCE))
+        with gate.connect() as queued:
+            queued.sendall(PLAIN)
+            drain = Later(gate.call, "POST /drain")
+            self.judge("it drains", True, until(lambda: any("the operator drains" in it for it in gate.log)))
+            late = Later(or_refused, gate.ask, PLAIN)
+            # Nothing outside shows that it has come.
+            time.sleep(0.1)
+            backend.release.set()
+            self.judge("those before it", [passed_on(BODY)] * 2, [held.result(), read_all(queued)])
+        self.judge("the drain behind them", told(DRAINED), drain.result())
+        count = 2 + (late.result() != "refused")
+        self.judge("counters of who came", {"admitted": count, "success": count}, gate.ending())
+        return late.result()
+
+    def loses_nobody_across_starts(self, backend: Backend) -> None:
+        """Callers who try again where nobody listens are all served, once each, while the gateway is drained and
+        started anew at its address."""
+        gate, counted = self.operated(backend), 0
+        address = ("127.0.0.1", gate.port)
+
+        def call(_: int) -> object:
+            time.sleep(0.002)
+            with contextlib.suppress(ConnectionRefusedError):
+                with socket.create_connection(address, timeout=PATIENCE) as client:
+                    return unbroken(client, PLAIN)
+            return None
+
+        callers = Callers(call)
+        for turn in range(RESTARTS):
+            self.judge(f"calls before a drain, {turn}", True, callers.have(CALLS))
+            counted += self.drained(gate)
+            gate = gate.again()
+        self.judge("calls behind the last start", True, callers.have(CALLS))
+        answers = callers.counted()
+        counted += self.drained(gate)
+        count = len(callers.answers)
+        self.judge("what callers were answered", {(passed_on(BODY), None): count}, answers)
+        self.judge("what was forwarded, and counted", (count, count), (len(backend.given), counted))
+
+    def drained(self, gate: Operated) -> int:
+        """How many a gateway served by its counters, once it was drained."""
+        self.judge("a drain while callers come", told(DRAINED), gate.call("POST /drain"))
+        found: typing.Any = gate.ending()
+        self.judge("its counters", True, found.get("admitted") == found.get("success"))
+        return found.get("success", 0)
+
+
+class Pair:
+    """Two gateways with addresses for their operators behind examples/front/fleet.conf, and what they served so far."""
+
+    def __init__(self, fronts: Fronts) -> None:
+        self.fronts, self.origin, self.served = fronts, Origin(), 0
+        self.operators = [f"127.0.0.1:{free_port()}" for _ in range(2)]
+        self.gateways = [self.started(it) for it in self.operators]
+        self.port, servers = free_port(), fronts.room / "drained-servers.conf"
+        servers.write_text("".join(f"server 127.0.0.1:{it} max_fails=0;\n" for _, it in self.gateways))
+        swaps = {"127.0.0.1:8000": f"127.0.0.1:{self.port}", "/etc/nginx/gateways.conf": servers}
+        fronts.nginx("fleet.conf", self.port, swaps)
+
+    def started(self, operator: str, port: int | None = None) -> tuple[subprocess.Popen, int]:
+        tables = 'wait = false\n[limit]\nkind = "fixed"\ninitial = 40\n'
+        return self.fronts.gateway(self.origin.port, tables, port, words=("--admin", operator))
+
+    def drain(self, place: int) -> tuple[int, str, int, bool]:
+        """Drains one of them as its unit does, and says how that and the gateway ended."""
+        process, _ = self.gateways[place]
+        words = [str(TOP / "packaging/admission-drain"), self.operators[place], "--pid", str(process.pid)]
+        done = subprocess.run(words, capture_output=True, text=True)
+        written, _ = process.communicate(timeout=PATIENCE)
+        ended, counts = process.returncode, counts_of(written) or {}
+        self.served += counts.get("success", 0)
+        return done.returncode, done.stderr, ended, counts.get("admitted") == counts.get("success")
+
+    def restart(self, place: int) -> tuple[int, str, int, bool]:
+        """Drains one, and starts another one at its addresses."""
+        found = self.drain(place)
+        self.gateways[place] = self.started(self.operators[place], self.gateways[place][1])
+        return found
+
+    def ask(self, number: int) -> int | str:
+        """The status of a request through the front, or the name of what went wrong."""
+        method, body = (("GET", None), ("POST", b"a"))[number % 2]
+        try:
+            return status(self.port, "/a", method, body, None, False)
+        except (OSError, http.client.HTTPException) as why:
+            return type(why).__name__
+
+
+def across_drains(fronts: Fronts, requests: int | None = None) -> None:
+    """Two gateways behind a front are drained and started anew in turn while requests come: so many, or some seconds of
+    them, and each gateway is drained once at least."""
+    fronts.group = "drain"
+    pair, end = Pair(fronts), time.monotonic() + SECONDS
+    callers = Callers(pair.ask, requests)
+    ends: list[tuple[int, str, int, bool]] = []
+    while len(ends) < 2 or (len(callers.answers) < requests * 9 // 10 if requests else time.monotonic() < end):
+        ends.append(pair.restart(len(ends) % 2))
+    answers, count = callers.counted(), len(callers.answers)
+    drains = len(ends)
+    ends += [pair.drain(place) for place in range(2)]
+    fronts.judge(f"{count} requests across {drains} drains, and none was lost", {200: requests or count}, answers)
+    fronts.judge("each was forwarded once", count, len(pair.origin.paths()))
+    fronts.judge("how each drain ended", {(0, "", 0, True)}, {*ends})
+    fronts.judge("each request was counted once", count, pair.served)
+    pair.origin.close()
