@@ -62,9 +62,11 @@ def without_zeros(found: typing.Any) -> typing.Any:
 class Operated(Gateway):
     """A gateway with an address for its operator."""
 
-    def __init__(self, *given: typing.Any, words: Sequence[str] = (), **how: typing.Any) -> None:
-        self.operator = free_port()
-        super().__init__(*given, words=("--admin", f"127.0.0.1:{self.operator}", *words), **how)
+    def __init__(
+        self, *given: typing.Any, words: Sequence[str] = (), loopback: str = "127.0.0.1", **how: typing.Any
+    ) -> None:
+        self.operator, self.loopback = free_port(), loopback
+        super().__init__(*given, words=("--admin", f"{loopback}:{self.operator}", *words), **how)
 
     def again(self) -> "Operated":
         """Another run of the program, by the same words and so at the same addresses."""
@@ -77,14 +79,14 @@ class Operated(Gateway):
 
     def tell(self, *pieces: bytes) -> bytes:
         """All that comes back of a text that is sent to the operator's address."""
-        with socket.create_connection(("127.0.0.1", self.operator), timeout=PATIENCE) as client:
+        with socket.create_connection((self.loopback, self.operator), timeout=PATIENCE) as client:
             for piece in pieces:
                 client.sendall(piece)
             return read_all(client)
 
     def call(self, words: str, body: str | None = None) -> bytes:
         """The answer to a call, with the lines that it needs."""
-        lines = [f"Host: 127.0.0.1:{self.operator}"] + ([MARK] if words.startswith("POST") else [])
+        lines = [f"Host: {self.loopback}:{self.operator}"] + ([MARK] if words.startswith("POST") else [])
         return self.tell(request(f"{words} HTTP/1.1", *lines, body=body))
 
     def metrics(self) -> dict[str, typing.Any]:
@@ -346,6 +348,10 @@ class Operating(Served):
             self.judge("at an address that is taken", (1, "", True), (status, out, said.endswith(wanted)))
         status, out, said = served(f"127.0.0.1:{front}")
         self.judge("at its own front", (1, "", True), (status, out, said.endswith("admission: listen\n")))
+        other = self.operated(backend, loopback="127.255.255.254")
+        self.judge("at another loopback address", told(DONE), other.call("GET /health"))
+        other.loopback = "127.0.0.1"
+        self.judge("at the same port of this one", "refused", or_refused(other.call, "GET /health"))
         gate = self.gateway(backend)
         self.judge("an operator's address that nobody asked for", [], [it for it in gate.log if "operator" in it])
         self.judge("without one", passed_on(BODY), gate.ask(PLAIN))
