@@ -221,14 +221,10 @@ class Operating(Served):
         )
         backend.release.set()
         self.judge("all are served", [passed_on(BODY)] * 3, [it.result() for it in held])
+        wanted = ["set the limit limit=3", "set the limit limit=8", "reset the limit"]
+        lines = [f"[WARN  admission] the operator {it}" for it in wanted]
         self.judge(
-            "what the log tells",
-            [
-                "[WARN  admission] the operator set the limit limit=3",
-                "[WARN  admission] the operator set the limit limit=8",
-                "[WARN  admission] the operator reset the limit",
-            ],
-            [it for it in gate.log if "the operator " in it and "WARN" in it],
+            "what the log tells", True, until(lambda: [it for it in gate.log if "the operator " in it][1:] == lines)
         )
 
     def resets_what_was_learned(self, backend: Backend) -> None:
