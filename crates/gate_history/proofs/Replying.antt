@@ -85,7 +85,8 @@ module _ {S : Type 0} (g : Gate S) (i : Image S) (sound : IsSound g i) where
         → Fits (Claim n) (counting told (granted_or o (cond b reply.StillWaiting reply.Lost)))
     claim_fits n (Some one) b found waiting =
         (refl, refl, omega (arith, is, earlier_granted n one found))
-    claim_fits n None true found waiting = (refl, refl, omega (arith, is, earlier_waiting n waiting))
+    claim_fits n None true found waiting =
+        (refl, refl, omega (arith, is, earlier_waiting n waiting))
     claim_fits n None false found waiting = refl
 
     give_up_fits : (n : ℕ) (o : Option PermitFacts) (b : Bool) → granted_of i n ≡ o

@@ -68,7 +68,8 @@ line_more text bytes at len p q inside some before room progress by on =
     ap (λ l. front ++ l) is ∙ sym (take-add at len bytes) in
     let long : length (front ++ line) ≡ at + len =
     ap length joined ∙ length-take-le (at + len) bytes inside in
-    let passes = passes_line text front line by (rw size some) stops (omega (arith, room, long)) in (
+    let passes =
+    passes_line text front line by (rw size some) stops (omega (arith, room, long)) in (
       subst (λ seen. IsProgress seen q)
           (append_assoc text front line ∙ ap (λ l. text ++ l) joined) (on (text ++ front) progress),
       subst (HeadPasses text) joined passes,
