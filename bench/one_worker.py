@@ -10,7 +10,7 @@ import threading
 import time
 from collections.abc import Callable, Iterator
 
-from running import free_port
+from programs import free_port
 
 WAITING = 120
 # A gateway where nobody waits.

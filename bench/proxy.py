@@ -40,7 +40,7 @@ import typing
 from collections.abc import Iterator, Mapping, Sequence
 
 from one_worker import CONFIG
-from running import stop
+from programs import stop
 from words import built, reader_of
 
 TICK = os.sysconf("SC_CLK_TCK")

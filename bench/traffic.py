@@ -16,7 +16,7 @@ import time
 import typing
 from collections.abc import Iterator, Sequence
 
-from running import free_port
+from programs import free_port
 
 TOP = pathlib.Path(__file__).resolve().parent.parent
 ANSWER = b"HTTP/1.1 200 OK\r\nContent-Length: 13\r\nConnection: close\r\n\r\nhello, world\n"

@@ -9,7 +9,7 @@ import time
 import typing
 from multiprocessing.synchronize import Event
 
-from running import free_port
+from programs import free_port
 from traffic import ANSWER, STARTING, Call, allow_many_sockets, offer
 
 BUSY = b"HTTP/1.1 503 Service Unavailable\r\nContent-Length: 0\r\nConnection: close\r\n\r\n"
