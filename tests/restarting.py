@@ -74,8 +74,8 @@ class Restarting(Operating):
     """Cases on drains and starts."""
 
     def serves_its_queue(self, backend: Backend) -> None:
-        """Who waits to be accepted as a drain begins is served, also where that takes longer than half a second; then
-        nobody joins them."""
+        """Who waits to be accepted as a drain begins is served, also where that takes longer than half a second, from
+        which on nobody joins them. A client that came to be let in before has left by then."""
         gate = self.operated(backend, workers=1, words=("--client-timeout-ms", "60000"))
         held = Later(gate.ask, HELD)
         self.judge("one is at the backend", True, backend.held.acquire(timeout=PATIENCE))
@@ -84,10 +84,8 @@ class Restarting(Operating):
             for client in queued:
                 client.sendall(PLAIN)
             drain = Later(gate.call, "POST /drain")
-            # Nothing outside shows that the queue was made short: that is half a second later.
-            time.sleep(1.5)
+            self.judge("nobody joins them in the end", True, until(lambda: not is_let_in(gate.port)))
             self.judge("the drain waits with the queue", None, drain.found)
-            self.judge("who comes later is let in", False, is_let_in(gate.port))
             backend.release.set()
             self.judge("who was inside", passed_on(BODY), held.result())
             self.judge("who was queued", [passed_on(BODY)] * QUEUED, [read_all(it) for it in queued])
