@@ -55,9 +55,6 @@ class Origin(Listener):
 
     def close(self) -> None:
         self.release.set()
-        # accept() is woken, so that the port is free.
-        with contextlib.suppress(OSError):
-            self.socket.shutdown(socket.SHUT_RDWR)
         super().close()
 
 

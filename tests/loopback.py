@@ -51,7 +51,8 @@ class Listener:
         self.accepted = 0
         self.socket = socket.create_server(("127.0.0.1", port), backlog=backlog)
         self.port: int = self.socket.getsockname()[1]
-        threading.Thread(target=self.accept, daemon=True).start()
+        self.accepting = threading.Thread(target=self.accept, daemon=True)
+        self.accepting.start()
 
     def accept(self) -> None:
         with contextlib.suppress(OSError):
@@ -69,6 +70,11 @@ class Listener:
         raise NotImplementedError
 
     def close(self) -> None:
+        """Accepts nobody any more. The descriptor is given back behind the last accept alone: one that is just being
+        made would otherwise be made of whatever has its number next, such as the next backend."""
+        with contextlib.suppress(OSError):
+            self.socket.shutdown(socket.SHUT_RDWR)
+        self.accepting.join(PATIENCE)
         self.socket.close()
 
 

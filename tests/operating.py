@@ -184,8 +184,7 @@ class Operating(Served):
         self.judge("the numbers behind them", True, gate.shows(**wanted))
         before = gate.metrics()["uptime_seconds"]
         self.judge("its seconds go on", True, until(lambda: gate.metrics()["uptime_seconds"] > before))
-        backend.socket.shutdown(socket.SHUT_RDWR)
-        backend.socket.close()
+        backend.close()
         gate.ask(PLAIN)
         more = {
             "troubles_total": {"broken": 2, "unreached": 1},

@@ -172,7 +172,6 @@ class Telling(Served):
         scripted = Scripted(backend.serve)
         gate = self.gateway(scripted, each=1_000_000)
         gate.ask(b"GET /garbage HTTP/1.1\r\nHost: h\r\n\r\n")
-        scripted.socket.shutdown(socket.SHUT_RDWR)
         scripted.close()
         gate.ask(PLAIN)
         self.judge(
