@@ -95,7 +95,7 @@ fn admin_option<'a>(alloc: Global) -> Arg<'a>
     Arg::new(alloc, "admin")
         .long("admin")
         .value_name("ADDRESS")
-        .help("A loopback address for the operator, such as 127.0.0.1:9901; without it none")
+        .help("An address for the operator, such as 127.0.0.1:9901; without it none")
 }
 
 /// `--explain`.
