@@ -113,7 +113,8 @@ where
         &mut writer,
     );
     let from = reader.inner().inner().inner().inner().end();
-    linger_behind(&attended, &buffers.ahead, &stream, from, clock, time);
+    let sent = writer.inner().inner().inner().inner().sent();
+    linger_behind(&attended, &buffers.ahead, &stream, from, clock, time, sent);
 }
 
 /// Where a client was answered: sees that it gets to read the answer, for so many nanoseconds at
@@ -125,14 +126,10 @@ fn linger_behind<T: Connection, I: Inlet<T> + Copy, C: Clock>(
     from: I,
     clock: &C,
     most: u64,
+    sent: u64,
 ) {
     if attended.answer.is_some() && attended.is_written {
-        linger(
-            stream,
-            from,
-            clock,
-            most,
-            !attended.is_read || ahead.left() > 0,
-        );
+        let is_unread = !attended.is_read || ahead.left() > 0;
+        linger(stream, from, clock, most, is_unread, sent);
     }
 }

@@ -1,5 +1,5 @@
-// Connections whose limits can't be set, whose calls are interrupted, and how long each call may
-// take; and a flush through a buffer.
+// Connections whose limits can't be set, which are ready, whose calls are interrupted, and how long
+// each call may take; and a flush through a buffer.
 
 use crate::counted_io_tests::valve_of;
 use clocks::Clock;
@@ -10,20 +10,23 @@ use std::io::{Error, ErrorKind, Read, Result, Write};
 use std::time::Duration;
 use timed_io::{Connection, Inlet, Lent, Outlet, TimedReader, TimedWriter, Uninterrupted};
 
-/// A connection that gives and takes one byte a call, once it was interrupted so often. It keeps
-/// how long the last call may wait, unless that fails.
+/// A connection that gives and takes one byte a call, once it was interrupted so often. It is ready
+/// for each call, or has to be waited for. It keeps how long the last call may wait, unless that
+/// fails.
 #[derive(Drop)]
 struct Fake {
     takes_limits: bool,
+    is_ready: bool,
     interruptions: Cell<u64>,
     calls: Cell<u64>,
     limit: Cell<u64>,
 }
 
-/// A connection that wasn't called yet.
+/// A connection that wasn't called yet, and has to be waited for.
 fn fake_of(takes_limits: bool, interruptions: u64) -> Fake {
     Fake {
         takes_limits,
+        is_ready: false,
         interruptions: Cell::new(interruptions),
         calls: Cell::new(0),
         limit: Cell::new(0),
@@ -39,6 +42,13 @@ impl Fake {
             return Err(Error::from(ErrorKind::Interrupted));
         }
         Ok(room.min(1))
+    }
+
+    fn call_ready(&self, room: usize) -> Result<usize> {
+        if !self.is_ready {
+            return Err(Error::from(ErrorKind::WouldBlock));
+        }
+        self.call(room)
     }
 
     fn limit(&self, most: Duration) -> Result<()> {
@@ -84,6 +94,12 @@ impl Inlet<Fake> for End {
     fn receive(&mut self, stream: &Fake, buf: &mut [u8]) -> Result<usize> {
         stream.call(buf.len()).map(|count| count.min(buf.len()))
     }
+
+    fn receive_ready(&mut self, stream: &Fake, buf: &mut [u8]) -> Result<usize> {
+        stream
+            .call_ready(buf.len())
+            .map(|count| count.min(buf.len()))
+    }
 }
 
 impl Outlet<Fake> for End {
@@ -93,6 +109,12 @@ impl Outlet<Fake> for End {
 
     fn send(&mut self, stream: &Fake, buf: &[u8]) -> Result<usize> {
         stream.call(buf.len()).map(|count| count.min(buf.len()))
+    }
+
+    fn send_ready(&mut self, stream: &Fake, buf: &[u8]) -> Result<usize> {
+        stream
+            .call_ready(buf.len())
+            .map(|count| count.min(buf.len()))
     }
 }
 
@@ -120,22 +142,30 @@ impl Clock for Ticking {
     }
 }
 
-/// Where no limit can be set, nothing is read, and nothing written.
-fn calls_without_limits() -> u64 {
-    let (fake, clock) = (fake_of(false, 0), fresh_ticking());
+/// How many calls are made of a connection that takes no limit, by a read and a write which succeed
+/// just where it is ready.
+fn calls_without_limits(is_ready: bool) -> u64 {
+    let mut fake = fake_of(false, 0);
+    fake.is_ready = is_ready;
+    let clock = fresh_ticking();
     let mut reader = TimedReader::new(Lent::new(&fake, End {}), &clock, 5 * SECOND);
     let mut writer = TimedWriter::new(Lent::new(&fake, End {}), &clock, 5 * SECOND);
     let is_read = reader.read(&mut [0u8; 4]).is_ok();
     let is_written = writer.write(b"four").is_ok();
-    if is_read || is_written {
+    if is_read != is_ready || is_written != is_ready {
         return u64::MAX;
     }
     fake.calls.get()
 }
 
 #[test]
-fn a_call_that_cannot_be_limited_is_not_made(rt: HostRuntime) {
-    assert!(rt; calls_without_limits() == 0);
+fn a_call_that_cannot_be_limited_is_not_waited_for(rt: HostRuntime) {
+    assert!(rt; calls_without_limits(false) == 0);
+}
+
+#[test]
+fn a_call_that_need_not_wait_needs_no_limit(rt: HostRuntime) {
+    assert!(rt; calls_without_limits(true) == 2);
 }
 
 /// How many seconds four reads, and four writes, may wait, by a second's look each.

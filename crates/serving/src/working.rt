@@ -231,8 +231,9 @@ where
     let from = reader.inner().inner().inner().inner().end();
     let is_sent = writer.inner().is_sent();
     let to = writer.inner().inner().inner().inner().end();
+    let sent = writer.inner().inner().inner().inner().sent();
     let served = told_where(is_sent, served);
-    linger_behind(&served, &buffers.ahead, &stream, from, clock, time);
+    linger_behind(&served, &buffers.ahead, &stream, from, clock, time, sent);
     (Arrival { stream, from, to }, served)
 }
 
@@ -245,10 +246,11 @@ fn linger_behind<T: Connection, I: Inlet<T> + Copy, C: Clock>(
     from: I,
     clock: &C,
     most: u64,
+    sent: u64,
 ) {
     if served.answer.is_some() && served.written_fault.is_none() {
         let is_unread = served.class.is_none() || ahead.left() > 0;
-        linger(stream, from, clock, most, is_unread);
+        linger(stream, from, clock, most, is_unread, sent);
     }
 }
 

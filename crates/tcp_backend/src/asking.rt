@@ -15,7 +15,9 @@ use message_parts::Request;
 use std::alloc::Global;
 use std::io::Read;
 use std::net::OpenStream;
+use std::os::fd::AsRawFd;
 use std::time::Duration;
+use timed_io::read_ready;
 use wire::{Response, WireFault, read_response, write_request};
 
 /// How many reads the end of a connection may take, behind an answer that was read whole.
@@ -106,13 +108,17 @@ fn read_early<S: Read + OpenStream>(
 }
 
 // Reads and drops what follows an answer, so that a backend which closes its connection does so
-// first. One that keeps it open holds nobody for longer, and a fault changes nothing.
-pub(crate) fn read_on<S: Read + OpenStream>(stream: &mut S) {
+// first. One that keeps it open holds nobody for longer, and a fault changes nothing. Mostly the
+// end has come already.
+pub(crate) fn read_on<S: Read + OpenStream + AsRawFd>(stream: &mut S) {
+    let mut dropped = [0u8; 64];
+    if let Ok(0) = read_ready(&*stream, &mut dropped) {
+        return;
+    }
     let most = Duration::from_millis(LAST_MILLIS);
     if stream.set_read_timeout(Some(most)).is_err() {
         return;
     }
-    let mut dropped = [0u8; 64];
     for _ in 0..LAST_READS {
         match stream.read(&mut dropped) {
             Ok(0) | Err(_) => return,

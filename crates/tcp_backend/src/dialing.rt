@@ -6,10 +6,11 @@ ghost use Rattle.tcp_backend.specs.Connecting.{dialed_of};
 use crate::ends::{Outlet, Untold};
 use std::io::{Read, Result, Write};
 use std::net::{Net, OpenStream, SocketAddrV4, TcpStream};
+use std::os::fd::AsRawFd;
 
 /// What makes connections, and counts how often it was asked to.
 pub(crate) trait Connector {
-    type Stream: Read + Write + OpenStream + Drop;
+    type Stream: Read + Write + OpenStream + AsRawFd + Drop;
 
     // Where it is written to.
     type End: Outlet<Self::Stream> + Copy;

@@ -12,6 +12,9 @@ use std::time::Duration;
 /// How long a write waits that makes no progress, in milliseconds.
 const STALL_MILLIS: u64 = 250;
 
+/// A new connection has room for so many bytes, and takes them without waiting.
+const FIRST_ROOM: usize = 4_096;
+
 /// How often one write may make no progress, or be interrupted: for weeks.
 const MOST_TURNS: u32 = 1 << 24;
 
@@ -26,15 +29,36 @@ const STATUS_PLACE: usize = 9;
 pub(crate) struct UnansweredWrite<'s, S, E> {
     stream: &'s mut S,
     end: E,
+    // What is left of the first room, until a write may have to wait.
+    room: Option<usize>,
 }
 
 impl<'s, S: OpenStream, E> UnansweredWrite<'s, S, E> {
-    // A connection whose writes can't be given a limit is written to as ever.
+    // A new connection.
     pub(crate) fn new(stream: &'s mut S, end: E) -> UnansweredWrite<'s, S, E>
         ensures { end_of result ≡ end }
     {
-        let _ = stream.set_write_timeout(Some(Duration::from_millis(STALL_MILLIS)));
-        UnansweredWrite { stream, end }
+        UnansweredWrite {
+            stream,
+            end,
+            room: Some(FIRST_ROOM),
+        }
+    }
+
+    // Before a write of so many bytes: the first that may have to wait gives all from then on their
+    // limit. A connection whose writes can't be given one is written to as ever.
+    fn limit(&mut self, count: usize)
+        ensures { end_of self.new ≡ end_of self.old }
+    {
+        match self.room {
+            Some(room) if count <= room => self.room = Some(room - count),
+            Some(_) => {
+                self.room = None;
+                let most = Duration::from_millis(STALL_MILLIS);
+                let _ = self.stream.set_write_timeout(Some(most));
+            }
+            None => {}
+        }
     }
 }
 
@@ -56,6 +80,7 @@ impl<'s, S: OpenStream, E: Outlet<S>> Write for UnansweredWrite<'s, S, E> {
         ensures bytes { WriteAppends (E.contents (end_of self.old)) (E.contents (end_of self.new))
             result buf.now }
     {
+        self.limit(buf.len());
         let mut has_stalled = false;
         for _ in 0..MOST_TURNS {
             match self.end.send(&mut *self.stream, buf) {

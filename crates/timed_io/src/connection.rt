@@ -10,7 +10,7 @@ use libc::net::{
     MSG_DONTWAIT, MSG_PEEK, POLLIN, POLLOUT, SO_SNDBUF, SOL_SOCKET, poll, recv, setsockopt,
 };
 use libc::types::pollfd;
-use std::io::Result;
+use std::io::{ErrorKind, Result};
 use std::net::{Shutdown, TcpStream};
 use std::os::fd::{AsRawFd, RawFd};
 use std::time::Duration;
@@ -95,6 +95,7 @@ pub struct Lent<'s, S, E> {
     connection: &'s S,
     end: E,
     allowed: Duration,
+    sent: u64,
 }
 
 impl<'s, S: Connection, E> Lent<'s, S, E> {
@@ -106,7 +107,16 @@ impl<'s, S: Connection, E> Lent<'s, S, E> {
             connection,
             end,
             allowed: Duration::ZERO,
+            sent: 0,
         }
+    }
+}
+
+impl<'s, S, E> Lent<'s, S, E> {
+    /// How many bytes were written to it, up to the greatest u64. No contract says so: it decides
+    /// how closely an answer is looked after, and nothing else.
+    pub fn sent(&self) -> u64 {
+        self.sent
     }
 }
 
@@ -127,8 +137,14 @@ impl<'s, S: Connection, E: Inlet<S>> LimitedRead for Lent<'s, S, E> {
 
     ghost allowed = { λ lent. as_nanos lent.allowed };
 
+    // What has come is had by one call of the system; a limit on waiting would take another.
+    #[tactic(auto, using(crate::proofs::Known::anew))]
     fn read_within(&mut self, most: Duration, buf: &mut [u8]) -> Result<usize> {
         self.allowed = most;
+        match self.end.receive_ready(self.connection, buf) {
+            Err(fault) if fault.kind() == ErrorKind::WouldBlock => {}
+            outcome => return outcome,
+        }
         self.connection.limit_reads(most)?;
         self.end.receive(self.connection, buf)
     }
@@ -142,9 +158,19 @@ impl<'s, S: Connection, E: Outlet<S>> LimitedWrite for Lent<'s, S, E> {
 
     ghost allowed = { λ lent. as_nanos lent.allowed };
 
+    #[tactic(auto, using(crate::proofs::Known::anew))]
     fn write_within(&mut self, most: Duration, buf: &[u8]) -> Result<usize> {
         self.allowed = most;
-        self.connection.limit_writes(most)?;
-        self.end.send(self.connection, buf)
+        let outcome = match self.end.send_ready(self.connection, buf) {
+            Err(fault) if fault.kind() == ErrorKind::WouldBlock => {
+                self.connection.limit_writes(most)?;
+                self.end.send(self.connection, buf)
+            }
+            outcome => outcome,
+        };
+        if let Ok(count) = &outcome {
+            self.sent = self.sent.saturating_add(*count as u64);
+        }
+        outcome
     }
 }

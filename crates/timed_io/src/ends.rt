@@ -1,9 +1,12 @@
 // The two ends of a connection.
+ghost use Rattle.std.specs.Prelude.{◌≡◌, IfOk, pos};
 ghost use Rattle.std.specs.Io.{ReadsAtMost, WritesAtMost};
 ghost use Rattle.std.specs.Io.KnownBytes.{ReadConsumes, WriteAppends};
 
-use std::io::{Read, Result, Write};
+use libc::net::{MSG_DONTWAIT, MSG_NOSIGNAL, recv, send};
+use std::io::{Error, Read, Result, Write};
 use std::net::TcpStream;
+use std::os::fd::AsRawFd;
 
 /// What is kept of a connection's bytes where it is read.
 pub trait Inlet<S> {
@@ -12,8 +15,14 @@ pub trait Inlet<S> {
     // What the other side has yet to send, where that is known.
     ghost remaining: { Self → Option (List ℕ) };
 
-    /// Reads the connection once.
+    /// Reads the connection once, and waits until something comes or the connection's limit.
     fn receive(&mut self, stream: &S, buf: &mut [u8]) -> Result<usize>
+        ensures bound { ReadsAtMost result buf.new }
+        ensures bytes { ReadConsumes (remaining self.old) (remaining self.new) result buf.new };
+
+    /// Reads what has come already. It waits for nothing, and fails with
+    /// [`ErrorKind::WouldBlock`](std::io::ErrorKind) where nothing has come.
+    fn receive_ready(&mut self, stream: &S, buf: &mut [u8]) -> Result<usize>
         ensures bound { ReadsAtMost result buf.new }
         ensures bytes { ReadConsumes (remaining self.old) (remaining self.new) result buf.new };
 }
@@ -25,8 +34,14 @@ pub trait Outlet<S> {
     // What was written, where that is known.
     ghost contents: { Self → Option (List ℕ) };
 
-    /// Writes to the connection once.
+    /// Writes to the connection once, and waits for room, or until the connection's limit.
     fn send(&mut self, stream: &S, buf: &[u8]) -> Result<usize>
+        ensures bound { WritesAtMost result buf.now }
+        ensures bytes { WriteAppends (contents self.old) (contents self.new) result buf.now };
+
+    /// Writes what there is room for already. It waits for nothing, and fails with
+    /// [`ErrorKind::WouldBlock`](std::io::ErrorKind) where there is no room.
+    fn send_ready(&mut self, stream: &S, buf: &[u8]) -> Result<usize>
         ensures bound { WritesAtMost result buf.now }
         ensures bytes { WriteAppends (contents self.old) (contents self.new) result buf.now };
 }
@@ -44,6 +59,10 @@ impl Inlet<TcpStream> for Untold {
         let mut stream = stream;
         Read::read(&mut stream, buf)
     }
+
+    fn receive_ready(&mut self, stream: &TcpStream, buf: &mut [u8]) -> Result<usize> {
+        read_ready(stream, buf)
+    }
 }
 
 impl Outlet<TcpStream> for Untold {
@@ -55,4 +74,24 @@ impl Outlet<TcpStream> for Untold {
         let mut stream = stream;
         Write::write(&mut stream, buf)
     }
+
+    fn send_ready(&mut self, stream: &TcpStream, buf: &[u8]) -> Result<usize> {
+        moved(unsafe { send(stream.as_raw_fd(), buf, MSG_DONTWAIT | MSG_NOSIGNAL) })
+    }
+}
+
+/// Reads what has come to a socket already. It waits for nothing, and fails with
+/// [`ErrorKind::WouldBlock`](std::io::ErrorKind) where nothing has come. std reads so only from a
+/// socket that never waits, and making it one is a call of the system more.
+pub fn read_ready<S: AsRawFd>(socket: &S, buf: &mut [u8]) -> Result<usize>
+    ensures { ReadsAtMost result buf.new }
+{
+    moved(unsafe { recv(socket.as_raw_fd(), buf, MSG_DONTWAIT) })
+}
+
+// How many bytes a call of the system moved, or why it failed.
+fn moved(count: isize) -> Result<usize>
+    ensures { IfOk result (λ n. pos n ≡ count) }
+{
+    usize::try_from(count).map_err(|_| Error::from_raw_os_error(os::errno()))
 }

@@ -7,8 +7,10 @@
 //!
 //! [`TimedReader`] and [`TimedWriter`] go round what reads and writes a connection. All reads of a
 //! request together, and all writes of an answer up to its flush, each have so long, counted from
-//! the first of them; past that a read or a write fails and touches nothing below. Before each one
-//! the connection's own limit is set to the time that is left, so that it doesn't wait for longer.
+//! the first of them; past that a read or a write fails and touches nothing below. One that has to
+//! wait does so under the connection's own limit, which is set to the time that is left; what has
+//! come, and what there is room for, takes no limit, so a short exchange takes two calls of the
+//! system less.
 //! An [`Uninterrupted`] reader or writer begins a call anew that a signal cut short. [`linger`]
 //! sees that a client gets to read its answer. `specs/` has the words. Nothing is promised of what
 //! a clock tells, or of how long a call takes.
@@ -27,7 +29,7 @@ mod writing;
 pub use bound_listener::BoundListener;
 pub use connection::{Connection, Lent};
 pub use countdown::Countdown;
-pub use ends::{Inlet, Outlet, Untold};
+pub use ends::{Inlet, Outlet, Untold, read_ready};
 pub use lingering::linger;
 pub use listener::{Arrival, Listener};
 pub use reading::{LimitedRead, TimedReader};

@@ -13,29 +13,33 @@ const LONGEST: u64 = 2_000_000_000;
 /// How many reads that may take.
 const MOST_READS: u32 = 65_536;
 
+/// An answer of so many bytes is on its way with the first window: nobody waits for it to be taken.
+const ON_ITS_WAY: u64 = 8_192;
+
 /// Where a client was answered and has sent more than was read, which `is_unread` may tell already,
 /// or may still, or hasn't taken its answer: ends what is written to it, and then reads and drops
 /// what it still sends, up to its end or for so many nanoseconds, two seconds at most. A connection
 /// that is closed with bytes unread, or before what comes is read, is reset, and the client may
 /// lose the answer with it (RFC 9112, section 9.6). Until it has taken its answer is waited for as
-/// long at most.
+/// long at most, where more than some kilobytes were `sent`.
 pub fn linger<T: Connection, I: Inlet<T> + Copy, C: Clock>(
     stream: &T,
     from: I,
     clock: &C,
     most: u64,
     is_unread: bool,
+    sent: u64,
 ) {
     let most = most.min(LONGEST);
-    if (is_unread || has_more(stream, most)) && stream.finish().is_ok() {
+    if (is_unread || has_more(stream, most, sent)) && stream.finish().is_ok() {
         drop_rest(stream, from, clock, most);
     }
 }
 
 /// Whether the client hasn't taken its answer after so many nanoseconds, or sends more before it
 /// has.
-fn has_more<T: Connection>(stream: &T, most: u64) -> bool {
-    stream.is_behind(Duration::from_nanos(most)) || stream.has_unread()
+fn has_more<T: Connection>(stream: &T, most: u64, sent: u64) -> bool {
+    sent > ON_ITS_WAY && stream.is_behind(Duration::from_nanos(most)) || stream.has_unread()
 }
 
 /// Reads and drops what comes, up to its end or for so many nanoseconds.
