@@ -4,3 +4,4 @@ pub mod KindsLaws
 pub mod AnyKinds
 pub mod AnyKindsLaws
 pub mod KindNames
+pub mod Specs

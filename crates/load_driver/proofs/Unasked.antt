@@ -10,7 +10,7 @@ use Rattle.limiter_core.specs.declared.event.Entry.{Entry}
 use Rattle.limiter_core.specs.History.{Gate, Image, image_after, empty_image}
 use Rattle.limiter_core.specs.Bound.{IsSound}
 use Rattle.limiter_core.specs.Legal.{IsLegal, nothing}
-use Rattle.limiter_core.specs.Limiter.{Limiter, unasked}
+use Rattle.limiter_core.specs.Limiter.{unasked}
 use Rattle.limiter_core.specs.Handed.{IsHanded}
 use Rattle.limiter_core.specs.Laws.{MayEndOpen, BeginsHanded, AnswersHanded, OpensByItsCall}
 use Rattle.limiter_core.specs.Laws.{StaysSound}

@@ -9,4 +9,5 @@ pub mod Arrival
 pub mod Line
 pub mod TraceLine
 pub mod Settings
+pub mod Opening
 pub mod Faults

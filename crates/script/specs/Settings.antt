@@ -1,5 +1,6 @@
 -- The settings of a script, line by line.
 use Rattle.std.specs.Prelude.{◌≡◌, ℕ, Bool, false, ◌*◌, ◌^◌, nat_lt, nat_le, ◌&&◌, List, [], ◌∷◌, ◌++◌, Option, None, Some, is_none, unwrap_or, Result, Ok, Err, MatchResult, if◌then◌else◌}
+use Rattle.limit_laws.specs.declared.limit.MakeFault.{MakeFault}
 use Rattle.limit_laws.specs.Facts.{hour}
 use Rattle.partitions.specs.Table.{Row}
 use Rattle.partitions.specs.Faults.{fault_of}
@@ -10,16 +11,15 @@ use Rattle.windowed.specs.WindowedRules.{WindowNumbers}
 use Rattle.limit_kinds.specs.declared.kinds.BaseLimit.{BaseLimit}
 use Rattle.limit_kinds.specs.declared.kinds.BaseLimit.TheVariants.{Fixed}
 use Rattle.limit_kinds.specs.declared.kinds.AnyLimit.{AnyLimit}
+use Rattle.limit_kinds.specs.declared.spec.LimitSpec.{LimitSpec}
+use Rattle.limit_kinds.specs.declared.spec.WindowSpec.{WindowSpec}
 use Rattle.limit_kinds.specs.AnyKinds.{any_from}
-use Rattle.script.specs.declared.limit_line.LimitLine.{LimitLine}
-use Rattle.script.specs.declared.window_line.WindowLine.{WindowLine}
+use Rattle.limit_kinds.specs.Specs.{limit_made, windows_made}
 use Rattle.script.specs.declared.setting.Setting.{Setting}
 use Rattle.script.specs.declared.setting.Setting.TheVariants.{Limit, Window, Class, Share, Backlog, Keep, Timeout, Promotion}
 use Rattle.script.specs.declared.fault_kind.FaultKind.{FaultKind}
 use Rattle.script.specs.declared.fault_kind.FaultKind.TheVariants.{Twice, Value}
 use Rattle.script.specs.Limits.{usual_backlog, usual_timeout, most_kept}
-use Rattle.script.specs.LimitLine.{base_of}
-use Rattle.script.specs.WindowLine.{windows_of}
 
 -- the settings so far: the limit, the windows over it, how many may wait, how many entries are
 -- kept, how long a caller waits and which waiters are promoted, where a line gave them, whether the
@@ -50,23 +50,23 @@ no_settings = record {
 abbrev pub Set : Type 0
 Set = Result SettingFacts FaultKind
 
--- what a value leads to, and the fault where it is out of its range
-abbrev pub in_range : {A : Type 0} → Option A → (A → SettingFacts) → Set
-in_range None f = Err Value
-in_range (Some a) f = Ok (f a)
+-- what numbers lead to of which something is made, and the fault where one is out of its range
+abbrev pub in_range : {A : Type 0} → Result A MakeFault → (A → SettingFacts) → Set
+in_range (Err fault) f = Err Value
+in_range (Ok a) f = Ok (f a)
 
 -- each is set once, but for the partitions
 abbrev pub once : {A : Type 0} → Option A → Set → Set
 once None set = set
 once (Some before) set = Err Twice
 
-abbrev pub with_limit : SettingFacts → LimitLine → Set
-with_limit s line =
-    once s.limit (in_range (base_of line) (λ limit. record s { limit = Some limit }))
+abbrev pub with_limit : SettingFacts → LimitSpec → Set
+with_limit s spec =
+    once s.limit (in_range (limit_made spec) (λ limit. record s { limit = Some limit }))
 
-abbrev pub with_window : SettingFacts → WindowLine → Set
-with_window s line =
-    once s.window (in_range (windows_of line) (λ window. record s { window = Some window }))
+abbrev pub with_window : SettingFacts → WindowSpec → Set
+with_window s spec =
+    once s.window (in_range (windows_made spec) (λ window. record s { window = Some window }))
 
 -- at most 10,000 may wait
 abbrev pub with_backlog : SettingFacts → ℕ → Set
@@ -111,8 +111,8 @@ with_percent s name percent = with_row s (record { name = name; thousandths = 10
 
 -- WHAT A SETTING LEADS TO behind these settings
 abbrev pub with_setting : SettingFacts → Setting (List ℕ) → Set
-with_setting s (Limit line) = with_limit s line
-with_setting s (Window line) = with_window s line
+with_setting s (Limit spec) = with_limit s spec
+with_setting s (Window spec) = with_window s spec
 with_setting s (Class name percent) = with_percent s name percent
 with_setting s (Share name thousandths) =
     with_row s (record { name = name; thousandths = thousandths })

@@ -6,7 +6,7 @@ ghost use Rattle.script.specs.Classes.{part_of};
 use super::fault_kind::FaultKind;
 use partitions::{Part, PartitionTable};
 
-/// The part of a class: `unknown`, or a name of the table; [`Why::Class`] where it has none.
+/// The part of a class: `unknown`, or a name of the table; [`FaultKind::Class`] where it has none.
 pub fn read_part(table: &PartitionTable, class: &[u8]) -> Result<Part, FaultKind>
     ensures { result ≡ ok_or (part_of table.now class.now) Class }
 {

@@ -2,6 +2,7 @@
 ghost use Rattle.std.specs.Prelude.{◌≡◌};
 ghost use Rattle.script.specs.Faults.{kind_text};
 
+use limit_laws::MakeFault;
 use std::fmt;
 
 /// Why a line is at fault. Where several apply, the first in this order is answered.
@@ -42,5 +43,16 @@ impl fmt::Display for FaultKind {
 
     fn fmt<W: fmt::Write>(&self, f: &mut fmt::Formatter<W>) -> fmt::Result {
         f.write_str(self.text())
+    }
+}
+
+impl From<MakeFault> for FaultKind {
+    ghost use Rattle.std.specs.Prelude.{◌≡◌};
+    ghost use Rattle.script.specs.declared.fault_kind.FaultKind.TheVariants.{Value};
+
+    ghost from_gives = { λ _ why. why ≡ Value };
+
+    fn from(_: MakeFault) -> FaultKind {
+        FaultKind::Value
     }
 }

@@ -5,7 +5,8 @@
 //! or a request, or the fault of its words. Its contract is exact, by `specs/Line.antt`; that of
 //! [`read_trace_line`], which says the same of a trace's line, by `specs/TraceLine.antt`.
 //! [`Settings`] are what setting lines add up to, each taken by the rules of
-//! `specs/Settings.antt`.
+//! `specs/Settings.antt`. [`read_settings`] takes those at the head of a text, of a script or a
+//! trace alike, and says which lines are left (`specs/Opening.antt`).
 //!
 //! Where a setting comes too late, and which class has a name, is for the driver to say, which
 //! knows what was asked before. Other formats of lines are read by the same words and numbers.
@@ -19,6 +20,7 @@ mod line;
 mod line_fault;
 mod lines;
 mod numbers;
+mod opening;
 mod request;
 mod setting;
 mod settings;
@@ -29,12 +31,11 @@ mod words;
 pub use arrival::ArrivalLine;
 pub use classes::read_part;
 pub use fault_kind::FaultKind;
-pub use limit_line::LimitLine;
 pub use line::{Line, read_line};
 pub use line_fault::LineFault;
 pub use lines::next_line;
+pub use opening::{Opening, read_settings};
 pub use request::Request;
 pub use setting::Setting;
 pub use settings::Settings;
 pub use trace_line::{TraceLine, read_trace_line};
-pub use window_line::WindowLine;

@@ -20,8 +20,8 @@ pub enum Line<C> {
 /// What a line says: nothing where it has no words or is a comment, whose first word begins with
 /// `#`.
 ///
-/// [`Why::Words`] where no line has this format, and [`Why::Value`] where a `set` has a limit past
-/// 32 bits. The numbers of a setting may be out of their ranges yet.
+/// [`FaultKind::Words`] where no line has this format, and [`FaultKind::Value`] where a `set` has a
+/// limit past 32 bits. The numbers of a setting may be out of their ranges yet.
 pub fn read_line(line: &[u8]) -> Result<Option<Line<&[u8]>>, FaultKind>
     ensures { result_map (option_map line_bytes) result ≡ line_of (words line.now) }
 {

@@ -3,10 +3,11 @@ ghost use Rattle.std.specs.Prelude.{◌≡◌, option_map};
 ghost use Rattle.script.specs.Words.{words};
 ghost use Rattle.script.specs.Setting.{class_line, share_line, rolling_of, keep_line, rule_of, setting_of, setting_bytes};
 
-use super::limit_line::{LimitLine, read_limit};
+use super::limit_line::read_limit;
 use super::numbers::{next_number, read_lone_number};
-use super::window_line::{WindowLine, read_window};
+use super::window_line::read_window;
 use super::words::next_word;
+use limit_kinds::{LimitSpec, WindowSpec};
 use limiter_core::Promote;
 
 /// A setting, whose numbers may be out of their ranges. A class is told by a `C`, as a line is read
@@ -14,9 +15,9 @@ use limiter_core::Promote;
 #[derive(Drop)]
 pub enum Setting<C> {
     /// The limit.
-    Limit(LimitLine),
+    Limit(LimitSpec),
     /// Windows over it.
-    Window(WindowLine),
+    Window(WindowSpec),
     /// One more class, and its percentage of the limit.
     Class { name: C, percent: u64 },
     /// One more class, and its share of the limit in thousandths.

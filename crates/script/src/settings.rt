@@ -6,10 +6,8 @@ ghost use Rattle.partitions.specs.Faults.{given};
 ghost use Rattle.script.specs.Settings.{table_of};
 
 use super::fault_kind::FaultKind;
-use super::limit_line::{LimitLine, make_limit};
 use super::setting::Setting;
-use super::window_line::{WindowLine, make_windows};
-use limit_kinds::{AnyLimit, BaseLimit};
+use limit_kinds::{AnyLimit, BaseLimit, LimitSpec, WindowSpec};
 use limit_laws::HOUR;
 use limiter_core::Promote;
 use partitions::{PartitionTable, TableFault, from_percent};
@@ -96,16 +94,16 @@ impl<'a> Settings<'a> {
 
     /// Takes a setting, or says why it is at fault; then these settings stay as they are.
     ///
-    /// [`Why::Twice`] where anything but a class was set before, and [`Why::Value`] where a number
-    /// is out of its range, or the classes with this one make no table.
+    /// [`FaultKind::Twice`] where anything but a class was set before, and [`FaultKind::Value`]
+    /// where a number is out of its range, or the classes with this one make no table.
     pub fn take(&mut self, setting: Setting<&'a [u8]>) -> Result<Result<(), FaultKind>, AllocError>
         ensures answer { IfOk result (Answers
             (with_setting self.old (setting_bytes setting.entry)) self.old self.new) }
         ensures memory { OnErr result (self.new ≡ self.old) }
     {
         match setting {
-            Setting::Limit(line) => Ok(self.take_limit(line)),
-            Setting::Window(line) => Ok(self.take_window(line)),
+            Setting::Limit(spec) => Ok(self.take_limit(spec)),
+            Setting::Window(spec) => Ok(self.take_window(spec)),
             Setting::Class { name, percent } => self.take_class(name, percent),
             Setting::Share { name, thousandths } => self.take_share(name, thousandths),
             Setting::Backlog { room } => Ok(self.take_backlog(room)),
@@ -119,28 +117,28 @@ impl<'a> Settings<'a> {
     }
 
     /// Takes a limit.
-    fn take_limit(&mut self, line: LimitLine) -> Result<(), FaultKind>
-        ensures taken { OnOk result (with_limit self.old line ≡ Ok self.new) }
-        ensures fault { IfErr result (λ why. with_limit self.old line ≡ Err why) }
+    fn take_limit(&mut self, spec: LimitSpec) -> Result<(), FaultKind>
+        ensures taken { OnOk result (with_limit self.old spec ≡ Ok self.new) }
+        ensures fault { IfErr result (λ why. with_limit self.old spec ≡ Err why) }
         ensures unchanged { OnErr result (self.new ≡ self.old) }
     {
         if self.limit.is_some() {
             return Err(FaultKind::Twice);
         }
-        self.limit = Some(make_limit(line).ok_or(FaultKind::Value)?);
+        self.limit = Some(spec.make()?);
         Ok(())
     }
 
     /// Takes windows.
-    fn take_window(&mut self, line: WindowLine) -> Result<(), FaultKind>
-        ensures taken { OnOk result (with_window self.old line ≡ Ok self.new) }
-        ensures fault { IfErr result (λ why. with_window self.old line ≡ Err why) }
+    fn take_window(&mut self, spec: WindowSpec) -> Result<(), FaultKind>
+        ensures taken { OnOk result (with_window self.old spec ≡ Ok self.new) }
+        ensures fault { IfErr result (λ why. with_window self.old spec ≡ Err why) }
         ensures unchanged { OnErr result (self.new ≡ self.old) }
     {
         if self.windows.is_some() {
             return Err(FaultKind::Twice);
         }
-        self.windows = Some(make_windows(line).ok_or(FaultKind::Value)?);
+        self.windows = Some(spec.make()?);
         Ok(())
     }
 

@@ -20,8 +20,8 @@ pub enum TraceLine<C> {
 /// What a line of a trace says: nothing where it has no words or is a comment, whose first word
 /// begins with `#`.
 ///
-/// [`Why::Words`] where no line of a trace has this format, and [`Why::Value`] where a permit is
-/// held for longer than an hour. The numbers of a setting may be out of their ranges yet.
+/// [`FaultKind::Words`] where no line of a trace has this format, and [`FaultKind::Value`] where a
+/// permit is held for longer than an hour. The numbers of a setting may be out of their ranges yet.
 pub fn read_trace_line(line: &[u8]) -> Result<Option<TraceLine<&[u8]>>, FaultKind>
     ensures { result_map (option_map trace_line_bytes) result ≡ trace_line_of (words line.now) }
 {

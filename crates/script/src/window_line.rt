@@ -1,43 +1,22 @@
-// The lines that give windows.
+// The lines that give windows, with their numbers as they stand.
 ghost use Rattle.std.specs.Prelude.{◌≡◌};
 ghost use Rattle.script.specs.Words.{words};
-ghost use Rattle.script.specs.WindowLine.{window_line, windows_of};
+ghost use Rattle.script.specs.WindowLine.{window_line};
 
 use super::numbers::{next_number, read_number_pair};
-use limit_kinds::window_settings;
-use windowed::WindowSettings;
-
-/// The numbers of a `window` line, whichever they are.
-#[derive(Clone, Copy)]
-pub struct WindowLine {
-    /// How many samples a window must have to be handed on.
-    pub size: u64,
-    /// How long a window lasts at least, in nanoseconds.
-    pub least: u64,
-    /// How long it lasts at most, in nanoseconds.
-    pub most: u64,
-    /// The least round trip that counts, in nanoseconds.
-    pub min_rtt: u64,
-}
+use limit_kinds::WindowSpec;
 
 /// What follows `window`.
-pub(crate) fn read_window(line: &[u8]) -> Option<WindowLine>
+pub(crate) fn read_window(line: &[u8]) -> Option<WindowSpec>
     ensures { result ≡ window_line (words line.now) }
 {
     let (size, line) = next_number(line)?;
-    let (least, line) = next_number(line)?;
-    let (most, min_rtt) = read_number_pair(line)?;
-    Some(WindowLine {
+    let (min_window_ns, line) = next_number(line)?;
+    let (max_window_ns, min_rtt_ns) = read_number_pair(line)?;
+    Some(WindowSpec {
         size,
-        least,
-        most,
-        min_rtt,
+        min_window_ns,
+        max_window_ns,
+        min_rtt_ns,
     })
-}
-
-/// The windows of a line, where its numbers are in range.
-pub(crate) fn make_windows(line: WindowLine) -> Option<WindowSettings>
-    ensures { result ≡ windows_of line }
-{
-    window_settings(line.size, line.least, line.most, line.min_rtt).ok()
 }

@@ -1,9 +1,9 @@
-use Rattle.std.proofs.Common.{◌≡◌, refl, sym, ap, ◌∙◌}
+use Rattle.std.proofs.Common.{◌≡◌, sym, ap, ◌∙◌}
 use Rattle.limit_kinds.specs.declared.kinds.AnyLimit.{AnyLimit}
 use Rattle.limiter_core.specs.Limiter.{unasked}
 use Rattle.gate_journal.specs.Journal.{opened}
 use Rattle.load_driver.specs.Session.{Session}
-use Rattle.load_driver.specs.Opening.{journal_of}
+use Rattle.load_driver.specs.Opening.{journal_of, text_after}
 use Rattle.load_driver.proofs.Openings.{text_of_session}
 use Rattle.load_driver.proofs.Unasked.{opens_unasked}
 use Rattle.load_driver.proofs.opening.answer_script.Goals as goal
@@ -29,4 +29,4 @@ returns c =
     ∙ text_of_session c.args.n c.args.kept read.settings read.line read.rest.now read.fault
     c.in_ok-session.session.journal _ c.new-text.ensures.bytes opens
     (sym c.is_some.ensures ∙ c.if-is_some.false)
-    ∙ c.in_ok-settings.ensures.text c.args.n c.args.kept
+    ∙ ap (text_after c.args.n c.args.kept) c.in_ok-settings.ensures.value

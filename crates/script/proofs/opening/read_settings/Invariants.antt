@@ -1,12 +1,12 @@
 use Rattle.std.proofs.Common.{◌≡◌, ◌≤◌, ◌+◌, length, None}
 use Rattle.std.specs.Str.Lines.{lines}
-use Rattle.trace.specs.Trace.{trace_from, trace_of}
-use Rattle.trace.proofs.reading.read_settings.Given as goal
+use Rattle.script.specs.Opening.{opening_from, opening_of}
+use Rattle.script.proofs.opening.read_settings.Given as goal
 
--- what the lines that are left say under the settings so far is what the trace says
+-- the opening of the lines that are left, under the settings so far, is that of the text
 abbrev pub invariant-loop-line : goal.invariant-loop-line
 invariant-loop-line l = record {
-  told : trace_from l.settings l.number (lines l.rest) ≡ trace_of l.text;
+  told : opening_from l.settings l.number (lines l.rest) ≡ opening_of l.text;
   counted : l.number + length l.rest ≤ 1 + length l.text;
   faultless : l.fault ≡ None;
 }
