@@ -56,7 +56,8 @@ fn names_field(line: &Header, name: &[u8]) -> bool
     is_connection(line.name.as_slice()) && has_part(value, name)
 }
 
-/// Whether a Connection line names the field.
+/// Whether a Connection line names the field. Few names are short enough to be asked for.
+#[inline(never)]
 fn is_connection_option(lines: &[Header], name: &[u8]) -> bool
     ensures { result ≡ is_connection_option lines.now name.now }
 {
@@ -108,6 +109,7 @@ impl<'a> Passing<'a> {
     /// Whether a line of the message is passed on: Host always, and another line where its field is
     /// not of one connection alone and no Connection line names it. Content-Length is not passed
     /// on, since it is written anew.
+    #[inline(always)]
     pub fn is_passed(&self, line: &Header) -> bool
         ensures { result ≡ is_passed (lines_of self.now) line.now }
     {
@@ -116,6 +118,7 @@ impl<'a> Passing<'a> {
     }
 
     /// Whether a line is passed on where the message is a request: as in any, and Expect never.
+    #[inline(always)]
     pub fn is_passed_in_request(&self, line: &Header) -> bool
         ensures { result ≡ is_passed_in_request (lines_of self.now) line.now }
     {

@@ -26,3 +26,18 @@ line_in text name start colon value end behind a b c d named parted ended =
     (cut_at text colon value behind b (omega arith)
     ∙ ap₂ (λ xs ys. xs ++ ys) parted
     (cut_at text value end behind c d ∙ ap (λ ys. slice_range text value end ++ ys) ended))
+
+-- a first line that lies in a text
+pub first_line_in : (text target last : List ℕ) (start space from end behind : ℕ)
+    → start ≤ space → space ≤ from → from ≤ end → end ≤ behind
+    → slice_range text space from ≡ 32 ∷ []
+    → slice_range text from end ≡ target
+    → slice_range text end behind ≡ last
+    → slice_range text start behind
+    ≡ slice_range text start space ++ 32 ∷ (target ++ last)
+first_line_in text target last start space from end behind a b c d parted aimed ended =
+    cut_at text start space behind a (omega arith)
+    ∙ ap (λ ys. slice_range text start space ++ ys)
+    (cut_at text space from behind b (omega arith)
+    ∙ ap₂ (λ xs ys. xs ++ ys) parted
+    (cut_at text from end behind c d ∙ ap₂ (λ xs ys. xs ++ ys) aimed ended))

@@ -1,5 +1,6 @@
 // The method of a request.
-ghost use Rattle.std.specs.Prelude.{◌≡◌, IfOk};
+ghost use Rattle.std.specs.Prelude.{◌≡◌, ◌∷◌, [], codes, IfOk, IfSome};
+ghost use Rattle.std.specs.List.{concat};
 
 use crate::piece::{HeadText, Piece};
 use std::alloc::{AllocError, Global};
@@ -41,5 +42,14 @@ impl Method {
         ensures { result.now ≡ self.now }
     {
         self.name.as_slice()
+    }
+
+    /// The first line of its request as the head has it, from the method through CR LF, where that
+    /// is `method target HTTP/1.1` with this target and single spaces; none elsewhere.
+    pub fn first_line(&self, target: &[u8]) -> Option<&[u8]>
+        ensures { IfSome result (λ line. line.now
+            ≡ concat (self.now ∷ codes " " ∷ target.now ∷ codes " HTTP/1.1\r\n" ∷ [])) }
+    {
+        self.name.first_line(target)
     }
 }

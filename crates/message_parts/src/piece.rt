@@ -98,4 +98,31 @@ impl Piece {
         }
         Some(&text[start..end])
     }
+
+    /// The first line of a request with this piece as its method, from it through CR LF, where its
+    /// head has it so: `method target HTTP/1.1`, with this target and one space between each two.
+    /// None elsewhere.
+    pub(crate) fn first_line(&self, target: &[u8]) -> Option<&[u8]>
+        ensures { IfSome result (λ line. line.now
+            ≡ concat (self.now ∷ codes " " ∷ target.now ∷ codes " HTTP/1.1\r\n" ∷ [])) }
+    {
+        let text = self.text.as_slice();
+        let left = text.len() - self.end;
+        if left < 12 || left - 12 < target.len() {
+            return None;
+        }
+        let start = self.end + 1;
+        let end = start + target.len();
+        let behind = end + 11;
+        if &text[self.end..start] != b" ".as_slice() {
+            return None;
+        }
+        if &text[start..end] != target {
+            return None;
+        }
+        if &text[end..behind] != b" HTTP/1.1\r\n".as_slice() {
+            return None;
+        }
+        Some(&text[self.start..behind])
+    }
 }

@@ -1,15 +1,16 @@
 -- Texts that are written in pieces.
-use Rattle.std.proofs.Common.{◌≡◌, ℕ, List, [], ◌∷◌, ◌++◌, map, refl, ap, sym, subst, ◌∙◌, Option, Result, Ok, Err, OnOk, append_assoc}
-use Rattle.std.specs.Prelude.{codes, unwrap_or}
+use Rattle.std.proofs.Common.{◌≡◌, ℕ, List, [], ◌∷◌, ◌++◌, map, refl, ap, sym, subst, ◌∙◌, Option, None, Some, Result, Ok, Err, OnOk, true, false, drop, append_assoc}
+use Rattle.std.specs.Prelude.{codes, unwrap_or, if◌then◌else◌}
+use Rattle.std.specs.List.{before_first}
 use Rattle.std.specs.Io.KnownBytes.{Appends}
 use Rattle.std.proofs.KnownBytes.{Appends-trans}
 use Rattle.std.proofs.lemmas.List.{append-nil}
 use Rattle.std.proofs.lemmas.Grind.{flat_map-append}
 use Rattle.message_parts.specs.declared.headers.Header.{Header}
 use Rattle.message_fields.specs.Passed.{request_lines, response_lines}
-use Rattle.message_fields.specs.Target.{authority_of, forwarded_target}
+use Rattle.message_fields.specs.Target.{authority_of, ends_authority, forwarded_target, is_absolute}
 use Rattle.message_text.specs.Line.{line_text, lines_text, close_line}
-use Rattle.message_text.specs.Forwarded.{ForwardedValue, hosted, host_lines, length_lines, via_line, forwarded_lines, forwarded_text}
+use Rattle.message_text.specs.Forwarded.{ForwardedValue, hosted, host_lines, length_lines, via_line, first_text, forwarded_lines, forwarded_text}
 use Rattle.message_text.specs.Answer.{AnswerValue, told_lines, answer_lines, answer_text, status_text, written_body, local_text}
 
 -- a front was written, and then the rest
@@ -38,11 +39,11 @@ via_closed line =
     append_assoc (line_text line) (lines_text (close_line ∷ [])) (codes "\r\n")
     ∙ ap (λ (t : List ℕ). line_text line ++ t) closed
 
--- the lines of an answer and the empty line, in three pieces
+-- the lines of an answer and the empty line, in two pieces
 pub answer_pieces : (answer : AnswerValue)
     → lines_text (answer_lines answer) ++ codes "\r\n"
-    ≡ (lines_text (response_lines answer.headers) ++ lines_text (told_lines answer))
-    ++ codes "Connection: close\r\n\r\n"
+    ≡ lines_text (response_lines answer.headers)
+    ++ (lines_text (told_lines answer) ++ codes "Connection: close\r\n\r\n")
 unfolding answer_lines
 answer_pieces answer =
     let one = response_lines answer.headers in
@@ -54,6 +55,7 @@ answer_pieces answer =
     ap (λ (t : List ℕ). t ++ codes "\r\n") split
     ∙ append_assoc (lines_text one ++ lines_text two) (lines_text last) (codes "\r\n")
     ∙ ap (λ (t : List ℕ). (lines_text one ++ lines_text two) ++ t) closed
+    ∙ append_assoc (lines_text one) (lines_text two) (codes "Connection: close\r\n\r\n")
 
 -- an answer, in three pieces
 pub answer_whole : (answer : AnswerValue)
@@ -91,11 +93,30 @@ forwarded_pieces request =
     ∙ append_assoc front (lines_text (via ∷ close_line ∷ [])) (codes "\r\n")
     ∙ ap (λ (t : List ℕ). front ++ t) pair
 
--- a forwarded request, in six pieces
+-- a target without an authority isn't absolute
+not_absolute : (target : List ℕ) → authority_of target ≡ None → is_absolute target ≡ false
+not_absolute target none =
+    elim (is_absolute target) as
+    (λ b. (if b then Some (before_first ends_authority (drop 7 target)) else None) ≡ None
+    → b ≡ false) [ true ↦ λ e. absurd (cc) | false ↦ λ e. refl ] none
+
+-- and is forwarded as it came
+pub plain_target : (method target : List ℕ) → authority_of target ≡ None
+    → forwarded_target method target ≡ target
+plain_target method target none =
+    let plain = not_absolute target none in rw plain refl
+
+-- the first line of a forwarded request, in four pieces
+pub first_pieces : (request : ForwardedValue)
+    → first_text request
+    ≡ ((request.method ++ codes " ") ++ forwarded_target request.method request.target)
+    ++ codes " HTTP/1.1\r\n"
+first_pieces request = simp (append_assoc)
+
+-- a forwarded request, in three pieces
 pub forwarded_whole : (request : ForwardedValue)
     → forwarded_text request
-    ≡ ((((request.method ++ codes " ") ++ forwarded_target request.method request.target)
-    ++ codes " HTTP/1.1\r\n") ++ (lines_text (forwarded_lines request) ++ codes "\r\n"))
+    ≡ (first_text request ++ (lines_text (forwarded_lines request) ++ codes "\r\n"))
     ++ unwrap_or request.body []
 unfolding forwarded_text
 forwarded_whole request = simp (append_assoc, append-nil)

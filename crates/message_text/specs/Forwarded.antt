@@ -63,9 +63,14 @@ forwarded_lines request =
     ++ host_lines request ++ length_lines request.body
     ++ via_line request.is_old ∷ close_line ∷ []
 
+-- the first line of a request as it is forwarded
+abbrev pub first_text : ForwardedValue → List ℕ
+first_text request =
+    concat (request.method ∷ codes " " ∷ forwarded_target request.method request.target
+    ∷ codes " HTTP/1.1\r\n" ∷ [])
+
 -- the request as it is forwarded
 unfoldable pub forwarded_text : ForwardedValue → List ℕ
 forwarded_text request =
-    concat (request.method ∷ codes " " ∷ forwarded_target request.method request.target
-    ∷ codes " HTTP/1.1\r\n" ∷ lines_text (forwarded_lines request)
+    concat (first_text request ∷ lines_text (forwarded_lines request)
     ∷ codes "\r\n" ∷ unwrap_or request.body [] ∷ [])

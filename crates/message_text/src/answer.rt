@@ -9,7 +9,7 @@ ghost use Rattle.message_fields.specs.Lengths.{length_digits};
 ghost use Rattle.message_text.specs.Forwarded.{lent};
 ghost use Rattle.message_text.specs.Answer.{seen, is_bodiless, written_body, received_lines, told_lines, answer_lines, status_text, answer_text, local_text};
 
-use super::lines::{bytes_of, write_body_length, write_line, write_response_lines};
+use super::lines::{bytes_of, write_length, write_line, write_response_lines};
 use super::number::write_decimal;
 use super::phrase::phrase_of;
 use counted_io::{Counted, WriteFault, write_all, write_and_flush};
@@ -99,22 +99,26 @@ impl Answer<'_> {
         }
     }
 
-    /// Writes the length that is told.
+    /// Writes the length that is told, the line that ends the connection, and the empty line behind
+    /// them.
     #[tactic(auto, using(crate::proofs::Kept::one_line), unfolding(crate::specs::Line::lines_text))]
-    fn write_told<W: Write>(&self, writer: &mut Counted<W>) -> Result<(), WriteFault>
-        ensures all { OnOk result
-            (Wrote W.contents writer.old writer.new (lines_text (told_lines (seen self.now)))) }
+    fn write_last<W: Write>(&self, writer: &mut Counted<W>) -> Result<(), WriteFault>
+        ensures all { OnOk result (Wrote W.contents writer.old writer.new
+            (lines_text (told_lines (seen self.now)) ++ codes "Connection: close\r\n\r\n")) }
         ensures unfailing { OnOk result (failures_of writer.new ≡ failures_of writer.old) }
         ensures failed { OnErr result (IsWriteCause writer.old writer.new) }
         ensures flushes { flushes_of writer.new ≡ flushes_of writer.old }
     {
         if self.status == 204 {
-            return Ok(());
+            return write_all(writer, b"Connection: close\r\n\r\n");
         }
         if is_bodiless(self.method, self.status) {
-            self.write_received(writer)
-        } else {
-            write_body_length(writer, self.body)
+            self.write_received(writer)?;
+            return write_all(writer, b"Connection: close\r\n\r\n");
+        }
+        match self.body {
+            Some(body) => write_length(writer, body, b"Connection: close\r\n\r\n"),
+            None => write_all(writer, b"Connection: close\r\n\r\n"),
         }
     }
 
@@ -128,8 +132,7 @@ impl Answer<'_> {
         ensures flushes { flushes_of writer.new ≡ flushes_of writer.old }
     {
         write_response_lines(writer, self.headers)?;
-        self.write_told(writer)?;
-        write_all(writer, b"Connection: close\r\n\r\n")
+        self.write_last(writer)
     }
 
     /// Writes the answer, and flushes once.

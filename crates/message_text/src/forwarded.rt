@@ -1,23 +1,23 @@
 // A request as it is forwarded.
-ghost use Rattle.std.specs.Prelude.{◌≡◌, ◌++◌, true, OnOk, OnErr, codes, option_map, unwrap_or, if◌then◌else◌, []};
+ghost use Rattle.std.specs.Prelude.{◌≡◌, ◌++◌, true, OnOk, OnErr, IfSome, codes, option_map, unwrap_or, if◌then◌else◌, []};
 ghost use Rattle.counted_io.specs.Counted.{failures_of, flushes_of, is_flushed};
 ghost use Rattle.counted_io.specs.Count.{raised};
 ghost use Rattle.counted_io.specs.Effects.{Wrote};
 ghost use Rattle.counted_io.specs.Causes.{IsWriteCause};
 ghost use Rattle.message_fields.specs.Target.{turned, forwarded_target};
 ghost use Rattle.message_text.specs.Line.{lines_text, line_text, close_line};
-ghost use Rattle.message_text.specs.Forwarded.{lent, seen, forwarded_lines, forwarded_text, host_lines, via_line};
+ghost use Rattle.message_text.specs.Forwarded.{lent, seen, first_text, forwarded_lines, forwarded_text, host_lines, via_line};
 
 use super::lines::{bytes_of, write_body_length, write_line, write_request_lines};
 use counted_io::{Counted, WriteFault, write_all, write_and_flush};
 use message_fields::{authority, count_hosts, is_whole_server, local_part, wants_slash};
-use message_parts::Header;
+use message_parts::{Header, Method};
 use std::io::Write;
 
 /// What a request is forwarded from.
 #[derive(Drop)]
 pub struct Forwarded<'a> {
-    pub method: &'a [u8],
+    pub method: &'a Method,
     /// The target as it came.
     pub target: &'a [u8],
     /// Whether it came in HTTP/1.0.
@@ -63,6 +63,34 @@ fn write_target<W: Write>(
 }
 
 impl Forwarded<'_> {
+    /// The first line as the head has it, where that is how it is forwarded.
+    #[tactic(auto, using(crate::proofs::Texts::plain_target))]
+    fn line_that_came(&self) -> Option<&[u8]>
+        ensures { IfSome result (λ line. line.now ≡ first_text (seen self.now)) }
+    {
+        if authority(self.target).is_some() {
+            return None;
+        }
+        self.method.first_line(self.target)
+    }
+
+    /// Writes the first line: in one piece, where its head has it as it is forwarded.
+    fn write_first<W: Write>(&self, writer: &mut Counted<W>) -> Result<(), WriteFault>
+        ensures all { OnOk result
+            (Wrote W.contents writer.old writer.new (first_text (seen self.now))) }
+        ensures unfailing { OnOk result (failures_of writer.new ≡ failures_of writer.old) }
+        ensures failed { OnErr result (IsWriteCause writer.old writer.new) }
+        ensures flushes { flushes_of writer.new ≡ flushes_of writer.old }
+    {
+        if let Some(line) = self.line_that_came() {
+            return write_all(writer, line);
+        }
+        write_all(writer, self.method.as_slice())?;
+        write_all(writer, b" ")?;
+        write_target(writer, self.method.as_slice(), self.target)?;
+        write_all(writer, b" HTTP/1.1\r\n")
+    }
+
     /// Writes a Host line, where the request has none.
     #[tactic(auto, using(crate::proofs::Kept::one_line), unfolding(crate::specs::Line::lines_text))]
     fn write_host<W: Write>(&self, writer: &mut Counted<W>) -> Result<(), WriteFault>
@@ -125,10 +153,7 @@ impl Forwarded<'_> {
         ensures flushes { OnOk result (flushes_of writer.new ≡ raised (flushes_of writer.old)) }
         ensures failed { OnErr result (IsWriteCause writer.old writer.new) }
     {
-        write_all(writer, self.method)?;
-        write_all(writer, b" ")?;
-        write_target(writer, self.method, self.target)?;
-        write_all(writer, b" HTTP/1.1\r\n")?;
+        self.write_first(writer)?;
         self.write_lines(writer)?;
         write_and_flush(writer, bytes_of(self.body))
     }

@@ -1,5 +1,6 @@
 // Header lines as they are written.
-ghost use Rattle.std.specs.Prelude.{◌≡◌, OnOk, OnErr, codes, decimal, map, if◌then◌else◌, [], option_map, unwrap_or};
+ghost use Rattle.std.specs.Prelude.{◌≡◌, ◌≤◌, ◌+◌, ◌++◌, OnOk, OnErr, codes, decimal, length, map, if◌then◌else◌, [], option_map, unwrap_or};
+ghost use Rattle.arrayvec.specs.ArrayVec.{array_vec_len};
 ghost use Rattle.std.specs.List.{flat_map};
 ghost use Rattle.counted_io.specs.Counted.{failures_of, flushes_of};
 ghost use Rattle.counted_io.specs.Effects.{Wrote};
@@ -10,8 +11,9 @@ ghost use Rattle.message_fields.specs.Passing.{lines_of};
 ghost use Rattle.message_text.specs.Line.{line_of, line_text, lines_text, length_line};
 ghost use Rattle.message_text.specs.Forwarded.{hosted, length_lines, lent};
 
-use super::number::write_decimal;
+use arrayvec::ArrayVec;
 use counted_io::{Counted, WriteFault, write_all};
+use itoa::Buffer;
 use message_fields::{Passing, is_host};
 use message_parts::Header;
 use std::io::Write;
@@ -56,18 +58,47 @@ fn write_kept<W: Write>(writer: &mut Counted<W>, line: &Header) -> Result<(), Wr
     }
 }
 
-/// Writes the line that tells the length of a body.
+/// Puts the bytes behind a text that has room for them.
+fn put(text: &mut ArrayVec<u8, 64>, bytes: &[u8])
+    requires { array_vec_len text.old + length bytes.now ≤ 64 }
+    ensures items { text.new.items ≡ text.old.items ++ bytes.now }
+    ensures len { array_vec_len text.new ≡ array_vec_len text.old + length bytes.now }
+{
+    let Ok(()) = text.try_extend_from_slice(bytes) else {
+        unreachable!()
+    };
+}
+
+/// The line that tells a length, and what stands behind it.
 #[tactic(auto, unfolding(crate::specs::Line::line_text))]
-fn write_length<W: Write>(writer: &mut Counted<W>, body: &[u8]) -> Result<(), WriteFault>
-    ensures all { OnOk result
-        (Wrote W.contents writer.old writer.new (line_text (length_line body.now))) }
+fn length_text(size: u64, rest: &[u8]) -> ArrayVec<u8, 64>
+    requires short { length rest.now ≤ 26 }
+    ensures { result.items
+        ≡ line_text (line_of (codes "Content-Length") (decimal size)) ++ rest.now }
+{
+    let mut text = ArrayVec::new();
+    let mut digits = Buffer::new();
+    put(&mut text, b"Content-Length: ");
+    put(&mut text, digits.format(size).as_bytes());
+    put(&mut text, b"\r\n");
+    put(&mut text, rest);
+    text
+}
+
+/// Writes the line that tells the length of a body, and what stands behind it, in one piece.
+pub fn write_length<W: Write>(
+    writer: &mut Counted<W>,
+    body: &[u8],
+    rest: &[u8],
+) -> Result<(), WriteFault>
+    requires short { length rest.now ≤ 26 }
+    ensures all { OnOk result (Wrote W.contents writer.old writer.new
+        (line_text (length_line body.now) ++ rest.now)) }
     ensures unfailing { OnOk result (failures_of writer.new ≡ failures_of writer.old) }
     ensures failed { OnErr result (IsWriteCause writer.old writer.new) }
     ensures flushes { flushes_of writer.new ≡ flushes_of writer.old }
 {
-    write_all(writer, b"Content-Length: ")?;
-    write_decimal(writer, body.len() as u64)?;
-    write_all(writer, b"\r\n")
+    write_all(writer, length_text(body.len() as u64, rest).as_slice())
 }
 
 /// Writes the length of a body, where there is one.
@@ -83,7 +114,7 @@ pub fn write_body_length<W: Write>(
     ensures flushes { flushes_of writer.new ≡ flushes_of writer.old }
 {
     match body {
-        Some(body) => write_length(writer, body),
+        Some(body) => write_length(writer, body, b""),
         None => Ok(()),
     }
 }

@@ -48,7 +48,7 @@ pub fn write_request<W: Write>(
     ensures failed { OnErr result (IsWriteCause writer.old writer.new) }
 {
     let forwarded = Forwarded {
-        method: request.method.as_slice(),
+        method: &request.method,
         target: request.target.as_str().as_bytes(),
         is_old: is_old(request.version),
         headers: request.headers.as_slice(),

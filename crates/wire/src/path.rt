@@ -45,10 +45,11 @@ pub(crate) fn copy_path(alloc: Global, target: &Text) -> Result<Text, AllocError
     ensures { IfOk result (λ path. path ≡ path_of target.now) }
 {
     let target = target.as_str();
-    let mut path = String::new(alloc);
-    if wants_slash(target.as_bytes()) {
-        path.push('/')?;
+    if !wants_slash(target.as_bytes()) {
+        return Text::copy_of(alloc, local_path(target));
     }
+    let mut path = String::new(alloc);
+    path.push('/')?;
     path.push_str(local_path(target))?;
     Ok(Text::new(path))
 }

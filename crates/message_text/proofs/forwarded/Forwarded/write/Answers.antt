@@ -10,11 +10,5 @@ returns-clause-all g c =
     let body : c.bytes_of.result.now ≡ unwrap_or (lent c.args.self.now.body) [] =
     c.bytes_of.ensures in
     wrote_then c.write_and_flush.result _ _ _ _ _ _ (forwarded_whole (seen c.args.self.now))
-    (Appends-trans _ _ _ _ _
-    (Appends-trans _ _ _ _ _
-    (Appends-trans _ _ _ _ _
-    (Appends-trans _ _ _ _ _ c.in_ok-write_all.ensures.all c.in_ok-write_all-2.ensures.all)
-    c.in_ok-write_target.ensures.all)
-    c.in_ok-write_all-3.ensures.all)
-    c.in_ok-write_lines.ensures.all)
+    (Appends-trans _ _ _ _ _ c.in_ok-write_first.ensures.all c.in_ok-write_lines.ensures.all)
     (rw body at c.write_and_flush.ensures.all)
