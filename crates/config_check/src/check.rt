@@ -2,14 +2,15 @@
 ghost use Rattle.std.specs.Prelude.{◌≡◌, ◌⊎◌, ℕ, true, List, IfErr, OnOk};
 ghost use Rattle.counted_io.specs.declared.counted.Counted.{Counted as CountedValue};
 ghost use Rattle.counted_io.specs.Counted.{inner_of};
-ghost use Rattle.config_check.specs.Check.{Held, IsAccepted, IsAcceptedAfter, IsRefused, IsWhy, IsWhyAfter, IsWhyOfFile};
+ghost use Rattle.config_check.specs.Check.{IsAccepted, IsAcceptedAfter, IsRefused, IsWhy, IsWhyAfter, IsWhyOfFile};
 ghost use Rattle.config_check.specs.CheckFault.{check_fault_text};
+ghost use Rattle.config_file.specs.Reading.{Held};
 ghost use Rattle.fault_lines.specs.FaultLine.{IsTold, fault_line};
 
 use super::accepted::write_accepted;
 use super::check_fault::{CheckFault, tell_check_fault};
 use super::explained::{write_explanation, write_why_unread};
-use super::reading::{read_bytes, read_file_text};
+use config_file::{read_bytes, read_file_text};
 use counted_io::Counted;
 use fault_lines::{DONE, FAULT};
 use file_opening::Opener;
@@ -45,7 +46,7 @@ pub fn check_file<F: Opener, W: Write, E: Write>(
         Ok(text) => check_text(alloc, &text, explain, writer, errors),
         Err(fault) => {
             write_why_unread(files, alloc, path, explain, writer);
-            report(errors, fault)
+            report(errors, CheckFault::File(fault))
         }
     }
 }

@@ -3,9 +3,9 @@ use Rattle.std.proofs.Common.{◌≡◌, ◌⊎◌, inl, inr, ℕ, List, Option,
 use Rattle.counted_io.specs.declared.counted.Counted.{Counted}
 use Rattle.counted_io.specs.Causes.{IsWriteCause}
 use Rattle.counted_io.specs.Counted.{failures_of, inner_of}
-use Rattle.config_check.specs.declared.check_fault.CheckFault.{CheckFault}
-use Rattle.config_check.specs.declared.check_fault.CheckFault.TheVariants as Check
-use Rattle.config_check.specs.Check.{Held, IsFaultOf, IsUnread}
+use Rattle.config_file.specs.declared.file_fault.FileFault.{FileFault}
+use Rattle.config_file.specs.declared.file_fault.FileFault.TheVariants as File
+use Rattle.config_file.specs.Reading.{Held, IsFaultOf, IsUnread}
 use Rattle.serve_command.specs.declared.fault.ServiceFault.{ServiceFault}
 use Rattle.serve_command.specs.declared.fault.ServiceFault.TheVariants as Service
 use Rattle.serve_command.specs.Command.{HadSettings, IsOfServing, IsWhyOfService}
@@ -19,8 +19,8 @@ module _ {F W X : Type 0} (Unopened : Type 0) (Opened : F → Type 0)
   why fault is = subst (λ (x : Result X ServiceFault). IfErr x Why) (sym is)
 
   -- the file's text was not had
-  pub why_unread : (fault : CheckFault) → r ≡ Err (Service.Config fault)
-      → ((fault ≡ Check.Read) × Unopened)
+  pub why_unread : (fault : FileFault) → r ≡ Err (Service.Config fault)
+      → ((fault ≡ File.Read) × Unopened)
       ⊎ ((b : Counted F) × (a : Counted F) × Opened (inner_of b) × IsUnread remaining b a fault)
       → IfErr r Why
   why_unread fault is unread =
@@ -33,7 +33,7 @@ module _ {F W X : Type 0} (Unopened : Type 0) (Opened : F → Type 0)
       )
 
   -- the text holds no settings
-  pub why_unset : (fault : CheckFault) → r ≡ Err (Service.Config fault) → (bytes : List ℕ)
+  pub why_unset : (fault : FileFault) → r ≡ Err (Service.Config fault) → (bytes : List ℕ)
       → ((b : Counted F) × (a : Counted F) × Opened (inner_of b) × Held remaining b bytes
       × (failures_of a ≡ failures_of b))
       → IsFaultOf bytes fault → IfErr r Why

@@ -11,8 +11,8 @@ use Rattle.gate_ledgers.specs.Course.{course_of}
 use Rattle.gate_history.specs.Book.{Making, made_as}
 use Rattle.shared_gate.specs.Reported.{AreCountersOf}
 use Rattle.gate_config.specs.declared.settings.Settings.{Settings}
-use Rattle.config_check.specs.Check.{Held, IsUnset, Says}
-use Rattle.config_check.specs.declared.check_fault.CheckFault.TheVariants as Check
+use Rattle.config_file.specs.Reading.{Held, IsUnset, Says}
+use Rattle.config_file.specs.declared.file_fault.FileFault.TheVariants as File
 use Rattle.serve_reports.specs.CountersLine.{counters_line}
 use Rattle.serve_command.specs.declared.fault.ServiceFault.{ServiceFault}
 use Rattle.serve_command.specs.declared.fault.ServiceFault.TheVariants as Service
@@ -58,7 +58,7 @@ IsOfServing Service.Write = ⊥
 abbrev pub IsWhyOfService : {F W : Type 0} → Type 0 → (F → Type 0) → (F → Option (List ℕ))
     → Counted W → Counted W → ServiceFault → Type 0
 IsWhyOfService {F} Unopened Opened remaining old new (Service.Config fault) =
-    (new ≡ old) × (((fault ≡ Check.Read) × Unopened)
+    (new ≡ old) × (((fault ≡ File.Read) × Unopened)
     ⊎ (before : Counted F) × (after : Counted F) × Opened (inner_of before)
     × IsUnset remaining before after fault)
 IsWhyOfService Unopened Opened remaining old new Service.Listen =

@@ -4,7 +4,7 @@ ghost use Rattle.limit_kinds.specs.AnyKinds.{any_rules};
 ghost use Rattle.gate_config.specs.Settings.{AreSound};
 ghost use Rattle.shared_gate.specs.Reported.{AreCountersOf};
 ghost use Rattle.fault_lines.specs.FaultLine.{IsTold, fault_line};
-ghost use Rattle.config_check.specs.Check.{Says};
+ghost use Rattle.config_file.specs.Reading.{Says};
 ghost use Rattle.serve_command.specs.Command.{HasServed, IsOfServing, IsWhyOfService, making_of};
 ghost use Rattle.serve_command.specs.ServiceFault.{service_fault_text};
 
@@ -14,7 +14,7 @@ use crate::fault::{ServiceFault, tell_service_fault};
 use crate::logging::{log_admin, log_listening, log_unbound};
 use crate::standing::{Standing, serve_standing};
 use clocks::ProgramClock;
-use config_check::{read_bytes, read_file_text};
+use config_file::{read_bytes, read_file_text};
 use counted_io::Counted;
 use fault_lines::{DONE, FAULT};
 use file_opening::Opener;

@@ -1,9 +1,9 @@
 // The text of a configuration, of which each worker reads settings of its own.
 ghost use Rattle.std.specs.Prelude.{◌≡◌, Ok};
-ghost use Rattle.config_check.specs.declared.check_fault.CheckFault.{CheckFault};
-ghost use Rattle.config_check.specs.Check.{IsFaultOf, Says};
+ghost use Rattle.config_file.specs.declared.file_fault.FileFault.{FileFault};
+ghost use Rattle.config_file.specs.Reading.{IsFaultOf, Says};
 
-use config_check::read_bytes;
+use config_file::read_bytes;
 use gate_config::Settings;
 use serving::Source;
 use std::alloc::{AllocError, Global};
@@ -25,7 +25,7 @@ impl ConfigText {
 impl Source for ConfigText {
     ghost gives = { λ text settings. Says text.bytes.items (Ok settings) };
 
-    ghost lacks = { λ text. (fault : CheckFault) × IsFaultOf text.bytes.items fault };
+    ghost lacks = { λ text. (fault : FileFault) × IsFaultOf text.bytes.items fault };
 
     fn settings(&self, alloc: Global) -> Result<Settings, AllocError> {
         match read_bytes(alloc, &self.bytes) {

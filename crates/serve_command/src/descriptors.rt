@@ -1,5 +1,5 @@
 // How many descriptors the system gives this program.
-use config_check::read_file_text;
+use config_file::read_file_text;
 use file_opening::Opener;
 use std::alloc::Global;
 

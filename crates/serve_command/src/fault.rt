@@ -2,7 +2,7 @@
 ghost use Rattle.fault_lines.specs.FaultLine.{IsTold, fault_line};
 ghost use Rattle.serve_command.specs.ServiceFault.{service_fault_text};
 
-use config_check::{CheckFault, tell_check_fault};
+use config_file::{FileFault, tell_file_fault};
 use counted_io::{Counted, WriteFault};
 use fault_lines::tell_fault;
 use serving::ServeFault;
@@ -12,7 +12,7 @@ use std::io::Write;
 #[derive(Drop)]
 pub enum ServiceFault {
     /// The configuration can't be read, or isn't one.
-    Config(CheckFault),
+    Config(FileFault),
     /// The address can't be bound.
     Listen,
     /// A growth was refused: before any worker was started, or to one that was, for its settings.
@@ -24,13 +24,13 @@ pub enum ServiceFault {
     Write,
 }
 
-impl From<CheckFault> for ServiceFault {
+impl From<FileFault> for ServiceFault {
     ghost use Rattle.std.specs.Prelude.{◌≡◌};
     ghost use Rattle.serve_command.specs.declared.fault.ServiceFault.TheVariants.{Config};
 
     ghost from_gives = { λ fault given. given ≡ Config fault };
 
-    fn from(fault: CheckFault) -> ServiceFault {
+    fn from(fault: FileFault) -> ServiceFault {
         ServiceFault::Config(fault)
     }
 }
@@ -66,7 +66,7 @@ pub(crate) fn tell_service_fault<E: Write>(errors: &mut Counted<E>, fault: &Serv
         (fault_line (service_fault_text fault.now)) }
 {
     match fault {
-        ServiceFault::Config(fault) => tell_check_fault(errors, fault),
+        ServiceFault::Config(fault) => tell_file_fault(errors, fault),
         ServiceFault::Listen => tell_fault(errors, &["listen"]),
         ServiceFault::Memory => tell_fault(errors, &["memory"]),
         ServiceFault::Thread => tell_fault(errors, &["thread"]),

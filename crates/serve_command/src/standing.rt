@@ -3,7 +3,7 @@ ghost use Rattle.std.specs.Prelude.{◌≡◌, IfOk, Ok};
 ghost use Rattle.limit_kinds.specs.AnyKinds.{any_rules};
 ghost use Rattle.gate_config.specs.Settings.{AreSound};
 ghost use Rattle.shared_gate.specs.Reported.{AreCountersOf};
-ghost use Rattle.config_check.specs.Check.{Says};
+ghost use Rattle.config_file.specs.Reading.{Says};
 ghost use Rattle.serve_command.specs.Command.{making_of};
 
 use crate::admin::{AdminAddress, listener_of, operating_at};

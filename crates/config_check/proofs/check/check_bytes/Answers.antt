@@ -1,5 +1,6 @@
+use Rattle.std.proofs.Common.{refl}
 use Rattle.std.proofs.lemmas.Result.{IfOk-from_err}
-use Rattle.config_check.proofs.Whys.{handed_on, why_of_fault}
+use Rattle.config_check.proofs.Whys.{handed_on}
 use Rattle.config_check.proofs.check.check_bytes.Goals as goal
 
 -- bytes without settings
@@ -10,7 +11,7 @@ returns-in_err-settings-clause-accepted g c =
 pub returns-in_err-settings-clause-refused : goal.returns-in_err-settings-clause-refused
 returns-in_err-settings-clause-refused g c =
     handed_on c.from_residual.result _ _ c.from_residual.ensures.1
-    (why_of_fault c.args.writer.now _ _ c.in_err-settings.ensures.refused)
+    (refl, c.in_err-settings.ensures.refused)
 
 -- a line that wasn't written
 pub returns-in_err-write_accepted-clause-accepted :

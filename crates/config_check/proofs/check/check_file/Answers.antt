@@ -1,4 +1,5 @@
-use Rattle.std.proofs.Common.{rules, ◌≡◌, inl, inr, ℕ, List, subst}
+use Rattle.std.proofs.Common.{rules, ◌≡◌, inl, inr, ℕ, List, refl, subst}
+use Rattle.config_check.specs.declared.check_fault.CheckFault.TheVariants as Check
 use Rattle.config_check.specs.Check.{IsAcceptedAfter, IsWhyAfter}
 use Rattle.config_check.proofs.check.check_file.Goals as goal
 
@@ -38,7 +39,11 @@ returns-in-Ok-clause-refused g c is =
 
 pub returns-in-Err-clause-refused : goal.returns-in-Err-clause-refused
 returns-in-Err-clause-refused g c is =
-    (c.in-Err.fault, c.report.ensures.told, inl (c.in-Err.ensures.refused, search rules))
+    let unread = c.in-Err.fault in (
+      Check.File unread,
+      c.report.ensures.told,
+      inl (unread, refl, c.in-Err.ensures.refused, search rules),
+    )
 
 pub returns-in-Ok-clause-status : goal.returns-in-Ok-clause-status
 returns-in-Ok-clause-status c = search rules

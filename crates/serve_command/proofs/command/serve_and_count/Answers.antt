@@ -1,5 +1,5 @@
 use Rattle.std.proofs.Common.{rules, ◌≡◌, ℕ, List, Ok, Err, subst}
-use Rattle.config_check.specs.Check.{IsFaultOf, Says}
+use Rattle.config_file.specs.Reading.{IsFaultOf, Says}
 use Rattle.serve_command.specs.declared.fault.ServiceFault.TheVariants as Service
 use Rattle.serve_command.proofs.Whys.{why_unread, why_unserved, why_unset, why_unwritten}
 use Rattle.serve_command.proofs.command.serve_and_count.Goals as goal

@@ -1,12 +1,12 @@
 // A configuration, read.
-ghost use Rattle.std.specs.Prelude.{◌≡◌, ◌≤◌, ◌+◌, ◌⊎◌, Ok, IfErr, IfOk, OnOk};
+ghost use Rattle.std.specs.Prelude.{◌≡◌, ◌≤◌, ◌+◌, Ok, IfErr, IfOk, OnOk};
 ghost use Rattle.counted_io.specs.declared.counted.Counted.{Counted as CountedValue};
 ghost use Rattle.counted_io.specs.Causes.{HasRead};
 ghost use Rattle.counted_io.specs.Counted.{calls_of, failures_of, inner_of};
 ghost use Rattle.gate_config.specs.Settings.{AreSound};
-ghost use Rattle.config_check.specs.Check.{Held, IsFaultOf, IsUnread, Says, most_reads};
+ghost use Rattle.config_file.specs.Reading.{Held, IsFaultOf, IsUnread, IsUnreadFile, Says, most_reads};
 
-use super::check_fault::CheckFault;
+use super::file_fault::FileFault;
 use counted_io::{Counted, read_all};
 use file_opening::Opener;
 use gate_config::{Settings, read};
@@ -24,23 +24,17 @@ const MOST_READS: u64 = 33_554_432;
 ///
 /// A file that can't be opened or read, isn't at its end after so many reads, or has more is told
 /// as one that can't be read; else the fault is that of running out of memory.
-pub fn read_file_text<F: Opener>(
-    files: &F,
-    alloc: Global,
-    path: &str,
-) -> Result<Vec<u8>, CheckFault>
+pub fn read_file_text<F: Opener>(files: &F, alloc: Global, path: &str) -> Result<Vec<u8>, FileFault>
     ensures text { IfOk result (λ text. (before : CountedValue F.File)
         × (after : CountedValue F.File) × F.opened path.now (inner_of before)
         × Held F.File.remaining before text.items
         × (failures_of after ≡ failures_of before)) }
-    ensures refused { IfErr result (λ fault. ((fault ≡ CheckFault.Read) × F.unopened path.now)
-        ⊎ (before : CountedValue F.File) × (after : CountedValue F.File)
-        × F.opened path.now (inner_of before)
-        × IsUnread F.File.remaining before after fault) }
+    ensures refused { IfErr result
+        (IsUnreadFile (F.unopened path.now) (F.opened path.now) F.File.remaining) }
 {
     match files.open(path) {
         Ok(file) => read_text(alloc, &mut Counted::new(file)),
-        Err(_) => Err(CheckFault::Read),
+        Err(_) => Err(FileFault::Read),
     }
 }
 
@@ -48,7 +42,7 @@ pub fn read_file_text<F: Opener>(
 ///
 /// A reader that fails, isn't at its end after so many reads, or has more is told as one that can't
 /// be read; else the fault is that of running out of memory.
-pub fn read_text<R: Read>(alloc: Global, reader: &mut Counted<R>) -> Result<Vec<u8>, CheckFault>
+pub fn read_text<R: Read>(alloc: Global, reader: &mut Counted<R>) -> Result<Vec<u8>, FileFault>
     ensures text { IfOk result (λ text. Held R.remaining reader.old text.items) }
     ensures unfailing { OnOk result (failures_of reader.new ≡ failures_of reader.old) }
     ensures refused { IfErr result (IsUnread R.remaining reader.old reader.new) }
@@ -59,7 +53,7 @@ pub fn read_text<R: Read>(alloc: Global, reader: &mut Counted<R>) -> Result<Vec<
 }
 
 /// The settings that bytes hold, or the first fault of the bytes; out of memory may hide it.
-pub fn read_bytes(alloc: Global, bytes: &[u8]) -> Result<Settings, CheckFault>
+pub fn read_bytes(alloc: Global, bytes: &[u8]) -> Result<Settings, FileFault>
     ensures settings { IfOk result (λ settings. Says bytes.now (Ok settings)) }
     ensures sound { IfOk result AreSound }
     ensures refused { IfErr result (IsFaultOf bytes.now) }

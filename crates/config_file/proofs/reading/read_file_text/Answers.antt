@@ -1,7 +1,7 @@
 use Rattle.std.proofs.Common.{rules, ap, subst, sym}
 use Rattle.counted_io.specs.Counted.{inner_of}
-use Rattle.config_check.proofs.Whys.{had_of_file, unread_of_file}
-use Rattle.config_check.proofs.reading.read_file_text.Goals as goal
+use Rattle.config_file.proofs.Whys.{had_of_file, unread_of_file}
+use Rattle.config_file.proofs.reading.read_file_text.Goals as goal
 
 -- the file is the one that was opened, before its first read and after its last
 pub returns-in-Ok-clause-text : goal.returns-in-Ok-clause-text

@@ -1,8 +1,8 @@
 use Rattle.std.proofs.Common.{subst, codes}
 use Rattle.config_values.specs.Fault.{fault_text}
 use Rattle.fault_lines.specs.FaultLine.{IsTold, fault_line}
-use Rattle.config_check.proofs.Pieces.{word_and_three}
-use Rattle.config_check.proofs.check_fault.tell_config_fault.Goals as goal
+use Rattle.config_file.proofs.Pieces.{word_and_three}
+use Rattle.config_file.proofs.file_fault.tell_config_fault.Goals as goal
 
 -- the pieces make the fault's text
 pub returns : goal.returns

@@ -1,0 +1,23 @@
+-- Why a file gives no settings.
+use Rattle.std.specs.Prelude.{ℕ, List, ◌++◌, codes}
+use Rattle.counted_io.specs.declared.reading.ReadFault.{ReadFault}
+use Rattle.counted_io.specs.declared.reading.ReadFault.TheVariants as Reading
+use Rattle.config_values.specs.Fault.{fault_text}
+use Rattle.config_values.specs.declared.fault.ConfigFault.{ConfigFault}
+use Rattle.config_values.specs.declared.fault.ConfigFault.TheVariants as Config
+use Rattle.config_file.specs.declared.file_fault.FileFault.{FileFault}
+use Rattle.config_file.specs.declared.file_fault.FileFault.TheVariants as File
+
+-- the fault of a file whose bytes were not had
+abbrev pub read_fault : ReadFault → FileFault
+read_fault Reading.Memory = File.Config Config.Memory
+read_fault Reading.Read = File.Read
+read_fault Reading.TooLarge = File.Read
+
+-- the text of a fault
+abbrev pub config_fault_text : ConfigFault → List ℕ
+config_fault_text fault = codes "config: " ++ fault_text fault
+
+abbrev pub file_fault_text : FileFault → List ℕ
+file_fault_text File.Read = codes "config: read"
+file_fault_text (File.Config fault) = config_fault_text fault

@@ -1,0 +1,2 @@
+pub mod FileFault
+pub mod Reading
