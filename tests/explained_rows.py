@@ -161,7 +161,8 @@ OF_FAULTS += [
         "",
         'promote = ""\n',
         FIXED,
-        'line 4: promote = ""\npromote: which waiters get room that falls free, "newest" or "all"; "newest"\n',
+        'line 4: promote = ""\n'
+        'promote: which waiters get room that falls free, "newest" or "all" who fit; "newest"\n',
         "value promote",
     ),
     (
@@ -228,7 +229,7 @@ OF_FAULTS += [
         "probe_every = 1000001\n",
         "",
         "line 6: probe_every = 1000001\n"
-        "limit.probe_every: samples until the least round trip is measured anew, 0 to 1000000; 0\n",
+        "limit.probe_every: samples until the least round trip is measured anew, 0 to 1000000; 0, never\n",
         "value limit.probe_every",
     ),
     (WINDOW, "size = 0\n", "", "line 7: size = 0\nwindow.size: samples, 1 to 1000000; 10\n", "value window.size"),

@@ -1,6 +1,6 @@
 // What is worth knowing of the addresses, and of how callers are told apart.
-use crate::members::MOST_RULES;
-use config_values::{Address, Key, read_tables, read_text};
+use crate::members::items_at;
+use config_values::{Address, Key, read_text};
 use gate_config::Settings;
 use std::alloc::AllocError;
 use toml::{Table, Value};
@@ -14,8 +14,8 @@ pub(crate) fn explain_callers(
     if is_same(&settings.listen, &settings.backend) {
         out.push_str("backend is listen: each request comes back to this gateway\n")?;
     }
-    let has_classes = value_count(table, Key::Class) > 0;
-    let resolvers = read_tables(table, Key::Resolver, MOST_RULES).unwrap_or(&[]);
+    let has_classes = !items_at(table, Key::Class).is_empty();
+    let resolvers = items_at(table, Key::Resolver);
     for (place, rule) in resolvers.iter().enumerate() {
         explain_rule(out, "resolver", place, rule)?;
         if !has_classes && is_of_header(rule) {
@@ -26,7 +26,7 @@ pub(crate) fn explain_callers(
             )?;
         }
     }
-    let bypasses = read_tables(table, Key::Bypass, MOST_RULES).unwrap_or(&[]);
+    let bypasses = items_at(table, Key::Bypass);
     for (place, rule) in bypasses.iter().enumerate() {
         explain_rule(out, "bypass", place, rule)?;
     }
@@ -36,11 +36,6 @@ pub(crate) fn explain_callers(
 /// Whether two addresses are one.
 fn is_same(one: &Address, other: &Address) -> bool {
     one.socket() == other.socket()
-}
-
-/// How many tables an array has.
-fn value_count(table: &Table, key: Key) -> usize {
-    read_tables(table, key, MOST_RULES).unwrap_or(&[]).len()
 }
 
 /// Whether a resolver reads a header.

@@ -1,35 +1,49 @@
 // What is said of the bytes of a configuration.
+ghost use Rattle.std.specs.Prelude.{◌≡◌, Err, IfOk, OnOk, string_bytes};
+ghost use Rattle.toml.specs.View.{table_view};
+ghost use Rattle.config_values.specs.declared.fault.ConfigFault.{ConfigFault as FaultValue};
+ghost use Rattle.gate_config.specs.Settings.{IsOfKey, settings_of};
+ghost use Rattle.config_explain.specs.Explained.{ExplainsFault, IsExplained};
+
 use crate::faults::{Source, explain_fault};
 use crate::place::line_at;
 use crate::settings::explain_settings;
 use gate_config::settings_in;
 use std::alloc::{AllocError, Global};
+use toml::Table;
 
-/// What is said of a configuration, a line or more; nothing where memory can't tell it.
-pub fn explanation(alloc: Global, bytes: &[u8]) -> Result<String, AllocError> {
+/// What is said of a configuration, a line or more. Fails where it is out of memory.
+pub fn explanation(alloc: Global, bytes: &[u8]) -> Result<String, AllocError>
+    // Of a key at fault: which table of its array has it, its path, and what it was judged by.
+    ensures { IfOk result (λ words. IsExplained bytes.now (string_bytes words)) }
+{
     let mut out = String::new(alloc);
     let Ok(text) = str::from_utf8(bytes) else {
         explain_bytes(&mut out, bytes)?;
         return Ok(out);
     };
     match toml::table_from_slice(alloc, bytes) {
-        Ok(table) => match settings_in(alloc, &table) {
-            Ok(settings) => explain_settings(&mut out, &table, &settings)?,
-            Err(fault) => {
-                let source = Source {
-                    text,
-                    table: &table,
-                };
-                explain_fault(&mut out, source, &fault)?;
-            }
-        },
+        Ok(table) => explain_table(&mut out, text, &table)?,
         Err(error) => {
-            if !error.is_memory() {
-                write!(out, "{error}")?;
+            if error.is_memory() {
+                return Err(AllocError);
             }
+            write!(out, "{error}")?;
         }
     }
     Ok(out)
+}
+
+/// Says what there is to say of the table that a text holds.
+fn explain_table(out: &mut String, text: &str, table: &Table) -> Result<(), AllocError>
+    ensures { (fault : FaultValue) → IsOfKey fault
+        → settings_of (table_view table.now) ≡ Err fault
+        → OnOk result (ExplainsFault fault (string_bytes out.old) (string_bytes out.new)) }
+{
+    match settings_in(*out.allocator(), table) {
+        Ok(settings) => explain_settings(out, table, &settings),
+        Err(fault) => explain_fault(out, Source { text, table }, &fault),
+    }
 }
 
 /// Says where bytes begin that aren't UTF-8.

@@ -1,4 +1,7 @@
 // Where a key stands in the text of a configuration.
+ghost use Rattle.std.specs.Prelude.{◌≡◌};
+ghost use Rattle.config_explain.specs.Explained.{table_name};
+
 use config_values::Section;
 
 /// A line, counted from 1.
@@ -125,7 +128,9 @@ fn below<'a>(key: &'a str, section: &str) -> Option<&'a str> {
 }
 
 /// The name of a section; none outside all tables.
-pub(crate) fn section_name(section: Section) -> &'static str {
+pub(crate) fn section_name(section: Section) -> &'static str
+    ensures { result.now ≡ table_name section }
+{
     match section {
         Section::Top => "",
         Section::Limit => "limit",

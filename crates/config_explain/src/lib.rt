@@ -13,7 +13,6 @@ mod finding;
 mod limits;
 mod members;
 mod place;
-mod ranges;
 mod routes;
 mod settings;
 mod unknown;

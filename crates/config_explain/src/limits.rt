@@ -1,23 +1,12 @@
 // What is worth knowing of a limit that learns.
 use crate::settings::MOST_WORKERS;
-use config_values::{Key, Range, read_number, read_table, read_text};
+use config_sections::{LimitKeys, WindowKeys, read_limit, read_window};
+use config_values::{Key, read_table};
 use std::alloc::AllocError;
 use toml::Table;
 
-/// The greatest limit that a configuration may have, and one hour and one second in microseconds.
-const MOST: u32 = 10_000;
-
-const HOUR_US: u32 = 3_600_000_000;
-
+/// One second in microseconds.
 const SECOND_US: u32 = 1_000_000;
-
-/// The windows of a configuration, and the least limit under them.
-#[derive(Clone, Copy)]
-struct Windows {
-    least: u32,
-    size: u32,
-    most_us: u32,
-}
 
 /// Says where a limit can stay where it is for good, and where it is never reached.
 pub(crate) fn explain_limit(
@@ -31,63 +20,73 @@ pub(crate) fn explain_limit(
             "a limit above {MOST_WORKERS} is never reached: there are at most as many workers\n"
         )?;
     }
-    let Ok(limit) = read_table(table, Key::Limit) else {
-        return Ok(());
-    };
-    match read_text(limit, Key::LimitKind) {
-        Ok("vegas") => explain_probes(out, limit)?,
-        Ok("aimd") => explain_timeout(out, limit)?,
+    let least = match limit_in(table) {
+        Some(
+            LimitKeys::Vegas {
+                moving,
+                probe_every,
+                ..
+            },
+        ) => {
+            explain_probes(out, probe_every)?;
+            moving.min
+        }
+        Some(
+            LimitKeys::Aimd {
+                moving,
+                timeout_us,
+                ..
+            },
+        ) => {
+            explain_timeout(out, timeout_us)?;
+            moving.min
+        }
         _ => return Ok(()),
-    }
-    match windows_of(table, limit) {
-        Some(windows) => explain_windows(out, windows),
+    };
+    match window_in(table) {
+        Some(window) => explain_window(out, least, window),
         None => Ok(()),
     }
 }
 
+/// The keys of the limit, where none is at fault.
+fn limit_in(table: &Table) -> Option<LimitKeys> {
+    read_limit(read_table(table, Key::Limit).ok()?).ok()
+}
+
+/// The keys of the window, where there is one and none of them is at fault.
+fn window_in(table: &Table) -> Option<WindowKeys> {
+    read_window(read_table(table, Key::Window).ok()?).ok()
+}
+
 /// Says that nothing takes a base back that was measured once.
-fn explain_probes(out: &mut String, limit: &Table) -> Result<(), AllocError> {
-    match read_number(limit, Key::LimitProbeEvery, Range::new(0, 1_000_000, 0)) {
-        Ok(0) => write!(
+fn explain_probes(out: &mut String, probe_every: u32) -> Result<(), AllocError> {
+    if probe_every == 0 {
+        write!(
             out,
             "limit.probe_every = 0: one quick answer, or a drop, can keep the limit low for good\n"
-        ),
-        _ => Ok(()),
+        )
+    } else {
+        Ok(())
     }
 }
 
 /// Says that quicker answers never lower the limit.
-fn explain_timeout(out: &mut String, limit: &Table) -> Result<(), AllocError> {
-    let range = Range::new(1, HOUR_US, 5_000_000);
-    match read_number(limit, Key::LimitTimeoutUs, range) {
-        Ok(timeout) if timeout > SECOND_US => write!(
+fn explain_timeout(out: &mut String, timeout: u32) -> Result<(), AllocError> {
+    if timeout > SECOND_US {
+        write!(
             out,
             "limit.timeout_us = {timeout} is above a second: answers up to that only raise the \
              limit, however long the queue at the backend\n"
-        ),
-        _ => Ok(()),
+        )
+    } else {
+        Ok(())
     }
 }
 
-/// The windows of a configuration, where it has some.
-fn windows_of(table: &Table, limit: &Table) -> Option<Windows> {
-    let window = read_table(table, Key::Window).ok()?;
-    let shortest = read_number(window, Key::WindowMinUs, Range::new(1, HOUR_US, SECOND_US));
-    let longest = Range::new(shortest.ok()?, HOUR_US, SECOND_US);
-    Some(Windows {
-        least: read_number(limit, Key::LimitMin, Range::new(1, MOST, 1)).ok()?,
-        size: read_number(window, Key::WindowSize, Range::new(1, 1_000_000, 10)).ok()?,
-        most_us: read_number(window, Key::WindowMaxUs, longest).ok()?,
-    })
-}
-
 /// Says where a window at the least limit may never have enough answers. One that ends has one.
-fn explain_windows(out: &mut String, windows: Windows) -> Result<(), AllocError> {
-    let Windows {
-        least,
-        size,
-        most_us,
-    } = windows;
+fn explain_window(out: &mut String, least: u32, window: WindowKeys) -> Result<(), AllocError> {
+    let (size, most_us) = (window.size, window.max_us);
     let (held, wanted) = (held_in_seconds(least, most_us), u64::from(size));
     if size > 1 && size > least.saturating_mul(2) {
         write!(

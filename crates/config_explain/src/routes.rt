@@ -1,25 +1,18 @@
 // Which pattern can't be read or can't stand beside those before it.
 use crate::faults::{Source, show_place};
-use crate::members::{MOST_RULES, Member, classes_in};
-use config_sections::{ResolverKeys, read_resolvers};
-use config_values::{Key, Section, read_tables};
+use crate::members::{Member, items_at};
+use config_values::{Key, Section, value_at};
 use matchit::{InsertError, Router};
 use std::alloc::{AllocError, Global};
-use toml::Table;
+use toml::{Table, Value};
 
 /// Says which pattern can't be read or can't stand beside those before it.
 pub(crate) fn explain_route(out: &mut String, source: Source<'_>) -> Result<(), AllocError> {
     let alloc = *out.allocator();
-    let Some(classes) = classes_in(source.table) else {
-        return Ok(());
-    };
-    let items = read_tables(source.table, Key::Resolver, MOST_RULES).unwrap_or(&[]);
-    let Ok(resolvers) = read_resolvers(alloc, &classes, items) else {
-        return Ok(());
-    };
-    let count = items.len();
-    for (place, (_, keys)) in resolvers.iter().enumerate() {
-        if let ResolverKeys::Route(routes) = keys {
+    let resolvers = items_at(source.table, Key::Resolver);
+    let count = resolvers.len();
+    for (place, resolver) in resolvers.iter().enumerate() {
+        if let Some(routes) = routes_of(resolver) {
             if let Some((pattern, error)) = refused_in(alloc, routes) {
                 let member = Member { place, count };
                 return say_refused(out, source.text, member, pattern, &error);
@@ -27,6 +20,11 @@ pub(crate) fn explain_route(out: &mut String, source: Source<'_>) -> Result<(), 
         }
     }
     Ok(())
+}
+
+/// The patterns of a resolver that has some.
+fn routes_of(resolver: &Value) -> Option<&Table> {
+    value_at(resolver.as_table()?, Key::ResolverRoutes)?.as_table()
 }
 
 /// The first pattern that can't be added, and why.

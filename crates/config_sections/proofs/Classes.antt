@@ -9,7 +9,7 @@ use Rattle.config_values.specs.Outcomes.{result_map, ◌>>=◌}
 use Rattle.config_values.specs.Text.{text_from}
 use Rattle.config_sections.specs.declared.version.Version.{Version}
 use Rattle.config_sections.specs.declared.version.Version.TheVariants.{One, Two}
-use Rattle.config_sections.specs.Class.{class_after, row_from, thousandths_from}
+use Rattle.config_sections.specs.Class.{class_from, row_from, thousandths_from}
 use Rattle.config_sections.specs.ClassRows.{is_new_name, left_by}
 use Rattle.config_sections.specs.Section.{number_is, text_is}
 
@@ -40,7 +40,7 @@ by_share (Ok n) (Ok m) = refl
 
 -- what a class holds, read by its two keys
 pub class_read : (version : Version) (before : List Row) (t : Members) →
-    class_after version before t
+    class_from version before t
     ≡ row_of_two (text_from Key.ClassName (is_new_name before) (get_member (codes "name") t))
     (thousandths_from version (left_by before) t)
 class_read One before t =

@@ -2,12 +2,12 @@
 use Rattle.std.specs.declared.alloc.Global.{Global}
 use Rattle.std.specs.BTreeMap.{BTreeMap}
 use Rattle.std.specs.Borrow.{Bor}
-use Rattle.std.specs.Prelude.{ℕ, List, [], ◌∷◌, String, Result, Ok, codes}
+use Rattle.std.specs.Prelude.{ℕ, List, [], ◌∷◌, length, String, Result, Ok, codes}
 use Rattle.toml.specs.declared.value.Value.{Value}
 use Rattle.toml.specs.Data.{Members}
 use Rattle.toml.specs.View.{table_view}
 use Rattle.config_values.specs.declared.fault.ConfigFault.{ConfigFault}
-use Rattle.config_values.specs.Outcomes.{◌>>=◌}
+use Rattle.config_values.specs.Outcomes.{of_member, ◌>>=◌}
 use Rattle.config_sections.specs.declared.bypass.BypassKeys.{BypassKeys}
 use Rattle.config_sections.specs.declared.bypass.BypassKeys.TheVariants as Keys
 use Rattle.config_sections.specs.declared.bypass.BypassKind.{BypassKind}
@@ -38,4 +38,5 @@ bypass_member member = (table_view member.0.now, bypass_values member.1)
 -- a bypass rule, with its table
 abbrev pub bypass_after : List (Members × Values) → Members →
     Result (Members × Values) ConfigFault
-bypass_after before t = section_values [] bypass_rows t >>= λ values. Ok (t, values)
+bypass_after before t =
+    of_member (length before) (section_values [] bypass_rows t) >>= λ values. Ok (t, values)

@@ -1,11 +1,11 @@
 -- A class of a configuration, and all of them one after the other.
-use Rattle.std.specs.Prelude.{ℕ, ◌*◌, ◌/◌, List, [], None, Result, Ok, codes}
+use Rattle.std.specs.Prelude.{ℕ, ◌*◌, ◌/◌, List, [], length, None, Result, Ok, codes}
 use Rattle.toml.specs.Data.{Members, get_member}
 use Rattle.partitions.specs.Table.{Row}
 use Rattle.config_values.specs.declared.fault.ConfigFault.{ConfigFault}
 use Rattle.config_values.specs.declared.key.Key.{Key}
 use Rattle.config_values.specs.Number.{number_from}
-use Rattle.config_values.specs.Outcomes.{result_map, ◌>>=◌}
+use Rattle.config_values.specs.Outcomes.{of_member, result_map, ◌>>=◌}
 use Rattle.config_sections.specs.declared.version.Version.{Version}
 use Rattle.config_sections.specs.declared.version.Version.TheVariants.{One, Two}
 use Rattle.config_sections.specs.Rows.{class_rows}
@@ -23,10 +23,14 @@ row_from version values = record {
   thousandths = thousandths_at version values;
 }
 
+-- the keys of a class behind the classes before it
+abbrev pub class_from : Version → List Row → Members → Result Row ConfigFault
+class_from version before t =
+    section_values before (class_rows version) t >>= λ values. Ok (row_from version values)
+
 -- a class behind the classes before it
 abbrev pub class_after : Version → List Row → Members → Result Row ConfigFault
-class_after version before t =
-    section_values before (class_rows version) t >>= λ values. Ok (row_from version values)
+class_after version before t = of_member (length before) (class_from version before t)
 
 -- the classes, one after the other
 abbrev pub classes_of : Version → List Members → Result (List Row) ConfigFault

@@ -2,13 +2,13 @@
 use Rattle.std.specs.declared.alloc.Global.{Global}
 use Rattle.std.specs.BTreeMap.{BTreeMap}
 use Rattle.std.specs.Borrow.{Bor}
-use Rattle.std.specs.Prelude.{ℕ, List, [], ◌∷◌, String, Result, Ok, codes}
+use Rattle.std.specs.Prelude.{ℕ, List, [], ◌∷◌, length, String, Result, Ok, codes}
 use Rattle.toml.specs.declared.value.Value.{Value}
 use Rattle.toml.specs.Data.{Members}
 use Rattle.toml.specs.View.{table_view}
 use Rattle.partitions.specs.Table.{Row}
 use Rattle.config_values.specs.declared.fault.ConfigFault.{ConfigFault}
-use Rattle.config_values.specs.Outcomes.{◌>>=◌}
+use Rattle.config_values.specs.Outcomes.{of_member, ◌>>=◌}
 use Rattle.config_sections.specs.declared.resolver.ResolverKeys.{ResolverKeys}
 use Rattle.config_sections.specs.declared.resolver.ResolverKeys.TheVariants as Keys
 use Rattle.config_sections.specs.declared.resolver.ResolverKind.{ResolverKind}
@@ -42,4 +42,5 @@ resolver_member member = (table_view member.0.now, resolver_values member.1)
 abbrev pub resolver_after : List Row → List (Members × Values) → Members →
     Result (Members × Values) ConfigFault
 resolver_after classes before t =
-    section_values classes resolver_rows t >>= λ values. Ok (t, values)
+    of_member (length before) (section_values classes resolver_rows t)
+    >>= λ values. Ok (t, values)

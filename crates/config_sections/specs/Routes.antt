@@ -6,6 +6,7 @@ use Rattle.partitions.specs.Table.{Row}
 use Rattle.config_values.specs.declared.fault.ConfigFault.{ConfigFault}
 use Rattle.config_values.specs.declared.fault.ConfigFault.TheVariants as Fault
 use Rattle.config_values.specs.declared.key.Key.{Key}
+use Rattle.config_values.specs.Fault.{plain}
 use Rattle.config_values.specs.Outcomes.{◌>>=◌}
 use Rattle.config_values.specs.Table.{pairs_of, table_from}
 use Rattle.config_values.specs.Text.{string_of}
@@ -19,10 +20,10 @@ routes_of t = map (λ pair. (pair.0, string_of pair.1)) (pairs_of t)
 abbrev pub routes_in : Key → List Row → Members → Result (List (List ℕ × List ℕ)) ConfigFault
 routes_in key classes t =
     if not (list_all (λ pair. is_some (as_str pair.1)) (pairs_of t))
-    then Err (Fault.Kind key) else (
+    then Err (Fault.Kind (plain key)) else (
     if nat_le (length (pairs_of t)) 256
     && list_all (λ pair. is_class classes (string_of pair.1)) (pairs_of t)
-    then Ok (routes_of t) else Err (Fault.Value key))
+    then Ok (routes_of t) else Err (Fault.Value (plain key)))
 
 -- the table of patterns
 abbrev pub routes_from : Key → List Row → Option Data →

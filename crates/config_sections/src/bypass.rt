@@ -3,14 +3,14 @@ ghost use Rattle.std.specs.Prelude.{◌≡◌, [], Ok, Some, None, codes, map, o
 ghost use Rattle.toml.specs.Data.{get_member};
 ghost use Rattle.toml.specs.View.{table_view};
 ghost use Rattle.config_values.specs.Key.{name_of};
-ghost use Rattle.config_values.specs.Outcomes.{Answers, Settles, result_map};
+ghost use Rattle.config_values.specs.Outcomes.{Answers, Settles, of_member, result_map};
 ghost use Rattle.config_values.specs.Table.{tables_among};
 ghost use Rattle.config_values.specs.Text.{is_among, text_from};
 ghost use Rattle.config_sections.specs.Bypass.{bypass_after, bypass_member, bypass_values, bypass_word};
 ghost use Rattle.config_sections.specs.Rows.{bypass_kinds, bypass_rows};
 ghost use Rattle.config_sections.specs.Section.{names_of, read_each, section_values};
 
-use config_values::{ConfigFault, Key, read_prefix, read_text, read_token};
+use config_values::{ConfigFault, Key, KeyAtFault, read_prefix, read_text, read_token};
 use std::alloc::{AllocError, Global};
 use toml::{Table, Value};
 
@@ -69,9 +69,11 @@ impl BypassKeys<'_> {
 pub fn check_bypasses(items: &[Value]) -> Result<(), ConfigFault>
     ensures { Settles (read_each bypass_after [] (tables_among items.now)) result }
 {
+    let mut place = 0;
     for item in items {
         if let Some(table) = item.as_table() {
-            read_bypass(table)?;
+            read_member(place, table)?;
+            place += 1;
         }
     }
     Ok(())
@@ -88,11 +90,22 @@ pub fn read_bypasses<'a>(
     let mut rules = Vec::new(alloc);
     for item in items {
         if let Some(table) = item.as_table() {
-            let keys = read_bypass(table)?;
+            let keys = read_member(rules.len(), table)?;
             rules.push((table, keys)).map_err(AllocError::from)?;
         }
     }
     Ok(rules)
+}
+
+/// The keys of a bypass rule, and of a fault which rule it is, counted from 0.
+fn read_member<'a>(place: usize, table: &'a Table) -> Result<BypassKeys<'a>, ConfigFault>
+    ensures { result_map bypass_values result
+        ≡ of_member place (section_values [] bypass_rows (table_view table.now)) }
+{
+    match read_bypass(table) {
+        Ok(keys) => Ok(keys),
+        Err(fault) => Err(fault.of_member(place)),
+    }
 }
 
 /// The keys of a bypass rule.
@@ -115,7 +128,7 @@ fn bypass_kind(table: &Table) -> Result<BypassKind, ConfigFault>
 {
     match BypassKind::named(read_text(table, Key::BypassKind)?) {
         Some(kind) => Ok(kind),
-        None => Err(ConfigFault::Value(Key::BypassKind)),
+        None => Err(ConfigFault::Value(KeyAtFault::plain(Key::BypassKind))),
     }
 }
 

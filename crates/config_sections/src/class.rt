@@ -8,13 +8,13 @@ ghost use Rattle.config_values.specs.Key.{name_of};
 ghost use Rattle.config_values.specs.Outcomes.{result_map};
 ghost use Rattle.config_values.specs.Table.{tables_among};
 ghost use Rattle.config_values.specs.Text.{text_from};
-ghost use Rattle.config_sections.specs.Class.{class_after, classes_of, thousandths_from};
+ghost use Rattle.config_sections.specs.Class.{class_after, class_from, classes_of, thousandths_from};
 ghost use Rattle.config_sections.specs.ClassRows.{class_row, is_class, is_new_name, left_by};
 ghost use Rattle.config_sections.specs.Rows.{class_rows};
 
 use crate::version::Version;
 use arrayvec::ArrayVec;
-use config_values::{ConfigFault, Key, Range, read_number, read_text};
+use config_values::{ConfigFault, Key, KeyAtFault, Range, read_number, read_text};
 use partitions::{from_percent, is_name};
 use toml::{Table, Value};
 
@@ -54,7 +54,7 @@ pub fn read_classes<'a>(
     Ok(classes)
 }
 
-/// The keys of a class behind the classes before it.
+/// A class behind the classes before it, and of a fault which class it is.
 fn read_class<'a>(
     version: Version,
     before: &[ClassKeys],
@@ -62,6 +62,21 @@ fn read_class<'a>(
 ) -> Result<ClassKeys<'a>, ConfigFault>
     ensures { result_map class_row result
         ≡ class_after version (map class_row before.now) (table_view table.now) }
+{
+    match read_keys(version, before, table) {
+        Ok(class) => Ok(class),
+        Err(fault) => Err(fault.of_member(before.len())),
+    }
+}
+
+/// The keys of a class behind the classes before it.
+fn read_keys<'a>(
+    version: Version,
+    before: &[ClassKeys],
+    table: &'a Table,
+) -> Result<ClassKeys<'a>, ConfigFault>
+    ensures { result_map class_row result
+        ≡ class_from version (map class_row before.now) (table_view table.now) }
 {
     let name = new_name(before, table, Key::ClassName)?;
     let thousandths = read_thousandths(version, left_by(before), table)?;
@@ -92,7 +107,7 @@ fn new_name<'a>(classes: &[ClassKeys], table: &'a Table, key: Key) -> Result<&'a
     if is_name(text.as_bytes()) && !is_class(classes, text) {
         Ok(text)
     } else {
-        Err(ConfigFault::Value(key))
+        Err(ConfigFault::Value(KeyAtFault::plain(key)))
     }
 }
 
@@ -110,7 +125,7 @@ pub fn class_name<'a>(
     if is_class(classes, text) {
         Ok(text)
     } else {
-        Err(ConfigFault::Value(key))
+        Err(ConfigFault::Value(KeyAtFault::plain(key)))
     }
 }
 

@@ -10,7 +10,7 @@ ghost use Rattle.config_sections.specs.Rows.{limit_kinds, limit_rows};
 ghost use Rattle.config_sections.specs.Section.{names_of, section_values};
 
 use crate::HOUR_US;
-use config_values::{ConfigFault, Key, Range, read_number, read_text};
+use config_values::{ConfigFault, Key, KeyAtFault, Range, read_number, read_text};
 use toml::Table;
 
 /// The greatest limit, in permits.
@@ -132,7 +132,7 @@ fn limit_kind(table: &Table) -> Result<LimitKind, ConfigFault>
 {
     match LimitKind::named(read_text(table, Key::LimitKind)?) {
         Some(kind) => Ok(kind),
-        None => Err(ConfigFault::Value(Key::LimitKind)),
+        None => Err(ConfigFault::Value(KeyAtFault::plain(Key::LimitKind))),
     }
 }
 

@@ -8,7 +8,7 @@ ghost use Rattle.config_values.specs.Text.{choice_from, is_among};
 ghost use Rattle.config_sections.specs.Promote.{rule_word};
 ghost use Rattle.config_sections.specs.Rows.{newest, promote_rules};
 
-use config_values::{ConfigFault, Key, read_text, value_at};
+use config_values::{ConfigFault, Key, KeyAtFault, read_text, value_at};
 use toml::Table;
 
 /// Which waiters get the room that falls free.
@@ -45,6 +45,6 @@ pub fn read_promote(table: &Table) -> Result<PromoteRule, ConfigFault>
     }
     match PromoteRule::named(read_text(table, Key::Promote)?) {
         Some(rule) => Ok(rule),
-        None => Err(ConfigFault::Value(Key::Promote)),
+        None => Err(ConfigFault::Value(KeyAtFault::plain(Key::Promote))),
     }
 }

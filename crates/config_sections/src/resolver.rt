@@ -5,7 +5,7 @@ ghost use Rattle.std.specs.Prelude.{◌≡◌, [], codes, Ok, Some, None, is_som
 ghost use Rattle.toml.specs.Data.{as_str, get_member};
 ghost use Rattle.toml.specs.View.{table_view, view};
 ghost use Rattle.config_values.specs.Key.{name_of};
-ghost use Rattle.config_values.specs.Outcomes.{Answers, Settles, result_map};
+ghost use Rattle.config_values.specs.Outcomes.{Answers, Settles, of_member, result_map};
 ghost use Rattle.config_values.specs.Table.{pairs_of, tables_among};
 ghost use Rattle.config_values.specs.Text.{is_among, string_of, text_from};
 ghost use Rattle.config_sections.specs.ClassRows.{class_row, is_class};
@@ -15,7 +15,7 @@ ghost use Rattle.config_sections.specs.Rows.{resolver_kinds, resolver_rows};
 ghost use Rattle.config_sections.specs.Section.{names_of, read_each, section_values};
 
 use crate::class::{ClassKeys, class_name, is_class};
-use config_values::{ConfigFault, Key, read_table, read_text, read_token, string_of};
+use config_values::{ConfigFault, Key, KeyAtFault, read_table, read_text, read_token, string_of};
 use std::alloc::{AllocError, Global};
 use toml::{Table, Value};
 
@@ -82,9 +82,11 @@ pub fn check_resolvers(classes: &[ClassKeys], items: &[Value]) -> Result<(), Con
         (read_each (resolver_after (map class_row classes.now)) [] (tables_among items.now))
         result }
 {
+    let mut place = 0;
     for item in items {
         if let Some(table) = item.as_table() {
-            read_resolver(classes, table)?;
+            read_member(classes, place, table)?;
+            place += 1;
         }
     }
     Ok(())
@@ -103,11 +105,26 @@ pub fn read_resolvers<'a>(
     let mut resolvers = Vec::new(alloc);
     for item in items {
         if let Some(table) = item.as_table() {
-            let keys = read_resolver(classes, table)?;
+            let keys = read_member(classes, resolvers.len(), table)?;
             resolvers.push((table, keys)).map_err(AllocError::from)?;
         }
     }
     Ok(resolvers)
+}
+
+/// The keys of a resolver among these classes, and of a fault which resolver it is, counted from 0.
+fn read_member<'a>(
+    classes: &[ClassKeys],
+    place: usize,
+    table: &'a Table,
+) -> Result<ResolverKeys<'a>, ConfigFault>
+    ensures { result_map resolver_values result ≡ of_member place
+        (section_values (map class_row classes.now) resolver_rows (table_view table.now)) }
+{
+    match read_resolver(classes, table) {
+        Ok(keys) => Ok(keys),
+        Err(fault) => Err(fault.of_member(place)),
+    }
 }
 
 /// The keys of a resolver among these classes.
@@ -133,7 +150,7 @@ fn resolver_kind(table: &Table) -> Result<ResolverKind, ConfigFault>
 {
     match ResolverKind::named(read_text(table, Key::ResolverKind)?) {
         Some(kind) => Ok(kind),
-        None => Err(ConfigFault::Value(Key::ResolverKind)),
+        None => Err(ConfigFault::Value(KeyAtFault::plain(Key::ResolverKind))),
     }
 }
 
@@ -157,12 +174,12 @@ fn routes_at<'a>(classes: &[ClassKeys], table: &'a Table) -> Result<&'a Table, C
 {
     let routes = read_table(table, Key::ResolverRoutes)?;
     if !are_strings(routes) {
-        return Err(ConfigFault::Kind(Key::ResolverRoutes));
+        return Err(ConfigFault::Kind(KeyAtFault::plain(Key::ResolverRoutes)));
     }
     if count_of(routes) <= MOST_ROUTES && are_classes(classes, routes) {
         Ok(routes)
     } else {
-        Err(ConfigFault::Value(Key::ResolverRoutes))
+        Err(ConfigFault::Value(KeyAtFault::plain(Key::ResolverRoutes)))
     }
 }
 

@@ -1,7 +1,8 @@
 -- What a step of reading gives: a value, or the fault that ends the reading.
-use Rattle.std.specs.Prelude.{Result, Ok, Err, IsOk, ◌≡◌, ◌≢◌}
+use Rattle.std.specs.Prelude.{ℕ, Result, Ok, Err, IsOk, ◌≡◌, ◌≢◌}
 use Rattle.config_values.specs.declared.fault.ConfigFault.{ConfigFault}
 use Rattle.config_values.specs.declared.fault.ConfigFault.TheVariants as Fault
+use Rattle.config_values.specs.Fault.{fault_placed}
 
 -- the next step on a value, and a fault as it is
 abbrev pub ◌>>=◌ : {A B : Type 0} → Result A ConfigFault → (A → Result B ConfigFault) →
@@ -14,6 +15,11 @@ infixl 15 ◌>>=◌
 abbrev pub result_map : {A B : Type 0} → (A → B) → Result A ConfigFault → Result B ConfigFault
 result_map f (Ok a) = Ok (f a)
 result_map f (Err fault) = Err fault
+
+-- a value as it is, and a fault as that of this table of an array
+abbrev pub of_member : {A : Type 0} → ℕ → Result A ConfigFault → Result A ConfigFault
+of_member place (Ok a) = Ok a
+of_member place (Err fault) = Err (fault_placed place fault)
 
 -- the answer is the one that is said, out of memory aside
 abbrev pub Answers : {A V : Type 0} → (A → V) → Result V ConfigFault → Result A ConfigFault → Type 0

@@ -7,6 +7,7 @@ use Rattle.toml.specs.View.{view}
 use Rattle.config_values.specs.declared.fault.ConfigFault.{ConfigFault}
 use Rattle.config_values.specs.declared.fault.ConfigFault.TheVariants as Fault
 use Rattle.config_values.specs.declared.key.Key.{Key}
+use Rattle.config_values.specs.Fault.{plain}
 
 -- the members of a table as a list
 abbrev pub pairs_of : Members → List (List ℕ × Data)
@@ -24,26 +25,26 @@ tables_among items = filter_map as_table (map view items)
 
 -- a table
 abbrev pub table_from : Key → Option Data → Result Members ConfigFault
-table_from key None = Err (Fault.Missing key)
+table_from key None = Err (Fault.Missing (plain key))
 table_from key (Some (table t)) = Ok t
-table_from key (Some _) = Err (Fault.Kind key)
+table_from key (Some _) = Err (Fault.Kind (plain key))
 
 -- a table that may be absent
 abbrev pub optional_from : Key → Option Data → Result (Option Members) ConfigFault
 optional_from key None = Ok None
 optional_from key (Some (table t)) = Ok (Some t)
-optional_from key (Some _) = Err (Fault.Kind key)
+optional_from key (Some _) = Err (Fault.Kind (plain key))
 
 -- the items, which all are tables, and not too many
 abbrev pub tables_in : Key → ℕ → List Data → Result (List Members) ConfigFault
 tables_in key most items =
     if list_all (λ d. is_some (as_table d)) items
     then (if nat_le (length items) most
-    then Ok (filter_map as_table items) else Err (Fault.Value key))
-    else Err (Fault.Kind key)
+    then Ok (filter_map as_table items) else Err (Fault.Value (plain key)))
+    else Err (Fault.Kind (plain key))
 
 -- the tables of an array; none where it is absent
 abbrev pub tables_from : Key → ℕ → Option Data → Result (List Members) ConfigFault
 tables_from key most None = Ok []
 tables_from key most (Some (array items)) = tables_in key most (items_in items)
-tables_from key most (Some _) = Err (Fault.Kind key)
+tables_from key most (Some _) = Err (Fault.Kind (plain key))

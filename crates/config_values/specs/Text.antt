@@ -6,12 +6,13 @@ use Rattle.toml.specs.Data.{Data, as_str, string}
 use Rattle.config_values.specs.declared.fault.ConfigFault.{ConfigFault}
 use Rattle.config_values.specs.declared.fault.ConfigFault.TheVariants as Fault
 use Rattle.config_values.specs.declared.key.Key.{Key}
+use Rattle.config_values.specs.Fault.{plain}
 
 -- a text that passes the test
 abbrev pub text_from : Key → (List ℕ → Bool) → Option Data → Result (List ℕ) ConfigFault
-text_from key fits None = Err (Fault.Missing key)
-text_from key fits (Some (string s)) = if fits s then Ok s else Err (Fault.Value key)
-text_from key fits (Some _) = Err (Fault.Kind key)
+text_from key fits None = Err (Fault.Missing (plain key))
+text_from key fits (Some (string s)) = if fits s then Ok s else Err (Fault.Value (plain key))
+text_from key fits (Some _) = Err (Fault.Kind (plain key))
 
 -- one of the words
 abbrev pub is_among : List (List ℕ) → List ℕ → Bool

@@ -8,7 +8,7 @@ ghost use Rattle.config_values.specs.Address.{is_address};
 ghost use Rattle.config_values.specs.Key.{name_of};
 ghost use Rattle.config_values.specs.Text.{text_from};
 
-use crate::fault::ConfigFault;
+use crate::fault::{ConfigFault, KeyAtFault};
 use crate::key::Key;
 use crate::text::read_text;
 use arrayvec::ArrayString;
@@ -95,6 +95,6 @@ pub fn read_address(table: &Table, key: Key) -> Result<Address, ConfigFault>
 {
     match Address::parse(read_text(table, key)?) {
         Some(address) => Ok(address),
-        None => Err(ConfigFault::Value(key)),
+        None => Err(ConfigFault::Value(KeyAtFault::plain(key))),
     }
 }

@@ -1,13 +1,58 @@
 // Why a configuration is refused.
 ghost use Rattle.std.specs.Prelude.{◌≡◌, ◌++◌, Some};
-ghost use Rattle.config_values.specs.Fault.{fault_text};
+ghost use Rattle.config_values.specs.Fault.{fault_placed, fault_text, placed, plain, ranged};
 
 use crate::key::Key;
+use crate::number::Range;
+use crate::unknown::UnknownAtFault;
 use matchit::InsertError;
-use message_parts::Text;
 use std::alloc::AllocError;
 use std::error::Error;
 use std::fmt;
+
+/// A key at fault, and what it was judged by.
+#[derive(Clone, Copy)]
+pub struct KeyAtFault {
+    pub key: Key,
+    /// The numbers that it may hold here, where it is to hold one.
+    pub range: Option<Range>,
+    /// Which table of its array has it, counted from 0; none outside arrays.
+    pub member: Option<usize>,
+}
+
+impl KeyAtFault {
+    /// A key outside arrays, which holds no number.
+    pub fn plain(key: Key) -> KeyAtFault
+        ensures { result ≡ plain key }
+    {
+        KeyAtFault {
+            key,
+            range: None,
+            member: None,
+        }
+    }
+
+    /// A key outside arrays, which is to hold a number of this range.
+    pub(crate) fn ranged(key: Key, range: Range) -> KeyAtFault
+        ensures { result ≡ ranged key range.low range.high range.default }
+    {
+        KeyAtFault {
+            key,
+            range: Some(range),
+            member: None,
+        }
+    }
+
+    /// The key in this table of an array.
+    fn placed(self, place: usize) -> KeyAtFault
+        ensures { result ≡ placed place self }
+    {
+        KeyAtFault {
+            member: Some(place),
+            ..self
+        }
+    }
+}
 
 /// Why a configuration was refused. Of several faults the first in this order is told, and of
 /// several keys the first in the order of the keys; of unknown keys the one with the least path in
@@ -23,15 +68,15 @@ pub enum ConfigFault {
     /// `version` isn't the whole number 1 or 2.
     Version,
     /// A required key is absent.
-    Missing(Key),
+    Missing(KeyAtFault),
     /// A key holds a value of another kind of TOML.
-    Kind(Key),
+    Kind(KeyAtFault),
     /// A key's value is out of its range.
-    Value(Key),
+    Value(KeyAtFault),
     /// The dotted path of a key that isn't allowed where it stands. A name that isn't bare in TOML
     /// (one or more letters, digits, dashes and underscores) is quoted and escaped as a basic
     /// string, as in `limit."x\ny"`.
-    Unknown(Text),
+    Unknown(UnknownAtFault),
     /// Two patterns can't stand together, or one can't be read.
     Route,
 }
@@ -62,6 +107,18 @@ impl From<InsertError> for ConfigFault {
 }
 
 impl ConfigFault {
+    /// The fault of a key as that of this table of an array, and any other fault as it is.
+    pub fn of_member(self, place: usize) -> ConfigFault
+        ensures { result ≡ fault_placed place self }
+    {
+        match self {
+            ConfigFault::Missing(at) => ConfigFault::Missing(at.placed(place)),
+            ConfigFault::Kind(at) => ConfigFault::Kind(at.placed(place)),
+            ConfigFault::Value(at) => ConfigFault::Value(at.placed(place)),
+            fault => fault,
+        }
+    }
+
     /// The fault's text in pieces that follow one another, of which the last two may be empty.
     /// Takes no memory.
     pub fn pieces(&self) -> (&str, &str, &str)
@@ -71,10 +128,10 @@ impl ConfigFault {
             ConfigFault::Memory => ("memory", "", ""),
             ConfigFault::Toml => ("toml", "", ""),
             ConfigFault::Version => ("version", "", ""),
-            ConfigFault::Missing(key) => ("missing ", key.section().prefix(), key.name()),
-            ConfigFault::Kind(key) => ("kind ", key.section().prefix(), key.name()),
-            ConfigFault::Value(key) => ("value ", key.section().prefix(), key.name()),
-            ConfigFault::Unknown(path) => ("unknown ", path.as_str(), ""),
+            ConfigFault::Missing(at) => ("missing ", at.key.section().prefix(), at.key.name()),
+            ConfigFault::Kind(at) => ("kind ", at.key.section().prefix(), at.key.name()),
+            ConfigFault::Value(at) => ("value ", at.key.section().prefix(), at.key.name()),
+            ConfigFault::Unknown(at) => ("unknown ", at.path(), ""),
             ConfigFault::Route => ("route", "", ""),
         }
     }

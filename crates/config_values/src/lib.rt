@@ -17,9 +17,9 @@ mod unknown;
 
 pub use address::{Address, read_address};
 pub use entry::value_at;
-pub use fault::ConfigFault;
+pub use fault::{ConfigFault, KeyAtFault};
 pub use key::{Key, Section};
 pub use number::{Range, read_flag, read_number};
 pub use table::{read_optional_table, read_table, read_tables};
 pub use text::{read_prefix, read_text, read_token, string_of};
-pub use unknown::{UnknownKey, least_unknown};
+pub use unknown::{UnknownAtFault, UnknownKey, least_unknown};

@@ -6,7 +6,7 @@ ghost use Rattle.config_values.specs.Key.{name_of};
 ghost use Rattle.config_values.specs.Number.{flag_from, in_range, number_from};
 
 use crate::entry::value_at;
-use crate::fault::ConfigFault;
+use crate::fault::{ConfigFault, KeyAtFault};
 use crate::key::Key;
 use toml::Table;
 
@@ -54,24 +54,24 @@ pub fn read_number(table: &Table, key: Key, range: Range) -> Result<u32, ConfigF
     let Some(value) = value_at(table, key) else {
         return match range.default {
             Some(default) => Ok(default.min(range.high).max(range.low)),
-            None => Err(ConfigFault::Missing(key)),
+            None => Err(ConfigFault::Missing(KeyAtFault::ranged(key, range))),
         };
     };
     match value.as_integer() {
         Some(number) => in_range(key, range, number),
-        None => Err(ConfigFault::Kind(key)),
+        None => Err(ConfigFault::Kind(KeyAtFault::ranged(key, range))),
     }
 }
 
 /// The number, where the range has it.
 fn in_range(key: Key, range: Range, number: i64) -> Result<u32, ConfigFault>
     ensures within { IfOk result (λ n. (range.low ≤ n) × (n ≤ range.high)) }
-    ensures value { result ≡ in_range key range.low range.high number }
+    ensures value { result ≡ in_range key range.low range.high range.default number }
 {
     if i64::from(range.low) <= number && number <= i64::from(range.high) {
         Ok(number as u32)
     } else {
-        Err(ConfigFault::Value(key))
+        Err(ConfigFault::Value(KeyAtFault::ranged(key, range)))
     }
 }
 
@@ -80,7 +80,9 @@ pub fn read_flag(table: &Table, key: Key, default: bool) -> Result<bool, ConfigF
     ensures { result ≡ flag_from key default (get_member (name_of key) (table_view table.now)) }
 {
     match value_at(table, key) {
-        Some(value) => value.as_bool().ok_or(ConfigFault::Kind(key)),
+        Some(value) => value
+            .as_bool()
+            .ok_or(ConfigFault::Kind(KeyAtFault::plain(key))),
         None => Ok(default),
     }
 }

@@ -8,7 +8,7 @@ ghost use Rattle.config_values.specs.Outcomes.{result_map};
 ghost use Rattle.config_values.specs.Table.{items_in, optional_from, table_from, tables_among, tables_from, tables_in};
 
 use crate::entry::value_at;
-use crate::fault::ConfigFault;
+use crate::fault::{ConfigFault, KeyAtFault};
 use crate::key::Key;
 use toml::{Table, Value};
 
@@ -20,9 +20,9 @@ pub fn read_table<'a>(table: &'a Table, key: Key) -> Result<&'a Table, ConfigFau
     match value_at(table, key) {
         Some(value) => match value.as_table() {
             Some(section) => Ok(section),
-            None => Err(ConfigFault::Kind(key)),
+            None => Err(ConfigFault::Kind(KeyAtFault::plain(key))),
         },
-        None => Err(ConfigFault::Missing(key)),
+        None => Err(ConfigFault::Missing(KeyAtFault::plain(key))),
     }
 }
 
@@ -34,7 +34,7 @@ pub fn read_optional_table<'a>(table: &'a Table, key: Key) -> Result<Option<&'a 
     match value_at(table, key) {
         Some(value) => match value.as_table() {
             Some(section) => Ok(Some(section)),
-            None => Err(ConfigFault::Kind(key)),
+            None => Err(ConfigFault::Kind(KeyAtFault::plain(key))),
         },
         None => Ok(None),
     }
@@ -51,7 +51,7 @@ pub fn read_tables<'a>(table: &'a Table, key: Key, most: usize) -> Result<&'a [V
         return Ok(&[]);
     };
     let Some(items) = items_of(value) else {
-        return Err(ConfigFault::Kind(key));
+        return Err(ConfigFault::Kind(KeyAtFault::plain(key)));
     };
     tables_in(items, key, most)
 }
@@ -63,12 +63,12 @@ fn tables_in<'a>(items: &'a [Value], key: Key, most: usize) -> Result<&'a [Value
         ≡ tables_in key most (map view items.now) }
 {
     if !are_tables(items) {
-        return Err(ConfigFault::Kind(key));
+        return Err(ConfigFault::Kind(KeyAtFault::plain(key)));
     }
     if items.len() <= most {
         Ok(items)
     } else {
-        Err(ConfigFault::Value(key))
+        Err(ConfigFault::Value(KeyAtFault::plain(key)))
     }
 }
 

@@ -9,7 +9,7 @@ ghost use Rattle.config_values.specs.Outcomes.{result_map};
 ghost use Rattle.config_values.specs.Text.{begins_path, is_token, string_of, text_from};
 
 use crate::entry::value_at;
-use crate::fault::ConfigFault;
+use crate::fault::{ConfigFault, KeyAtFault};
 use crate::key::Key;
 use http_header::is_token_char;
 use toml::{Table, Value};
@@ -22,9 +22,9 @@ pub fn read_text<'a>(table: &'a Table, key: Key) -> Result<&'a str, ConfigFault>
     match value_at(table, key) {
         Some(value) => match value.as_str() {
             Some(text) => Ok(text),
-            None => Err(ConfigFault::Kind(key)),
+            None => Err(ConfigFault::Kind(KeyAtFault::plain(key))),
         },
-        None => Err(ConfigFault::Missing(key)),
+        None => Err(ConfigFault::Missing(KeyAtFault::plain(key))),
     }
 }
 
@@ -37,7 +37,7 @@ pub fn read_token<'a>(table: &'a Table, key: Key) -> Result<&'a str, ConfigFault
     if is_token(text.as_bytes()) {
         Ok(text)
     } else {
-        Err(ConfigFault::Value(key))
+        Err(ConfigFault::Value(KeyAtFault::plain(key)))
     }
 }
 
@@ -50,7 +50,7 @@ pub fn read_prefix<'a>(table: &'a Table, key: Key) -> Result<&'a str, ConfigFaul
     if text.as_bytes().starts_with(b"/") {
         Ok(text)
     } else {
-        Err(ConfigFault::Value(key))
+        Err(ConfigFault::Value(KeyAtFault::plain(key)))
     }
 }
 

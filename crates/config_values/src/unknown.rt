@@ -12,23 +12,36 @@ use crate::key::{Key, Section};
 use crate::key_text::key_text;
 use message_parts::Text;
 use std::alloc::{AllocError, Global};
+use std::marker::Model;
 use toml::Table;
 
 /// A key that isn't allowed where it stands.
 #[derive(Clone, Copy)]
 pub struct UnknownKey<'a> {
     pub section: Section,
+    /// Which table of its array has it, counted from 0; none outside arrays.
+    pub member: Option<usize>,
     pub name: &'a str,
+    /// The keys that are allowed there.
+    pub keys: &'static [Key],
 }
 
 impl UnknownKey<'_> {
-    /// The key's dotted path as a fault tells it. Fails where it is out of memory.
-    pub fn path(&self, alloc: Global) -> Result<Text, AllocError>
-        ensures { IfOk result (λ path. path ≡ unknown_key_text (unknown_key_of self.now)) }
+    /// The key as a fault has it. Fails where it is out of memory.
+    pub fn at_fault(&self, alloc: Global) -> Result<UnknownAtFault, AllocError>
+        ensures { IfOk result (λ at. at ≡ unknown_key_text (unknown_key_of self.now)) }
     {
         let prefix = self.section.prefix();
-        let name = key_text(alloc, self.name)?;
-        Ok(Text::new(format!(in alloc; "{prefix}{name}")?))
+        let text = key_text(alloc, self.name)?;
+        let path = Text::new(format!(in alloc; "{prefix}{text}")?);
+        let name = Text::copy_of(alloc, self.name)?;
+        Ok(UnknownAtFault {
+            path,
+            name,
+            section: self.section,
+            member: self.member,
+            keys: self.keys,
+        })
     }
 
     /// Whether this key's path is less than the other's in byte order.
@@ -43,11 +56,59 @@ impl UnknownKey<'_> {
     }
 }
 
+/// A key that isn't allowed where it stands, as a fault has it. A contract sees its dotted path.
+#[derive(Drop)]
+pub struct UnknownAtFault {
+    path: Text,
+    name: Text,
+    section: Section,
+    member: Option<usize>,
+    keys: &'static [Key],
+}
+
+impl Model for UnknownAtFault {
+    ghost use Rattle.std.specs.Prelude.{ℕ, List};
+
+    ghost Value = { List ℕ };
+
+    ghost view = { λ at. at.path };
+}
+
+impl UnknownAtFault {
+    /// Its dotted path. A name that isn't bare in TOML is quoted and escaped.
+    pub fn path(&self) -> &str
+        ensures { result.now ≡ self.now }
+    {
+        self.path.as_str()
+    }
+
+    /// Its name as it stands in the text.
+    pub fn name(&self) -> &str {
+        self.name.as_str()
+    }
+
+    /// The section that it stands in.
+    pub fn section(&self) -> Section {
+        self.section
+    }
+
+    /// Which table of its array has it, counted from 0; none outside arrays.
+    pub fn member(&self) -> Option<usize> {
+        self.member
+    }
+
+    /// The keys that are allowed there.
+    pub fn keys(&self) -> &'static [Key] {
+        self.keys
+    }
+}
+
 /// Of a key and a table's keys that its section doesn't have, the one with the least path.
 pub fn least_unknown<'a>(
     least: Option<UnknownKey<'a>>,
     section: Section,
-    keys: &[Key],
+    member: Option<usize>,
+    keys: &'static [Key],
     table: &'a Table,
 ) -> Option<UnknownKey<'a>>
     ensures { option_map unknown_key_of result
@@ -61,7 +122,9 @@ pub fn least_unknown<'a>(
                 least,
                 UnknownKey {
                     section,
+                    member,
                     name: name.as_str(),
+                    keys,
                 },
             );
         }

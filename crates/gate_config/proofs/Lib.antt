@@ -1,4 +1,5 @@
 mod Blank
 mod Documents
 mod Lists
+mod Made
 mod Told

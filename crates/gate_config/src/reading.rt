@@ -86,7 +86,7 @@ pub fn settings_in(alloc: Global, table: &Table) -> Result<Settings, ConfigFault
     };
     let document = read_document(alloc, version, table)?;
     match least_unknown_key(version, table, &document) {
-        Some(key) => Err(ConfigFault::Unknown(key.path(alloc)?)),
+        Some(key) => Err(ConfigFault::Unknown(key.at_fault(alloc)?)),
         None => made_of(alloc, document),
     }
 }

@@ -22,11 +22,11 @@ pub fn least_unknown_key<'a>(
     ensures { option_map unknown_key_of result
         ≡ least (unknown_keys_of version (table_view table.now) (document_values document.now)) }
 {
-    let mut least = least_unknown(None, Section::Top, &TOP_KEYS, table);
+    let mut least = least_unknown(None, Section::Top, None, &TOP_KEYS, table);
     let (limit, keys) = &document.limit;
-    least = least_unknown(least, Section::Limit, keys.keys(), limit);
+    least = least_unknown(least, Section::Limit, None, keys.keys(), limit);
     if let Some((window, _)) = &document.window {
-        least = least_unknown(least, Section::Window, &WINDOW_KEYS, window);
+        least = least_unknown(least, Section::Window, None, &WINDOW_KEYS, window);
     }
     least = least_of_classes(version, least, document.rules.classes.0);
     least = least_of_resolvers(least, &document.rules.resolvers);
@@ -44,9 +44,12 @@ fn least_of_classes<'a>(
         (flat_map (class_unknown_keys version) (tables_among items.now)) }
 {
     let mut least = least;
+    let mut place = 0usize;
     for item in items {
         if let Some(table) = item.as_table() {
-            least = least_unknown(least, Section::Class, class_keys(version), table);
+            let keys = class_keys(version);
+            least = least_unknown(least, Section::Class, Some(place), keys, table);
+            place = place.saturating_add(1);
         }
     }
     least
@@ -62,8 +65,10 @@ fn least_of_resolvers<'a>(
         (flat_map resolver_unknown_keys (map resolver_member resolvers.now)) }
 {
     let mut least = least;
+    let mut place = 0usize;
     for (table, keys) in resolvers {
-        least = least_unknown(least, Section::Resolver, keys.keys(), table);
+        least = least_unknown(least, Section::Resolver, Some(place), keys.keys(), table);
+        place = place.saturating_add(1);
     }
     least
 }
@@ -78,8 +83,10 @@ fn least_of_bypasses<'a>(
         (flat_map bypass_unknown_keys (map bypass_member rules.now)) }
 {
     let mut least = least;
+    let mut place = 0usize;
     for (table, keys) in rules {
-        least = least_unknown(least, Section::Bypass, keys.keys(), table);
+        least = least_unknown(least, Section::Bypass, Some(place), keys.keys(), table);
+        place = place.saturating_add(1);
     }
     least
 }

@@ -1,9 +1,22 @@
 // The help of `check`.
+use config_words::key_words;
 
 pub(crate) const CHECK_ABOUT: &str =
     "Says whether a configuration is right, before anything is served";
 
-pub(crate) const CHECK_HELP: &str = "\
+/// A text, the lines of the keys, and the text behind them.
+macro_rules! with_lines {
+    (
+        [$before:literal $behind:literal]
+        $($key:ident $start:literal $held:literal $help:literal $alone:literal;)*
+    ) => {
+        concat!($before, $($start, $held, $help, "\n",)* $behind)
+    };
+}
+
+pub(crate) const CHECK_HELP: &str = key_words!(
+    with_lines
+    "\
 Reads the file CONFIG, TOML text of at most 1 MiB, and serves nothing. /dev/stdin as CONFIG reads
 standard input.
 
@@ -27,46 +40,8 @@ The keys, with unit, range and default. An omitted key takes its default, or the
 range if an earlier key leaves the default outside.
 
 Before the tables:
-  version       2, or 1 with the shares of classes in percent; required
-  listen        A.B.C.D:PORT, port 1 to 65535, where requests come in; required
-  backend       A.B.C.D:PORT, port 1 to 65535, where they go to; required
-  backlog       how many callers may wait for a permit, 0 to 10000; 100
-  wait          whether refused callers wait at all, true or false; true
-  timeout_ms    the longest wait in milliseconds, 1 to 3600000; 1000
-  keep          entries of the history that are kept, 1 to 1000000; 4096
-  promote       which waiters get room that falls free, \"newest\" or \"all\" who fit; \"newest\"
-[limit], required:
-  kind          \"fixed\", \"settable\", \"aimd\" or \"vegas\"; required
-  min           permits, 1 to 10000; 1. Not of fixed
-  max           permits, min to 10000; 200. Not of fixed
-  initial       permits, min to max, of fixed 1 to 10000; 20
-  ratio         aimd: what a drop leaves in thousandths, 500 to 999; 900
-  timeout_us    aimd: a round trip above it is a drop, microseconds, 1 to 3600000000; 5000000
-  alpha         vegas: the limit rises below this queue, permits, 1 to 100; 3
-  beta          vegas: the limit falls above this queue, permits, alpha to 100; 6
-  probe_every   vegas: samples until the least round trip is measured anew, 0 to 1000000; 0, never
-[window], from which the limit then learns:
-  size          samples, 1 to 1000000; 10
-  min_us        the shortest window in microseconds, 1 to 3600000000; 1000000
-  max_us        the longest window in microseconds, min_us to 3600000000; 1000000
-  min_rtt_us    quicker answers are left out, microseconds, 0 to 3600000000; 100
-[[class]], at most four, a promised share of the limit:
-  name          1 to 32 of a-z 0-9 - _, not unknown, not given before; required
-  share         version 2: thousandths, 1 to what the classes before leave of 1000; required
-  percent       version 1: percent, 1 to what the classes before leave of 100; required
-[[resolver]], at most 32; the first that finds a class tells it. All its keys are required:
-  kind          \"header\", \"method\" or \"route\"
-  header        header: the name of the header that has the class's name
-  method        method: requests of exactly this method, such as \"POST\", have the class of
-  class         method: this name
-  routes        route: a table of at most 256 patterns, each with a class's name
-[[bypass]], at most 32; one that holds lets a request past the limit. All its keys are required:
-  kind          \"method\", \"prefix\" or \"header\"
-  method        method: of exactly this method
-  prefix        prefix: paths that begin with this text, itself beginning with /
-  header        header: some header of this name has
-  equals        header: exactly this text
-
+"
+    "
 With a table of each kind:
 
   version = 2
@@ -114,4 +89,5 @@ the first key at fault:
                                   kind of limit, resolver or rule
   admission: config: route        a pattern that can't be read, or two that can't stand together
   admission: config: memory       out of memory: lower the memory that other programs take
-  admission: write                standard output can't be written: a full disk, a closed pipe";
+  admission: write                standard output can't be written: a full disk, a closed pipe"
+);

@@ -1,13 +1,14 @@
-use Rattle.std.proofs.Common.{◌≡◌, List, [], drop}
+use Rattle.std.proofs.Common.{◌≡◌, ◌≤◌, List, [], drop, length}
 use Rattle.toml.specs.Data.{Members}
 use Rattle.config_values.specs.Table.{tables_among}
 use Rattle.config_sections.specs.Bypass.{bypass_after}
 use Rattle.config_sections.specs.Section.{Values, read_each}
 use Rattle.config_sections.proofs.bypass.check_bypasses.Given as goal
 
--- what was read so far, and what of the items to come
+-- what was read so far, at most one an item, and what of the items to come
 abbrev pub invariant-loop-item : goal.invariant-loop-item
 invariant-loop-item l =
-    (done : List (Members × Values))
+    (done : List (Members × Values)) × (length done ≡ l.place) × (l.place ≤ l.item-index)
     × (read_each bypass_after [] (tables_among l.items)
-    ≡ read_each bypass_after done (tables_among (drop l.item-index l.items)))
+    ≡ read_each bypass_after done
+    (tables_among (drop l.item-index l.items)))

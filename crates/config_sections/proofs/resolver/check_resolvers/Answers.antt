@@ -5,8 +5,8 @@ use Rattle.config_sections.proofs.resolver.check_resolvers.Goals as goal
 pub loop-item-init : goal.loop-item-init
 loop-item-init c = search rules
 
-pub returns-in_err-read_resolver : goal.returns-in_err-read_resolver
-returns-in_err-read_resolver c = grind (arith, common_steps)
+pub returns-in_err-read_member : goal.returns-in_err-read_member
+returns-in_err-read_member c = grind (arith, common_steps)
 
 pub returns : goal.returns
 returns c = grind (arith, common_steps)

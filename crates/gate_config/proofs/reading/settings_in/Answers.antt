@@ -20,9 +20,9 @@ returns-in_err-document-clause-fault c = λ fault of_a_key said.
 pub returns-in_default-clause-fault : goal.returns-in_default-clause-fault
 returns-in_default-clause-fault c = search rules
 
-pub returns-in_ok-path-in-Some-least_unknown_key-clause-said :
-    goal.returns-in_ok-path-in-Some-least_unknown_key-clause-said
-returns-in_ok-path-in-Some-least_unknown_key-clause-said c = search rules
+pub returns-in_ok-at_fault-in-Some-least_unknown_key-clause-said :
+    goal.returns-in_ok-at_fault-in-Some-least_unknown_key-clause-said
+returns-in_ok-at_fault-in-Some-least_unknown_key-clause-said c = search rules
 
 pub returns-in_err-document-clause-sound : goal.returns-in_err-document-clause-sound
 returns-in_err-document-clause-sound c = search rules
@@ -36,25 +36,25 @@ returns-in_default-clause-sound c = search rules
 pub returns-in_default-clause-said : goal.returns-in_default-clause-said
 returns-in_default-clause-said c = search rules
 
-pub returns-in_err-path-in-Some-least_unknown_key-clause-sound :
-    goal.returns-in_err-path-in-Some-least_unknown_key-clause-sound
-returns-in_err-path-in-Some-least_unknown_key-clause-sound c = search rules
+pub returns-in_err-at_fault-in-Some-least_unknown_key-clause-sound :
+    goal.returns-in_err-at_fault-in-Some-least_unknown_key-clause-sound
+returns-in_err-at_fault-in-Some-least_unknown_key-clause-sound c = search rules
 
-pub returns-in_err-path-in-Some-least_unknown_key-clause-said :
-    goal.returns-in_err-path-in-Some-least_unknown_key-clause-said
-returns-in_err-path-in-Some-least_unknown_key-clause-said c = search rules
+pub returns-in_err-at_fault-in-Some-least_unknown_key-clause-said :
+    goal.returns-in_err-at_fault-in-Some-least_unknown_key-clause-said
+returns-in_err-at_fault-in-Some-least_unknown_key-clause-said c = search rules
 
-pub returns-in_err-path-in-Some-least_unknown_key-clause-fault :
-    goal.returns-in_err-path-in-Some-least_unknown_key-clause-fault
-returns-in_err-path-in-Some-least_unknown_key-clause-fault c = search rules
+pub returns-in_err-at_fault-in-Some-least_unknown_key-clause-fault :
+    goal.returns-in_err-at_fault-in-Some-least_unknown_key-clause-fault
+returns-in_err-at_fault-in-Some-least_unknown_key-clause-fault c = search rules
 
-pub returns-in_ok-path-in-Some-least_unknown_key-clause-sound :
-    goal.returns-in_ok-path-in-Some-least_unknown_key-clause-sound
-returns-in_ok-path-in-Some-least_unknown_key-clause-sound c = search rules
+pub returns-in_ok-at_fault-in-Some-least_unknown_key-clause-sound :
+    goal.returns-in_ok-at_fault-in-Some-least_unknown_key-clause-sound
+returns-in_ok-at_fault-in-Some-least_unknown_key-clause-sound c = search rules
 
-pub returns-in_ok-path-in-Some-least_unknown_key-clause-fault :
-    goal.returns-in_ok-path-in-Some-least_unknown_key-clause-fault
-returns-in_ok-path-in-Some-least_unknown_key-clause-fault c = search rules
+pub returns-in_ok-at_fault-in-Some-least_unknown_key-clause-fault :
+    goal.returns-in_ok-at_fault-in-Some-least_unknown_key-clause-fault
+returns-in_ok-at_fault-in-Some-least_unknown_key-clause-fault c = search rules
 
 pub returns-in-None-clause-sound : goal.returns-in-None-clause-sound
 returns-in-None-clause-sound c = search rules
