@@ -13,7 +13,9 @@ use serve_command::{Service, serve_file};
 use std::env;
 use std::io::Error;
 use std::process::ExitCode;
+use tasks::Spawner;
 use text_commands::run_text;
+use timed_io::SystemAddresses;
 
 fn main(rt: HostRuntime) -> ExitCode {
     let alloc = rt.alloc();
@@ -68,7 +70,16 @@ fn main(rt: HostRuntime) -> ExitCode {
                 report_seconds,
                 admin,
             };
-            serve_file(&rt, &files, alloc, &service, &mut writer, &mut errors)
+            serve_file(
+                &rt,
+                &mut Spawner::new(&rt),
+                &files,
+                &SystemAddresses::new(&rt),
+                alloc,
+                &service,
+                &mut writer,
+                &mut errors,
+            )
         }
     })
 }

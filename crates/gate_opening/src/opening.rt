@@ -1,5 +1,5 @@
 // The gate that stands between clients and the backend.
-ghost use Rattle.std.specs.Prelude.{◌≡◌, true, false, IfOk, vec_len};
+ghost use Rattle.std.specs.Prelude.{◌≡◌, true, false, IfOk, replicate, vec_len};
 ghost use Rattle.limit_kinds.specs.AnyKinds.{any_rules};
 ghost use Rattle.limiter_core.specs.Limiter.{unasked};
 ghost use Rattle.gate_journal.specs.Journal.{opened};
@@ -8,6 +8,7 @@ ghost use Rattle.gate_ledgers.specs.Names.{AreNamed, AreWhole};
 ghost use Rattle.gate_ledgers.specs.Places.{no_places};
 ghost use Rattle.gate_history.specs.Book.{book_in};
 ghost use Rattle.gate_config.specs.Settings.{AreSound};
+ghost use Rattle.shared_gate.specs.Calls.{pass_of};
 ghost use Rattle.shared_gate.specs.Log.{CallsLegal};
 
 use gate_config::{AnyLimit, Settings};
@@ -55,8 +56,9 @@ fn open_book<M: Naming>(
     Ok(book)
 }
 
-/// The gate of these settings, which rolls, with so many passes. A book gives at most a million;
-/// where it gives fewer than are asked for, that is out of memory too.
+/// The gate of these settings, which rolls, with so many passes, by which no call was made yet. A
+/// book gives at most a million; where it gives fewer than are asked for, that is out of memory
+/// too.
 pub fn open_gate<M: GateNaming>(
     alloc: Global,
     settings: &Settings,
@@ -77,6 +79,7 @@ pub fn open_gate<M: GateNaming>(
     requires legal { CallsLegal any_rules settings.now.table settings.now.backlog
         settings.now.promote settings.now.limit M.legal }
     ensures all { IfOk result (λ made. vec_len made.1 ≡ count) }
+    ensures passes { IfOk result (λ made. made.1.items ≡ replicate count (pass_of 0)) }
 {
     let book = open_book::<M>(alloc, settings, blanks)?;
     SharedGate::open(alloc, word, book, count)

@@ -12,7 +12,7 @@ use std::alloc::{AllocError, Global};
 use std::sync::Wait;
 use std::thread::Threads;
 use std::time::Clock as SystemClock;
-use tasks::{Task, TasksFault, run_tasks};
+use tasks::{Spawner, Task, TasksFault, run_tasks};
 
 /// The passes, the receipts and the refusals of the workers, in order of their numbers.
 #[derive(Drop)]
@@ -112,7 +112,7 @@ where
     let Ok(hands) = hands_of(alloc, shop, workers) else {
         return Err(TasksFault::Memory);
     };
-    let done = run_tasks(shop.rt, alloc, hands)?;
+    let done = run_tasks(&mut Spawner::new(shop.rt), alloc, hands)?;
     let Ok(worked) = gather(alloc, done) else {
         return Err(TasksFault::Memory);
     };

@@ -1,2 +1,3 @@
 mod Made
+mod Runs
 mod Whys

@@ -1,19 +1,45 @@
 -- Why a gateway didn't serve, by what was read of its configuration.
-use Rattle.std.proofs.Common.{◌≡◌, ◌⊎◌, inl, inr, ℕ, List, Option, Result, Err, IfErr, sym, subst, refl}
+use Rattle.std.proofs.Common.{◌≡◌, ◌⊎◌, inl, inr, ℕ, List, Option, Result, Err, IfErr, IsErrOf}
+use Rattle.std.proofs.Common.{refl, subst, sym}
+use Rattle.std.specs.declared.net.socket_addr.SocketAddrV4.{SocketAddrV4}
 use Rattle.counted_io.specs.declared.counted.Counted.{Counted}
 use Rattle.counted_io.specs.Causes.{IsWriteCause}
+use Rattle.counted_io.specs.Count.{raised}
 use Rattle.counted_io.specs.Counted.{failures_of, inner_of}
 use Rattle.config_file.specs.declared.file_fault.FileFault.{FileFault}
 use Rattle.config_file.specs.declared.file_fault.FileFault.TheVariants as File
 use Rattle.config_file.specs.Reading.{Held, IsFaultOf, IsUnread}
 use Rattle.serve_command.specs.declared.fault.ServiceFault.{ServiceFault}
 use Rattle.serve_command.specs.declared.fault.ServiceFault.TheVariants as Service
-use Rattle.serve_command.specs.Command.{HadSettings, IsOfServing, IsWhyOfService}
+use Rattle.gate_config.specs.declared.settings.Settings.{Settings}
+use Rattle.serving.specs.declared.fault.ServeFault.{ServeFault}
+use Rattle.serving.specs.declared.fault.ServeFault.TheVariants as Serve
+use Rattle.serve_command.specs.ServiceFault.{of_workers}
+use Rattle.serve_command.specs.Command.{AreOfFile, IsBound, IsOfAdmin, IsOfServing, IsWhyOfService}
+
+-- a fault that isn't one of the configuration or of the counters
+abbrev IsServing : ServiceFault → Type 0
+IsServing (Service.Config fault) = ⊥
+IsServing Service.Listen = Unit {0}
+IsServing Service.Memory = Unit {0}
+IsServing Service.Thread = Unit {0}
+IsServing Service.Write = ⊥
+
+-- as is each that serving has a cause of
+pub serving_is : {L : Type 0} (Bound : List ℕ → L → Type 0) (Unbound : List ℕ → Type 0)
+    (listen : List ℕ) (admin : Option SocketAddrV4) (before after : ℕ) (f : ServiceFault)
+    → IsOfServing Bound Unbound listen admin before after f → IsServing f
+serving_is Bound Unbound listen admin before after (Service.Config fault) of = absurd of
+serving_is Bound Unbound listen admin before after Service.Listen of = tt
+serving_is Bound Unbound listen admin before after Service.Memory of = tt
+serving_is Bound Unbound listen admin before after Service.Thread of = tt
+serving_is Bound Unbound listen admin before after Service.Write of = absurd of
 
 module _ {F W X : Type 0} (Unopened : Type 0) (Opened : F → Type 0)
-    (remaining : F → Option (List ℕ)) (w : Counted W) (r : Result X ServiceFault) where
+    (remaining : F → Option (List ℕ)) (OfServing : Settings → ServiceFault → Type 0)
+    (w : Counted W) (r : Result X ServiceFault) where
   abbrev Why : ServiceFault → Type 0
-  Why = IsWhyOfService Unopened Opened remaining w w
+  Why = IsWhyOfService Unopened Opened remaining OfServing w w
 
   why : (fault : ServiceFault) → r ≡ Err fault → Why fault → IfErr r Why
   why fault is = subst (λ (x : Result X ServiceFault). IfErr x Why) (sym is)
@@ -42,22 +68,68 @@ module _ {F W X : Type 0} (Unopened : Type 0) (Opened : F → Type 0)
       (refl, inr (had.0, had.1, had.2, inr (had.4, (bytes, had.3, of_bytes))))
 
   -- serving itself failed, once settings were had
-  pub why_unserved : (fault : ServiceFault) → r ≡ Err fault → IsOfServing fault
-      → HadSettings Opened remaining → IfErr r Why
-  why_unserved fault is of had = why fault is (go fault of)
+  pub why_unserved : (fault : ServiceFault) → r ≡ Err fault → (s : Settings)
+      → AreOfFile Opened remaining s → OfServing s fault → IsServing fault → IfErr r Why
+  why_unserved fault is s had of served = why fault is (go fault of served)
     where
-      go : (f : ServiceFault) → IsOfServing f → Why f
-      go (Service.Config fault) serving = absurd serving
-      go Service.Listen serving = (refl, had)
-      go Service.Memory serving = (refl, had)
-      go Service.Thread serving = (refl, had)
-      go Service.Write serving = absurd serving
+      go : (f : ServiceFault) → OfServing s f → IsServing f → Why f
+      go (Service.Config fault) of served = absurd served
+      go Service.Listen of served = (refl, (s, had, of))
+      go Service.Memory of served = (refl, (s, had, of))
+      go Service.Thread of served = (refl, (s, had, of))
+      go Service.Write of served = absurd served
 
 -- its counters weren't written
 pub why_unwritten : {F W X : Type 0} (Unopened : Type 0) (Opened : F → Type 0)
-    (remaining : F → Option (List ℕ)) (old new : Counted W) (r : Result X ServiceFault)
-    → r ≡ Err Service.Write → IsWriteCause old new → HadSettings Opened remaining
-    → IfErr r (IsWhyOfService Unopened Opened remaining old new)
-why_unwritten {F} {W} {X} Unopened Opened remaining old new r is cause had =
+    (remaining : F → Option (List ℕ)) (OfServing : Settings → ServiceFault → Type 0)
+    (old new : Counted W) (r : Result X ServiceFault)
+    → r ≡ Err Service.Write → IsWriteCause old new → (s : Settings)
+    → AreOfFile Opened remaining s
+    → IfErr r (IsWhyOfService Unopened Opened remaining OfServing old new)
+why_unwritten {F} {W} {X} Unopened Opened remaining OfServing old new r is cause s had =
     subst (λ (x : Result X ServiceFault). IfErr x
-    (IsWhyOfService Unopened Opened remaining old new)) (sym is) (cause, had)
+    (IsWhyOfService Unopened Opened remaining OfServing old new)) (sym is) (cause, (s, had, tt))
+
+-- bound at an address, by its text
+pub bound_at : {L : Type 0} (Bound : List ℕ → L → Type 0) (text listen : List ℕ) (listener : L)
+    → text ≡ listen → Bound text listener → IsBound Bound listen
+bound_at Bound text listen listener same bound =
+    (listener, subst (λ (xs : List ℕ). Bound xs listener) same bound)
+
+-- why serving failed, by what was missing
+module _ {L X : Type 0} (Bound : List ℕ → L → Type 0) (Unbound : List ℕ → Type 0)
+    (listen : List ℕ) (admin : Option SocketAddrV4) (before after : ℕ)
+    (r : Result X ServiceFault) where
+  abbrev Of : ServiceFault → Type 0
+  Of = IsOfServing Bound Unbound listen admin before after
+
+  of : (fault : ServiceFault) → r ≡ Err fault → Of fault → IfErr r Of
+  of fault is = subst (λ (x : Result X ServiceFault). IfErr x Of) (sym is)
+
+  -- the address of clients
+  pub lacks_front : (fault : ServiceFault) → r ≡ Err fault → (text : List ℕ) → text ≡ listen
+      → (fault ≡ Service.Listen) × Unbound text → IfErr r Of
+  lacks_front fault is text same none =
+      of fault is (subst Of (sym none.0) (inl (subst Unbound same none.1)))
+
+  -- that of the operator, or memory for it
+  pub lacks_admin : (fault : ServiceFault) → r ≡ Err fault → IsBound Bound listen
+      → IsOfAdmin Unbound admin fault → IfErr r Of
+  lacks_admin fault is bound why = of fault is (go fault why)
+    where
+      go : (f : ServiceFault) → IsOfAdmin Unbound admin f → Of f
+      go (Service.Config fault) why = absurd why
+      go Service.Listen why = inr (bound, why)
+      go Service.Memory why = bound
+      go Service.Thread why = absurd why
+      go Service.Write why = absurd why
+
+  -- memory, or a thread
+  pub lacks_workers : {Y : Type 0} (served : Result Y ServeFault) (fault : ServeFault)
+      → served ≡ Err fault → r ≡ Err (of_workers fault) → IsBound Bound listen
+      → (IsErrOf served Serve.Thread → after ≡ raised before) → IfErr r Of
+  lacks_workers served fault was is bound thread = of (of_workers fault) is (go fault was)
+    where
+      go : (f : ServeFault) → served ≡ Err f → Of (of_workers f)
+      go Serve.Memory was = bound
+      go Serve.Thread was = (bound, thread was)

@@ -1,5 +1,9 @@
 -- What `serve` does.
-use Rattle.std.specs.Prelude.{◌≡◌, ◌⊎◌, ◌+◌, ℕ, true, List, Option, Ok, if◌then◌else◌}
+use Rattle.std.specs.Prelude.{◌≡◌, ◌⊎◌, ◌+◌, ℕ, true, List, Option, None, Some, IfSome, Ok}
+use Rattle.std.specs.Prelude.{if◌then◌else◌}
+use Rattle.std.specs.declared.net.socket_addr.SocketAddrV4.{SocketAddrV4}
+use Rattle.std.specs.Net.Text.{socket_v4_text}
+use Rattle.counted_io.specs.Count.{raised}
 use Rattle.counted_io.specs.declared.counted.Counted.{Counted}
 use Rattle.counted_io.specs.Causes.{IsWriteCause}
 use Rattle.counted_io.specs.Counted.{failures_of, inner_of, is_flushed}
@@ -9,13 +13,13 @@ use Rattle.partitions.specs.Table.{bound}
 use Rattle.limiter_core.specs.declared.counters.Counters.{Counters}
 use Rattle.gate_ledgers.specs.Course.{course_of}
 use Rattle.gate_history.specs.Book.{Making, made_as}
-use Rattle.shared_gate.specs.Reported.{AreCountersOf}
 use Rattle.gate_config.specs.declared.settings.Settings.{Settings}
 use Rattle.config_file.specs.Reading.{Held, IsUnset, Says}
 use Rattle.config_file.specs.declared.file_fault.FileFault.TheVariants as File
 use Rattle.serve_reports.specs.CountersLine.{counters_line}
 use Rattle.serve_command.specs.declared.fault.ServiceFault.{ServiceFault}
 use Rattle.serve_command.specs.declared.fault.ServiceFault.TheVariants as Service
+use Rattle.serve_command.specs.Runs.{AreCountersOfRuns}
 
 -- how many callers can be in flight at the greatest limit, with each class's share of it, or wait
 -- where callers wait
@@ -31,41 +35,76 @@ abbrev pub AreOfFile : {F : Type 0} → (F → Type 0) → (F → Option (List �
 AreOfFile {F} Opened remaining s = (file : Counted F) × (bytes : List ℕ)
     × Opened (inner_of file) × Held remaining file bytes × Says bytes (Ok s)
 
--- settings were had
-abbrev pub HadSettings : {F : Type 0} → (F → Type 0) → (F → Option (List ℕ)) → Type 0
-HadSettings Opened remaining = (s : Settings) × AreOfFile Opened remaining s
+-- a listener was bound at the address of this text
+abbrev pub IsBound : {L : Type 0} → (List ℕ → L → Type 0) → List ℕ → Type 0
+IsBound {L} Bound address = (listener : L) × Bound address listener
 
--- SERVED: by settings of the file, and the line of the counters of a gate of these settings is
--- written and flushed, and no write failed
-abbrev pub HasServed : {F W : Type 0} → (F → Type 0) → (F → Option (List ℕ))
-    → (W → Option (List ℕ)) → Counted W → Counted W → Type 0
-HasServed Opened remaining contents old new = (s : Settings) × AreOfFile Opened remaining s
-    × (counters : Counters) × AreCountersOf any_rules (making_of s) counters
-    × Wrote contents old new (counters_line counters)
-    × (failures_of new ≡ failures_of old) × (is_flushed new ≡ true)
+-- or at that of an operator, where there is one
+abbrev pub IsBoundToo : {L : Type 0} → (List ℕ → L → Type 0) → Option SocketAddrV4 → Type 0
+IsBoundToo Bound admin = IfSome admin (λ address. IsBound Bound (socket_v4_text address))
 
--- a fault of serving itself: of the address, of memory or of a thread
-abbrev pub IsOfServing : ServiceFault → Type 0
-IsOfServing (Service.Config fault) = ⊥
-IsOfServing Service.Listen = Unit {0}
-IsOfServing Service.Memory = Unit {0}
-IsOfServing Service.Thread = Unit {0}
-IsOfServing Service.Write = ⊥
+-- nothing could be bound at that of an operator
+abbrev pub IsUnboundToo : (List ℕ → Type 0) → Option SocketAddrV4 → Type 0
+IsUnboundToo Unbound None = ⊥
+IsUnboundToo Unbound (Some address) = Unbound (socket_v4_text address)
 
--- WHY NOT: the file couldn't be opened, or its settings weren't had; or they were had, and then the
--- address wasn't bound, or not all workers were run; or the counters couldn't be written. Before
--- that nothing is written
+-- SERVED: by settings of the file, at their address and the operator's, by so many workers, of
+-- which each took its turns; and the line of the counters of these runs is written and flushed, and
+-- no write failed
+pub record HasServed {F L W : Type 0} (Opened : F → Type 0) (remaining : F → Option (List ℕ))
+    (Bound : List ℕ → L → Type 0) (contents : W → Option (List ℕ)) (admin : Option SocketAddrV4)
+    (workers most : ℕ) (old new : Counted W) : Type 0 where
+  pub settings : Settings
+  pub file : Counted F
+  pub bytes : List ℕ
+  pub opened : Opened (inner_of file)
+  pub held : Held remaining file bytes
+  pub says : Says bytes (Ok settings)
+  pub front : IsBound Bound settings.listen
+  pub operator : IsBoundToo Bound admin
+  pub counters : Counters
+  pub counted : AreCountersOfRuns any_rules (making_of settings) (λ own. Says bytes (Ok own))
+      workers most counters
+  pub written : Wrote contents old new (counters_line counters)
+  pub unfailing : failures_of new ≡ failures_of old
+  pub flushed : is_flushed new ≡ true
+
+-- A FAULT OF SERVING ITSELF, by the addresses and by how many threads were refused before and
+-- after: an address couldn't be bound; or that of clients was, and memory was lacking, or the
+-- system refused a thread
+abbrev pub IsOfServing : {L : Type 0} → (List ℕ → L → Type 0) → (List ℕ → Type 0)
+    → List ℕ → Option SocketAddrV4 → ℕ → ℕ → ServiceFault → Type 0
+IsOfServing Bound Unbound listen admin before after (Service.Config fault) = ⊥
+IsOfServing Bound Unbound listen admin before after Service.Listen =
+    Unbound listen ⊎ (IsBound Bound listen × IsUnboundToo Unbound admin)
+IsOfServing Bound Unbound listen admin before after Service.Memory = IsBound Bound listen
+IsOfServing Bound Unbound listen admin before after Service.Thread =
+    IsBound Bound listen × (after ≡ raised before)
+IsOfServing Bound Unbound listen admin before after Service.Write = ⊥
+
+-- why an operator's address isn't had
+abbrev pub IsOfAdmin : (List ℕ → Type 0) → Option SocketAddrV4 → ServiceFault → Type 0
+IsOfAdmin Unbound admin (Service.Config fault) = ⊥
+IsOfAdmin Unbound admin Service.Listen = IsUnboundToo Unbound admin
+IsOfAdmin Unbound admin Service.Memory = Unit {0}
+IsOfAdmin Unbound admin Service.Thread = ⊥
+IsOfAdmin Unbound admin Service.Write = ⊥
+
+-- settings of the file were had, with which this holds
+abbrev pub HadSettings : {F : Type 0} → (F → Type 0) → (F → Option (List ℕ))
+    → (Settings → Type 0) → Type 0
+HadSettings Opened remaining Holds = (s : Settings) × AreOfFile Opened remaining s × Holds s
+
+-- WHY NOT: the file couldn't be opened, or its settings weren't had; or they were had, and serving
+-- failed for its own cause, or the counters of those who served couldn't be written. Before that
+-- nothing is written
 abbrev pub IsWhyOfService : {F W : Type 0} → Type 0 → (F → Type 0) → (F → Option (List ℕ))
-    → Counted W → Counted W → ServiceFault → Type 0
-IsWhyOfService {F} Unopened Opened remaining old new (Service.Config fault) =
+    → (Settings → ServiceFault → Type 0) → Counted W → Counted W → ServiceFault → Type 0
+IsWhyOfService {F} Unopened Opened remaining OfServing old new (Service.Config fault) =
     (new ≡ old) × (((fault ≡ File.Read) × Unopened)
     ⊎ (before : Counted F) × (after : Counted F) × Opened (inner_of before)
     × IsUnset remaining before after fault)
-IsWhyOfService Unopened Opened remaining old new Service.Listen =
-    (new ≡ old) × HadSettings Opened remaining
-IsWhyOfService Unopened Opened remaining old new Service.Memory =
-    (new ≡ old) × HadSettings Opened remaining
-IsWhyOfService Unopened Opened remaining old new Service.Thread =
-    (new ≡ old) × HadSettings Opened remaining
-IsWhyOfService Unopened Opened remaining old new Service.Write =
-    IsWriteCause old new × HadSettings Opened remaining
+IsWhyOfService Unopened Opened remaining OfServing old new Service.Write =
+    IsWriteCause old new × HadSettings Opened remaining (λ _. Unit {0})
+IsWhyOfService Unopened Opened remaining OfServing old new fault =
+    (new ≡ old) × HadSettings Opened remaining (λ s. OfServing s fault)

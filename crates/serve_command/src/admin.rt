@@ -2,19 +2,18 @@
 use metrics::PAGE;
 use operator_serving::Operating;
 use std::alloc::Global;
-use timed_io::BoundListener;
 
 /// An operator's address that is bound.
 #[derive(Drop)]
-pub(crate) struct AdminAddress {
+pub(crate) struct AdminAddress<L> {
     /// Where operators come from.
-    pub(crate) listener: BoundListener,
+    pub(crate) listener: L,
     /// How the address is named by a client.
     pub(crate) host: String,
 }
 
 /// Where operators come from, where they have an address.
-pub(crate) fn listener_of(admin: &Option<AdminAddress>) -> Option<&BoundListener> {
+pub(crate) fn listener_of<L>(admin: &Option<AdminAddress<L>>) -> Option<&L> {
     match admin {
         Some(admin) => Some(&admin.listener),
         None => None,
@@ -22,12 +21,12 @@ pub(crate) fn listener_of(admin: &Option<AdminAddress>) -> Option<&BoundListener
 }
 
 /// What serves operators at an address, by the time limits of clients.
-pub(crate) fn operating_at<'a, C>(
+pub(crate) fn operating_at<'a, L, C>(
     alloc: Global,
-    admin: &'a Option<AdminAddress>,
+    admin: &'a Option<AdminAddress<L>>,
     clock: &'a C,
     timeout_ns: u64,
-) -> Option<Operating<'a, BoundListener, C>> {
+) -> Option<Operating<'a, L, C>> {
     match admin {
         Some(admin) => Some(Operating {
             listener: &admin.listener,

@@ -1,11 +1,15 @@
 // The gateway of a configuration, from its file to its counters.
 ghost use Rattle.std.specs.Prelude.{◌≡◌, ◌≤◌, ◌⊎◌, IfErr, IfOk, Ok, OnOk};
+ghost use Rattle.std.specs.Net.Text.{socket_v4_text};
+ghost use Rattle.tasks.specs.Refused.{refused_of};
 ghost use Rattle.limit_kinds.specs.AnyKinds.{any_rules};
 ghost use Rattle.gate_config.specs.Settings.{AreSound};
-ghost use Rattle.shared_gate.specs.Reported.{AreCountersOf};
 ghost use Rattle.fault_lines.specs.FaultLine.{IsTold, fault_line};
 ghost use Rattle.config_file.specs.Reading.{Says};
-ghost use Rattle.serve_command.specs.Command.{HasServed, IsOfServing, IsWhyOfService, making_of};
+ghost use Rattle.serve_command.specs.declared.fault.ServiceFault.TheVariants.{Listen};
+ghost use Rattle.serve_command.specs.Command.{HasServed, IsBound, IsBoundToo, IsOfAdmin};
+ghost use Rattle.serve_command.specs.Command.{IsOfServing, IsWhyOfService, making_of};
+ghost use Rattle.serve_command.specs.Runs.{AreCountersOfRuns};
 ghost use Rattle.serve_command.specs.ServiceFault.{service_fault_text};
 
 use crate::admin::AdminAddress;
@@ -25,11 +29,12 @@ use operator_calls::host_name;
 use serve_reports::{Watcher, write_counters};
 use std::alloc::Global;
 use std::io::Write;
-use std::net::{Net, SocketAddr, SocketAddrV4};
+use std::net::{Net, SocketAddrV4};
 use std::sync::Wait;
 use std::thread::Threads;
 use std::time::Clock as SystemClock;
-use timed_io::BoundListener;
+use tasks::Spawner;
+use timed_io::{Binder, Listener};
 
 /// What a gateway is asked to do.
 #[derive(Clone, Copy)]
@@ -57,9 +62,11 @@ pub struct Service<'a> {
 ///
 /// Once the address is bound the log says so. Either line is flushed. Where the line of a fault
 /// can't be written itself, it is dropped.
-pub fn serve_file<R, F, W, E>(
+pub fn serve_file<R, F, B, W, E>(
     rt: &R,
+    spawner: &mut Spawner<'_, R>,
     files: &F,
+    addresses: &B,
     alloc: Global,
     service: &Service<'_>,
     writer: &mut Counted<W>,
@@ -68,8 +75,13 @@ pub fn serve_file<R, F, W, E>(
 where
     R: Net + Threads + Wait + SystemClock + Log + Sync,
     F: Opener,
+    B: Binder,
     W: Write,
     E: Write,
+    B::Bound: Sync,
+    <B::Bound as Listener>::Stream: Send + Sync,
+    <B::Bound as Listener>::From: Send + Sync,
+    <B::Bound as Listener>::To: Send + Sync,
     R::Stream: Send + Sync,
     R::Listener: Send + Sync,
     requires some { 1 ≤ service.now.workers }
@@ -78,25 +90,30 @@ where
 
     // The line of counters is written, and nothing else.
     ensures served { result ≡ 0 → HasServed (F.opened service.now.path.now) F.File.remaining
-        W.contents writer.old writer.new }
+        B.bound W.contents service.now.admin service.now.workers service.now.per_worker
+        writer.old writer.new }
     ensures quiet { result ≡ 0 → errors.new ≡ errors.old }
 
     // The first fault is told.
     ensures refused { result ≡ 1 → (fault : ServiceFault)
         × IsTold E.contents errors.old errors.new (fault_line (service_fault_text fault))
-        × IsWhyOfService (F.unopened service.now.path.now) (F.opened service.now.path.now)
-        F.File.remaining writer.old writer.new fault }
+        × IsWhyOfService (F.unopened service.now.path.now)
+        (F.opened service.now.path.now) F.File.remaining
+        (λ s. IsOfServing B.bound B.unbound s.listen service.now.admin
+        (refused_of spawner.old) (refused_of spawner.new)) writer.old writer.new fault }
 {
-    match serve_and_count(rt, files, alloc, service, writer) {
+    match serve_and_count(rt, spawner, files, addresses, alloc, service, writer) {
         Ok(()) => DONE,
         Err(fault) => report(errors, fault),
     }
 }
 
 /// Serves, and writes the counters.
-fn serve_and_count<R, F, W>(
+fn serve_and_count<R, F, B, W>(
     rt: &R,
+    spawner: &mut Spawner<'_, R>,
     files: &F,
+    addresses: &B,
     alloc: Global,
     service: &Service<'_>,
     writer: &mut Counted<W>,
@@ -104,27 +121,40 @@ fn serve_and_count<R, F, W>(
 where
     R: Net + Threads + Wait + SystemClock + Log + Sync,
     F: Opener,
+    B: Binder,
     W: Write,
+    B::Bound: Sync,
+    <B::Bound as Listener>::Stream: Send + Sync,
+    <B::Bound as Listener>::From: Send + Sync,
+    <B::Bound as Listener>::To: Send + Sync,
     R::Stream: Send + Sync,
     R::Listener: Send + Sync,
     requires some { 1 ≤ service.now.workers }
     requires few { service.now.workers ≤ 64 }
     ensures served { OnOk result (HasServed (F.opened service.now.path.now) F.File.remaining
-        W.contents writer.old writer.new) }
+        B.bound W.contents service.now.admin service.now.workers service.now.per_worker
+        writer.old writer.new) }
     ensures refused { IfErr result (IsWhyOfService (F.unopened service.now.path.now)
-        (F.opened service.now.path.now) F.File.remaining writer.old writer.new) }
+        (F.opened service.now.path.now) F.File.remaining
+        (λ s. IsOfServing B.bound B.unbound s.listen service.now.admin
+        (refused_of spawner.old) (refused_of spawner.new)) writer.old writer.new) }
 {
     let text = read_file_text(files, alloc, service.path)?;
     let settings = read_bytes(alloc, &text)?;
-    let counters = serve_settings(rt, files, alloc, &ConfigText::new(text), &settings, service)?;
+    let text = ConfigText::new(text);
+    let counters = serve_settings(
+        rt, spawner, files, addresses, alloc, &text, &settings, service,
+    )?;
     write_counters(writer, &counters)?;
     Ok(())
 }
 
 /// Serves by these settings, which are those of the text.
-fn serve_settings<R, F>(
+fn serve_settings<R, F, B>(
     rt: &R,
+    spawner: &mut Spawner<'_, R>,
     files: &F,
+    addresses: &B,
     alloc: Global,
     text: &ConfigText,
     settings: &Settings,
@@ -133,17 +163,26 @@ fn serve_settings<R, F>(
 where
     R: Net + Threads + Wait + SystemClock + Log + Sync,
     F: Opener,
+    B: Binder,
+    B::Bound: Sync,
+    <B::Bound as Listener>::Stream: Send + Sync,
+    <B::Bound as Listener>::From: Send + Sync,
+    <B::Bound as Listener>::To: Send + Sync,
     R::Stream: Send + Sync,
     R::Listener: Send + Sync,
     requires says { Says text.now.bytes.items (Ok settings.now) }
     requires sound { AreSound settings.now }
     requires some { 1 ≤ service.now.workers }
     requires few { service.now.workers ≤ 64 }
-    ensures counted { IfOk result (AreCountersOf any_rules (making_of settings.now)) }
-    ensures refused { IfErr result IsOfServing }
+    ensures front { OnOk result (IsBound B.bound settings.now.listen) }
+    ensures operator { OnOk result (IsBoundToo B.bound service.now.admin) }
+    ensures counted { IfOk result (AreCountersOfRuns any_rules (making_of settings.now)
+        (λ own. Says text.now.bytes.items (Ok own)) service.now.workers service.now.per_worker) }
+    ensures refused { IfErr result (IsOfServing B.bound B.unbound settings.now.listen
+        service.now.admin (refused_of spawner.old) (refused_of spawner.new)) }
 {
-    let front = bind(rt, settings.listen.socket())?;
-    let admin = bind_admin(rt, alloc, service.admin)?;
+    let front = bind(rt, addresses, settings.listen.socket())?;
+    let admin = bind_admin(rt, addresses, alloc, service.admin)?;
     log_listening(rt, files, alloc, settings, service.workers);
     let clock = ProgramClock::start(rt);
     let watch = Watcher::new(rt, alloc, service.workers);
@@ -155,14 +194,20 @@ where
         watch: &watch,
         alloc,
     };
-    Ok(serve_standing(rt, &standing, settings, service)?)
+    Ok(serve_standing(rt, spawner, &standing, settings, service)?)
 }
 
 /// What listens at an address; where it can't be bound, the log has the system's reason.
-fn bind<R: Net + Log>(rt: &R, address: SocketAddrV4) -> Result<BoundListener, ServiceFault>
-    ensures { IfErr result IsOfServing }
+fn bind<R: Log, B: Binder>(
+    rt: &R,
+    addresses: &B,
+    address: SocketAddrV4,
+) -> Result<B::Bound, ServiceFault>
+    ensures bound { IfOk result (B.bound (socket_v4_text address)) }
+    ensures unbound { IfErr result (λ fault.
+        (fault ≡ Listen) × B.unbound (socket_v4_text address)) }
 {
-    match BoundListener::bind(rt, SocketAddr::V4(address)) {
+    match addresses.bind(address) {
         Ok(listener) => Ok(listener),
         Err(error) => {
             log_unbound(rt, address, &error);
@@ -172,12 +217,14 @@ fn bind<R: Net + Log>(rt: &R, address: SocketAddrV4) -> Result<BoundListener, Se
 }
 
 /// The operator's address, where there is one, once it is bound; the log says so.
-fn bind_admin<R: Net + Log>(
+fn bind_admin<R: Log, B: Binder>(
     rt: &R,
+    addresses: &B,
     alloc: Global,
     address: Option<SocketAddrV4>,
-) -> Result<Option<AdminAddress>, ServiceFault>
-    ensures { IfErr result IsOfServing }
+) -> Result<Option<AdminAddress<B::Bound>>, ServiceFault>
+    ensures bound { OnOk result (IsBoundToo B.bound address) }
+    ensures unbound { IfErr result (IsOfAdmin B.unbound address) }
 {
     let Some(address) = address else {
         return Ok(None);
@@ -185,7 +232,7 @@ fn bind_admin<R: Net + Log>(
     let Ok(host) = host_name(alloc, address) else {
         return Err(ServiceFault::Memory);
     };
-    let listener = bind(rt, address)?;
+    let listener = bind(rt, addresses, address)?;
     log_admin(rt, address);
     Ok(Some(AdminAddress { listener, host }))
 }

@@ -1,13 +1,20 @@
 // The gate of a configuration, and its workers.
-ghost use Rattle.std.specs.Prelude.{◌≡◌, ◌≤◌, true, IfOk};
+ghost use Rattle.std.specs.Prelude.{◌≡◌, ◌≤◌, ◌+◌, [], ◌∷◌, true, map, replicate, vec_len};
+ghost use Rattle.std.specs.Prelude.{All, IfOk, IsErrOf, if◌then◌else◌, option_to_list};
+ghost use Rattle.counted_io.specs.Count.{raised};
+ghost use Rattle.tasks.specs.Refused.{refused_of};
 ghost use Rattle.limit_kinds.specs.AnyKinds.{any_rules};
 ghost use Rattle.gate_ledgers.specs.Course.{course_of};
 ghost use Rattle.gate_ledgers.specs.Names.{AreNamed, AreWhole};
 ghost use Rattle.gate_config.specs.Settings.{AreSound};
 ghost use Rattle.gate_history.specs.Book.{made_as};
+ghost use Rattle.shared_gate.specs.Calls.{pass_of};
 ghost use Rattle.shared_gate.specs.Log.{CallsLegal};
-ghost use Rattle.shared_gate.specs.Reported.{AreCountersOf};
+ghost use Rattle.ports.specs.declared.asked.Asked.TheVariants.{Nothing};
+ghost use Rattle.ports.specs.Asked.{port_in};
+ghost use Rattle.serving.specs.Workers.{ended_in};
 ghost use Rattle.serve_command.specs.Command.{making_of};
+ghost use Rattle.serve_command.specs.Runs.{AreCountersOfRuns};
 
 use clocks::Clock;
 use gate_config::Settings;
@@ -20,7 +27,7 @@ use log::Log;
 use operator_serving::Operating;
 use ports::{Port, View};
 use serve_reports::Watcher;
-use serving::{ServeFault, Source, WorkerSettings, serve};
+use serving::{Left, ServeFault, Source, WorkerSettings, serve};
 use shared_gate::{GateNaming, Pass, SharedGate, Word};
 use std::alloc::{AllocError, Global};
 use std::marker::Brand;
@@ -28,12 +35,14 @@ use std::net::Net;
 use std::sync::Wait;
 use std::thread::Threads;
 use std::time::{Clock as SystemClock, Duration};
+use tasks::Spawner;
 use timed_io::Listener;
 
 /// Serves clients through the gate of the settings, by so many workers, and tells the gate's
 /// counters once all have ended. The settings are those that the workers' source gives.
 pub(crate) fn serve_gateway<R, L, C, S>(
     rt: &R,
+    spawner: &mut Spawner<'_, R>,
     common: &WorkerSettings<'_, L, C, S, Watcher<'_, R>>,
     settings: &Settings,
     workers: usize,
@@ -51,23 +60,23 @@ where
     R::Listener: Send + Sync,
     requires given { S.gives common.now.source.now settings.now }
     requires sound { AreSound settings.now }
-    ensures { IfOk result (AreCountersOf any_rules (making_of settings.now)) }
+    requires few { workers ≤ 64 }
+    ensures counted { IfOk result (AreCountersOfRuns any_rules (making_of settings.now)
+        (S.gives common.now.source.now) workers common.now.per_worker) }
+    ensures thread { IsErrOf result ServeFault.Thread →
+        refused_of spawner.new ≡ raised (refused_of spawner.old) }
 {
     let word = Word::new(common.alloc)?;
+    let blanks = Blanks::new();
     serve_named::<Brand, R, L, C, S>(
-        rt,
-        common,
-        settings,
-        workers,
-        operating,
-        Blanks::new(),
-        word,
+        rt, spawner, common, settings, workers, operating, blanks, word,
     )
 }
 
 /// Serves clients through the gate of the settings, which has these names.
 fn serve_named<M, R, L, C, S>(
     rt: &R,
+    spawner: &mut Spawner<'_, R>,
     common: &WorkerSettings<'_, L, C, S, Watcher<'_, R>>,
     settings: &Settings,
     workers: usize,
@@ -98,22 +107,30 @@ where
     requires sound { AreSound settings.now }
     requires legal { CallsLegal any_rules settings.now.table settings.now.backlog
         settings.now.promote settings.now.limit M.legal }
-    ensures { IfOk result (AreCountersOf any_rules (making_of settings.now)) }
+    requires few { workers ≤ 64 }
+    ensures counted { IfOk result (AreCountersOfRuns any_rules (making_of settings.now)
+        (S.gives common.now.source.now) workers common.now.per_worker) }
+    ensures thread { IsErrOf result ServeFault.Thread →
+        refused_of spawner.new ≡ raised (refused_of spawner.old) }
 {
-    let count = workers.saturating_add(usize::from(operating.is_some()));
-    let (gate, passes) = open_gate::<M>(common.alloc, settings, blanks, word, count)?;
-    serve_through(rt, common, settings, operating, &gate, passes)
+    let has_operator = operating.is_some();
+    let count = if has_operator { workers + 1 } else { workers };
+    let (gate, mut passes) = open_gate::<M>(common.alloc, settings, blanks, word, count)?;
+    let own = take_own(&mut passes, has_operator, workers);
+    serve_through(rt, spawner, common, settings, operating, &gate, passes, own)
 }
 
-/// Serves clients through a gate, by one worker for each pass. Which limit the gate has isn't told
-/// apart here.
+/// Serves clients through a gate, by one worker for each pass, and operators by a pass of their
+/// own. Which limit the gate has isn't told apart here.
 fn serve_through<M, R, G, L, C, S>(
     rt: &R,
+    spawner: &mut Spawner<'_, R>,
     common: &WorkerSettings<'_, L, C, S, Watcher<'_, R>>,
     settings: &Settings,
     operating: Option<&Operating<'_, L, C>>,
     gate: &SharedGate<G, M>,
-    mut passes: Vec<Pass<M>>,
+    passes: Vec<Pass<M>>,
+    own: Option<Pass<M>>,
 ) -> Result<Counters, ServeFault>
 where
     M: GateNaming + Send + Sync,
@@ -127,28 +144,45 @@ where
     L::To: Send + Sync,
     R::Stream: Send + Sync,
     R::Listener: Send + Sync,
-    ensures { IfOk result (AreCountersOf G.rules
-        (made_as M.rows M.room M.promote M.kept M.is_rolling M.limit)) }
+    requires unused { All (λ pass. pass.log ≡ []) passes.items }
+    ensures counted { IfOk result (AreCountersOfRuns G.rules
+        (made_as M.rows M.room M.promote M.kept M.is_rolling M.limit)
+        (S.gives common.now.source.now) (vec_len passes) common.now.per_worker) }
+    ensures thread { IsErrOf result ServeFault.Thread →
+        refused_of spawner.new ≡ raised (refused_of spawner.old) }
 {
-    let operator = make_operator(rt, common, settings, operating, gate, &mut passes)?;
+    let operator = make_operator(rt, common, settings, operating, gate, own)?;
+    let kept = Vec::with_capacity(common.alloc, passes.len())?;
     let ports = make_ports(rt, common.alloc, gate, common.clock, passes)?;
-    let _left = serve(rt, common, settings, &View::new(rt, gate), ports, operator)?;
-    Ok(gate.counters(rt))
+    let view = View::new(rt, gate);
+    let lefts = serve(rt, spawner, common, settings, &view, ports, operator)?;
+    let passes = passes_of(kept, lefts)?;
+    Ok(gate.counters_behind(rt, passes))
 }
 
-/// Who serves operators by the last of the passes, where they have an address.
+/// The pass of an operator, where there is one: the last of so many and it.
+fn take_own<M: GateNaming>(
+    passes: &mut Vec<Pass<M>>,
+    is_wanted: bool,
+    others: usize,
+) -> Option<Pass<M>>
+    requires { passes.old.items ≡ replicate (if is_wanted then others + 1 else others) (pass_of 0) }
+    ensures all { vec_len passes.new ≡ others }
+    ensures unused { All (λ pass. pass.log ≡ []) passes.new.items }
+{
+    if is_wanted { passes.pop() } else { None }
+}
+
+/// Who serves operators by a pass of its own, where they have an address.
 fn make_operator<'a, M: GateNaming, R: SystemClock, G: Limit, L, C, S>(
     rt: &'a R,
     common: &WorkerSettings<'a, L, C, S, Watcher<'a, R>>,
     settings: &Settings,
     operating: Option<&'a Operating<'a, L, C>>,
     gate: &'a SharedGate<G, M>,
-    passes: &mut Vec<Pass<M>>,
+    own: Option<Pass<M>>,
 ) -> Result<Option<Operator<'a, G, M, R, L, C>>, AllocError> {
-    let Some(operating) = operating else {
-        return Ok(None);
-    };
-    let Some(pass) = passes.pop() else {
+    let (Some(operating), Some(pass)) = (operating, own) else {
         return Ok(None);
     };
     let Ok(table) = settings.table.copy() else {
@@ -174,10 +208,42 @@ fn make_ports<'a, M: GateNaming, R, G: Limit, C>(
     gate: &'a SharedGate<G, M>,
     clock: &'a C,
     passes: Vec<Pass<M>>,
-) -> Result<Vec<Port<'a, G, M, R, C>>, AllocError> {
+) -> Result<Vec<Port<'a, G, M, R, C>>, AllocError>
+    ensures { IfOk result (λ ports.
+        ports.items ≡ map (λ pass. port_in pass Nothing) passes.items) }
+{
     let mut ports = Vec::new(alloc);
     for pass in passes {
         ports.push(Port::new(rt, gate, pass, clock))?;
     }
     Ok(ports)
+}
+
+/// The passes of the workers that served, in their order, into a list that is empty.
+fn passes_of<M: GateNaming, R, G: Limit, C, A: Drop, B: Drop>(
+    mut passes: Vec<Pass<M>>,
+    lefts: Vec<Left<A, Port<'_, G, M, R, C>, B>>,
+) -> Result<Vec<Pass<M>>, AllocError>
+    requires { passes.items ≡ [] }
+    ensures { IfOk result (λ passes.
+        passes.items ≡ map (λ ended. ended.port.pass) (ended_in lefts.entry.items)) }
+{
+    for left in lefts {
+        if let Some(pass) = pass_in(left) {
+            passes.push(pass)?;
+        }
+    }
+    Ok(passes)
+}
+
+/// The pass of whoever left this, if it served.
+fn pass_in<M: GateNaming, R, G: Limit, C, A: Drop, B: Drop>(
+    left: Left<A, Port<'_, G, M, R, C>, B>,
+) -> Option<Pass<M>>
+    ensures { option_to_list result ≡ map (λ ended. ended.port.pass) (ended_in (left.entry ∷ [])) }
+{
+    match left {
+        Left::Worked(ended) => Some(ended.port.into_pass()),
+        Left::Unbegun | Left::Reported | Left::Beside => None,
+    }
 }

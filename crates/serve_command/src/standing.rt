@@ -1,10 +1,12 @@
 // What a gateway stands on while it serves.
-ghost use Rattle.std.specs.Prelude.{◌≡◌, IfOk, Ok};
+ghost use Rattle.std.specs.Prelude.{◌≡◌, ◌≤◌, IfOk, IsErrOf, Ok};
+ghost use Rattle.counted_io.specs.Count.{raised};
+ghost use Rattle.tasks.specs.Refused.{refused_of};
 ghost use Rattle.limit_kinds.specs.AnyKinds.{any_rules};
 ghost use Rattle.gate_config.specs.Settings.{AreSound};
-ghost use Rattle.shared_gate.specs.Reported.{AreCountersOf};
 ghost use Rattle.config_file.specs.Reading.{Says};
 ghost use Rattle.serve_command.specs.Command.{making_of};
+ghost use Rattle.serve_command.specs.Runs.{AreCountersOfRuns};
 
 use crate::admin::{AdminAddress, listener_of, operating_at};
 use crate::command::Service;
@@ -21,7 +23,8 @@ use std::net::Net;
 use std::sync::Wait;
 use std::thread::Threads;
 use std::time::Clock as SystemClock;
-use timed_io::BoundListener;
+use tasks::Spawner;
+use timed_io::Listener;
 
 /// The nanoseconds of a millisecond.
 const MILLI: u64 = 1_000_000;
@@ -31,11 +34,11 @@ const SECOND: u64 = 1_000_000_000;
 
 /// What is had before a gate is opened, and outlasts it.
 #[derive(Drop)]
-pub(crate) struct Standing<'a, R: SystemClock> {
+pub(crate) struct Standing<'a, R: SystemClock, L> {
     /// Where clients come from.
-    pub(crate) front: &'a BoundListener,
+    pub(crate) front: &'a L,
     /// Where an operator comes from, where there is an address for one.
-    pub(crate) admin: &'a Option<AdminAddress>,
+    pub(crate) admin: &'a Option<AdminAddress<L>>,
     /// The text of the configuration.
     pub(crate) text: &'a ConfigText,
     /// The clock of the gate's moments and of deadlines.
@@ -46,19 +49,29 @@ pub(crate) struct Standing<'a, R: SystemClock> {
 }
 
 /// Serves by these settings, which are those of the text, and tells the gate's counters.
-pub(crate) fn serve_standing<R>(
+pub(crate) fn serve_standing<R, L>(
     rt: &R,
-    standing: &Standing<'_, R>,
+    spawner: &mut Spawner<'_, R>,
+    standing: &Standing<'_, R, L>,
     settings: &Settings,
     service: &Service<'_>,
 ) -> Result<Counters, ServeFault>
 where
     R: Net + Threads + Wait + SystemClock + Log + Sync,
+    L: Listener + Sync,
+    L::Stream: Send + Sync,
+    L::From: Send + Sync,
+    L::To: Send + Sync,
     R::Stream: Send + Sync,
     R::Listener: Send + Sync,
     requires says { Says standing.now.text.now.bytes.items (Ok settings.now) }
     requires sound { AreSound settings.now }
-    ensures { IfOk result (AreCountersOf any_rules (making_of settings.now)) }
+    requires few { service.now.workers ≤ 64 }
+    ensures counted { IfOk result (AreCountersOfRuns any_rules (making_of settings.now)
+        (λ own. Says standing.now.text.now.bytes.items (Ok own))
+        service.now.workers service.now.per_worker) }
+    ensures thread { IsErrOf result ServeFault.Thread →
+        refused_of spawner.new ≡ raised (refused_of spawner.old) }
 {
     let client_timeout_ns = u64::from(service.client_timeout_ms) * MILLI;
     let (alloc, clock) = (standing.alloc, standing.clock);
@@ -75,7 +88,8 @@ where
         alloc,
     };
     let workers = service.workers as usize;
-    serve_gateway(rt, &common, settings, workers, operating.as_ref())
+    let operating = operating.as_ref();
+    serve_gateway(rt, spawner, &common, settings, workers, operating)
 }
 
 /// So many seconds in nanoseconds.

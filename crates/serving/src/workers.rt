@@ -1,6 +1,8 @@
 // Workers that serve through one gate.
-ghost use Rattle.std.specs.Prelude.{◌≡◌, [], IfOk, IfSome, option_to_list};
+ghost use Rattle.std.specs.Prelude.{◌≡◌, [], IfOk, IfSome, IsErrOf, OnErr, option_to_list};
 ghost use Rattle.std.specs.List.{AllZip, list_all};
+ghost use Rattle.counted_io.specs.Count.{raised};
+ghost use Rattle.tasks.specs.Refused.{refused_of};
 ghost use Rattle.serving.specs.Workers.{AreWithin, Begins, HasRun, HasWorked};
 ghost use Rattle.serving.specs.Workers.{ended_in, has_begun, tasks_in, workers_in};
 
@@ -19,7 +21,7 @@ use std::net::Net;
 use std::sync::Wait;
 use std::thread::Threads;
 use std::time::Clock as SystemClock;
-use tasks::{Task, run_tasks};
+use tasks::{Spawner, Task, run_tasks};
 use tcp_backend::{BackendWatch, TcpBackend};
 use timed_io::Listener;
 
@@ -34,6 +36,7 @@ use timed_io::Listener;
 /// were started have.
 pub fn serve<'l, R, G, P, T, L, C, S, W>(
     rt: &'l R,
+    spawner: &mut Spawner<'_, R>,
     common: &WorkerSettings<'l, L, C, S, W>,
     settings: &Settings,
     gate: &G,
@@ -59,9 +62,15 @@ where
     ensures ran { IfOk result (λ lefts.
         AllZip (HasRun S.gives P.shown P.known common.now) ports.items (ended_in lefts.items)) }
     ensures beside { IfOk result (λ _. IfSome beside (λ task. T.makes task tt)) }
+
+    // A thread is lacking only where the system refused one.
+    ensures thread { IsErrOf result ServeFault.Thread →
+        refused_of spawner.new ≡ raised (refused_of spawner.old) }
+    ensures started { ¬ IsErrOf result ServeFault.Thread →
+        refused_of spawner.new ≡ refused_of spawner.old }
 {
     let workers = make_workers(rt, common, settings, ports)?;
-    serve_by(rt, common, gate, workers, beside)
+    serve_by(rt, spawner, common, gate, workers, beside)
 }
 
 /// A worker for each port, with a door, and with a backend at the address of the settings.
@@ -71,7 +80,8 @@ fn make_workers<'l, R: Net, P: Drop, L, C, S, W>(
     settings: &Settings,
     ports: Vec<P>,
 ) -> Result<Vec<Worker<Door<'l, L, W>, P, TcpBackend<&'l R, &'l W>>>, ServeFault>
-    ensures { IfOk result (λ workers. AllZip Begins ports.items workers.items) }
+    ensures workers { IfOk result (λ workers. AllZip Begins ports.items workers.items) }
+    ensures lacking { OnErr result (IsErrOf result ServeFault.Memory) }
 {
     let (alloc, watch) = (common.alloc, common.watch);
     let address = settings.backend.socket();
@@ -92,6 +102,7 @@ fn make_workers<'l, R: Net, P: Drop, L, C, S, W>(
 /// isn't told apart here.
 fn serve_by<R, G, A, P, B, T, L, C, S, W>(
     rt: &R,
+    spawner: &mut Spawner<'_, R>,
     common: &WorkerSettings<'_, L, C, S, W>,
     gate: &G,
     workers: Vec<Worker<A, P, B>>,
@@ -121,6 +132,10 @@ where
         common.now.source.now common.now.per_worker)
         workers.items (ended_in lefts.items)) }
     ensures beside { IfOk result (λ _. IfSome beside (λ task. T.makes task tt)) }
+    ensures thread { IsErrOf result ServeFault.Thread →
+        refused_of spawner.new ≡ raised (refused_of spawner.old) }
+    ensures started { ¬ IsErrOf result ServeFault.Thread →
+        refused_of spawner.new ≡ refused_of spawner.old }
 {
     let context = Context {
         rt,
@@ -135,7 +150,7 @@ where
         beside,
         workers,
     )?;
-    let lefts = run_tasks(rt, common.alloc, hands)?;
+    let lefts = run_tasks(spawner, common.alloc, hands)?;
     if !have_begun(&lefts) {
         return Err(ServeFault::Memory);
     }

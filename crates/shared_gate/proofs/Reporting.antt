@@ -17,7 +17,7 @@ use Rattle.gate_port.specs.declared.report.Report.{Report}
 use Rattle.gate_port.specs.Report.{report_in}
 use Rattle.shared_gate.specs.Closing.{limiter_of}
 use Rattle.shared_gate.specs.Log.{IsBehind}
-use Rattle.shared_gate.specs.Reported.{IsReportOf}
+use Rattle.shared_gate.specs.Reported.{IsReportAfter}
 
 abbrev gate_with : {S : Type 0} → Algorithm S → List Row → ℕ → Promote → Gate S
 gate_with rules rows room promote =
@@ -38,7 +38,7 @@ pub reported : {S : Type 0} (rules : Algorithm S) (m : Making) (legal : List Ent
     → c.counters ≡ counters_after b.journal.opening.counters b.journal.entries
     → IsSound (gate rules b.journal) (image rules b.journal)
     → report ≡ report_in (gate_of rules c) (stands c) c.counters
-    → IsReportOf rules m report
+    → IsReportAfter rules m log report
 reported {S} rules m legal log b c report behind rows room promote own_rows own_room own_promote
     same counted sound is =
     let here : gate rules b.journal ≡ limiter_of rules m = same_gate rules rows room promote in
@@ -48,7 +48,6 @@ reported {S} rules m legal log b c report behind rows room promote own_rows own_
     let leads : image rules b.journal ≡ image_after (limiter_of rules m) o log =
     behind.stretch.leads ∙ ap (λ (g : Gate S). image_after g o log) here in record {
       origin = behind.origin;
-      log = log;
       unasked = behind.unasked;
       legal = subst (λ (g : Gate S). IsLegal g o log) here behind.stretch.whole;
       sound =

@@ -1,5 +1,6 @@
 -- What is told of a gate at one moment.
-use Rattle.std.specs.Prelude.{◌≡◌, List}
+use Rattle.std.specs.Prelude.{◌≡◌, ◌≤◌, All, List}
+use mathlib.Core.List.{IsPrefix}
 use Rattle.limit_laws.specs.Algorithm.{Algorithm}
 use Rattle.limiter_core.specs.declared.event.Entry.{Entry}
 use Rattle.limiter_core.specs.History.{image_after}
@@ -8,17 +9,17 @@ use Rattle.limiter_core.specs.Counting.{counters_after, no_counts}
 use Rattle.limiter_core.specs.declared.counters.Counters.{Counters}
 use Rattle.limiter_core.specs.Legal.{IsLegal}
 use Rattle.gate_journal.specs.Image.{Standing, image_of}
-use Rattle.gate_history.specs.Book.{IsUnasked, Making}
+use Rattle.gate_history.specs.Book.{IsUnasked, Making, calls_of}
 use Rattle.gate_port.specs.declared.report.Report.{Report}
 use Rattle.gate_port.specs.Report.{report_in}
-use Rattle.shared_gate.specs.Closing.{limiter_of}
+use Rattle.shared_gate.specs.Calls.{Pass}
+use Rattle.shared_gate.specs.Closing.{calls_by, limiter_of}
 
--- A REPORT OF A GATE that was made so: after some legal log, since nothing was asked, it tells what
--- stands then, which is sound, and the counters of that log
-pub record IsReportOf {S : Type 0} (rules : Algorithm S) (m : Making) (report : Report)
-    : Type 0 where
+-- A REPORT AFTER A LOG of a gate that was made so: the log is legal, since nothing was asked; the
+-- report tells what stands then, which is sound, and the counters of that log
+pub record IsReportAfter {S : Type 0} (rules : Algorithm S) (m : Making) (log : List Entry)
+    (report : Report) : Type 0 where
   pub origin : Standing S
-  pub log : List Entry
   pub unasked : IsUnasked rules m.limit origin
   pub legal : IsLegal (limiter_of rules m) (image_of origin) log
   pub sound : IsSound (limiter_of rules m) (image_after (limiter_of rules m) (image_of origin) log)
@@ -26,7 +27,22 @@ pub record IsReportOf {S : Type 0} (rules : Algorithm S) (m : Making) (report : 
       (image_after (limiter_of rules m) (image_of origin) log)
       (counters_after no_counts log)
 
+-- A REPORT OF A GATE: it is one after some log
+abbrev pub IsReportOf : {S : Type 0} → Algorithm S → Making → Report → Type 0
+IsReportOf rules m report = (log : List Entry) × IsReportAfter rules m log report
+
 -- THE COUNTERS of a gate that was made so: those of such a report
 abbrev pub AreCountersOf : {S : Type 0} → Algorithm S → Making → Counters → Type 0
 AreCountersOf rules m counters =
     (report : Report) × IsReportOf rules m report × (report.counters ≡ counters)
+
+-- THE COUNTERS BEHIND PASSES that call no more: those of a report after a log that begins with what
+-- each of them knows, and has no fewer calls than were made by them
+pub record AreCountersBehind {S : Type 0} (rules : Algorithm S) (m : Making) (passes : List Pass)
+    (counters : Counters) : Type 0 where
+  pub log : List Entry
+  pub report : Report
+  pub after : IsReportAfter rules m log report
+  pub told : report.counters ≡ counters
+  pub begun : All (λ pass. IsPrefix pass.log log) passes
+  pub enough : calls_by passes ≤ calls_of log

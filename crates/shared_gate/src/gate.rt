@@ -11,7 +11,7 @@ ghost use Rattle.shared_gate.specs.Calls.{Tells, Gets, Waits, Claims, GivesUp, E
 ghost use Rattle.shared_gate.specs.Calls.{pass_of};
 ghost use Rattle.shared_gate.specs.Closing.{FailsBy, IsKept, calls_by};
 ghost use Rattle.shared_gate.specs.Log.{MeansAtLeast};
-ghost use Rattle.shared_gate.specs.Reported.{AreCountersOf, IsReportOf};
+ghost use Rattle.shared_gate.specs.Reported.{AreCountersBehind, AreCountersOf, IsReportOf};
 
 use crate::answers::Waited;
 use crate::closing::{AuditFault, count_calls, judge};
@@ -91,6 +91,16 @@ impl<L: Limit, M: GateNaming> SharedGate<L, M> {
             (made_as M.rows M.room M.promote M.kept M.is_rolling M.limit) result }
     {
         self.report(rt).counters
+    }
+
+    /// What was counted so far, once these passes call no more: all their calls are in it.
+    pub fn counters_behind(&self, rt: &impl Wait, passes: Vec<Pass<M>>) -> Counters
+        ensures { AreCountersBehind L.rules
+            (made_as M.rows M.room M.promote M.kept M.is_rolling M.limit) passes.items result }
+    {
+        let mut sealed = self.book.lock(rt);
+        sealed.take_back(&self.word, passes);
+        sealed.report().counters
     }
 
     /// What stands at one moment, and the counters so far. It makes no step of the history, and

@@ -1,10 +1,13 @@
 // What lies under the lock.
-ghost use Rattle.std.specs.Prelude.{◌≡◌};
-ghost use Rattle.gate_history.specs.Book.{made_as};
+ghost use Rattle.std.specs.Prelude.{◌≡◌, ◌≤◌, All};
+ghost use mathlib.Core.List.{IsPrefix};
+ghost use Rattle.gate_history.specs.Book.{calls_of, made_as};
 ghost use Rattle.gate_history.specs.Steps.{event_of};
 ghost use Rattle.shared_gate.specs.Calls.{Tells};
-ghost use Rattle.shared_gate.specs.Reported.{IsReportOf};
+ghost use Rattle.shared_gate.specs.Closing.{calls_by};
+ghost use Rattle.shared_gate.specs.Reported.{IsReportAfter};
 
+use crate::closing::count_calls;
 use crate::naming::GateNaming;
 use crate::pass::Pass;
 use gate_history::{Book, Call, Entry, Journal, Step};
@@ -60,10 +63,20 @@ impl<L: Limit, M: GateNaming> Sealed<L, M> {
         step
     }
 
+    /// Takes passes back, by which no more calls are made: their calls are in the log.
+    pub(crate) fn take_back(&mut self, word: &SharedWord<Entry>, passes: Vec<Pass<M>>)
+        requires { word.now ≡ M.word }
+        ensures begun { All (λ pass. IsPrefix pass.log self.old) passes.items }
+        ensures enough { calls_by passes.items ≤ calls_of self.old }
+        ensures same { self.new ≡ self.old }
+    {
+        let _calls = count_calls(&mut self.book, word, &mut self.keeper, passes);
+    }
+
     /// What stands, and what was counted by then.
     pub(crate) fn report(&self) -> Report
-        ensures { IsReportOf L.rules
-            (made_as M.rows M.room M.promote M.kept M.is_rolling M.limit) result }
+        ensures { IsReportAfter L.rules
+            (made_as M.rows M.room M.promote M.kept M.is_rolling M.limit) self.now result }
     {
         self.book.invariant();
         let journal = self.book.journal();

@@ -3,7 +3,8 @@
 //! A [`Listener`] gives one connection after another, each with two ends: an [`Inlet`], which may
 //! tell what is still to come, and an [`Outlet`], which may tell what was written. A
 //! [`BoundListener`] is one over TCP; the ends of a socket tell nothing. That a connection is a
-//! client's own is the system's word: contracts say nothing of it.
+//! client's own is the system's word: contracts say nothing of it. A [`Binder`] tells of a listener
+//! at which address it was bound, and only its `bind` can tell that, or that it couldn't be.
 //!
 //! [`TimedReader`] and [`TimedWriter`] go round what reads and writes a connection. All reads of a
 //! request together, and all writes of an answer up to its flush, each have so long, counted from
@@ -16,6 +17,7 @@
 //! a clock tells, or of how long a call takes.
 #![tactic(auto)]
 
+mod binding;
 mod bound_listener;
 mod connection;
 mod countdown;
@@ -26,6 +28,7 @@ mod reading;
 mod uninterrupted;
 mod writing;
 
+pub use binding::{Binder, SystemAddresses};
 pub use bound_listener::BoundListener;
 pub use connection::{Connection, Lent};
 pub use countdown::Countdown;

@@ -8,7 +8,7 @@ use Rattle.load_run.proofs.workers.run_all.Goals as goal
 pub returns-clause-count : goal.returns-clause-count
 returns-clause-count g c =
     let long : length c.in_ok-done.done.items ≡ length c.in-Ok.hands.items =
-    AllZip-long _ _ _ c.in_ok-done.ensures in
+    AllZip-long _ _ _ c.in_ok-done.ensures.made in
     search rules
 
 pub returns-clause-work : goal.returns-clause-work
@@ -26,5 +26,5 @@ returns-clause-work g c =
     (subst (λ number. IfOk back (λ worker.
     IsWork hand.shop.now.workers number hand.shop.now.arrivals.now.items worker.receipts.items
     worker.refusals.items (seen_by worker.pass))) has.0 made)) c.in-Ok.hands.items done kept
-    c.in-Ok-gather.worked.spent.items c.in-Ok.ensures.each c.in_ok-done.ensures count
+    c.in-Ok-gather.worked.spent.items c.in-Ok.ensures.each c.in_ok-done.ensures.made count
     c.in-Ok-gather.ensures.each

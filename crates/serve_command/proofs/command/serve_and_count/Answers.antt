@@ -1,7 +1,11 @@
 use Rattle.std.proofs.Common.{rules, ◌≡◌, ℕ, List, Ok, Err, subst}
+use Rattle.tasks.specs.Refused.{refused_of}
+use Rattle.limit_kinds.specs.AnyKinds.{any_rules}
 use Rattle.config_file.specs.Reading.{IsFaultOf, Says}
+use Rattle.serve_command.specs.Command.{IsOfServing, making_of}
+use Rattle.serve_command.specs.Runs.{AreCountersOfRuns}
 use Rattle.serve_command.specs.declared.fault.ServiceFault.TheVariants as Service
-use Rattle.serve_command.proofs.Whys.{why_unread, why_unserved, why_unset, why_unwritten}
+use Rattle.serve_command.proofs.Whys.{serving_is, why_unread, why_unserved, why_unset, why_unwritten}
 use Rattle.serve_command.proofs.command.serve_and_count.Goals as goal
 
 pub returns-in_err-text-clause-refused :
@@ -11,6 +15,8 @@ returns-in_err-text-clause-refused g c =
     let is : c.from_residual.result ≡ Err (Service.Config fault) = search rules in
     let path = c.args.service.now.path.now in
     why_unread (g.F.Opener.unopened path) (g.F.Opener.opened path) g.F.File.Read.remaining
+    (λ s. IsOfServing g.B.Binder.bound g.B.Binder.unbound s.listen c.args.service.now.admin
+    (refused_of c.args.spawner.now) (refused_of c.args.spawner.now))
     c.args.writer.now c.from_residual.result fault is c.in_err-text.ensures.refused
 
 pub returns-in_err-settings-clause-refused : goal.returns-in_err-settings-clause-refused
@@ -21,6 +27,8 @@ returns-in_err-settings-clause-refused g c =
     let same : c.deref.result.now ≡ bytes = search rules in
     let path = c.args.service.now.path.now in
     why_unset (g.F.Opener.unopened path) (g.F.Opener.opened path) g.F.File.Read.remaining
+    (λ s. IsOfServing g.B.Binder.bound g.B.Binder.unbound s.listen c.args.service.now.admin
+    (refused_of c.args.spawner.now) (refused_of c.args.spawner.now))
     c.args.writer.now c.from_residual-in_err-settings.result fault is bytes
     c.in_ok-text.ensures.text
     (subst (λ (xs : List ℕ). IsFaultOf xs fault) same c.in_err-settings.ensures.refused)
@@ -34,10 +42,14 @@ returns-in_err-counters-clause-refused g c =
     let fault = c.in_err-counters.field-0.0 in
     let is : c.from_residual-in_err-counters.result ≡ Err fault = search rules in
     let path = c.args.service.now.path.now in
+    let of = c.in_err-counters.ensures.refused in
     why_unserved (g.F.Opener.unopened path) (g.F.Opener.opened path) g.F.File.Read.remaining
+    (λ s. IsOfServing g.B.Binder.bound g.B.Binder.unbound s.listen c.args.service.now.admin
+    (refused_of c.args.spawner.now) (refused_of c.serve_settings.new.spawner))
     c.args.writer.now c.from_residual-in_err-counters.result fault is
-    c.in_err-counters.ensures.refused
-    (s, (had.0, bytes, had.2, had.3, says))
+    s (had.0, bytes, had.2, had.3, says) of
+    (serving_is g.B.Binder.bound g.B.Binder.unbound s.listen c.args.service.now.admin
+    (refused_of c.args.spawner.now) (refused_of c.serve_settings.new.spawner) fault of)
 
 pub returns-in_err-write_counters-clause-refused :
     goal.returns-in_err-write_counters-clause-refused
@@ -49,9 +61,11 @@ returns-in_err-write_counters-clause-refused g c =
     let is : c.from_residual-in_err-write_counters.result ≡ Err Service.Write = search rules in
     let path = c.args.service.now.path.now in
     why_unwritten (g.F.Opener.unopened path) (g.F.Opener.opened path) g.F.File.Read.remaining
+    (λ s. IsOfServing g.B.Binder.bound g.B.Binder.unbound s.listen c.args.service.now.admin
+    (refused_of c.args.spawner.now) (refused_of c.serve_settings.new.spawner))
     c.args.writer.now c.write_counters.new.writer c.from_residual-in_err-write_counters.result is
     c.in_err-write_counters.ensures.failed
-    (s, (had.0, bytes, had.2, had.3, says))
+    s (had.0, bytes, had.2, had.3, says)
 
 -- the file and its text, its settings, and the counters that were written
 pub returns-clause-served : goal.returns-clause-served
@@ -59,12 +73,22 @@ returns-clause-served g c =
     let had = c.in_ok-text.ensures.text in
     let bytes = c.in_ok-text.text.items in
     let s = c.in_ok-settings.settings in
-    let says : Says bytes (Ok s) = search rules in (
-      s,
-      (had.0, bytes, had.2, had.3, says),
-      c.in_ok-counters.counters,
-      c.in_ok-counters.ensures.counted,
-      c.in_ok-write_counters.ensures.all,
-      c.in_ok-write_counters.ensures.unfailing,
-      c.in_ok-write_counters.ensures.flushed,
-    )
+    let same : c.new-text.result.bytes.items ≡ bytes = search rules in
+    let says : Says bytes (Ok s) = search rules in record {
+      settings = s;
+      file = had.0;
+      bytes = bytes;
+      opened = had.2;
+      held = had.3;
+      says = says;
+      front = c.in_ok-counters.ensures.front;
+      operator = c.in_ok-counters.ensures.operator;
+      counters = c.in_ok-counters.counters;
+      counted =
+          subst (λ (xs : List ℕ). AreCountersOfRuns any_rules (making_of s)
+          (λ own. Says xs (Ok own)) c.args.service.now.workers c.args.service.now.per_worker
+          c.in_ok-counters.counters) same c.in_ok-counters.ensures.counted;
+      written = c.in_ok-write_counters.ensures.all;
+      unfailing = c.in_ok-write_counters.ensures.unfailing;
+      flushed = c.in_ok-write_counters.ensures.flushed;
+    }

@@ -8,7 +8,7 @@ returns-clause-worked g c =
     g.P.GatePort.shown g.P.GatePort.known g.B.Backend.forwarded g.B.Backend.shown
     g.S.Source.gives g.S.Source.lacks (λ task. g.T.Task.makes task tt) _
     c.args.workers.items c.in_ok-hands.hands.items c.in_ok-lefts.lefts.items
-    c.in_ok-hands.ensures.all c.in_ok-lefts.ensures c.in_ok-hands.ensures.within (search rules)
+    c.in_ok-hands.ensures.all c.in_ok-lefts.ensures.made c.in_ok-hands.ensures.within (search rules)
 
 pub returns-clause-beside : goal.returns-clause-beside
 returns-clause-beside g c =
@@ -16,4 +16,4 @@ returns-clause-beside g c =
     g.P.GatePort.shown g.P.GatePort.known g.B.Backend.forwarded g.B.Backend.shown
     g.S.Source.gives g.S.Source.lacks (λ task. g.T.Task.makes task tt)
     c.args.beside c.in_ok-hands.hands.items c.in_ok-lefts.lefts.items
-    c.in_ok-hands.ensures.beside c.in_ok-lefts.ensures
+    c.in_ok-hands.ensures.beside c.in_ok-lefts.ensures.made

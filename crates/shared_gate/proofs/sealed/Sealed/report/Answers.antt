@@ -1,8 +1,10 @@
-use Rattle.std.proofs.Common.{◌∙◌, ap, subst}
+use Rattle.std.proofs.Common.{◌≡◌, ◌∙◌, List, ap, subst}
+use Rattle.limiter_core.specs.declared.event.Entry.{Entry}
 use Rattle.limiter_core.specs.Bound.{IsSound}
 use Rattle.limiter_core.specs.Counting.{counters_after}
-use Rattle.gate_history.specs.Book.{made_as}
+use Rattle.gate_history.specs.Book.{Making, made_as}
 use Rattle.gate_journal.specs.Journal.{Journal, gate, image}
+use Rattle.shared_gate.specs.Reported.{IsReportAfter}
 use Rattle.shared_gate.proofs.Reporting.{reported}
 use Rattle.shared_gate.proofs.sealed.Sealed.report.Goals as goal
 
@@ -13,8 +15,11 @@ returns g c =
     let rules = g.L.Limit.rules in
     let own = c.core.result.now in
     let same = c.journal-journal.ensures in
-    reported rules
-    (made_as names.rows names.room names.promote names.kept names.is_rolling names.limit)
+    let made : Making =
+    made_as names.rows names.room names.promote names.kept names.is_rolling names.limit in
+    let here : c.self.inside.keeper.log ≡ c.args.self.now = search in
+    subst (λ (log : List Entry). IsReportAfter rules made log c.report_of.result) here
+    (reported rules made
     g.M.GateNaming.legal c.self.inside.keeper.log c.self.inside.book own c.report_of.result
     c.self.invariant.2
     c.invariant.ensures.rows c.invariant.ensures.room c.invariant.ensures.promote
@@ -26,4 +31,4 @@ returns g c =
     ∙ ap (λ (j : Journal g.row.L.Denot). counters_after j.opening.counters j.entries) same)
     (subst (λ (j : Journal g.row.L.Denot). IsSound (gate rules j) (image rules j)) same
     c.invariant-2.ensures.sound)
-    c.report_of.ensures
+    c.report_of.ensures)

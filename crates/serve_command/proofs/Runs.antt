@@ -1,0 +1,101 @@
+-- What the workers of a gateway did, by what their ports know in the end.
+use Rattle.std.proofs.Common.{◌≡◌, refl, ap, ℕ, suc, false, List, [], ◌∷◌, All, Option, None, Some}
+use Rattle.std.specs.List.{AllZip}
+use Rattle.std.proofs.Common.{◌++◌, ◌∙◌, length, map, option_to_list, subst, sym}
+use mathlib.Core.List.{map-append}
+use Rattle.std.proofs.lemmas.List.Elements.{All-nil, All-cons, All-head, All-tail}
+use Rattle.limiter_core.specs.declared.event.Entry.{Entry}
+use Rattle.shared_gate.specs.Calls.{Pass}
+use Rattle.ports.specs.declared.asked.Asked.TheVariants.{Nothing}
+use Rattle.ports.specs.Asked.{Shared, port_in}
+use Rattle.gate_config.specs.declared.settings.Settings.{Settings}
+use Rattle.tcp_backend.specs.declared.connecting.TcpBackend.{TcpBackend}
+use Rattle.tcp_backend.specs.Connecting.{count_of}
+use Rattle.serving.specs.declared.doors.Door.{Door}
+use Rattle.serving.specs.declared.hands.Ended.{Ended}
+use Rattle.serving.specs.declared.hands.Left.{Left}
+use Rattle.serving.specs.declared.hands.Left.TheVariants as left
+use Rattle.serving.specs.declared.working.WorkerSettings.{WorkerSettings}
+use Rattle.serving.specs.Doors.{failed_of, given_of, is_closed}
+use Rattle.serving.specs.Turns.{IsRun}
+use Rattle.serving.specs.Workers.{HasRun, ended_in}
+use Rattle.serve_command.specs.Runs.{HasRunTo, stood_at}
+
+module _ {L C S W : Type 0} (R V M : Type 0) (gives : S → Settings → Type 0)
+    (common : WorkerSettings L C S W) where
+  abbrev End : Type 0
+  End = Ended (Door L W) (Shared M) (TcpBackend R V)
+
+  abbrev Ran : Shared M → End → Type 0
+  Ran = HasRun gives (λ port. None) (λ port. Some port.pass.log) common
+
+  abbrev RanTo : Pass → Type 0
+  RanTo = HasRunTo (gives common.source.now) common.per_worker
+
+  abbrev pass_in : End → Pass
+  pass_in ended = ended.port.pass
+
+  abbrev port_of : Pass → Shared M
+  port_of pass = port_in pass Nothing
+
+  -- one worker, whose pass knew nothing
+  ran_to : (pass : Pass) (ended : End) → pass.log ≡ [] → Ran (port_of pass) ended
+      → RanTo (pass_in ended)
+  ran_to pass ended empty did = record {
+    settings = did.settings;
+    are_given = did.are_given;
+    given = given_of ended.door;
+    failed = failed_of ended.door;
+    closed = is_closed ended.door;
+    forwarded = count_of ended.backend;
+    tally = ended.tally;
+    run =
+        subst (λ (log : List Entry). IsRun did.settings common.per_worker
+        (stood_at 0 0 false 0 log)
+        (stood_at (given_of ended.door) (failed_of ended.door) (is_closed ended.door)
+        (count_of ended.backend) ended.port.pass.log) ended.tally) empty did.run;
+    accepted = did.accepted;
+    unaccepted = did.unaccepted;
+    once = did.once;
+    turns = did.turns;
+    whole = did.whole;
+  }
+
+  -- all of them: as many as there were passes
+  pub all_ran_to : (passes : List Pass) (ends : List End) → All (λ pass. pass.log ≡ []) passes
+      → AllZip Ran (map port_of passes) ends
+      → All RanTo (map pass_in ends) × (length (map pass_in ends) ≡ length passes)
+  all_ran_to [] [] empty all = (All-nil RanTo, refl)
+  all_ran_to [] (e ∷ es) empty all = absurd all
+  all_ran_to (p ∷ ps) [] empty all = absurd all
+  all_ran_to (p ∷ ps) (e ∷ es) empty all =
+      let unused : Pass → Type 0 = λ pass. pass.log ≡ [] in
+      let rest = all_ran_to ps es (All-tail unused p ps empty) all.1 in (
+        All-cons RanTo (pass_in e) (map pass_in es)
+            (ran_to p e (All-head unused p ps empty) all.0) rest.0,
+        ap suc rest.1,
+      )
+
+-- who served among some, and one more
+ended_more : {A P B : Type 0} (lefts : List (Left A P B)) (l : Left A P B)
+    → ended_in (lefts ++ l ∷ []) ≡ ended_in lefts ++ ended_in (l ∷ [])
+ended_more [] l = refl
+ended_more (left.Unbegun ∷ lefts) l = ended_more lefts l
+ended_more (left.Reported ∷ lefts) l = ended_more lefts l
+ended_more (left.Beside ∷ lefts) l = ended_more lefts l
+ended_more {A} {P} {B} (left.Worked ended ∷ lefts) l =
+    ap (λ (es : List (Ended A P B)). ended ∷ es) (ended_more lefts l)
+
+-- their passes, and that of one more, which served, or didn't
+pub one_pass_more : {A B M : Type 0} (lefts : List (Left A (Shared M) B))
+    (l : Left A (Shared M) B) (pass : Option Pass) (passes more : List Pass)
+    → passes ≡ map (λ ended. ended.port.pass) (ended_in lefts)
+    → option_to_list pass ≡ map (λ ended. ended.port.pass) (ended_in (l ∷ []))
+    → more ≡ passes ++ option_to_list pass
+    → more ≡ map (λ ended. ended.port.pass) (ended_in (lefts ++ l ∷ []))
+one_pass_more {A} {B} {M} lefts l pass passes more same own is =
+    let pass_of : Ended A (Shared M) B → Pass = λ ended. ended.port.pass in
+    is ∙ ap (λ (ps : List Pass). ps ++ option_to_list pass) same
+    ∙ ap (λ (ps : List Pass). map pass_of (ended_in lefts) ++ ps) own
+    ∙ sym (map-append pass_of (ended_in lefts) (ended_in (l ∷ [])))
+    ∙ ap (λ (es : List (Ended A (Shared M) B)). map pass_of es) (sym (ended_more lefts l))

@@ -1,0 +1,48 @@
+use Rattle.std.proofs.Common.{rules, ◌≡◌, Err}
+use Rattle.std.specs.Net.Text.{socket_v4_text}
+use Rattle.tasks.specs.Refused.{refused_of}
+use Rattle.serve_command.specs.ServiceFault.{of_workers}
+use Rattle.serve_command.proofs.Whys.{bound_at, lacks_admin, lacks_front, lacks_workers}
+use Rattle.serve_command.proofs.command.serve_settings.Goals as goal
+
+pub returns-in_err-front-clause-refused : goal.returns-in_err-front-clause-refused
+returns-in_err-front-clause-refused g c =
+    let before = refused_of c.args.spawner.now in
+    let fault = c.in_err-front.field-0.0 in
+    let is : c.from_residual.result ≡ Err fault = search rules in
+    let same : socket_v4_text c.socket.result ≡ c.args.settings.now.listen = search rules in
+    lacks_front g.B.Binder.bound g.B.Binder.unbound c.args.settings.now.listen
+    c.args.service.now.admin before before c.from_residual.result fault is
+    (socket_v4_text c.socket.result) same c.in_err-front.ensures.unbound
+
+pub returns-in_err-admin-clause-refused : goal.returns-in_err-admin-clause-refused
+returns-in_err-admin-clause-refused g c =
+    let before = refused_of c.args.spawner.now in
+    let fault = c.in_err-admin.field-0.0 in
+    let is : c.from_residual-in_err-admin.result ≡ Err fault = search rules in
+    let same : socket_v4_text c.socket.result ≡ c.args.settings.now.listen = search rules in
+    lacks_admin g.B.Binder.bound g.B.Binder.unbound c.args.settings.now.listen
+    c.args.service.now.admin before before c.from_residual-in_err-admin.result fault is
+    (bound_at g.B.Binder.bound (socket_v4_text c.socket.result) c.args.settings.now.listen
+    c.in_ok-front.front same c.in_ok-front.ensures.bound) c.in_err-admin.ensures.unbound
+
+pub returns-in_err-serve_standing-clause-refused :
+    goal.returns-in_err-serve_standing-clause-refused
+returns-in_err-serve_standing-clause-refused g c =
+    let fault = c.in_err-serve_standing.field-0.0 in
+    let was : c.serve_standing.result ≡ Err fault = search rules in
+    let is : c.from_residual-in_err-serve_standing.result ≡ Err (of_workers fault) =
+    search rules in
+    let same : socket_v4_text c.socket.result ≡ c.args.settings.now.listen = search rules in
+    lacks_workers g.B.Binder.bound g.B.Binder.unbound c.args.settings.now.listen
+    c.args.service.now.admin (refused_of c.args.spawner.now)
+    (refused_of c.serve_standing.new.spawner) c.from_residual-in_err-serve_standing.result
+    c.serve_standing.result fault was is
+    (bound_at g.B.Binder.bound (socket_v4_text c.socket.result) c.args.settings.now.listen
+    c.in_ok-front.front same c.in_ok-front.ensures.bound) c.serve_standing.ensures.thread
+
+pub returns-clause-front : goal.returns-clause-front
+returns-clause-front g c =
+    let same : socket_v4_text c.socket.result ≡ c.args.settings.now.listen = search rules in
+    bound_at g.B.Binder.bound (socket_v4_text c.socket.result) c.args.settings.now.listen
+    c.in_ok-front.front same c.in_ok-front.ensures.bound

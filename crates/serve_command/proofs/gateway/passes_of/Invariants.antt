@@ -1,0 +1,8 @@
+use Rattle.std.proofs.Common.{◌≡◌, map}
+use Rattle.serving.specs.Workers.{ended_in}
+use Rattle.serve_command.proofs.gateway.passes_of.Given as goal
+
+-- the passes of those so far who served
+abbrev pub invariant-loop-left : goal.invariant-loop-left
+invariant-loop-left g l =
+    l.passes.items ≡ map (λ ended. ended.port.pass) (ended_in l.yielded)

@@ -1,0 +1,50 @@
+-- What the workers of a gateway did, and what its gate counted of them.
+use Rattle.std.specs.Prelude.{◌≡◌, ◌≤◌, ◌+◌, ℕ, Bool, false, List, [], All, Some, None, length}
+use Rattle.limit_laws.specs.Algorithm.{Algorithm}
+use Rattle.limiter_core.specs.declared.counters.Counters.{Counters}
+use Rattle.limiter_core.specs.declared.event.Entry.{Entry}
+use Rattle.gate_history.specs.Book.{Making}
+use Rattle.shared_gate.specs.Calls.{Pass}
+use Rattle.shared_gate.specs.Reported.{AreCountersBehind}
+use Rattle.gate_config.specs.declared.settings.Settings.{Settings}
+use Rattle.serving.specs.declared.working.Tally.{Tally}
+use Rattle.serving.specs.Turns.{IsRun, Place}
+
+-- where a worker stands: by the counts of its door and of its backend, of which sockets show
+-- nothing more, and by what its pass knows of the gate's log
+abbrev pub stood_at : ℕ → ℕ → Bool → ℕ → List Entry → Place
+stood_at given failed closed forwarded log = record {
+  given = given;
+  failed = failed;
+  closed = closed;
+  visits = None;
+  back = record { shown = None; known = Some log; count = forwarded; log = None };
+}
+
+-- RAN: by settings that are given, a worker took its turns, or fewer where the listener was closed,
+-- from where its pass knew nothing to what that knows now; each accept was counted, for each client
+-- there was one exchange, and no more was forwarded than there were clients
+pub record HasRunTo (Gives : Settings → Type 0) (most : ℕ) (pass : Pass) : Type 0 where
+  pub settings : Settings
+  pub are_given : Gives settings
+  pub given : ℕ
+  pub failed : ℕ
+  pub closed : Bool
+  pub forwarded : ℕ
+  pub tally : Tally
+  pub run : IsRun settings most (stood_at 0 0 false 0 [])
+      (stood_at given failed closed forwarded pass.log) tally
+  pub accepted : given ≡ tally.accepted
+  pub unaccepted : failed ≡ tally.unaccepted
+  pub once : forwarded ≤ tally.accepted
+  pub turns : tally.accepted + tally.unaccepted ≤ most
+  pub whole : closed ≡ false → tally.accepted + tally.unaccepted ≡ most
+
+-- THE COUNTERS OF RUNS: so many workers ran, and these are the counters of a log of the gate that
+-- begins with what the pass of each of them knows
+pub record AreCountersOfRuns {S : Type 0} (rules : Algorithm S) (m : Making)
+    (Gives : Settings → Type 0) (workers most : ℕ) (counters : Counters) : Type 0 where
+  pub passes : List Pass
+  pub all : length passes ≡ workers
+  pub ran : All (HasRunTo Gives most) passes
+  pub behind : AreCountersBehind rules m passes counters

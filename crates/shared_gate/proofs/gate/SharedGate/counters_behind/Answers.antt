@@ -1,0 +1,26 @@
+use Rattle.std.proofs.Common.{◌≡◌, ◌≤◌, ◌∙◌, List, All, refl, subst, sym}
+use mathlib.Core.List.{IsPrefix}
+use Rattle.limiter_core.specs.declared.event.Entry.{Entry}
+use Rattle.gate_history.specs.Book.{calls_of}
+use Rattle.shared_gate.specs.Calls.{Pass}
+use Rattle.shared_gate.specs.Closing.{calls_by}
+use Rattle.shared_gate.proofs.gate.SharedGate.counters_behind.Goals as goal
+
+-- the report is of the log that the passes were compared with
+pub returns : goal.returns
+returns g c =
+    let passes : List Pass = c.args.passes.items in
+    let same : c.deref_mut.result.now ≡ c.deref.result.now =
+    sym (c.deref.ensures ∙ c.take_back.ensures.same) in
+    record {
+      log = c.deref.result.now;
+      report = c.report.result;
+      after = c.report.ensures;
+      told = refl;
+      begun =
+          subst (λ (log : List Entry). All (λ (pass : Pass). IsPrefix pass.log log) passes) same
+          c.take_back.ensures.begun;
+      enough =
+          subst (λ (log : List Entry). calls_by passes ≤ calls_of log) same
+          c.take_back.ensures.enough;
+    }

@@ -1,0 +1,11 @@
+use Rattle.std.proofs.Common.{rules, ◌≡◌, List, All, subst}
+use mathlib.Core.List.{IsPrefix}
+use Rattle.limiter_core.specs.declared.event.Entry.{Entry}
+use Rattle.shared_gate.specs.Calls.{Pass}
+use Rattle.shared_gate.proofs.sealed.Sealed.take_back.Goals as goal
+
+pub returns-clause-begun : goal.returns-clause-begun
+returns-clause-begun g c =
+    let same : c.self.inside.keeper.log ≡ c.args.self.now = search rules in
+    subst (λ (log : List Entry). All (λ (pass : Pass). IsPrefix pass.log log) c.args.passes.items)
+    same c.count_calls-calls.ensures.begun

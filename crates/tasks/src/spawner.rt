@@ -1,0 +1,21 @@
+// What starts threads.
+ghost use Rattle.std.specs.Prelude.{◌≡◌};
+ghost use Rattle.tasks.specs.Refused.{refused_of};
+
+/// What starts threads, and counts how many the system refused. Only [`run_tasks`] raises that.
+///
+/// [`run_tasks`]: crate::run_tasks
+#[derive(Drop)]
+pub struct Spawner<'a, R> {
+    pub(crate) rt: &'a R,
+    pub(crate) refused: u64,
+}
+
+impl<'a, R> Spawner<'a, R> {
+    /// One that was refused none yet.
+    pub fn new(rt: &'a R) -> Spawner<'a, R>
+        ensures { refused_of result ≡ 0 }
+    {
+        Spawner { rt, refused: 0 }
+    }
+}
