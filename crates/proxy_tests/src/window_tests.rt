@@ -1,6 +1,8 @@
-// AIMD over windows of windows, and over a window of a million samples, by worked numbers.
+// A window of as many samples as it holds; and AIMD over windows of windows, and over a window of a
+// million samples, by worked numbers.
 use aimd::Aimd;
 use limit_laws::{Limit, Sample};
+use sample_window::Window;
 use std::process::Abort;
 use windowed::Windowed;
 
@@ -62,4 +64,17 @@ fn a_window_ends_at_its_millionth_sample(rt: HostRuntime) {
     assert!(rt; windowed.limit() == 20);
     windowed.on_sample(&sample(0, 5));
     assert!(rt; windowed.limit() == 21);
+}
+
+#[test]
+fn a_window_holds_a_million_samples_of_an_hour(rt: HostRuntime) {
+    let hour = 3_600_000_000_000;
+    let sample = Sample::of_rtt(0, hour, 1, false);
+    let mut window = Window::empty();
+    for _ in 0..1_000_000 {
+        assert!(rt; window.count() < 1_000_000);
+        window.add(&sample);
+    }
+    assert!(rt; window.count() == 1_000_000 && window.sum() == 1_000_000 * hour);
+    assert!(rt; window.count() > 0 && window.mean() == hour);
 }
