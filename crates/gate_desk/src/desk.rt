@@ -2,15 +2,15 @@
 ghost use Rattle.std.specs.Prelude.{◌≡◌};
 ghost use Rattle.gate_desk.specs.Desk.{outcome_of};
 
+use crate::watch::DeskWatch;
 use clocks::Clock;
 use gate_history::{Receipt, Spent};
 use gate_port::Report;
 use limit_laws::{Limit, SetFault};
 use limiter_core::Reply;
-use log::{Log, warn};
 use operator_serving::{ChangeFault, Desk};
 use partitions::PartitionTable;
-use serve_reports::{Noted, Watcher};
+use serve_reports::Noted;
 use shared_gate::{GateNaming, Pass, SharedGate};
 use std::sync::Wait;
 use std::time::{Clock as SystemClock, Duration};
@@ -18,15 +18,15 @@ use timed_io::Listener;
 
 /// Where an operator looks at a gateway and changes it, by a pass of its own.
 #[derive(Drop)]
-pub struct GateDesk<'a, G: Limit, M: GateNaming, R: SystemClock, L, C> {
-    /// What locks, logs and tells the time.
+pub struct GateDesk<'a, G: Limit, M: GateNaming, R, L, C, W> {
+    /// What locks and tells the time.
     pub rt: &'a R,
     /// The gate that stands between clients and the backend.
     pub gate: &'a SharedGate<G, M>,
     /// The pass by which its limit is changed.
     pub pass: Pass<M>,
-    /// What noted exchanges and troubles.
-    pub watch: &'a Watcher<'a, R>,
+    /// What noted exchanges and troubles, and hears of what is changed.
+    pub watch: W,
     /// Where clients come from.
     pub front: &'a L,
     /// The clock of the gate's moments.
@@ -37,13 +37,14 @@ pub struct GateDesk<'a, G: Limit, M: GateNaming, R: SystemClock, L, C> {
     pub most: Duration,
 }
 
-impl<'a, G, M, R, L, C> Desk for GateDesk<'a, G, M, R, L, C>
+impl<'a, G, M, R, L, C, W> Desk for GateDesk<'a, G, M, R, L, C, W>
 where
     G: Limit,
     M: GateNaming,
-    R: SystemClock + Wait + Log,
+    R: SystemClock + Wait,
     L: Listener,
     C: Clock,
+    W: DeskWatch,
 {
     ghost use Rattle.gate_history.specs.Book.{made_as};
     ghost use Rattle.gate_desk.specs.Desk.{DoneBy, ShownBy};
@@ -76,7 +77,7 @@ where
         let told = self.gate.set_limit(self.rt, &mut self.pass, n, now);
         let outcome = outcome_of(told);
         if outcome.is_ok() {
-            warn!(self.rt; target: "admission", limit = n; "the operator set the limit");
+            self.watch.limit_set(n);
         }
         outcome
     }
@@ -86,13 +87,13 @@ where
         let told = self.gate.reset(self.rt, &mut self.pass, now);
         let outcome = outcome_of(told);
         if outcome.is_ok() {
-            warn!(self.rt; target: "admission", "the operator reset the limit");
+            self.watch.limit_reset();
         }
         outcome
     }
 
     fn drain(&mut self) {
-        warn!(self.rt; target: "admission", "the operator drains the gateway");
+        self.watch.draining();
         self.front.close(self.rt, self.most);
     }
 }

@@ -1,8 +1,8 @@
 // The thread of an operator.
 use crate::desk::GateDesk;
+use crate::watch::DeskWatch;
 use clocks::Clock;
 use limit_laws::Limit;
-use log::Log;
 use operator_serving::{Buffers, Operating, operate};
 use shared_gate::GateNaming;
 use std::alloc::AllocError;
@@ -13,18 +13,18 @@ use timed_io::Listener;
 
 /// Serves one operator after the other at a gateway's desk, until their listener is closed.
 #[derive(Drop)]
-pub struct Operator<'a, G: Limit, M: GateNaming, R: SystemClock, L, C> {
+pub struct Operator<'a, G: Limit, M: GateNaming, R, L, C, W> {
     common: &'a Operating<'a, L, C>,
-    desk: GateDesk<'a, G, M, R, L, C>,
+    desk: GateDesk<'a, G, M, R, L, C, W>,
     buffers: Buffers,
 }
 
-impl<'a, G: Limit, M: GateNaming, R: SystemClock, L, C> Operator<'a, G, M, R, L, C> {
+impl<'a, G: Limit, M: GateNaming, R, L, C, W: Drop> Operator<'a, G, M, R, L, C, W> {
     /// One who was asked nothing yet. It fails only out of memory.
     pub fn new(
         common: &'a Operating<'a, L, C>,
-        desk: GateDesk<'a, G, M, R, L, C>,
-    ) -> Result<Operator<'a, G, M, R, L, C>, AllocError> {
+        desk: GateDesk<'a, G, M, R, L, C, W>,
+    ) -> Result<Operator<'a, G, M, R, L, C, W>, AllocError> {
         let buffers = Buffers::new(common.alloc)?;
         Ok(Operator {
             common,
@@ -34,13 +34,14 @@ impl<'a, G: Limit, M: GateNaming, R: SystemClock, L, C> Operator<'a, G, M, R, L,
     }
 }
 
-impl<'a, G, M, R, L, C> Task for Operator<'a, G, M, R, L, C>
+impl<'a, G, M, R, L, C, W> Task for Operator<'a, G, M, R, L, C, W>
 where
     G: Limit,
     M: GateNaming,
-    R: SystemClock + Wait + Log,
+    R: SystemClock + Wait,
     L: Listener,
     C: Clock,
+    W: DeskWatch + Drop,
 {
     type Done = ();
 

@@ -16,6 +16,7 @@ ghost use Rattle.serving.specs.Workers.{ended_in};
 ghost use Rattle.serve_command.specs.Command.{making_of};
 ghost use Rattle.serve_command.specs.Runs.{AreCountersOfRuns};
 
+use crate::desk_log::DeskLog;
 use clocks::Clock;
 use gate_config::Settings;
 use gate_desk::{GateDesk, Operator};
@@ -181,18 +182,22 @@ fn make_operator<'a, M: GateNaming, R: SystemClock, G: Limit, L, C, S>(
     operating: Option<&'a Operating<'a, L, C>>,
     gate: &'a SharedGate<G, M>,
     own: Option<Pass<M>>,
-) -> Result<Option<Operator<'a, G, M, R, L, C>>, AllocError> {
+) -> Result<Option<Operator<'a, G, M, R, L, C, DeskLog<'a, R>>>, AllocError> {
     let (Some(operating), Some(pass)) = (operating, own) else {
         return Ok(None);
     };
     let Ok(table) = settings.table.copy() else {
         return Err(AllocError);
     };
+    let watch = DeskLog {
+        rt,
+        watch: common.watch,
+    };
     let desk = GateDesk {
         rt,
         gate,
         pass,
-        watch: common.watch,
+        watch,
         front: common.listener,
         clock: common.clock,
         table,

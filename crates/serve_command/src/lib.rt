@@ -9,6 +9,7 @@ mod admin;
 mod command;
 mod config_text;
 mod descriptors;
+mod desk_log;
 mod fault;
 mod gateway;
 mod logging;

@@ -1,0 +1,18 @@
+// What a desk asks and tells of.
+use serve_reports::Noted;
+
+/// Shows what was noted of exchanges and troubles, and hears of what an operator changes. So a desk
+/// knows nothing of the log.
+pub trait DeskWatch {
+    /// What was noted so far.
+    fn noted(&self) -> Noted;
+
+    /// The limit was set to so many permits.
+    fn limit_set(&self, n: u32);
+
+    /// The algorithm of the limit began anew.
+    fn limit_reset(&self);
+
+    /// No further client comes from here on.
+    fn draining(&self);
+}
