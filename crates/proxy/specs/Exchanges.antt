@@ -1,9 +1,9 @@
 -- What an exchange is.
-use Rattle.std.specs.Prelude.{◌≡◌, ℕ, List, Option, None, Some, Result, Ok, Err, IsErrOf}
+use Rattle.std.specs.Prelude.{◌≡◌, ℕ, List, Option, None, Some, Result, Ok, Err, IsErrOf, OnOk}
 use Rattle.clocks.specs.Looks.{Looked}
 use Rattle.counted_io.specs.declared.counted.Counted.{Counted}
-use Rattle.counted_io.specs.Causes.{IsWriteCause}
-use Rattle.counted_io.specs.Counted.{inner_of}
+use Rattle.counted_io.specs.Causes.{HasRead, IsWriteCause}
+use Rattle.counted_io.specs.Counted.{failures_of, inner_of}
 use Rattle.counted_io.specs.Effects.{Wrote}
 use Rattle.limiter_core.specs.declared.event.Entry.{Entry}
 use Rattle.message_reading.specs.Reading.{HasFailed}
@@ -52,7 +52,7 @@ pub record World : Type 0 where
 
 -- READ: the request that the reader's bytes begin with, or the fault that comes first in them,
 -- with what was said to the client meanwhile; a fault of the reader, of too many reads, or of the
--- writer has its cause
+-- writer has its cause. Whatever it is, a read was made, and for a request no read failed
 pub record IsRead (reader reader' writer writer' : Counted Bytes) (read : Result Request WireFault)
     : Type 0 where
   pub bytes : Reads known reader reader' (λ (request : Request). request) IsRequest read
@@ -61,6 +61,8 @@ pub record IsRead (reader reader' writer writer' : Counted Bytes) (read : Result
   pub failed : IsErrOf read fault.Read → HasFailed reader reader'
   pub used_up : IsErrOf read fault.TurnLimit → IsUsedUp reader reader'
   pub unsaid : IsErrOf read fault.Write → IsWriteCause writer writer'
+  pub reads : HasRead reader reader'
+  pub unfailing : OnOk read (failures_of reader' ≡ failures_of reader)
 
 -- after a fault of reading the gate isn't asked, no clock is looked at and nothing is forwarded;
 -- else what was read is settled

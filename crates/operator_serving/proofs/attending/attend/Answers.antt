@@ -15,6 +15,8 @@ returns-in-Err g c = record {
     failed = c.in-Err.ensures.read;
     used_up = c.in-Err.ensures.turns;
     unsaid = c.in-Err.ensures.write;
+    reads = c.in-Err.ensures.reads;
+    unfailing = c.in-Err.ensures.reads_well;
   };
   deals = (c.unread.ensures.unread, refl, c.unread.ensures.answer, c.unread.ensures.text);
 }
@@ -29,6 +31,8 @@ returns g c = record {
     failed = c.in-Ok.ensures.read;
     used_up = c.in-Ok.ensures.turns;
     unsaid = c.in-Ok.ensures.write;
+    reads = c.in-Ok.ensures.reads;
+    unfailing = c.in-Ok.ensures.reads_well;
   };
   deals = (
     refl,

@@ -24,6 +24,8 @@ returns-in-Err-clause-exchanged g c = record {
     failed = c.in-Err.ensures.read;
     used_up = c.in-Err.ensures.turns;
     unsaid = c.in-Err.ensures.write;
+    reads = c.in-Err.ensures.reads;
+    unfailing = c.in-Err.ensures.reads_well;
   };
   deals = (c.unread.ensures.class, c.unread.ensures.admission, refl, refl, refl, refl, refl, refl);
   status = c.unread.ensures.answer;
@@ -44,6 +46,8 @@ returns-clause-exchanged g c = record {
     failed = c.in-Ok.ensures.read;
     used_up = c.in-Ok.ensures.turns;
     unsaid = c.in-Ok.ensures.write;
+    reads = c.in-Ok.ensures.reads;
+    unfailing = c.in-Ok.ensures.reads_well;
   };
   deals = (
     ap Some c.settle-settled.ensures.class_is,
