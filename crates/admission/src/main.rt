@@ -46,6 +46,7 @@ fn main(rt: HostRuntime) -> ExitCode {
             let workers = workers as usize;
             run_load(
                 &rt,
+                &mut Spawner::new(&rt),
                 alloc,
                 limit,
                 workers,

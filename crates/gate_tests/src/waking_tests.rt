@@ -18,6 +18,7 @@ use std::sync::Wait;
 use std::sync::atomic::{AtomicU64, Ordering};
 use std::thread::{Threads, join, sleep};
 use std::time::{Clock as SystemClock, Duration};
+use tasks::Spawner;
 
 /// A second, in nanoseconds.
 const SECOND: u64 = 1_000_000_000;
@@ -273,7 +274,18 @@ fn crowded<R: Threads + Wait + SystemClock + Sync>(rt: &R, alloc: Global) -> Vec
         left: 20_000,
     });
     let mut writer = Counted::new(&mut written);
-    let _answer = load_with(rt, alloc, &mut reader, &mut writer, 1, 4, &Stands {});
+    let mut spawner = Spawner::new(rt);
+    let clock = Stands {};
+    let _answer = load_with(
+        rt,
+        &mut spawner,
+        alloc,
+        &mut reader,
+        &mut writer,
+        1,
+        4,
+        &clock,
+    );
     written
 }
 

@@ -3,6 +3,7 @@ use Rattle.std.specs.Prelude.{◌≡◌, ◌≢◌, ◌<◌, ◌∷◌, [], ℕ,
 use Rattle.std.specs.List.{concat}
 use Rattle.counted_io.specs.declared.counted.Counted.{Counted}
 use Rattle.counted_io.specs.Causes.{IsReadCause, IsWriteCause}
+use Rattle.counted_io.specs.Count.{raised}
 use Rattle.counted_io.specs.Counted.{failures_of}
 use Rattle.counted_io.specs.Effects.{IfLeft}
 use Rattle.audit.specs.Text.{cause_text}
@@ -23,16 +24,18 @@ load_fault_text Write = codes "write"
 load_fault_text Thread = codes "thread"
 load_fault_text (Audit cause) = concat (codes "audit: " ∷ cause_text cause ∷ [])
 
--- why a load stops: a line at fault is the trace's, and an audit's cause that of its run; each
--- other fault has its cause, and no other call failed; and nothing is written but on a fault of
--- writing
+-- why a load stops, by how many threads were refused before and after: a line at fault is the
+-- trace's, and an audit's cause that of its run; each other fault has its cause, and no other call
+-- failed; and nothing is written but on a fault of writing
 pub record IsLoadStop {R W : Type 0} (remaining : R → Option (List ℕ)) (workers n : ℕ)
-    (before after : Counted R) (old new : Counted W) (fault : LoadFault) : Type 0 where
+    (refused_before refused_after : ℕ) (before after : Counted R) (old new : Counted W)
+    (fault : LoadFault) : Type 0 where
   pub line : IfLine fault (λ at. IfLeft remaining before (λ text. IsAtFault text at))
   pub audit : IfAudit fault (λ cause. IfLeft remaining before (λ text.
       IsRefused workers n text cause))
   pub memory : fault ≡ Memory → IsOutOfMemory remaining before after
   pub thread : fault ≡ Thread → LacksThread remaining before after
+  pub lacking : fault ≡ Thread → refused_after ≡ raised refused_before
   pub too_large : fault ≡ TooLarge → IfLeft remaining before (λ text. most_script < length text)
   pub read : fault ≡ Read → IsReadCause most_reads before after
   pub write : fault ≡ Write → IsWriteCause old new

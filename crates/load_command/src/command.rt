@@ -3,6 +3,7 @@ ghost use Rattle.std.specs.Prelude.{◌≡◌, ◌≤◌, ◌+◌, ◌⊎◌, tr
 ghost use Rattle.counted_io.specs.Causes.{HasRead};
 ghost use Rattle.counted_io.specs.Counted.{calls_of, failures_of, is_flushed};
 ghost use Rattle.counted_io.specs.Effects.{IfLeft, Wrote};
+ghost use Rattle.tasks.specs.Refused.{refused_of};
 ghost use Rattle.limit_laws.specs.Algorithm.{greatest_limit};
 ghost use Rattle.audit.specs.Text.{cause_text};
 ghost use Rattle.script.specs.Faults.{line_fault_text};
@@ -22,6 +23,7 @@ use std::io::{Read, Write};
 use std::sync::Wait;
 use std::thread::Threads;
 use std::time::Clock as SystemClock;
+use tasks::Spawner;
 
 /// Carries a trace out by so many workers on threads of their own, tells its fault on `errors`, and
 /// answers the exit status.
@@ -30,6 +32,7 @@ use std::time::Clock as SystemClock;
 /// all output, is flushed and takes no memory; where it can't be written itself, it is dropped.
 pub fn run_load<T, R: Read, W: Write, E: Write>(
     rt: &T,
+    spawner: &mut Spawner<'_, T>,
     alloc: Global,
     limit: u32,
     workers: usize,
@@ -55,14 +58,15 @@ where
 
     // The fault is told.
     ensures stopped { result ≡ 1 → (fault : LoadFault)
-        × IsLoadStop R.remaining workers limit reader.old reader.new writer.old writer.new fault
+        × IsLoadStop R.remaining workers limit (refused_of spawner.old) (refused_of spawner.new)
+        reader.old reader.new writer.old writer.new fault
         × IsTold E.contents errors.old errors.new (fault_line (load_fault_text fault)) }
 
     // Whatever it answers.
     ensures few_reads { calls_of reader.new ≤ calls_of reader.old + most_reads }
     ensures reads { HasRead reader.old reader.new }
 {
-    match carry_out(rt, alloc, limit, workers, reader, writer) {
+    match carry_out(rt, spawner, alloc, limit, workers, reader, writer) {
         Ok(()) => DONE,
         Err(fault) => {
             tell_load_fault(errors, fault);
@@ -74,6 +78,7 @@ where
 /// Carries a trace out.
 fn carry_out<T, R: Read, W: Write>(
     rt: &T,
+    spawner: &mut Spawner<'_, T>,
     alloc: Global,
     limit: u32,
     workers: usize,
@@ -92,11 +97,12 @@ where
     ensures read { OnOk result (failures_of reader.new ≡ failures_of reader.old) }
     ensures unfailing { OnOk result (failures_of writer.new ≡ failures_of writer.old) }
     ensures stopped { IfErr result (IsLoadStop R.remaining workers limit
+        (refused_of spawner.old) (refused_of spawner.new)
         reader.old reader.new writer.old writer.new) }
     ensures few_reads { calls_of reader.new ≤ calls_of reader.old + most_reads }
     ensures reads { HasRead reader.old reader.new }
 {
-    load(rt, alloc, reader, writer, limit, workers)
+    load(rt, spawner, alloc, reader, writer, limit, workers)
 }
 
 /// Tells why a load stopped.

@@ -4,6 +4,8 @@ ghost use Rattle.std.specs.Prelude.{IfErr, IfOk, IsErrOf, OnErr, OnOk};
 ghost use Rattle.counted_io.specs.Counted.{calls_of, failures_of, is_flushed};
 ghost use Rattle.counted_io.specs.Effects.{IfLeft, Wrote};
 ghost use Rattle.counted_io.specs.Causes.{HasRead, IsReadCause, IsWriteCause};
+ghost use Rattle.counted_io.specs.Count.{raised};
+ghost use Rattle.tasks.specs.Refused.{refused_of};
 ghost use Rattle.limit_laws.specs.Algorithm.{greatest_limit};
 ghost use Rattle.load_driver.specs.Driver.{IsOutOfMemory};
 ghost use Rattle.load_driver.specs.Limits.{most_reads, most_script};
@@ -26,11 +28,13 @@ use std::marker::Brand;
 use std::sync::Wait;
 use std::thread::Threads;
 use std::time::Clock as SystemClock;
+use tasks::Spawner;
 use trace::{Trace, read_trace};
 
 /// What is counted of an audited run of a trace's calls. A line at fault starts no worker.
 fn run_trace<T, C>(
     rt: &T,
+    spawner: &mut Spawner<'_, T>,
     alloc: Global,
     crew: Crew,
     text: &[u8],
@@ -49,6 +53,8 @@ where
         (trace_of text.now).settings (trace_of text.now).calls.arrivals) }
     ensures stops { IfErr result (StopsTrace crew.workers crew.limit (trace_of text.now)) }
     ensures thread { IsErrOf result LoadFault.Thread → (trace_of text.now).calls.fault ≡ None }
+    ensures lacking { IsErrOf result LoadFault.Thread →
+        refused_of spawner.new ≡ raised (refused_of spawner.old) }
 {
     let Trace {
         settings,
@@ -61,6 +67,7 @@ where
     let word = Word::new(alloc)?;
     run_named::<Brand, T, C>(
         rt,
+        spawner,
         alloc,
         Blanks::new(),
         word,
@@ -93,6 +100,7 @@ fn text_of(alloc: Global, summary: Summary) -> Result<String, AllocError>
 /// A line at fault starts no worker. Nothing is written on any fault but `Write`.
 pub fn load_with<T, C, R: Read, W: Write>(
     rt: &T,
+    spawner: &mut Spawner<'_, T>,
     alloc: Global,
     reader: &mut Counted<R>,
     writer: &mut Counted<W>,
@@ -122,6 +130,8 @@ where
         IsOutOfMemory R.remaining reader.old reader.new }
     ensures thread { IsErrOf result LoadFault.Thread →
         LacksThread R.remaining reader.old reader.new }
+    ensures lacking { IsErrOf result LoadFault.Thread →
+        refused_of spawner.new ≡ raised (refused_of spawner.old) }
     ensures read { IsErrOf result LoadFault.Read → IsReadCause most_reads reader.old reader.new }
     ensures too_large { IsErrOf result LoadFault.TooLarge →
         IfLeft R.remaining reader.old (λ text. most_script < length text) }
@@ -139,7 +149,7 @@ where
 {
     let text = read_all(alloc, reader, MOST_BYTES, MOST_READS)?;
     let crew = Crew { limit: n, workers };
-    let summary = run_trace(rt, alloc, crew, &text, clock)?;
+    let summary = run_trace(rt, spawner, alloc, crew, &text, clock)?;
     let told = text_of(alloc, summary)?;
     write_and_flush(writer, told.as_bytes())?;
     Ok(())
@@ -148,6 +158,7 @@ where
 /// What [`load_with`] does, by the program's own clock, which it starts.
 pub fn load<T, R: Read, W: Write>(
     rt: &T,
+    spawner: &mut Spawner<'_, T>,
     alloc: Global,
     reader: &mut Counted<R>,
     writer: &mut Counted<W>,
@@ -175,6 +186,8 @@ where
         IsOutOfMemory R.remaining reader.old reader.new }
     ensures thread { IsErrOf result LoadFault.Thread →
         LacksThread R.remaining reader.old reader.new }
+    ensures lacking { IsErrOf result LoadFault.Thread →
+        refused_of spawner.new ≡ raised (refused_of spawner.old) }
     ensures read { IsErrOf result LoadFault.Read → IsReadCause most_reads reader.old reader.new }
     ensures too_large { IsErrOf result LoadFault.TooLarge →
         IfLeft R.remaining reader.old (λ text. most_script < length text) }
@@ -191,5 +204,5 @@ where
         writer.new ≡ writer.old) }
 {
     let clock = ProgramClock::start(rt);
-    load_with(rt, alloc, reader, writer, n, workers, &clock)
+    load_with(rt, spawner, alloc, reader, writer, n, workers, &clock)
 }

@@ -1,5 +1,7 @@
 // A run of the calls of a trace, and its audit.
-ghost use Rattle.std.specs.Prelude.{◌≡◌, ◌≤◌, IfErr, IfOk, vec_len};
+ghost use Rattle.std.specs.Prelude.{◌≡◌, ◌≤◌, IfErr, IfOk, IsErrOf, vec_len};
+ghost use Rattle.counted_io.specs.Count.{raised};
+ghost use Rattle.tasks.specs.Refused.{refused_of};
 ghost use Rattle.limit_laws.specs.Algorithm.{greatest_limit};
 ghost use Rattle.limit_kinds.specs.AnyKinds.{any_rules};
 ghost use Rattle.limiter_core.specs.Limiter.{unasked};
@@ -30,6 +32,7 @@ use std::alloc::{AllocError, Global};
 use std::sync::Wait;
 use std::thread::Threads;
 use std::time::Clock as SystemClock;
+use tasks::Spawner;
 use trace::Arrival;
 
 /// How the run is made: the limit where no line gives one, and how many workers there are.
@@ -42,6 +45,7 @@ pub(crate) struct Crew {
 /// Runs the calls by workers on threads of their own, and audits the run.
 pub(crate) fn run_named<M: GateNaming + Send + Sync, R, C>(
     rt: &R,
+    spawner: &mut Spawner<'_, R>,
     alloc: Global,
     blanks: Blanks,
     word: Word,
@@ -67,6 +71,8 @@ where
     ensures run { IfOk result (IsRun crew.workers crew.limit settings.entry arrivals.items) }
     ensures stops { IfErr result
         (StopsRun crew.workers crew.limit settings.entry arrivals.items) }
+    ensures thread { IsErrOf result LoadFault.Thread →
+        refused_of spawner.new ≡ raised (refused_of spawner.old) }
 {
     let timeout = settings.timeout();
     let turns = (arrivals.len() / crew.workers).saturating_add(1);
@@ -79,7 +85,7 @@ where
         timeout,
         workers: crew.workers,
     };
-    let worked = run_all(alloc, &shop, workers)?;
+    let worked = run_all(spawner, alloc, &shop, workers)?;
     Ok(close(alloc, gate, worked)?)
 }
 

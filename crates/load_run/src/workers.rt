@@ -1,5 +1,7 @@
 // All workers, each on a thread of its own.
-ghost use Rattle.std.specs.Prelude.{◌≡◌, ◌++◌, ◌∷◌, [], IfOk, vec_len};
+ghost use Rattle.std.specs.Prelude.{◌≡◌, ◌++◌, ◌∷◌, [], IfOk, IsErrOf, vec_len};
+ghost use Rattle.counted_io.specs.Count.{raised};
+ghost use Rattle.tasks.specs.Refused.{refused_of};
 ghost use Rattle.audit.specs.Firsts.{EachHas};
 ghost use Rattle.load_run.specs.Gathered.{IsKeptAt};
 ghost use Rattle.load_run.specs.Workers.{AreWork};
@@ -98,6 +100,7 @@ fn gather<M: GateNaming>(
 /// Runs all workers: once they have ended, their passes, receipts and refusals. `Memory` may also
 /// come once they have.
 pub(crate) fn run_all<L: Limit + Send, M: GateNaming + Send + Sync, R, C>(
+    spawner: &mut Spawner<'_, R>,
     alloc: Global,
     shop: &Shop<L, M, R, C>,
     workers: Vec<Worker<M>>,
@@ -108,11 +111,13 @@ where
     ensures count { IfOk result (λ worked. vec_len worked.kept ≡ vec_len workers) }
     ensures work { IfOk result (λ worked. AreWork shop.now.workers
         shop.now.arrivals.now.items worked.kept.items worked.spent.items) }
+    ensures thread { IsErrOf result TasksFault.Thread →
+        refused_of spawner.new ≡ raised (refused_of spawner.old) }
 {
     let Ok(hands) = hands_of(alloc, shop, workers) else {
         return Err(TasksFault::Memory);
     };
-    let done = run_tasks(&mut Spawner::new(shop.rt), alloc, hands)?;
+    let done = run_tasks(spawner, alloc, hands)?;
     let Ok(worked) = gather(alloc, done) else {
         return Err(TasksFault::Memory);
     };

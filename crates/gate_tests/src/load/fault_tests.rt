@@ -7,6 +7,7 @@ use std::io::{Read, Write};
 use std::sync::Wait;
 use std::thread::Threads;
 use std::time::Clock as SystemClock;
+use tasks::Spawner;
 
 const BYPASSED: &str = "bypass 0\nbypass 1\nbypass 2\n";
 
@@ -25,6 +26,7 @@ fn loaded<T: Threads + Wait + SystemClock + Sync, R: Read, W: Write>(
 ) -> Result<(), LoadFault> {
     load(
         rt,
+        &mut Spawner::new(rt),
         alloc,
         &mut Counted::new(reader),
         &mut Counted::new(writer),

@@ -5,6 +5,7 @@ use shared_gate::Clock;
 use std::hint;
 use std::sync::atomic::{AtomicBool, AtomicU64, Ordering};
 use std::test::Fail;
+use tasks::Spawner;
 
 /// A clock that holds its first reading until a second one has begun.
 #[derive(Drop)]
@@ -51,7 +52,18 @@ fn two_workers_call_at_the_same_time(rt: HostRuntime) -> Result<(), Fail> {
     let mut written = Vec::new(rt.alloc());
     let mut reader = Counted::new(TWO.as_bytes());
     let mut writer = Counted::new(&mut written);
-    let answer = load_with(&rt, rt.alloc(), &mut reader, &mut writer, 2, 2, &clock);
+    let mut spawner = Spawner::new(&rt);
+    let alloc = rt.alloc();
+    let answer = load_with(
+        &rt,
+        &mut spawner,
+        alloc,
+        &mut reader,
+        &mut writer,
+        2,
+        2,
+        &clock,
+    );
     assert!(rt; answer.is_ok());
     assert!(rt; clock.was_met.load(Ordering::SeqCst));
     assert!(rt; written.as_slice() == TWO_TEXT.as_bytes());

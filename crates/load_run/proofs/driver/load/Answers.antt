@@ -18,6 +18,9 @@ returns-clause-memory g c = c.load_with.ensures.memory
 pub returns-clause-thread : goal.returns-clause-thread
 returns-clause-thread g c = c.load_with.ensures.thread
 
+pub returns-clause-lacking : goal.returns-clause-lacking
+returns-clause-lacking g c = c.load_with.ensures.lacking
+
 pub returns-clause-read : goal.returns-clause-read
 returns-clause-read g c = c.load_with.ensures.read
 
