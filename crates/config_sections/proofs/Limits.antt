@@ -4,11 +4,9 @@ use Rattle.toml.specs.Data.{Members, get_member}
 use Rattle.config_values.specs.declared.fault.ConfigFault.{ConfigFault}
 use Rattle.config_values.specs.declared.key.Key.TheVariants as Key
 use Rattle.config_values.specs.Number.{number_from}
-use Rattle.config_values.specs.Outcomes.{result_map}
 use Rattle.config_values.specs.Text.{is_among, text_from}
-use Rattle.config_sections.specs.Limit.{aimd_of, fixed_of, limit_values, settable_of, vegas_of}
-use Rattle.config_sections.specs.Rows.{aimd, fixed, limit_kinds, limit_rows, settable, vegas}
-use Rattle.config_sections.specs.Section.{section_values}
+use Rattle.config_sections.specs.Limit.{aimd_of, fixed_of, limit_in, settable_of, vegas_of}
+use Rattle.config_sections.specs.Rows.{aimd, fixed, limit_kinds, settable, vegas}
 use Rattle.config_sections.proofs.Chains.{either}
 
 -- the word of the section's kind
@@ -16,7 +14,7 @@ abbrev pub kind_of : Members → Result (List ℕ) ConfigFault
 kind_of t = text_from Key.LimitKind (is_among limit_kinds) (get_member (codes "kind") t)
 
 pub fixed_section : (t : Members) → kind_of t ≡ Ok fixed
-    → section_values [] limit_rows t ≡ result_map limit_values (fixed_of t)
+    → limit_in t ≡ fixed_of t
 fixed_section t kind =
     rw kind (elim
     (either (number_from Key.LimitInitial 1 10000 (Some 20) (get_member (codes "initial") t))) [
@@ -25,7 +23,7 @@ fixed_section t kind =
     ])
 
 pub settable_section : (t : Members) → kind_of t ≡ Ok settable
-    → section_values [] limit_rows t ≡ result_map limit_values (settable_of t)
+    → limit_in t ≡ settable_of t
 settable_section t kind =
     rw kind
     (elim (either (number_from Key.LimitMin 1 10000 (Some 1) (get_member (codes "min") t))) [
@@ -43,7 +41,7 @@ settable_section t kind =
     ])
 
 pub aimd_section : (t : Members) → kind_of t ≡ Ok aimd
-    → section_values [] limit_rows t ≡ result_map limit_values (aimd_of t)
+    → limit_in t ≡ aimd_of t
 aimd_section t kind =
     rw kind
     (elim (either (number_from Key.LimitMin 1 10000 (Some 1) (get_member (codes "min") t))) [
@@ -71,7 +69,7 @@ aimd_section t kind =
     ])
 
 pub vegas_section : (t : Members) → kind_of t ≡ Ok vegas
-    → section_values [] limit_rows t ≡ result_map limit_values (vegas_of t)
+    → limit_in t ≡ vegas_of t
 vegas_section t kind =
     rw kind
     (elim (either (number_from Key.LimitMin 1 10000 (Some 1) (get_member (codes "min") t))) [
