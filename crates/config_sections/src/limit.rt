@@ -1,13 +1,14 @@
 // The keys of the limit.
-ghost use Rattle.std.specs.Prelude.{◌≡◌, ◌≤◌, IfOk, IsOk, Some, None, map, option_map, if◌then◌else◌};
+ghost use Rattle.std.specs.Prelude.{◌≡◌, ◌≤◌, ℕ, true, List, [], IfOk, IsOk, Ok, Some, None, codes, map, option_map, if◌then◌else◌};
 ghost use Rattle.toml.specs.Data.{get_member};
 ghost use Rattle.toml.specs.View.{table_view};
 ghost use Rattle.limit_kinds.specs.Specs.{limit_made};
 ghost use Rattle.config_values.specs.Key.{name_of};
 ghost use Rattle.config_values.specs.Outcomes.{result_map};
 ghost use Rattle.config_values.specs.Text.{is_among, text_from};
-ghost use Rattle.config_sections.specs.Limit.{aimd_of, fixed_of, kind_word, limit_in, limit_names, moving_of, settable_of, vegas_of};
-ghost use Rattle.config_sections.specs.Rows.{limit_kinds};
+ghost use Rattle.config_sections.specs.Limit.{kind_word, limit_in, limit_names, moving_values};
+ghost use Rattle.config_sections.specs.Rows.{limit_kinds, moving, moving_rows};
+ghost use Rattle.config_sections.specs.Section.{section_values};
 
 use crate::{HOUR_US, MICRO};
 use config_values::{ConfigFault, Key, KeyAtFault, Range, read_number, read_text};
@@ -103,8 +104,10 @@ fn limit_kind(table: &Table) -> Result<LimitKind, ConfigFault>
 
 /// A fixed limit.
 fn read_fixed(table: &Table) -> Result<LimitSpec, ConfigFault>
+    requires { text_from Key.LimitKind (is_among limit_kinds)
+        (get_member (name_of Key.LimitKind) (table_view table.now)) ≡ Ok (codes "fixed") }
     ensures sound { IfOk result (λ spec. IsOk (limit_made spec)) }
-    ensures value { result ≡ fixed_of (table_view table.now) }
+    ensures value { result ≡ limit_in (table_view table.now) }
 {
     let initial = read_number(table, Key::LimitInitial, Range::new(1, MOST, 20))?;
     Ok(LimitSpec::Fixed {
@@ -114,8 +117,10 @@ fn read_fixed(table: &Table) -> Result<LimitSpec, ConfigFault>
 
 /// A limit that is set by hand.
 fn read_settable(table: &Table) -> Result<LimitSpec, ConfigFault>
+    requires { text_from Key.LimitKind (is_among limit_kinds)
+        (get_member (name_of Key.LimitKind) (table_view table.now)) ≡ Ok (codes "settable") }
     ensures sound { IfOk result (λ spec. IsOk (limit_made spec)) }
-    ensures value { result ≡ settable_of (table_view table.now) }
+    ensures value { result ≡ limit_in (table_view table.now) }
 {
     let moving = read_moving(table)?;
     Ok(LimitSpec::Settable {
@@ -127,8 +132,10 @@ fn read_settable(table: &Table) -> Result<LimitSpec, ConfigFault>
 
 /// An AIMD limit.
 fn read_aimd(table: &Table) -> Result<LimitSpec, ConfigFault>
+    requires { text_from Key.LimitKind (is_among limit_kinds)
+        (get_member (name_of Key.LimitKind) (table_view table.now)) ≡ Ok (codes "aimd") }
     ensures sound { IfOk result (λ spec. IsOk (limit_made spec)) }
-    ensures value { result ≡ aimd_of (table_view table.now) }
+    ensures value { result ≡ limit_in (table_view table.now) }
 {
     let moving = read_moving(table)?;
     let ratio = read_number(table, Key::LimitRatio, Range::new(500, 999, 900))?;
@@ -148,8 +155,10 @@ fn read_aimd(table: &Table) -> Result<LimitSpec, ConfigFault>
 
 /// A Vegas limit.
 fn read_vegas(table: &Table) -> Result<LimitSpec, ConfigFault>
+    requires { text_from Key.LimitKind (is_among limit_kinds)
+        (get_member (name_of Key.LimitKind) (table_view table.now)) ≡ Ok (codes "vegas") }
     ensures sound { IfOk result (λ spec. IsOk (limit_made spec)) }
-    ensures value { result ≡ vegas_of (table_view table.now) }
+    ensures value { result ≡ limit_in (table_view table.now) }
 {
     let moving = read_moving(table)?;
     let alpha = read_number(table, Key::LimitAlpha, Range::new(1, 100, 3))?;
@@ -177,7 +186,11 @@ struct Moving {
 fn read_moving(table: &Table) -> Result<Moving, ConfigFault>
     ensures least { IfOk result (λ m. (1 ≤ m.min) × (m.min ≤ m.initial)) }
     ensures most { IfOk result (λ m. (m.initial ≤ m.max) × (m.max ≤ 10000)) }
-    ensures value { result ≡ moving_of (table_view table.now) }
+    ensures value { (kind : List ℕ) → is_among moving kind ≡ true
+        → text_from Key.LimitKind (is_among limit_kinds)
+        (get_member (name_of Key.LimitKind) (table_view table.now)) ≡ Ok kind
+        → result_map (moving_values kind) result
+        ≡ section_values [] moving_rows (table_view table.now) }
 {
     let min = read_number(table, Key::LimitMin, Range::new(1, MOST, 1))?;
     let max = read_number(table, Key::LimitMax, Range::new(min, MOST, 200))?;

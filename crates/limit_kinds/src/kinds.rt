@@ -1,7 +1,7 @@
 // The kinds of limit, as one.
 ghost use Rattle.std.specs.Prelude.{◌≡◌};
-ghost use Rattle.limit_kinds.specs.AnyKinds.{any_from};
-ghost use Rattle.limit_kinds.specs.KindNames.{base_name, kind_name};
+ghost use Rattle.limit_kinds.specs.AnyKinds.{any_from, kind_name};
+ghost use Rattle.limit_kinds.specs.Kinds.{base_name};
 
 use aimd::Aimd;
 use limit_laws::{Fixed, Limit, Sample, SetFault, Settable};
