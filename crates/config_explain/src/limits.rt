@@ -1,12 +1,16 @@
 // What is worth knowing of a limit that learns.
 use crate::settings::MOST_WORKERS;
-use config_sections::{LimitKeys, WindowKeys, read_limit, read_window};
+use config_sections::{read_limit, read_window};
 use config_values::{Key, read_table};
+use limit_kinds::{LimitSpec, WindowSpec};
 use std::alloc::AllocError;
 use toml::Table;
 
-/// One second in microseconds.
-const SECOND_US: u32 = 1_000_000;
+/// One second in nanoseconds.
+const SECOND: u64 = 1_000_000_000;
+
+/// The nanoseconds of a microsecond.
+const MICRO: u64 = 1_000;
 
 /// Says where a limit can stay where it is for good, and where it is never reached.
 pub(crate) fn explain_limit(
@@ -22,24 +26,18 @@ pub(crate) fn explain_limit(
     }
     let least = match limit_in(table) {
         Some(
-            LimitKeys::Vegas {
-                moving,
+            LimitSpec::Vegas {
+                lo,
                 probe_every,
                 ..
             },
         ) => {
             explain_probes(out, probe_every)?;
-            moving.min
+            lo
         }
-        Some(
-            LimitKeys::Aimd {
-                moving,
-                timeout_us,
-                ..
-            },
-        ) => {
-            explain_timeout(out, timeout_us)?;
-            moving.min
+        Some(LimitSpec::Aimd { lo, timeout_ns, .. }) => {
+            explain_timeout(out, timeout_ns)?;
+            lo
         }
         _ => return Ok(()),
     };
@@ -49,18 +47,18 @@ pub(crate) fn explain_limit(
     }
 }
 
-/// The keys of the limit, where none is at fault.
-fn limit_in(table: &Table) -> Option<LimitKeys> {
+/// The limit, where none of its keys is at fault.
+fn limit_in(table: &Table) -> Option<LimitSpec> {
     read_limit(read_table(table, Key::Limit).ok()?).ok()
 }
 
-/// The keys of the window, where there is one and none of them is at fault.
-fn window_in(table: &Table) -> Option<WindowKeys> {
+/// The windows, where there are some and none of their keys is at fault.
+fn window_in(table: &Table) -> Option<WindowSpec> {
     read_window(read_table(table, Key::Window).ok()?).ok()
 }
 
 /// Says that nothing takes a base back that was measured once.
-fn explain_probes(out: &mut String, probe_every: u32) -> Result<(), AllocError> {
+fn explain_probes(out: &mut String, probe_every: u64) -> Result<(), AllocError> {
     if probe_every == 0 {
         write!(
             out,
@@ -72,8 +70,9 @@ fn explain_probes(out: &mut String, probe_every: u32) -> Result<(), AllocError> 
 }
 
 /// Says that quicker answers never lower the limit.
-fn explain_timeout(out: &mut String, timeout: u32) -> Result<(), AllocError> {
-    if timeout > SECOND_US {
+fn explain_timeout(out: &mut String, timeout_ns: u64) -> Result<(), AllocError> {
+    if timeout_ns > SECOND {
+        let timeout = timeout_ns / MICRO;
         write!(
             out,
             "limit.timeout_us = {timeout} is above a second: answers up to that only raise the \
@@ -85,16 +84,15 @@ fn explain_timeout(out: &mut String, timeout: u32) -> Result<(), AllocError> {
 }
 
 /// Says where a window at the least limit may never have enough answers. One that ends has one.
-fn explain_window(out: &mut String, least: u32, window: WindowKeys) -> Result<(), AllocError> {
-    let (size, most_us) = (window.size, window.max_us);
-    let (held, wanted) = (held_in_seconds(least, most_us), u64::from(size));
+fn explain_window(out: &mut String, least: u64, window: WindowSpec) -> Result<(), AllocError> {
+    let (size, most_us) = (window.size, window.max_window_ns / MICRO);
     if size > 1 && size > least.saturating_mul(2) {
         write!(
             out,
             "window.size = {size} is above twice limit.min = {least}: a limit that fell to min can \
              stay there for good\n"
         )
-    } else if size > 1 && held < wanted {
+    } else if size > 1 && held_in_seconds(least, window.max_window_ns) < size {
         write!(
             out,
             "window.max_us = {most_us}: where an answer takes a second, {least} at once make fewer \
@@ -105,7 +103,7 @@ fn explain_window(out: &mut String, least: u32, window: WindowKeys) -> Result<()
     }
 }
 
-/// How many answers of a second so many at once make in a window.
-fn held_in_seconds(least: u32, most_us: u32) -> u64 {
-    u64::from(least).saturating_mul(u64::from(most_us)) / 1_000_000
+/// How many answers of a second so many at once make in a window of these nanoseconds.
+fn held_in_seconds(least: u64, most_ns: u64) -> u64 {
+    least.saturating_mul(most_ns) / SECOND
 }

@@ -1,4 +1,2 @@
-mod Chains
 mod Classes
-mod Limits
 mod Lists

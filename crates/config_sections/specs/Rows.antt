@@ -1,7 +1,7 @@
 -- The table of keys: which keys there are, in the order in which faults are looked for, and what
 -- each may hold. The share of a class is told in percent by version 1, and in thousandths by
 -- version 2; all other keys are those of both.
-use Rattle.std.specs.Prelude.{ℕ, Bool, true, List, [], ◌∷◌, Option, Some, None, codes}
+use Rattle.std.specs.Prelude.{ℕ, Bool, true, List, [], ◌∷◌, ◌++◌, Option, Some, None, codes}
 use Rattle.config_values.specs.declared.key.Key.{Key}
 use Rattle.config_sections.specs.declared.version.Version.{Version}
 use Rattle.config_sections.specs.declared.version.Version.TheVariants.{One, Two}
@@ -87,13 +87,19 @@ top_rows =
     ∷ row Key.Promote (choice promote_rules newest)
     ∷ []
 
-abbrev pub limit_rows : List Row
-limit_rows =
+-- the kind of a limit, and what each limit has that isn't fixed
+abbrev pub moving_rows : List Row
+moving_rows =
     row Key.LimitKind (word limit_kinds)
     ∷ row_for moving Key.LimitMin (number (at 1) (at 10000) (Some 1))
     ∷ row_for moving Key.LimitMax (number (of (codes "min")) (at 10000) (Some 200))
     ∷ row_for moving Key.LimitInitial (number (of (codes "min")) (of (codes "max")) (Some 20))
-    ∷ row_for (fixed ∷ []) Key.LimitInitial (number (at 1) (at 10000) (Some 20))
+    ∷ []
+
+abbrev pub limit_rows : List Row
+limit_rows =
+    moving_rows
+    ++ row_for (fixed ∷ []) Key.LimitInitial (number (at 1) (at 10000) (Some 20))
     ∷ row_for (aimd ∷ []) Key.LimitRatio (number (at 500) (at 999) (Some 900))
     ∷ row_for (aimd ∷ []) Key.LimitTimeoutUs (number (at 1) (at 3600000000) (Some 5000000))
     ∷ row_for (vegas ∷ []) Key.LimitAlpha (number (at 1) (at 100) (Some 3))

@@ -1,18 +1,21 @@
--- The section `window`: its keys as values, and their ranges.
-use Rattle.std.specs.Prelude.{◌≤◌, [], ◌∷◌, codes}
-use Rattle.config_sections.specs.declared.window.WindowKeys.{WindowKeys}
-use Rattle.config_sections.specs.Section.{Values, number_is}
+-- The section `window`: the windows of its keys.
+use Rattle.std.specs.Prelude.{◌*◌, [], Result, codes}
+use Rattle.toml.specs.Data.{Members}
+use Rattle.limit_kinds.specs.declared.spec.WindowSpec.{WindowSpec}
+use Rattle.config_values.specs.declared.fault.ConfigFault.{ConfigFault}
+use Rattle.config_values.specs.Outcomes.{result_map}
+use Rattle.config_sections.specs.Rows.{window_rows}
+use Rattle.config_sections.specs.Section.{Values, number_at, section_values}
 
-abbrev pub window_values : WindowKeys → Values
-window_values w =
-    (codes "size", number_is w.size) ∷ (codes "min_us", number_is w.min_us)
-    ∷ (codes "max_us", number_is w.max_us) ∷ (codes "min_rtt_us", number_is w.min_rtt_us) ∷ []
+-- the windows of a section's values; times are in nanoseconds
+abbrev pub window_from : Values → WindowSpec
+window_from values = record {
+  size = number_at (codes "size") values;
+  min_window_ns = number_at (codes "min_us") values * 1000;
+  max_window_ns = number_at (codes "max_us") values * 1000;
+  min_rtt_ns = number_at (codes "min_rtt_us") values * 1000;
+}
 
--- the numbers are in their ranges
-pub record IsWindow (w : WindowKeys) : Type 0 where
-  pub size_least : 1 ≤ w.size
-  pub size_most : w.size ≤ 1000000
-  pub min_least : 1 ≤ w.min_us
-  pub order : w.min_us ≤ w.max_us
-  pub max_most : w.max_us ≤ 3600000000
-  pub rtt_most : w.min_rtt_us ≤ 3600000000
+-- the windows of a section, or the first fault of its keys
+abbrev pub window_in : Members → Result WindowSpec ConfigFault
+window_in t = result_map window_from (section_values [] window_rows t)

@@ -16,12 +16,15 @@ mod window;
 
 pub use bypass::{BypassKeys, check_bypasses, read_bypasses};
 pub use class::{ClassKeys, class_keys, read_classes};
-pub use limit::{LimitKeys, Moving, read_limit};
+pub use limit::{limit_keys, read_limit};
 pub use promote::PromoteRule;
 pub use resolver::{ResolverKeys, check_resolvers, read_resolvers};
 pub use top::{TOP_KEYS, TopKeys, read_top};
 pub use version::Version;
-pub use window::{WINDOW_KEYS, WindowKeys, read_window};
+pub use window::{WINDOW_KEYS, read_window};
 
 /// One hour in microseconds.
 const HOUR_US: u32 = 3_600_000_000;
+
+/// The nanoseconds of a microsecond.
+const MICRO: u64 = 1_000;

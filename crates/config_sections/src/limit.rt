@@ -1,16 +1,18 @@
 // The keys of the limit.
-ghost use Rattle.std.specs.Prelude.{◌≡◌, [], IfOk, Ok, Some, None, map, option_map, if◌then◌else◌};
+ghost use Rattle.std.specs.Prelude.{◌≡◌, ◌≤◌, ℕ, true, List, [], IfOk, IsOk, Ok, Some, None, codes, map, option_map, if◌then◌else◌};
 ghost use Rattle.toml.specs.Data.{get_member};
 ghost use Rattle.toml.specs.View.{table_view};
+ghost use Rattle.limit_kinds.specs.Specs.{limit_made};
 ghost use Rattle.config_values.specs.Key.{name_of};
 ghost use Rattle.config_values.specs.Outcomes.{result_map};
 ghost use Rattle.config_values.specs.Text.{is_among, text_from};
-ghost use Rattle.config_sections.specs.Limit.{AreInRange, IsMoving, aimd_of, fixed_of, limit_values, limit_word, moving_of, settable_of, vegas_of};
-ghost use Rattle.config_sections.specs.Rows.{limit_kinds, limit_rows};
-ghost use Rattle.config_sections.specs.Section.{names_of, section_values};
+ghost use Rattle.config_sections.specs.Limit.{kind_word, limit_in, limit_names, moving_values};
+ghost use Rattle.config_sections.specs.Rows.{limit_kinds, moving, moving_rows};
+ghost use Rattle.config_sections.specs.Section.{section_values};
 
-use crate::HOUR_US;
+use crate::{HOUR_US, MICRO};
 use config_values::{ConfigFault, Key, KeyAtFault, Range, read_number, read_text};
+use limit_kinds::LimitSpec;
 use toml::Table;
 
 /// The greatest limit, in permits.
@@ -28,7 +30,7 @@ pub enum LimitKind {
 impl LimitKind {
     /// The kind of this word.
     fn named(word: &str) -> Option<LimitKind>
-        ensures { option_map limit_word result
+        ensures { option_map kind_word result
             ≡ if is_among limit_kinds word.now then Some word.now else None }
     {
         match word {
@@ -41,80 +43,44 @@ impl LimitKind {
     }
 }
 
-/// The keys of a limit that changes: the ends of its range and its first limit, in permits.
-#[derive(Clone, Copy)]
-pub struct Moving {
-    pub min: u32,
-    pub max: u32,
-    pub initial: u32,
-}
-
-/// The keys of a limit, by its kind.
-#[derive(Clone, Copy)]
-pub enum LimitKeys {
-    Fixed {
-        initial: u32,
-    },
-    Settable(Moving),
-    Aimd {
-        moving: Moving,
-        /// The part of the limit that a decrease keeps, in thousandths.
-        ratio: u32,
-        /// The longest round trip that is no overload, in microseconds.
-        timeout_us: u32,
-    },
-    Vegas {
-        moving: Moving,
-        /// The least wanted queue, in permits.
-        alpha: u32,
-        /// The greatest wanted queue, in permits.
-        beta: u32,
-        /// The number of samples from probe to probe; 0 for no probes.
-        probe_every: u32,
-    },
-}
-
-impl LimitKeys {
-    /// The keys that a limit of this kind has.
-    pub fn keys(&self) -> &'static [Key]
-        ensures { map name_of result.now ≡ names_of limit_rows (limit_values self.now) }
-    {
-        match self {
-            LimitKeys::Fixed { .. } => &[Key::LimitKind, Key::LimitInitial],
-            LimitKeys::Settable(_) => {
-                &[
-                    Key::LimitKind,
-                    Key::LimitMin,
-                    Key::LimitMax,
-                    Key::LimitInitial,
-                ]
-            }
-            LimitKeys::Aimd { .. } => &[
+/// The keys that a limit of this kind has.
+pub fn limit_keys(spec: &LimitSpec) -> &'static [Key]
+    ensures { map name_of result.now ≡ limit_names spec.now }
+{
+    match spec {
+        LimitSpec::Fixed { .. } => &[Key::LimitKind, Key::LimitInitial],
+        LimitSpec::Settable { .. } => {
+            &[
                 Key::LimitKind,
                 Key::LimitMin,
                 Key::LimitMax,
                 Key::LimitInitial,
-                Key::LimitRatio,
-                Key::LimitTimeoutUs,
-            ],
-            LimitKeys::Vegas { .. } => &[
-                Key::LimitKind,
-                Key::LimitMin,
-                Key::LimitMax,
-                Key::LimitInitial,
-                Key::LimitAlpha,
-                Key::LimitBeta,
-                Key::LimitProbeEvery,
-            ],
+            ]
         }
+        LimitSpec::Aimd { .. } => &[
+            Key::LimitKind,
+            Key::LimitMin,
+            Key::LimitMax,
+            Key::LimitInitial,
+            Key::LimitRatio,
+            Key::LimitTimeoutUs,
+        ],
+        LimitSpec::Vegas { .. } => &[
+            Key::LimitKind,
+            Key::LimitMin,
+            Key::LimitMax,
+            Key::LimitInitial,
+            Key::LimitAlpha,
+            Key::LimitBeta,
+            Key::LimitProbeEvery,
+        ],
     }
 }
 
-/// The keys of the section `limit`.
-pub fn read_limit(table: &Table) -> Result<LimitKeys, ConfigFault>
-    ensures within { IfOk result AreInRange }
-    ensures value { result_map limit_values result
-        ≡ section_values [] limit_rows (table_view table.now) }
+/// The limit of the section `limit`, which can be made of its keys.
+pub fn read_limit(table: &Table) -> Result<LimitSpec, ConfigFault>
+    ensures sound { IfOk result (λ spec. IsOk (limit_made spec)) }
+    ensures value { result ≡ limit_in (table_view table.now) }
 {
     match limit_kind(table)? {
         LimitKind::Fixed => read_fixed(table),
@@ -126,7 +92,7 @@ pub fn read_limit(table: &Table) -> Result<LimitKeys, ConfigFault>
 
 /// The word at `limit.kind`.
 fn limit_kind(table: &Table) -> Result<LimitKind, ConfigFault>
-    ensures { result_map limit_word result
+    ensures { result_map kind_word result
         ≡ text_from Key.LimitKind (is_among limit_kinds)
         (get_member (name_of Key.LimitKind) (table_view table.now)) }
 {
@@ -136,27 +102,40 @@ fn limit_kind(table: &Table) -> Result<LimitKind, ConfigFault>
     }
 }
 
-/// The keys of a fixed limit.
-fn read_fixed(table: &Table) -> Result<LimitKeys, ConfigFault>
-    ensures within { IfOk result AreInRange }
-    ensures value { result ≡ fixed_of (table_view table.now) }
+/// A fixed limit.
+fn read_fixed(table: &Table) -> Result<LimitSpec, ConfigFault>
+    requires { text_from Key.LimitKind (is_among limit_kinds)
+        (get_member (name_of Key.LimitKind) (table_view table.now)) ≡ Ok (codes "fixed") }
+    ensures sound { IfOk result (λ spec. IsOk (limit_made spec)) }
+    ensures value { result ≡ limit_in (table_view table.now) }
 {
     let initial = read_number(table, Key::LimitInitial, Range::new(1, MOST, 20))?;
-    Ok(LimitKeys::Fixed { initial })
+    Ok(LimitSpec::Fixed {
+        permits: u64::from(initial),
+    })
 }
 
-/// The keys of a limit that is set by hand.
-fn read_settable(table: &Table) -> Result<LimitKeys, ConfigFault>
-    ensures within { IfOk result AreInRange }
-    ensures value { result ≡ settable_of (table_view table.now) }
+/// A limit that is set by hand.
+fn read_settable(table: &Table) -> Result<LimitSpec, ConfigFault>
+    requires { text_from Key.LimitKind (is_among limit_kinds)
+        (get_member (name_of Key.LimitKind) (table_view table.now)) ≡ Ok (codes "settable") }
+    ensures sound { IfOk result (λ spec. IsOk (limit_made spec)) }
+    ensures value { result ≡ limit_in (table_view table.now) }
 {
-    Ok(LimitKeys::Settable(read_moving(table)?))
+    let moving = read_moving(table)?;
+    Ok(LimitSpec::Settable {
+        lo: u64::from(moving.min),
+        first: u64::from(moving.initial),
+        hi: u64::from(moving.max),
+    })
 }
 
-/// The keys of an AIMD limit.
-fn read_aimd(table: &Table) -> Result<LimitKeys, ConfigFault>
-    ensures within { IfOk result AreInRange }
-    ensures value { result ≡ aimd_of (table_view table.now) }
+/// An AIMD limit.
+fn read_aimd(table: &Table) -> Result<LimitSpec, ConfigFault>
+    requires { text_from Key.LimitKind (is_among limit_kinds)
+        (get_member (name_of Key.LimitKind) (table_view table.now)) ≡ Ok (codes "aimd") }
+    ensures sound { IfOk result (λ spec. IsOk (limit_made spec)) }
+    ensures value { result ≡ limit_in (table_view table.now) }
 {
     let moving = read_moving(table)?;
     let ratio = read_number(table, Key::LimitRatio, Range::new(500, 999, 900))?;
@@ -165,34 +144,53 @@ fn read_aimd(table: &Table) -> Result<LimitKeys, ConfigFault>
         Key::LimitTimeoutUs,
         Range::new(1, HOUR_US, 5_000_000),
     )?;
-    Ok(LimitKeys::Aimd {
-        moving,
-        ratio,
-        timeout_us,
+    Ok(LimitSpec::Aimd {
+        lo: u64::from(moving.min),
+        first: u64::from(moving.initial),
+        hi: u64::from(moving.max),
+        ratio: u64::from(ratio),
+        timeout_ns: u64::from(timeout_us) * MICRO,
     })
 }
 
-/// The keys of a Vegas limit.
-fn read_vegas(table: &Table) -> Result<LimitKeys, ConfigFault>
-    ensures within { IfOk result AreInRange }
-    ensures value { result ≡ vegas_of (table_view table.now) }
+/// A Vegas limit.
+fn read_vegas(table: &Table) -> Result<LimitSpec, ConfigFault>
+    requires { text_from Key.LimitKind (is_among limit_kinds)
+        (get_member (name_of Key.LimitKind) (table_view table.now)) ≡ Ok (codes "vegas") }
+    ensures sound { IfOk result (λ spec. IsOk (limit_made spec)) }
+    ensures value { result ≡ limit_in (table_view table.now) }
 {
     let moving = read_moving(table)?;
     let alpha = read_number(table, Key::LimitAlpha, Range::new(1, 100, 3))?;
     let beta = read_number(table, Key::LimitBeta, Range::new(alpha, 100, 6))?;
     let probe_every = read_number(table, Key::LimitProbeEvery, Range::new(0, 1_000_000, 0))?;
-    Ok(LimitKeys::Vegas {
-        moving,
-        alpha,
-        beta,
-        probe_every,
+    Ok(LimitSpec::Vegas {
+        lo: u64::from(moving.min),
+        first: u64::from(moving.initial),
+        hi: u64::from(moving.max),
+        alpha: u64::from(alpha),
+        beta: u64::from(beta),
+        probe_every: u64::from(probe_every),
     })
+}
+
+/// The keys of a limit that changes: the ends of its range and its first limit, in permits.
+#[derive(Clone, Copy)]
+struct Moving {
+    min: u32,
+    max: u32,
+    initial: u32,
 }
 
 /// The keys that each limit but a fixed one has.
 fn read_moving(table: &Table) -> Result<Moving, ConfigFault>
-    ensures within { IfOk result IsMoving }
-    ensures value { result ≡ moving_of (table_view table.now) }
+    ensures least { IfOk result (λ m. (1 ≤ m.min) × (m.min ≤ m.initial)) }
+    ensures most { IfOk result (λ m. (m.initial ≤ m.max) × (m.max ≤ 10000)) }
+    ensures value { (kind : List ℕ) → is_among moving kind ≡ true
+        → text_from Key.LimitKind (is_among limit_kinds)
+        (get_member (name_of Key.LimitKind) (table_view table.now)) ≡ Ok kind
+        → result_map (moving_values kind) result
+        ≡ section_values [] moving_rows (table_view table.now) }
 {
     let min = read_number(table, Key::LimitMin, Range::new(1, MOST, 1))?;
     let max = read_number(table, Key::LimitMax, Range::new(min, MOST, 200))?;

@@ -2,12 +2,12 @@
 use Rattle.std.proofs.Common.{◌≡◌, ◌∙◌, ap, refl, sym, [], List, Option, option_map, Result, Ok, Err, IsOk}
 use Rattle.toml.specs.Data.{Members}
 use Rattle.partitions.specs.Table.{Row}
+use Rattle.limit_kinds.specs.declared.spec.LimitSpec.{LimitSpec}
+use Rattle.limit_kinds.specs.declared.spec.WindowSpec.{WindowSpec}
 use Rattle.config_values.specs.declared.fault.ConfigFault.{ConfigFault}
 use Rattle.config_values.specs.Outcomes.{◌>>=◌, result_map}
-use Rattle.config_sections.specs.declared.limit.LimitKeys.{LimitKeys}
 use Rattle.config_sections.specs.declared.top.TopKeys.{TopKeys}
 use Rattle.config_sections.specs.declared.version.Version.{Version}
-use Rattle.config_sections.specs.declared.window.WindowKeys.{WindowKeys}
 use Rattle.config_sections.specs.Rows.{top_rows}
 use Rattle.config_sections.specs.Section.{Values, section_values}
 use Rattle.config_sections.specs.Top.{top_values}
@@ -16,17 +16,17 @@ use Rattle.gate_config.specs.Document.{DocumentValues, RuleValues, TableRef, byp
 -- what stands before the rules was read
 pub record IsRead (t : Members) : Type 0 where
   pub top : Values
-  pub limit : Members × Values
-  pub window : Option (Members × Values)
+  pub limit : Members × LimitSpec
+  pub window : Option (Members × WindowSpec)
   pub is_top : section_values [] top_rows t ≡ Ok top
   pub is_limit : limit_of t ≡ Ok limit
   pub is_window : window_of t ≡ Ok window
 
 -- it was, where each part was
 abbrev pub is_read : (t : Members) (top : Result TopKeys ConfigFault)
-    (limit : Result (TableRef × LimitKeys) ConfigFault)
-    (window : Result (Option (TableRef × WindowKeys)) ConfigFault)
-    (a : TopKeys) (b : TableRef × LimitKeys) (c : Option (TableRef × WindowKeys)) →
+    (limit : Result (TableRef × LimitSpec) ConfigFault)
+    (window : Result (Option (TableRef × WindowSpec)) ConfigFault)
+    (a : TopKeys) (b : TableRef × LimitSpec) (c : Option (TableRef × WindowSpec)) →
     result_map top_values top ≡ section_values [] top_rows t →
     result_map limit_member limit ≡ limit_of t →
     result_map (option_map window_member) window ≡ window_of t →

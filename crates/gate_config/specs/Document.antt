@@ -1,4 +1,4 @@
--- A whole configuration: its tables, each with the values of its keys.
+-- A whole configuration: its tables, each with the values of its keys or what they make.
 use Rattle.std.specs.declared.alloc.Global.{Global}
 use Rattle.std.specs.BTreeMap.{BTreeMap}
 use Rattle.std.specs.Borrow.{Bor}
@@ -8,31 +8,31 @@ use Rattle.toml.specs.Data.{Members, get_member}
 use Rattle.toml.specs.View.{table_view}
 use Rattle.arrayvec.specs.ArrayVec.{ArrayVec}
 use Rattle.partitions.specs.Table.{Row}
+use Rattle.limit_kinds.specs.declared.spec.LimitSpec.{LimitSpec}
+use Rattle.limit_kinds.specs.declared.spec.WindowSpec.{WindowSpec}
 use Rattle.config_values.specs.declared.fault.ConfigFault.{ConfigFault}
 use Rattle.config_values.specs.declared.key.Key.TheVariants as Key
 use Rattle.config_values.specs.Outcomes.{◌>>=◌}
 use Rattle.config_values.specs.Table.{optional_from, table_from, tables_among, tables_from}
 use Rattle.config_sections.specs.declared.class.ClassKeys.{ClassKeys}
-use Rattle.config_sections.specs.declared.limit.LimitKeys.{LimitKeys}
 use Rattle.config_sections.specs.declared.version.Version.{Version}
-use Rattle.config_sections.specs.declared.window.WindowKeys.{WindowKeys}
 use Rattle.config_sections.specs.Bypass.{bypass_after, bypass_member}
 use Rattle.config_sections.specs.Class.{classes_of}
 use Rattle.config_sections.specs.ClassRows.{class_row}
-use Rattle.config_sections.specs.Limit.{limit_values}
+use Rattle.config_sections.specs.Limit.{limit_in}
 use Rattle.config_sections.specs.Resolver.{resolver_after, resolver_member}
-use Rattle.config_sections.specs.Rows.{limit_rows, top_rows, window_rows}
+use Rattle.config_sections.specs.Rows.{top_rows}
 use Rattle.config_sections.specs.Section.{Values, read_each, section_values}
 use Rattle.config_sections.specs.Top.{top_values}
-use Rattle.config_sections.specs.Window.{window_values}
+use Rattle.config_sections.specs.Window.{window_in}
 use Rattle.gate_config.specs.declared.document.Document.{Document}
 use Rattle.gate_config.specs.declared.document.RuleKeys.{RuleKeys}
 
 -- what a configuration holds
 pub record DocumentValues : Type 0 where
   pub top : Values
-  pub limit : Members × Values
-  pub window : Option (Members × Values)
+  pub limit : Members × LimitSpec
+  pub window : Option (Members × WindowSpec)
   pub classes : List Members × List Row
   pub resolvers : List (Members × Values)
   pub bypasses : List (Members × Values)
@@ -41,11 +41,11 @@ pub record DocumentValues : Type 0 where
 abbrev pub TableRef : Type 0
 TableRef = Bor (BTreeMap (String Global) Value)
 
-abbrev pub limit_member : TableRef × LimitKeys → Members × Values
-limit_member member = (table_view member.0.now, limit_values member.1)
+abbrev pub limit_member : TableRef × LimitSpec → Members × LimitSpec
+limit_member member = (table_view member.0.now, member.1)
 
-abbrev pub window_member : TableRef × WindowKeys → Members × Values
-window_member member = (table_view member.0.now, window_values member.1)
+abbrev pub window_member : TableRef × WindowSpec → Members × WindowSpec
+window_member member = (table_view member.0.now, member.1)
 
 abbrev pub tables_and_rows : Bor (List Value) × ArrayVec ClassKeys → List Members × List Row
 tables_and_rows classes = (tables_among classes.0.now, map class_row classes.1.items)
@@ -73,18 +73,17 @@ document_values d = record {
   bypasses = map bypass_member d.rules.bypasses.items;
 }
 
--- the table `limit` and its keys
-abbrev pub limit_of : Members → Result (Members × Values) ConfigFault
+-- the table `limit` and the limit of its keys
+abbrev pub limit_of : Members → Result (Members × LimitSpec) ConfigFault
 limit_of t = table_from Key.Limit (get_member (codes "limit") t) >>= λ limit.
-    section_values [] limit_rows limit >>= λ values. Ok (limit, values)
+    limit_in limit >>= λ spec. Ok (limit, spec)
 
--- the keys of a window, where there is one
-abbrev pub read_window : Option Members → Result (Option (Members × Values)) ConfigFault
+-- the windows of a table's keys, where there is one
+abbrev pub read_window : Option Members → Result (Option (Members × WindowSpec)) ConfigFault
 read_window None = Ok None
-read_window (Some window) =
-    section_values [] window_rows window >>= λ values. Ok (Some (window, values))
+read_window (Some window) = window_in window >>= λ spec. Ok (Some (window, spec))
 
-abbrev pub window_of : Members → Result (Option (Members × Values)) ConfigFault
+abbrev pub window_of : Members → Result (Option (Members × WindowSpec)) ConfigFault
 window_of t = optional_from Key.Window (get_member (codes "window") t) >>= read_window
 
 -- the classes in a version: at most four tables, each read behind those before it

@@ -1,5 +1,4 @@
 pub mod Document
 pub mod UnknownKeys
 pub mod Rules
-pub mod Limit
 pub mod Settings

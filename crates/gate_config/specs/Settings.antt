@@ -2,6 +2,8 @@
 use Rattle.std.specs.Prelude.{◌≡◌, ◌≤◌, ℕ, ◌*◌, ℤ, pos, ◌==◌, List, [], map, Option, Some, None, option_map, ok_or, Result, Err, bytes_eq, codes, IsUtf8, if◌then◌else◌}
 use Rattle.toml.specs.Data.{Data, Members, get_member, integer}
 use Rattle.toml.specs.Parse.{parse_document}
+use Rattle.limit_kinds.specs.AnyKinds.{any_from}
+use Rattle.limit_kinds.specs.Specs.{first_limit, window_numbers}
 use Rattle.limiter_core.specs.declared.promote.Promote.{Promote}
 use Rattle.limiter_core.specs.declared.promote.Promote.TheVariants.{Newest, All}
 use Rattle.classifier.specs.declared.resolver.Resolver.{Resolver}
@@ -15,7 +17,6 @@ use Rattle.config_sections.specs.Rows.{all}
 use Rattle.config_sections.specs.Section.{flag_at, number_at, text_at}
 use Rattle.gate_config.specs.declared.settings.Settings.{Settings}
 use Rattle.gate_config.specs.Document.{DocumentValues, document_of}
-use Rattle.gate_config.specs.Limit.{any_of, limit_from, window_from}
 use Rattle.gate_config.specs.Rules.{bypass_from, resolvers_after}
 use Rattle.gate_config.specs.UnknownKeys.{unknown_keys_of}
 
@@ -47,7 +48,8 @@ settings_with d resolvers = record {
   timeout = number_at (codes "timeout_ms") d.top * 1000000;
   keep = number_at (codes "keep") d.top;
   promote = promote_named (text_at (codes "promote") d.top);
-  limit = any_of (limit_from d.limit.1) (option_map (λ window. window_from window.1) d.window);
+  limit =
+      any_from (first_limit d.limit.1) (option_map (λ window. window_numbers window.1) d.window);
   table = d.classes.1;
   rules = record { resolvers = resolvers; bypass = map (λ rule. bypass_from rule.1) d.bypasses };
 }

@@ -1,12 +1,14 @@
 -- The keys of a configuration that aren't allowed where they stand.
 use Rattle.std.specs.Prelude.{ℕ, List, [], ◌∷◌, ◌++◌, map, flat_map, Option, Some, None}
 use Rattle.toml.specs.Data.{Members}
+use Rattle.limit_kinds.specs.declared.spec.WindowSpec.{WindowSpec}
 use Rattle.config_values.specs.declared.key.Key.{Key}
 use Rattle.config_values.specs.declared.key.Section.TheVariants as In
 use Rattle.config_values.specs.Key.{name_of}
 use Rattle.config_values.specs.Unknown.{UnknownKey, unknown_keys_in}
 use Rattle.config_sections.specs.declared.version.Version.{Version}
-use Rattle.config_sections.specs.Rows.{bypass_rows, class_rows, limit_rows, resolver_rows, top_rows, window_rows}
+use Rattle.config_sections.specs.Limit.{limit_names}
+use Rattle.config_sections.specs.Rows.{bypass_rows, class_rows, resolver_rows, top_rows, window_rows}
 use Rattle.config_sections.specs.Section.{Values, names_of}
 use Rattle.gate_config.specs.Document.{DocumentValues}
 
@@ -16,7 +18,7 @@ top_names =
     map name_of (Key.Version ∷ map (λ row. row.key) top_rows
     ++ Key.Limit ∷ Key.Window ∷ Key.Class ∷ Key.Resolver ∷ Key.Bypass ∷ [])
 
-abbrev pub window_unknown_keys : Option (Members × Values) → List UnknownKey
+abbrev pub window_unknown_keys : Option (Members × WindowSpec) → List UnknownKey
 window_unknown_keys None = []
 window_unknown_keys (Some window) =
     unknown_keys_in In.Window (map (λ row. name_of row.key) window_rows) window.0
@@ -35,6 +37,6 @@ bypass_unknown_keys b = unknown_keys_in In.Bypass (names_of bypass_rows b.1) b.0
 abbrev pub unknown_keys_of : Version → Members → DocumentValues → List UnknownKey
 unknown_keys_of version t d =
     unknown_keys_in In.Top top_names t
-    ++ unknown_keys_in In.Limit (names_of limit_rows d.limit.1) d.limit.0
+    ++ unknown_keys_in In.Limit (limit_names d.limit.1) d.limit.0
     ++ window_unknown_keys d.window ++ flat_map (class_unknown_keys version) d.classes.0
     ++ flat_map resolver_unknown_keys d.resolvers ++ flat_map bypass_unknown_keys d.bypasses

@@ -2,25 +2,24 @@
 ghost use Rattle.std.specs.Option.{ForSome};
 ghost use Rattle.std.specs.Prelude.{◌≡◌, [], Err, IfErr, IfOk, IsErrOf, IsOk, map, option_map};
 ghost use Rattle.toml.specs.View.{table_view};
+ghost use Rattle.limit_kinds.specs.Specs.{limit_made, windows_made};
 ghost use Rattle.config_values.specs.declared.fault.ConfigFault.{ConfigFault as FaultValue};
 ghost use Rattle.config_values.specs.Outcomes.{Answers, result_map};
 ghost use Rattle.config_values.specs.Table.{tables_among};
 ghost use Rattle.config_sections.specs.Bypass.{bypass_after};
 ghost use Rattle.config_sections.specs.ClassRows.{class_row};
-ghost use Rattle.config_sections.specs.Limit.{AreInRange};
 ghost use Rattle.config_sections.specs.Resolver.{resolver_after};
 ghost use Rattle.config_sections.specs.Section.{read_each};
 ghost use Rattle.config_sections.specs.Top.{IsTop};
-ghost use Rattle.config_sections.specs.Window.{IsWindow};
 ghost use Rattle.gate_config.specs.Document.{bypasses_of, classes_in, document_of, document_values, limit_member, limit_of, resolvers_of, rule_values, rules_of, tables_and_rows, window_member, window_of};
 
 use arrayvec::ArrayVec;
 use config_sections::{
-    BypassKeys, ClassKeys, LimitKeys, ResolverKeys, TopKeys, Version, WindowKeys, check_bypasses,
-    check_resolvers, read_bypasses, read_classes, read_limit, read_resolvers, read_top,
-    read_window,
+    BypassKeys, ClassKeys, ResolverKeys, TopKeys, Version, check_bypasses, check_resolvers,
+    read_bypasses, read_classes, read_limit, read_resolvers, read_top, read_window,
 };
 use config_values::{ConfigFault, Key, read_optional_table, read_table, read_tables};
+use limit_kinds::{LimitSpec, WindowSpec};
 use std::alloc::Global;
 use toml::{Table, Value};
 
@@ -31,8 +30,8 @@ const MOST_RULES: usize = 32;
 #[derive(Drop)]
 pub struct Document<'a> {
     pub top: TopKeys,
-    pub limit: (&'a Table, LimitKeys),
-    pub window: Option<(&'a Table, WindowKeys)>,
+    pub limit: (&'a Table, LimitSpec),
+    pub window: Option<(&'a Table, WindowSpec)>,
     pub rules: RuleKeys<'a>,
 }
 
@@ -52,8 +51,9 @@ pub fn read_document<'a>(
     table: &'a Table,
 ) -> Result<Document<'a>, ConfigFault>
     ensures top { IfOk result (λ d. IsTop d.top) }
-    ensures limit { IfOk result (λ d. AreInRange d.limit.1) }
-    ensures window { IfOk result (λ d. ForSome d.window (λ window. IsWindow window.1)) }
+    ensures limit { IfOk result (λ d. IsOk (limit_made d.limit.1)) }
+    ensures window { IfOk result
+        (λ d. ForSome d.window (λ window. IsOk (windows_made window.1))) }
     ensures said { Answers document_values (document_of version (table_view table.now)) result }
     ensures fault { (fault : FaultValue) →
         document_of version (table_view table.now) ≡ Err fault → IsErrOf result fault }
@@ -70,18 +70,18 @@ pub fn read_document<'a>(
     })
 }
 
-/// The table `limit` and its keys.
-fn limit_in<'a>(table: &'a Table) -> Result<(&'a Table, LimitKeys), ConfigFault>
-    ensures within { IfOk result (λ limit. AreInRange limit.1) }
+/// The table `limit` and the limit of its keys.
+fn limit_in<'a>(table: &'a Table) -> Result<(&'a Table, LimitSpec), ConfigFault>
+    ensures sound { IfOk result (λ limit. IsOk (limit_made limit.1)) }
     ensures said { result_map limit_member result ≡ limit_of (table_view table.now) }
 {
     let limit = read_table(table, Key::Limit)?;
     Ok((limit, read_limit(limit)?))
 }
 
-/// The table `window` and its keys, where there is one.
-fn window_in<'a>(table: &'a Table) -> Result<Option<(&'a Table, WindowKeys)>, ConfigFault>
-    ensures within { IfOk result (λ window. ForSome window (λ w. IsWindow w.1)) }
+/// The table `window` and the windows of its keys, where there is one.
+fn window_in<'a>(table: &'a Table) -> Result<Option<(&'a Table, WindowSpec)>, ConfigFault>
+    ensures sound { IfOk result (λ window. ForSome window (λ w. IsOk (windows_made w.1))) }
     ensures said { result_map (option_map window_member) result ≡ window_of (table_view table.now) }
 {
     match read_optional_table(table, Key::Window)? {

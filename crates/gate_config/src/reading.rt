@@ -4,13 +4,12 @@ ghost use Rattle.std.specs.Prelude.{◌≡◌, [], ◌≢◌, ◌⊎◌, IfOk, I
 ghost use Rattle.toml.specs.Data.{Members, get_member};
 ghost use Rattle.toml.specs.Errors.{IsBlank};
 ghost use Rattle.toml.specs.View.{table_view};
+ghost use Rattle.limit_kinds.specs.Specs.{limit_made, windows_made};
 ghost use Rattle.config_values.specs.declared.fault.ConfigFault.{ConfigFault as FaultValue};
 ghost use Rattle.config_values.specs.Outcomes.{Answers};
 ghost use Rattle.config_sections.specs.Bypass.{bypass_member};
-ghost use Rattle.config_sections.specs.Limit.{AreInRange};
 ghost use Rattle.config_sections.specs.Resolver.{resolver_member};
 ghost use Rattle.config_sections.specs.Top.{IsTop};
-ghost use Rattle.config_sections.specs.Window.{IsWindow};
 ghost use Rattle.gate_config.specs.Document.{document_values, rule_values};
 ghost use Rattle.gate_config.specs.Rules.{Makes, bypass_from, resolvers_after};
 ghost use Rattle.gate_config.specs.Settings.{AreSound, IsOfKey, Reads, made_of, settings_of, version_of};
@@ -105,8 +104,8 @@ pub fn version_of(table: &Table) -> Option<Version>
 /// The settings that keys make.
 fn made_of(alloc: Global, document: Document) -> Result<Settings, ConfigFault>
     requires top { IsTop document.top }
-    requires limit { AreInRange document.limit.1 }
-    requires window { ForSome document.window (λ window. IsWindow window.1) }
+    requires limit { IsOk (limit_made document.limit.1) }
+    requires window { ForSome document.window (λ window. IsOk (windows_made window.1)) }
     ensures sound { IfOk result AreSound }
     ensures said { Makes (λ settings. settings) (made_of (document_values document.entry)) result }
 {

@@ -9,7 +9,9 @@ ghost use Rattle.gate_config.specs.Document.{document_values};
 ghost use Rattle.gate_config.specs.UnknownKeys.{bypass_unknown_keys, class_unknown_keys, resolver_unknown_keys, unknown_keys_of};
 
 use crate::document::Document;
-use config_sections::{BypassKeys, ResolverKeys, TOP_KEYS, Version, WINDOW_KEYS, class_keys};
+use config_sections::{
+    BypassKeys, ResolverKeys, TOP_KEYS, Version, WINDOW_KEYS, class_keys, limit_keys,
+};
 use config_values::{Section, UnknownKey, least_unknown};
 use toml::{Table, Value};
 
@@ -23,8 +25,8 @@ pub fn least_unknown_key<'a>(
         ≡ least (unknown_keys_of version (table_view table.now) (document_values document.now)) }
 {
     let mut least = least_unknown(None, Section::Top, None, &TOP_KEYS, table);
-    let (limit, keys) = &document.limit;
-    least = least_unknown(least, Section::Limit, None, keys.keys(), limit);
+    let (limit, spec) = &document.limit;
+    least = least_unknown(least, Section::Limit, None, limit_keys(spec), limit);
     if let Some((window, _)) = &document.window {
         least = least_unknown(least, Section::Window, None, &WINDOW_KEYS, window);
     }

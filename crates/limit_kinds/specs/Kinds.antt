@@ -1,5 +1,5 @@
--- The kinds of limit, as one: each kind keeps its own rule.
-use Rattle.std.specs.Prelude.{ℕ, Result, Ok, Err}
+-- The kinds of limit, as one: each kind has its name, and keeps its own rule.
+use Rattle.std.specs.Prelude.{ℕ, List, Result, Ok, Err, codes}
 use Rattle.limit_laws.specs.declared.limit.SetFault.{SetFault}
 use Rattle.limit_laws.specs.Facts.{SampleFacts}
 use Rattle.limit_laws.specs.Algorithm.{Algorithm}
@@ -50,6 +50,13 @@ base_first (Fixed s) = Fixed (fixed_rules.first s)
 base_first (Settable s) = Settable (settable_rules.first s)
 base_first (Aimd s) = Aimd (aimd_rules.first s)
 base_first (Vegas s) = Vegas (vegas_rules.first s)
+
+-- what a kind is called
+abbrev pub base_name : BaseLimit → List ℕ
+base_name (Fixed s) = codes "fixed"
+base_name (Settable s) = codes "settable"
+base_name (Aimd s) = codes "aimd"
+base_name (Vegas s) = codes "vegas"
 
 -- the rule of the kind that a limit is of
 abbrev pub base_rules : Algorithm BaseLimit

@@ -3,5 +3,4 @@ pub mod Kinds
 pub mod KindsLaws
 pub mod AnyKinds
 pub mod AnyKindsLaws
-pub mod KindNames
 pub mod Specs

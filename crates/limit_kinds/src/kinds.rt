@@ -1,11 +1,12 @@
 // The kinds of limit, as one.
 ghost use Rattle.std.specs.Prelude.{◌≡◌};
-ghost use Rattle.limit_kinds.specs.KindNames.{base_name, kind_name};
+ghost use Rattle.limit_kinds.specs.AnyKinds.{any_from, kind_name};
+ghost use Rattle.limit_kinds.specs.Kinds.{base_name};
 
 use aimd::Aimd;
 use limit_laws::{Fixed, Limit, Sample, SetFault, Settable};
 use vegas::Vegas;
-use windowed::Windowed;
+use windowed::{WindowSettings, Windowed};
 
 /// A limit of one of the kinds.
 #[derive(Clone, Copy)]
@@ -105,6 +106,17 @@ pub enum AnyLimit {
 }
 
 impl AnyLimit {
+    /// `base` over windows of these settings, before their first sample, and without settings over
+    /// each sample.
+    pub fn new(base: BaseLimit, windows: Option<WindowSettings>) -> AnyLimit
+        ensures { result ≡ any_from base windows }
+    {
+        match windows {
+            None => AnyLimit::Plain(base),
+            Some(settings) => AnyLimit::Windowed(Windowed::with_settings(base, settings)),
+        }
+    }
+
     /// What the kind is called; over windows, that of the limit inside.
     pub fn kind(&self) -> &'static str
         ensures { result.now ≡ kind_name self.now }

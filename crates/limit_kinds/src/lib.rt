@@ -10,9 +10,7 @@
 #![tactic(auto)]
 
 mod kinds;
-mod make;
 mod spec;
 
 pub use kinds::{AnyLimit, BaseLimit};
-pub use make::window_settings;
 pub use spec::{LimitSpec, WindowSpec};

@@ -1,10 +1,11 @@
 // Limits and windows by their numbers, before these were looked at.
-ghost use Rattle.std.specs.Prelude.{◌≡◌};
-ghost use Rattle.limit_kinds.specs.Specs.{limit_made, windows_made};
+ghost use Rattle.std.specs.Prelude.{◌≡◌, ◌^◌, ◌-◌, min, IfOk};
+ghost use Rattle.limit_kinds.specs.Specs.{first_limit, limit_made, window_numbers, windows_made};
 
 use super::kinds::BaseLimit;
-use super::make::window_settings;
-use limit_laws::MakeFault;
+use aimd::Aimd;
+use limit_laws::{Fixed, MakeFault, Settable};
+use vegas::Vegas;
 use windowed::WindowSettings;
 
 /// A kind of limit with its numbers, whichever they are: limits and thresholds in permits, ratios
@@ -52,18 +53,26 @@ impl LimitSpec {
     /// often. [`MakeFault::Ratio`] unless a ratio is 500 to 999 thousandths, and
     /// [`MakeFault::Alpha`] unless `1 <= alpha <= beta <= 100`.
     pub fn make(self) -> Result<BaseLimit, MakeFault>
-        ensures { result ≡ limit_made self }
+        ensures made { result ≡ limit_made self }
+        ensures value { IfOk result (λ limit. limit ≡ first_limit self) }
     {
         match self {
-            LimitSpec::Fixed { permits } => BaseLimit::fixed(permits),
-            LimitSpec::Settable { lo, first, hi } => BaseLimit::settable(lo, first, hi),
+            LimitSpec::Fixed { permits } => Ok(BaseLimit::Fixed(Fixed::new(narrowed(permits))?)),
+            LimitSpec::Settable { lo, first, hi } => {
+                let limit = Settable::new(narrowed(lo), narrowed(first), narrowed(hi))?;
+                Ok(BaseLimit::Settable(limit))
+            }
             LimitSpec::Aimd {
                 lo,
                 first,
                 hi,
                 ratio,
                 timeout_ns,
-            } => BaseLimit::aimd(lo, first, hi, ratio, timeout_ns),
+            } => {
+                let (lo, first, hi) = (narrowed(lo), narrowed(first), narrowed(hi));
+                let limit = Aimd::new(lo, first, hi, narrowed(ratio), timeout_ns)?;
+                Ok(BaseLimit::Aimd(limit))
+            }
             LimitSpec::Vegas {
                 lo,
                 first,
@@ -71,7 +80,12 @@ impl LimitSpec {
                 alpha,
                 beta,
                 probe_every,
-            } => BaseLimit::vegas(lo, first, hi, alpha, beta, probe_every),
+            } => {
+                let (lo, first, hi) = (narrowed(lo), narrowed(first), narrowed(hi));
+                let (alpha, beta) = (narrowed(alpha), narrowed(beta));
+                let limit = Vegas::new(lo, first, hi, alpha, beta, narrowed(probe_every))?;
+                Ok(BaseLimit::Vegas(limit))
+            }
         }
     }
 }
@@ -94,13 +108,21 @@ impl WindowSpec {
     /// 1,000,000 samples, the least length at least 1 ns and at most the greatest one, and that and
     /// the least round trip at most an hour.
     pub fn make(self) -> Result<WindowSettings, MakeFault>
-        ensures { result ≡ windows_made self }
+        ensures made { result ≡ windows_made self }
+        ensures value { IfOk result (λ settings. settings ≡ window_numbers self) }
     {
-        window_settings(
-            self.size,
+        WindowSettings::new(
+            narrowed(self.size),
             self.min_window_ns,
             self.max_window_ns,
             self.min_rtt_ns,
         )
     }
+}
+
+/// A number in 32 bits. One of 2^32 or more is in no range, and neither is what becomes of it.
+fn narrowed(n: u64) -> u32
+    ensures { result ≡ min n (2 ^ 32 - 1) }
+{
+    u32::try_from(n).unwrap_or(u32::MAX)
 }

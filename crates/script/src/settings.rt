@@ -345,7 +345,10 @@ fn fixed(n: u32) -> BaseLimit
     requires most { n ≤ greatest_limit }
     ensures { result ≡ BaseLimit.Fixed n }
 {
-    match BaseLimit::fixed(u64::from(n)) {
+    let spec = LimitSpec::Fixed {
+        permits: u64::from(n),
+    };
+    match spec.make() {
         Ok(limit) => limit,
         Err(_) => unreachable!(),
     }

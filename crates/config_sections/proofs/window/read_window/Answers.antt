@@ -1,8 +1,8 @@
 use Rattle.std.proofs.Common.{rules}
 use Rattle.config_sections.proofs.window.read_window.Goals as goal
 
-pub returns-clause-within : goal.returns-clause-within
-returns-clause-within c = search rules
+pub returns-clause-sound : goal.returns-clause-sound
+returns-clause-sound c = search rules
 
 pub returns-clause-value : goal.returns-clause-value
 returns-clause-value c = search rules

@@ -8,9 +8,9 @@ pub returns-in_err-read_window-in-Some-clause-said :
     goal.returns-in_err-read_window-in-Some-clause-said
 returns-in_err-read_window-in-Some-clause-said c = search rules
 
-pub returns-in_ok-read_window-in-Some-clause-within :
-    goal.returns-in_ok-read_window-in-Some-clause-within
-returns-in_ok-read_window-in-Some-clause-within c = search rules
+pub returns-in_ok-read_window-in-Some-clause-sound :
+    goal.returns-in_ok-read_window-in-Some-clause-sound
+returns-in_ok-read_window-in-Some-clause-sound c = search rules
 
 pub returns-in_ok-read_window-in-Some-clause-said :
     goal.returns-in_ok-read_window-in-Some-clause-said
@@ -19,12 +19,12 @@ returns-in_ok-read_window-in-Some-clause-said c = search rules
 pub returns-in-None-clause-said : goal.returns-in-None-clause-said
 returns-in-None-clause-said c = search rules
 
-pub returns-in_err-window-clause-within : goal.returns-in_err-window-clause-within
-returns-in_err-window-clause-within c = search rules
+pub returns-in_err-window-clause-sound : goal.returns-in_err-window-clause-sound
+returns-in_err-window-clause-sound c = search rules
 
-pub returns-in_err-read_window-in-Some-clause-within :
-    goal.returns-in_err-read_window-in-Some-clause-within
-returns-in_err-read_window-in-Some-clause-within c = search rules
+pub returns-in_err-read_window-in-Some-clause-sound :
+    goal.returns-in_err-read_window-in-Some-clause-sound
+returns-in_err-read_window-in-Some-clause-sound c = search rules
 
-pub returns-in-None-clause-within : goal.returns-in-None-clause-within
-returns-in-None-clause-within c = search rules
+pub returns-in-None-clause-sound : goal.returns-in-None-clause-sound
+returns-in-None-clause-sound c = search rules
