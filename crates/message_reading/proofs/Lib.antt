@@ -10,6 +10,7 @@ mod JoinedChunks
 mod JoinedPhases
 mod LastBytes
 mod LineCounts
+mod LineFeeds
 mod OneChunkedBody
 mod OneHead
 mod Pieces

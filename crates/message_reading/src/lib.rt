@@ -26,6 +26,7 @@ mod head_bytes;
 mod head_cut;
 mod head_lines;
 mod laws;
+mod line_len;
 mod plain_body;
 mod progress;
 mod request_head;

@@ -1,11 +1,11 @@
 // What of the bytes of a head decides on the next one.
-ghost use Rattle.std.specs.Prelude.{◌≡◌, ◌<◌, ◌≤◌, ◌+◌, ◌++◌, ◌∷◌, ◌≢◌, ◌-◌, [], ℕ, List, All, ◌&&◌, length, take};
+ghost use Rattle.std.specs.Prelude.{◌≡◌, ◌<◌, ◌≤◌, ◌+◌, ◌++◌, ◌∷◌, [], ℕ, List, ◌&&◌, length, take};
 ghost use Rattle.std.specs.Io.{StopsAt};
 ghost use Rattle.message_reading.specs.HeadBytes.{ended_by, ends_head, stays_blank};
 ghost use Rattle.message_reading.specs.Progress.{IsCut, IsProgress, lines_of};
 
 use crate::ending::ends_empty;
-use memchr::memchr;
+use crate::line_len::line_len;
 
 /// What is kept beside the bytes of a head so far.
 #[derive(Clone, Copy, Drop)]
@@ -156,16 +156,4 @@ fn ended(blank: bool, byte: u8) -> usize
     ensures most { result ≤ 1 }
 {
     if byte == b'\n' && !blank { 1 } else { 0 }
-}
-
-// How many bytes there are up to and including the first LF, or in all.
-fn line_len(bytes: &[u8]) -> usize
-    ensures bound { result ≤ length bytes.now }
-    ensures some { 0 < length bytes.now → 0 < result }
-    ensures before { All (λ b. b ≢ 10) (take (result - 1) bytes.now) }
-{
-    match memchr(b'\n', bytes) {
-        Some(at) => at + 1,
-        None => bytes.len(),
-    }
 }
