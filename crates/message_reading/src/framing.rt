@@ -92,7 +92,7 @@ pub(crate) fn frame_request(head: &RequestHead) -> Result<Framing, Fault>
     if is_refused(method) {
         return Err(Fault::Method);
     }
-    if !is_target(method, head.target.as_str().as_bytes()) {
+    if !is_target(method, head.target.as_bytes()) {
         return Err(Fault::Malformed);
     }
     if !hosts_fit(head.minor, count_hosts(lines)) {
