@@ -3,13 +3,13 @@ ghost use Rattle.std.specs.Prelude.{◌≡◌, ◌&&◌, ◌||◌, ◌^◌, not,
 ghost use Rattle.std.specs.Char.{is_ascii_digit};
 ghost use Rattle.std.specs.List.{list_all};
 ghost use Rattle.std.specs.Str.Parse.{digits_value};
-ghost use Rattle.message_fields.specs.Lines.{is_named};
+ghost use Rattle.message_fields.specs.Lines.{count_named, is_named};
 ghost use Rattle.message_fields.specs.Parts.{parts, parts_named};
-ghost use Rattle.message_fields.specs.Lengths.{is_digits, limited, length_digits, length_of};
+ghost use Rattle.message_fields.specs.Lengths.{digits_length, is_digits, limited, length_digits, length_of};
 
 use super::lines::first_length;
 use super::names::is_content_length;
-use super::parts::{first_part, is_every_part};
+use super::parts::{first_part, is_every_part, is_one_part};
 use message_parts::Header;
 
 /// The greatest number of bytes of a body.
@@ -97,6 +97,34 @@ pub fn length_of(lines: &[Header]) -> Result<usize, LengthFault>
         return Err(LengthFault::Malformed);
     };
     value_of(digits)
+}
+
+/// The length that a part gives which is the only one.
+fn length_in(part: &[u8]) -> Result<usize, LengthFault>
+    ensures { result ≡ digits_length (if is_digits part.now then Some part.now else None) }
+{
+    if is_digits(part) {
+        value_of(part)
+    } else {
+        Err(LengthFault::Malformed)
+    }
+}
+
+/// The same as [`length_of`], where one line alone is Content-Length, as in most heads: the other
+/// lines aren't looked at once more.
+#[tactic(auto, using(crate::proofs::OnePart::length_alone))]
+pub fn length_of_one(lines: &[Header]) -> Result<usize, LengthFault>
+    requires one { count_named (codes "content-length") lines.now ≡ 1 }
+    ensures { result ≡ length_of lines.now }
+{
+    let Some(value) = first_length(lines) else {
+        return length_of(lines);
+    };
+    if is_one_part(value) {
+        length_in(first_part(value))
+    } else {
+        length_of(lines)
+    }
 }
 
 /// The value of digits, up to the greatest length of a body.

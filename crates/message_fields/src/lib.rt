@@ -14,9 +14,10 @@ mod passed;
 mod passing;
 mod target;
 
-pub use length::{LengthFault, length_digits, length_of};
+pub use length::{LengthFault, length_digits, length_of, length_of_one};
 pub use lines::{
-    asks_continue, count_hosts, count_lengths, count_named, first_value, is_chunked_alone,
+    asks_continue, count_codings_and_lengths, count_hosts, count_named, first_value,
+    is_chunked_alone,
 };
 pub use names::{is_host, is_same_name};
 pub use passing::Passing;

@@ -1,5 +1,5 @@
 // The lines of a name.
-ghost use Rattle.std.specs.Prelude.{◌≡◌, ◌&&◌, codes, option_map};
+ghost use Rattle.std.specs.Prelude.{◌≡◌, ◌≤◌, ◌&&◌, codes, option_map, if◌then◌else◌};
 ghost use Rattle.message_fields.specs.Names.{same_name};
 ghost use Rattle.message_fields.specs.Lines.{is_named, count_named, first_value, has_word, is_chunked_alone, asks_continue};
 
@@ -31,14 +31,28 @@ pub fn count_hosts(lines: &[Header]) -> usize
         .count()
 }
 
-/// How many lines are Content-Length.
-pub fn count_lengths(lines: &[Header]) -> usize
-    ensures { result ≡ count_named (codes "content-length") lines.now }
+/// 1 where something is so.
+#[inline(always)]
+fn one_where(is_so: bool) -> usize
+    ensures value { result ≡ (if is_so then 1 else 0) }
+    ensures most { result ≤ 1 }
 {
-    lines
-        .iter()
-        .filter(|line| is_content_length(line.name.as_slice()))
-        .count()
+    if is_so { 1 } else { 0 }
+}
+
+/// How many lines are Transfer-Encoding, and how many are Content-Length: each is looked at once.
+pub fn count_codings_and_lengths(lines: &[Header]) -> (usize, usize)
+    ensures codings { result.0 ≡ count_named (codes "transfer-encoding") lines.now }
+    ensures lengths { result.1 ≡ count_named (codes "content-length") lines.now }
+{
+    let mut codings = 0;
+    let mut lengths = 0;
+    for line in lines {
+        let name = line.name.as_slice();
+        codings += one_where(is_same_name(name, b"transfer-encoding"));
+        lengths += one_where(is_content_length(name));
+    }
+    (codings, lengths)
 }
 
 /// The value of the first line of Content-Length.

@@ -1,5 +1,6 @@
 -- Ranges of a text that lie side by side.
-use Rattle.std.proofs.Common.{◌≡◌, ℕ, ◌+◌, ◌-◌, ◌≤◌, List, [], ◌∷◌, ◌++◌, take, drop, slice_range, ◌∙◌, ap, ap₂, arith, take-add, drop-drop}
+use Rattle.std.proofs.Common.{◌≡◌, ℕ, ◌+◌, ◌-◌, ◌≤◌, List, [], ◌∷◌, ◌++◌, take, drop, slice_range, ◌∙◌, ap, ap₂, arith, take-add, drop-drop, length, length-take}
+use Rattle.std.proofs.lemmas.List.{drop-take, take-take}
 
 -- a range, cut at a place within it
 pub cut_at : {X : Type 0} (xs : List X) (a b c : ℕ) → a ≤ b → b ≤ c
@@ -41,3 +42,20 @@ first_line_in text target last start space from end behind a b c d parted aimed 
     (cut_at text space from behind b (omega arith)
     ∙ ap₂ (λ xs ys. xs ++ ys) parted
     (cut_at text from end behind c d ∙ ap₂ (λ xs ys. xs ++ ys) aimed ended))
+
+-- a range of a range
+pub range_in_range : {X : Type 0} (xs : List X) (a b start end : ℕ) → start ≤ end
+    → end ≤ length (slice_range xs a b)
+    → slice_range (slice_range xs a b) start end ≡ slice_range xs (a + start) (a + end)
+range_in_range xs a b start end ordered inside =
+    let front = drop a xs in
+    let size = length-take (b - a) front in
+    let fits : end ≤ b - a = omega (arith, inside, size) in
+    let cut : b - a ≡ start + (b - a - start) = omega arith in
+    let less : end - start ≤ b - a - start = omega arith in
+    let same : end - start ≡ (a + end) - (a + start) = omega arith in
+    ap (λ n. take (end - start) (drop start (take n front))) cut
+    ∙ ap (take (end - start)) (drop-take start (b - a - start) front)
+    ∙ take-take (end - start) (b - a - start) (drop start front) less
+    ∙ ap (take (end - start)) (drop-drop start a xs)
+    ∙ ap (λ n. take n (drop (a + start) xs)) same

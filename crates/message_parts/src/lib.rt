@@ -10,6 +10,7 @@ mod method;
 mod piece;
 mod request;
 mod text;
+mod text_piece;
 
 pub use bytes::Bytes;
 pub use headers::{Header, Headers};
@@ -17,3 +18,4 @@ pub use method::Method;
 pub use piece::{HeadText, Piece};
 pub use request::{Request, Version};
 pub use text::Text;
+pub use text_piece::TextPiece;

@@ -71,6 +71,19 @@ impl Piece {
         &self.text[self.start..self.end]
     }
 
+    /// The bytes of this piece from the place `start` to the one before `end`. Takes no memory;
+    /// fails where 2^64 - 1 pieces of the text are there.
+    pub fn part(&self, start: usize, end: usize) -> Result<Piece, AllocError>
+        requires inside { (start ≤ end) × (end ≤ length self.now) }
+        ensures { IfOk result (λ part. part ≡ slice_range self.now start end) }
+    {
+        Ok(Piece {
+            text: self.text.clone()?,
+            start: self.start + start,
+            end: self.start + end,
+        })
+    }
+
     /// The text of a line of this name and value as a head has it, from the name through CR LF,
     /// where this value's head has it so: `name: value`, with one space alone. None elsewhere.
     ///

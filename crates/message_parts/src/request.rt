@@ -2,7 +2,7 @@
 use crate::bytes::Bytes;
 use crate::headers::Headers;
 use crate::method::Method;
-use crate::text::Text;
+use crate::text_piece::TextPiece;
 
 /// The version of HTTP that a request is in.
 #[derive(Clone, Copy)]
@@ -16,9 +16,9 @@ pub enum Version {
 pub struct Request {
     pub method: Method,
     /// The target as it was sent: a path with or without a query, an absolute URI, or `*`.
-    pub target: Text,
+    pub target: TextPiece,
     /// The target up to its query, and of an absolute URI the part behind its authority.
-    pub path: Text,
+    pub path: TextPiece,
     pub version: Version,
     pub headers: Headers,
     /// The body, where the request has a length.

@@ -1,10 +1,10 @@
-// Text that a message owns.
+// Text that is owned.
 ghost use Rattle.std.specs.Prelude.{◌≡◌, IfOk, string_bytes};
 
 use std::alloc::{AllocError, Global};
 use std::marker::Model;
 
-/// A text, such as a request's target. A contract sees the list of its bytes.
+/// A text, such as the name of a key. A contract sees the list of its bytes.
 #[derive(Debug, Drop)]
 pub struct Text {
     string: String,

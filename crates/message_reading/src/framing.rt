@@ -1,12 +1,15 @@
 // How the body of a message is delimited, and the checks of a head before that.
-ghost use Rattle.std.specs.Prelude.{◌≡◌};
+ghost use Rattle.std.specs.Prelude.{◌≡◌, codes};
+ghost use Rattle.message_fields.specs.Lines.{count_named};
+ghost use Rattle.message_fields.specs.Lengths.{length_of};
 ghost use Rattle.message_reading.specs.Framing.{coded, hosts_fit, lengths_of, is_refused, request_framing, response_framing, sized};
 
 use crate::fault::Fault;
 use crate::request_head::RequestHead;
 use crate::response_head::ResponseHead;
 use message_fields::{
-    LengthFault, count_hosts, count_lengths, count_named, is_chunked_alone, is_target, length_of,
+    LengthFault, count_codings_and_lengths, count_hosts, is_chunked_alone, is_target, length_of,
+    length_of_one,
 };
 use message_parts::{Header, Method};
 
@@ -37,11 +40,24 @@ fn coded(minor: u8, lines: &[Header]) -> Result<Framing, Fault>
     }
 }
 
-// By a length.
-fn sized(lines: &[Header]) -> Result<Framing, Fault>
+// The length that so many lines give.
+fn length_by(lines: &[Header], lengths: usize) -> Result<usize, LengthFault>
+    requires { lengths ≡ count_named (codes "content-length") lines.now }
+    ensures { result ≡ length_of lines.now }
+{
+    if lengths == 1 {
+        length_of_one(lines)
+    } else {
+        length_of(lines)
+    }
+}
+
+// By a length, which so many lines tell.
+fn sized(lines: &[Header], lengths: usize) -> Result<Framing, Fault>
+    requires { lengths ≡ count_named (codes "content-length") lines.now }
     ensures { result ≡ sized lines.now }
 {
-    match length_of(lines) {
+    match length_by(lines, lengths) {
         Ok(size) => Ok(Framing::Sized(size)),
         Err(LengthFault::TooLarge) => Err(Fault::BodyTooLarge),
         Err(LengthFault::Malformed) => Err(Fault::Malformed),
@@ -52,8 +68,7 @@ fn sized(lines: &[Header]) -> Result<Framing, Fault>
 fn lengths_of(minor: u8, lines: &[Header], without: Framing) -> Result<Framing, Fault>
     ensures { result ≡ lengths_of minor lines.now without }
 {
-    let codings = count_named(lines, b"transfer-encoding");
-    let lengths = count_lengths(lines);
+    let (codings, lengths) = count_codings_and_lengths(lines);
     if codings > 0 && lengths > 0 {
         return Err(Fault::BothLengths);
     }
@@ -61,7 +76,7 @@ fn lengths_of(minor: u8, lines: &[Header], without: Framing) -> Result<Framing, 
         return coded(minor, lines);
     }
     if lengths > 0 {
-        return sized(lines);
+        return sized(lines, lengths);
     }
     Ok(without)
 }
@@ -92,7 +107,7 @@ pub(crate) fn frame_request(head: &RequestHead) -> Result<Framing, Fault>
     if is_refused(method) {
         return Err(Fault::Method);
     }
-    if !is_target(method, head.target.as_str().as_bytes()) {
+    if !is_target(method, head.target.as_bytes()) {
         return Err(Fault::Malformed);
     }
     if !hosts_fit(head.minor, count_hosts(lines)) {

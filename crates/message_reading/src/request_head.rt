@@ -1,5 +1,5 @@
 // The head of a request, in its bytes.
-ghost use Rattle.std.specs.Prelude.{◌≡◌, ◌≤◌, ◌⊎◌, length, IfSome, IfOk, IfErr, IsNone, IsErrOf, IsUtf8};
+ghost use Rattle.std.specs.Prelude.{◌≡◌, ◌≤◌, ◌⊎◌, length, IfSome, IfOk, IfErr, IsNone, IsErrOf};
 ghost use Rattle.httparse.specs.Grammar.{RequestHead as GrammarHead};
 ghost use Rattle.httparse.specs.Spans.{IsRequestAt, IsRequestWithin};
 ghost use Rattle.message_reading.specs.HeadBytes.{line_ends};
@@ -10,7 +10,7 @@ use crate::fault::{Fault, MessageFault};
 use crate::head_lines::{FEW_LINES, MOST_LINES, lines_at};
 use httparse::Status;
 use httparse::spans::{EMPTY_HEADER_SPAN, HeaderSpan, RequestSpans, parse_request as find_request};
-use message_parts::{HeadText, Headers, Method, Text};
+use message_parts::{HeadText, Headers, Method, TextPiece};
 use std::alloc::{AllocError, Global};
 
 /// The head of a request: its first line and the lines behind it.
@@ -18,18 +18,10 @@ use std::alloc::{AllocError, Global};
 pub struct RequestHead {
     pub method: Method,
     /// The target as it was sent.
-    pub target: Text,
+    pub target: TextPiece,
     /// The minor version: 0 for `HTTP/1.0` and 1 for `HTTP/1.1`.
     pub minor: u8,
     pub lines: Headers,
-}
-
-// A copy of a target, which is text.
-fn copy_text(alloc: Global, bytes: &[u8]) -> Result<Text, AllocError>
-    requires { IsUtf8 bytes.now }
-    ensures { IfOk result (λ text. text ≡ bytes.now) }
-{
-    Text::copy_of(alloc, str::from_utf8(bytes).unwrap())
 }
 
 // The parts of a request head that is all of `text`.
@@ -59,9 +51,9 @@ fn head_at(
     ensures { IfOk result (λ head.
         (h : GrammarHead) × IsWholeRequest text.items h × (head ≡ request_head h)) }
 {
-    let target = copy_text(alloc, found.path.of(&text))?;
     let kept = HeadText::new(alloc, text)?;
     let method = Method::new(kept.piece(found.method.start, found.method.end)?);
+    let target = TextPiece::new(kept.piece(found.path.start, found.path.end)?);
     let lines = lines_at(alloc, &kept, &spans[..found.headers])?;
     Ok(RequestHead {
         method,

@@ -16,7 +16,7 @@ pub fn read_call(request: &Request, host: &str) -> Result<Call, Refusal>
     ensures { result ≡ call_of host.now request.now }
 {
     let (lines, host) = (request.headers.as_slice(), host.as_bytes());
-    if !names_host(lines, host) || !names_authority(request.target.as_str().as_bytes(), host) {
+    if !names_host(lines, host) || !names_authority(request.target.as_bytes(), host) {
         return Err(Refusal::ForeignHost);
     }
     match Endpoint::at(request.path.as_str()) {

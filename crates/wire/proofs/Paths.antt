@@ -1,10 +1,11 @@
 -- Paths are text.
-use Rattle.std.proofs.Common.{rules, arith, ◌≡◌, ◌<◌, ◌==◌, refl, ℕ, Bool, true, false, List, [], ◌∷◌, length, take, drop, IsUtf8}
+use Rattle.std.proofs.Common.{rules, arith, ◌≡◌, ◌<◌, ◌≤◌, ◌+◌, ◌-◌, ◌==◌, ◌∙◌, ap, sym, subst, min, refl, ℕ, Bool, true, false, List, [], ◌∷◌, length, length-drop, take, drop, drop-drop, slice_range, IsUtf8}
+use Rattle.std.proofs.lemmas.List.{drop_min}
 use Rattle.std.specs.Prelude.{if◌then◌else◌, codes, get_or}
 use Rattle.std.specs.Str.{IsCharBoundary}
 use Rattle.std.specs.List.{before_first, position, position_or_len}
 use Rattle.std.proofs.lemmas.List.Sums.{passes_at_first}
-use Rattle.std.proofs.lemmas.Str.{IsCharBoundary-after_ascii, IsCharBoundary-before_ascii, IsUtf8-drop, IsUtf8-take}
+use Rattle.std.proofs.lemmas.Str.{IsCharBoundary-after_ascii, IsCharBoundary-before_ascii, IsUtf8-append, IsUtf8-drop, IsUtf8-from_ascii, IsUtf8-take}
 use Rattle.message_fields.specs.Target.{after_authority, ends_authority, is_absolute, local_part, path_of, wants_slash}
 use Rattle.std.proofs.Common.{map, not, ◌||◌}
 use Rattle.std.specs.Char.{to_ascii_lowercase}
@@ -87,9 +88,46 @@ local_is_text t text = go (is_absolute t) refl
 pub local_path_is_text : (t : List ℕ) → IsUtf8 t → IsUtf8 (before_first is_query (local_part t))
 local_path_is_text t text = before_is_text (local_part t) (local_is_text t text)
 
+rest_at : (t : List ℕ) (k : ℕ)
+    → (length (drop k t) ≤ length t) × (drop (length t - length (drop k t)) t ≡ drop k t)
+rest_at t k =
+    let size = length-drop k t in
+    let start : length t - length (drop k t) ≡ min k (length t) = omega (arith, size) in
+    (omega (arith, size), ap (λ n. drop n t) start ∙ drop_min k t)
+
+-- a local part is the rest of its target
+pub local_part_is_rest : (t : List ℕ)
+    → (length (local_part t) ≤ length t) × (drop (length t - length (local_part t)) t ≡ local_part t)
+local_part_is_rest t = go (is_absolute t)
+  where
+    IsRest : List ℕ → Type 0
+    IsRest l = (length l ≤ length t) × (drop (length t - length l) t ≡ l)
+
+    go : (b : Bool) → IsRest (if b then after_authority (drop 7 t) else t)
+    go false = rest_at t 0
+    go true =
+        let at = position_or_len ends_authority (drop 7 t) in
+        subst IsRest (sym (drop-drop at 7 t)) (rest_at t (7 + at))
+
+-- and its path a range of it
+pub local_path_range : (t : List ℕ) (q : ℕ)
+    → slice_range t (length t - length (local_part t)) (length t - length (local_part t) + q)
+    ≡ take q (local_part t)
+local_path_range t q =
+    let start = length t - length (local_part t) in
+    let same : start + q - start ≡ q = omega arith in
+    ap (λ n. take n (drop start t)) same ∙ ap (take q) ((local_part_is_rest t).1)
+
 pub before_query : (p : ℕ → Bool) (xs : List ℕ)
     → unwrap_or (position p xs) (length xs) ≡ position_or_len p xs
 before_query p xs = grind (arith, nat_tests, prefix_len-le-length (λ x. not (p x)) xs)
+
+-- with a `/` in front it is text, too
+pub slash_path_is_text : (t : List ℕ) → IsUtf8 t
+    → IsUtf8 (47 ∷ before_first is_query (local_part t))
+slash_path_is_text t text =
+    IsUtf8-append (47 ∷ []) (before_first is_query (local_part t))
+    (IsUtf8-from_ascii (47 ∷ []) (search rules)) (local_path_is_text t text)
 
 -- a path begins with the `/` that is set before it
 pub path_slash : (t : List ℕ) → wants_slash t ≡ true

@@ -49,7 +49,7 @@ pub fn write_request<W: Write>(
 {
     let forwarded = Forwarded {
         method: &request.method,
-        target: request.target.as_str().as_bytes(),
+        target: request.target.as_bytes(),
         is_old: is_old(request.version),
         headers: request.headers.as_slice(),
         body: bytes_of(&request.body),

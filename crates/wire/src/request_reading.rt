@@ -9,9 +9,9 @@ ghost use Rattle.wire.specs.Fault.{IsUsedUp, Reads, most_reads};
 ghost use Rattle.wire.specs.Messages.{IsRequest, Said, request_of, version_of};
 
 use crate::fault::WireFault;
-use crate::path::copy_path;
+use crate::path::path_of;
 use counted_io::Counted;
-use message_parts::{Bytes, Request, Text, Version};
+use message_parts::{Bytes, Request, TextPiece, Version};
 use message_reading::{RequestHead, read_body, read_checked_head, say_continue};
 use std::alloc::Global;
 use std::io::{BufRead, Write};
@@ -31,7 +31,7 @@ fn version_of(minor: u8) -> Version
 }
 
 // The request with this head, path and body.
-fn request_of(head: RequestHead, path: Text, body: Option<Bytes>) -> Request
+fn request_of(head: RequestHead, path: TextPiece, body: Option<Bytes>) -> Request
     requires { path ≡ path_of head.target }
     ensures { result ≡ request_of head body }
 {
@@ -80,7 +80,7 @@ pub fn read_request<R: BufRead, W: Write>(
 {
     let limit = reader.calls().saturating_add(MOST_READS);
     let (head, framing) = read_checked_head(alloc, reader, limit)?;
-    let path = copy_path(alloc, &head.target)?;
+    let path = path_of(alloc, &head.target)?;
     say_continue(writer, &head, framing)?;
     let body = read_body(alloc, reader, limit, framing)?;
     Ok(request_of(head, path, body))
