@@ -8,7 +8,8 @@ mod caller;
 mod run;
 
 use aimd::Aimd;
-use gate_history::Blanks;
+use gate_history::{Blanks, GateSettings};
+use limiter_core::Promote;
 use partitions::PartitionTable;
 use run::run;
 use shared_gate::Word;
@@ -20,8 +21,16 @@ fn main(rt: HostRuntime) -> anyhow::Result<()> {
         unreachable!()
     };
     let table = PartitionTable::new(alloc, &[(b"live", 600), (b"batch", 300)])?;
+    let settings = GateSettings {
+        limit,
+        table,
+        room: 10,
+        promote: Promote::Newest,
+        kept: 1_000,
+        is_rolling: false,
+    };
     let word = Word::new(alloc)?;
-    let history = run::<Brand, _>(&rt, alloc, Blanks::new(), word, limit, table)?;
+    let history = run::<Brand, _>(&rt, alloc, Blanks::new(), word, settings)?;
     println!(rt; "audit ok: {} entries", history.entries.len())?;
     Ok(())
 }

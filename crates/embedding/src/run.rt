@@ -1,19 +1,17 @@
 // A run: the gate is made, called by two threads, and closed.
-ghost use Rattle.std.specs.Prelude.{◌≡◌, false, replicate, IfOk};
-ghost use Rattle.limiter_core.specs.declared.promote.Promote.TheVariants.{Newest};
+ghost use Rattle.std.specs.Prelude.{◌≡◌, replicate, IfOk};
 ghost use Rattle.aimd.specs.AimdRules.{aimd_rules};
-ghost use Rattle.gate_ledgers.specs.Course.{course_of};
+ghost use Rattle.gate_journal.specs.Settings.{AreInRange, begun};
 ghost use Rattle.gate_ledgers.specs.Names.{AreNamed, AreWhole};
-ghost use Rattle.gate_history.specs.Book.{made_as};
+ghost use Rattle.gate_history.specs.Book.{made_with};
 ghost use Rattle.shared_gate.specs.Calls.{pass_of};
 ghost use Rattle.shared_gate.specs.Log.{CallsLegal};
 ghost use Rattle.embedding.specs.Run.{IsAudited};
 
 use crate::caller::Caller;
 use aimd::Aimd;
-use gate_history::{Blanks, Book, History};
-use limiter_core::Promote;
-use partitions::{Part, PartitionTable};
+use gate_history::{Blanks, Book, GateSettings, History};
+use partitions::Part;
 use shared_gate::{
     GateNaming, Pass, ProgramClock, SharedGate, Word, accepted_histories_are_one_threads,
 };
@@ -22,40 +20,25 @@ use std::sync::Wait;
 use std::thread::{Threads, join};
 use std::time::Clock as SystemClock;
 
-/// Makes a gate of this limit and these classes, has two threads call it, one for the first class
-/// and one for the second, and closes it. The answer is the history of all calls.
+/// Makes a gate of these settings, has two threads call it, one for the first class and one for the
+/// second, and closes it. The answer is the history of all calls.
 pub(crate) fn run<M: GateNaming + Send + Sync, R: Threads + Wait + SystemClock + Sync>(
     rt: &R,
     alloc: Global,
     blanks: Blanks,
     word: Word,
-    limit: Aimd,
-    table: PartitionTable,
+    settings: GateSettings<Aimd>,
 ) -> anyhow::Result<History<Aimd>>
     requires names { AreNamed M.calls M.place blanks }
     requires parts { AreWhole blanks }
     requires word { word ≡ M.word }
-    requires rows { M.rows ≡ table }
-    requires room { M.room ≡ 10 }
-    requires promote { M.promote ≡ Newest }
-    requires kept { M.kept ≡ 1000 }
-    requires rolling { M.is_rolling ≡ false }
-    requires limit { M.limit ≡ course_of aimd_rules limit }
-    requires legal { CallsLegal aimd_rules table 10 Newest limit M.legal }
-    ensures { IfOk result (λ history. IsAudited
-        (made_as table 10 Newest 1000 false (course_of aimd_rules limit))
+    requires range { AreInRange settings }
+    requires making { M.making ≡ made_with aimd_rules (begun settings) }
+    requires legal { CallsLegal aimd_rules (begun settings) M.legal }
+    ensures { IfOk result (λ history. IsAudited (made_with aimd_rules (begun settings))
         history.opening.standing history.entries.items) }
 {
-    let book = Book::begin(
-        alloc,
-        limit,
-        table,
-        10,
-        Promote::Newest,
-        1_000,
-        false,
-        blanks,
-    )?;
+    let book = Book::begin(alloc, settings, blanks)?;
     let (gate, passes) = SharedGate::<Aimd, M>::open(alloc, word, book, 2)?;
     call_and_close(rt, alloc, gate, passes)
 }
@@ -68,8 +51,7 @@ fn call_and_close<M: GateNaming + Send + Sync, R: Threads + Wait + SystemClock +
     mut passes: Vec<Pass<M>>,
 ) -> anyhow::Result<History<Aimd>>
     requires new { passes.items ≡ replicate 2 (pass_of 0) }
-    ensures { IfOk result (λ history. IsAudited
-        (made_as M.rows M.room M.promote M.kept M.is_rolling M.limit)
+    ensures { IfOk result (λ history. IsAudited M.making
         history.opening.standing history.entries.items) }
 {
     let (Some(two), Some(one)) = (passes.pop(), passes.pop()) else {
@@ -93,8 +75,7 @@ fn audit<M: GateNaming>(
     one: Caller<M>,
     two: Caller<M>,
 ) -> anyhow::Result<History<Aimd>>
-    ensures { IfOk result (λ history. IsAudited
-        (made_as M.rows M.room M.promote M.kept M.is_rolling M.limit)
+    ensures { IfOk result (λ history. IsAudited M.making
         history.opening.standing history.entries.items) }
 {
     accepted_histories_are_one_threads::<Aimd>();

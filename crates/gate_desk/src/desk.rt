@@ -46,13 +46,11 @@ where
     C: Clock,
     W: DeskWatch,
 {
-    ghost use Rattle.gate_history.specs.Book.{made_as};
     ghost use Rattle.gate_desk.specs.Desk.{DoneBy, ShownBy};
 
     ghost rows = { λ desk. desk.table };
 
-    ghost shows = { λ desk sight. ShownBy G.rules
-        (made_as M.rows M.room M.promote M.kept M.is_rolling M.limit) sight };
+    ghost shows = { λ desk sight. ShownBy G.rules M.making sight };
 
     ghost does = { λ before after deed. DoneBy before.pass after.pass deed };
 

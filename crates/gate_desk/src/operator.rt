@@ -45,13 +45,11 @@ where
 {
     type Done = ();
 
-    ghost use Rattle.gate_history.specs.Book.{made_as};
     ghost use Rattle.gate_desk.specs.Desk.{DoneBy, ShownBy};
     ghost use Rattle.gate_desk.specs.Operator.{HasOperated};
 
     ghost makes = { λ operator _. HasOperated operator.desk (λ desk. desk.table)
-        (λ _ sight. ShownBy G.rules
-        (made_as M.rows M.room M.promote M.kept M.is_rolling M.limit) sight)
+        (λ _ sight. ShownBy G.rules M.making sight)
         (λ before after deed. DoneBy before.pass after.pass deed)
         operator.common.now.host.now operator.common.now.page.now };
 

@@ -1,59 +1,37 @@
 // The gate that stands between clients and the backend.
-ghost use Rattle.std.specs.Prelude.{◌≡◌, true, false, IfOk, replicate, vec_len};
+ghost use Rattle.std.specs.Prelude.{◌≡◌, IfOk, replicate, vec_len};
 ghost use Rattle.limit_kinds.specs.AnyKinds.{any_rules};
-ghost use Rattle.limiter_core.specs.Limiter.{unasked};
-ghost use Rattle.gate_journal.specs.Journal.{opened};
-ghost use Rattle.gate_ledgers.specs.Course.{course_of};
+ghost use Rattle.gate_journal.specs.Settings.{AreInRange, begun};
 ghost use Rattle.gate_ledgers.specs.Names.{AreNamed, AreWhole};
-ghost use Rattle.gate_ledgers.specs.Places.{no_places};
-ghost use Rattle.gate_history.specs.Book.{book_in};
 ghost use Rattle.gate_config.specs.Settings.{AreSound};
 ghost use Rattle.shared_gate.specs.Calls.{pass_of};
 ghost use Rattle.shared_gate.specs.Log.{CallsLegal};
+ghost use Rattle.gate_opening.specs.Opening.{journal_of, making_of};
 
 use gate_config::{AnyLimit, Settings};
-use gate_history::{Blanks, Book, Naming};
+use gate_history::{Blanks, Book, GateSettings};
 use limit_laws::Limit;
 use shared_gate::{GateNaming, SharedGate, Word};
 use std::alloc::{AllocError, Global};
 
-/// The book of a gate with these settings, of which nothing was asked yet. It rolls whenever it
-/// holds as many entries as are kept.
-fn open_book<M: Naming>(
-    alloc: Global,
-    settings: &Settings,
-    blanks: Blanks,
-) -> Result<Book<AnyLimit, M>, AllocError>
-    requires names { AreNamed M.calls M.place blanks }
-    requires parts { AreWhole blanks }
-    requires rows { M.rows ≡ settings.now.table }
-    requires room { M.room ≡ settings.now.backlog }
-    requires promote { M.promote ≡ settings.now.promote }
-    requires kept { M.kept ≡ settings.now.keep }
-    requires rolling { M.is_rolling ≡ true }
-    requires limit { M.limit ≡ course_of any_rules settings.now.limit }
-    requires sound { AreSound settings.now }
-    ensures { IfOk result (λ book. book ≡ book_in
-        (opened (unasked settings.now.table settings.now.backlog settings.now.promote
-        settings.now.limit) settings.now.keep true)
-        (record { calls = 0; passes = 0 }) no_places false) }
+/// What the gate of a configuration is made with. It rolls whenever it holds as many entries as are
+/// kept.
+fn gate_settings(settings: &Settings) -> Result<GateSettings<AnyLimit>, AllocError>
+    requires { AreSound settings.now }
+    ensures range { IfOk result AreInRange }
+    ensures begins { IfOk result (λ made. begun made ≡ journal_of settings.now) }
 {
     let Ok(table) = settings.table.copy() else {
         return Err(AllocError);
     };
-    let limit = settings.limit.copy();
-    let keep = settings.keep as usize;
-    let book = Book::begin(
-        alloc,
-        limit,
+    Ok(GateSettings {
+        limit: settings.limit.copy(),
         table,
-        settings.backlog,
-        settings.promote,
-        keep,
-        true,
-        blanks,
-    )?;
-    Ok(book)
+        room: settings.backlog,
+        promote: settings.promote,
+        kept: settings.keep as usize,
+        is_rolling: true,
+    })
 }
 
 /// The gate of these settings, which rolls, with so many passes, by which no call was made yet. A
@@ -69,18 +47,13 @@ pub fn open_gate<M: GateNaming>(
     requires word { word ≡ M.word }
     requires names { AreNamed M.calls M.place blanks }
     requires parts { AreWhole blanks }
-    requires rows { M.rows ≡ settings.now.table }
-    requires room { M.room ≡ settings.now.backlog }
-    requires promote { M.promote ≡ settings.now.promote }
-    requires kept { M.kept ≡ settings.now.keep }
-    requires rolling { M.is_rolling ≡ true }
-    requires limit { M.limit ≡ course_of any_rules settings.now.limit }
+    requires making { M.making ≡ making_of settings.now }
     requires sound { AreSound settings.now }
-    requires legal { CallsLegal any_rules settings.now.table settings.now.backlog
-        settings.now.promote settings.now.limit M.legal }
+    requires legal { CallsLegal any_rules (journal_of settings.now) M.legal }
     ensures all { IfOk result (λ made. vec_len made.1 ≡ count) }
     ensures passes { IfOk result (λ made. made.1.items ≡ replicate count (pass_of 0)) }
 {
-    let book = open_book::<M>(alloc, settings, blanks)?;
+    let made = gate_settings(settings)?;
+    let book = Book::begin(alloc, made, blanks)?;
     SharedGate::open(alloc, word, book, count)
 }

@@ -1,11 +1,11 @@
 // How many passes a book gives, and how many entries a journal may be asked to keep.
-ghost use Rattle.std.specs.Prelude.{◌≡◌, [], false};
-ghost use Rattle.limiter_core.specs.declared.promote.Promote.TheVariants.{Newest};
+ghost use Rattle.std.specs.Prelude.{◌≡◌};
 ghost use Rattle.limit_laws.specs.FixedRules.{fixed_rules};
-ghost use Rattle.gate_ledgers.specs.Course.{course_of};
+ghost use Rattle.gate_journal.specs.Settings.{AreInRange, begun};
 ghost use Rattle.gate_ledgers.specs.Names.{AreNamed, AreWhole};
+ghost use Rattle.gate_history.specs.Book.{made_with};
 
-use gate_history::{Blanks, Book, Journal, JournalFault, Naming};
+use gate_history::{Blanks, Book, GateSettings, Journal, JournalFault, Naming};
 use limit_laws::Fixed;
 use limiter_core::{Core, Promote};
 use partitions::PartitionTable;
@@ -15,24 +15,46 @@ use std::process::Abort;
 
 #[test]
 fn a_book_gives_a_million_passes_unless_it_is_sealed(rt: HostRuntime) {
-    gives::<Brand, _>(&rt, rt.alloc(), Blanks::new(), 1_000_000, false);
-    gives::<Brand, _>(&rt, rt.alloc(), Blanks::new(), 0, true);
+    gives::<Brand, _>(
+        &rt,
+        rt.alloc(),
+        one_permit(&rt),
+        Blanks::new(),
+        1_000_000,
+        false,
+    );
+    gives::<Brand, _>(&rt, rt.alloc(), one_permit(&rt), Blanks::new(), 0, true);
+}
+
+/// The settings of a gate of one permit, which keeps one entry.
+fn one_permit<R: Abort>(rt: &R) -> GateSettings<Fixed>
+    ensures { AreInRange result }
+{
+    GateSettings {
+        limit: Fixed::new(1).expect(rt, "a limit"),
+        table: PartitionTable::unknown_only(),
+        room: 100,
+        promote: Promote::Newest,
+        kept: 1,
+        is_rolling: false,
+    }
 }
 
 /// A new book, which may be sealed at once, gives so many passes and no more.
-fn gives<N: Naming, R: Abort>(rt: &R, alloc: Global, blanks: Blanks, count: u64, is_sealed: bool)
+fn gives<N: Naming, R: Abort>(
+    rt: &R,
+    alloc: Global,
+    settings: GateSettings<Fixed>,
+    blanks: Blanks,
+    count: u64,
+    is_sealed: bool,
+)
     requires names { AreNamed N.calls N.place blanks }
     requires parts { AreWhole blanks }
-    requires rows { N.rows ≡ [] }
-    requires room { N.room ≡ 100 }
-    requires promote { N.promote ≡ Newest }
-    requires kept { N.kept ≡ 1 }
-    requires rolling { N.is_rolling ≡ false }
-    requires limit { N.limit ≡ course_of fixed_rules 1 }
+    requires range { AreInRange settings }
+    requires making { N.making ≡ made_with fixed_rules (begun settings) }
 {
-    let limit = Fixed::new(1).expect(rt, "a limit");
-    let table = PartitionTable::unknown_only();
-    let begun = Book::<_, N>::begin(alloc, limit, table, 100, Promote::Newest, 1, false, blanks);
+    let begun = Book::<_, N>::begin(alloc, settings, blanks);
     gives_passes(rt, begun.expect(rt, "memory for a book"), count, is_sealed);
 }
 

@@ -1,11 +1,12 @@
 // Gates that are opened for a trial.
 ghost use Rattle.std.specs.Prelude.{◌≡◌};
 ghost use Rattle.limit_kinds.specs.AnyKinds.{any_rules};
-ghost use Rattle.gate_ledgers.specs.Course.{course_of};
+ghost use Rattle.gate_journal.specs.Settings.{begun};
 ghost use Rattle.gate_ledgers.specs.Names.{AreNamed, AreWhole};
+ghost use Rattle.gate_history.specs.Book.{made_with};
 ghost use Rattle.shared_gate.specs.Log.{CallsAllLegal};
 
-use gate_history::{Blanks, Book};
+use gate_history::{Blanks, Book, GateSettings};
 use limit_kinds::{AnyLimit, BaseLimit};
 use limit_laws::{Fixed, Settable};
 use limiter_core::Promote;
@@ -26,18 +27,10 @@ pub(crate) trait Trial<R> {
     );
 }
 
-/// How a gate is made.
+/// How a gate is made, and how many passes it gives.
 #[derive(Drop)]
 pub(crate) struct Making {
-    pub(crate) limit: AnyLimit,
-    pub(crate) table: PartitionTable,
-    /// How many may wait.
-    pub(crate) room: u32,
-    pub(crate) promote: Promote,
-    /// How many entries the history has at most.
-    pub(crate) kept: usize,
-    pub(crate) is_rolling: bool,
-    /// How many passes there are.
+    pub(crate) settings: GateSettings<AnyLimit>,
     pub(crate) passes: usize,
 }
 
@@ -50,15 +43,15 @@ impl Making {
         is_rolling: bool,
         passes: usize,
     ) -> Making {
-        Making {
+        let settings = GateSettings {
             limit,
             table: PartitionTable::unknown_only(),
             room: 100,
             promote,
             kept,
             is_rolling,
-            passes,
-        }
+        };
+        Making { settings, passes }
     }
 }
 
@@ -103,12 +96,7 @@ fn try_at_named<M: GateNaming, R: Abort, T: Trial<R>>(
     requires parts { AreWhole blanks }
     requires word { word ≡ M.word }
     requires legal { CallsAllLegal M.legal }
-    requires rows { M.rows ≡ making.table }
-    requires room { M.room ≡ making.room }
-    requires promote { M.promote ≡ making.promote }
-    requires kept { M.kept ≡ making.kept }
-    requires rolling { M.is_rolling ≡ making.is_rolling }
-    requires limit { M.limit ≡ course_of any_rules making.limit }
+    requires making { M.making ≡ made_with any_rules (begun making.settings) }
 {
     let (gate, passes) = opened::<M, R>(rt, alloc, blanks, word, making);
     trial.run(rt, alloc, gate, passes);
@@ -126,27 +114,12 @@ pub(crate) fn opened<M: GateNaming, R: Abort>(
     requires parts { AreWhole blanks }
     requires word { word ≡ M.word }
     requires legal { CallsAllLegal M.legal }
-    requires rows { M.rows ≡ making.table }
-    requires room { M.room ≡ making.room }
-    requires promote { M.promote ≡ making.promote }
-    requires kept { M.kept ≡ making.kept }
-    requires rolling { M.is_rolling ≡ making.is_rolling }
-    requires limit { M.limit ≡ course_of any_rules making.limit }
+    requires making { M.making ≡ made_with any_rules (begun making.settings) }
 {
-    let Making {
-        limit,
-        table,
-        room,
-        promote,
-        kept,
-        is_rolling,
-        passes,
-    } = making;
-    assert!(rt; room <= 10_000);
-    assert!(rt; 1 <= kept && kept <= 1_000_000);
-    let book = Book::<AnyLimit, M>::begin(
-        alloc, limit, table, room, promote, kept, is_rolling, blanks,
-    );
+    let Making { settings, passes } = making;
+    assert!(rt; settings.room <= 10_000);
+    assert!(rt; 1 <= settings.kept && settings.kept <= 1_000_000);
+    let book = Book::<AnyLimit, M>::begin(alloc, settings, blanks);
     let book = book.expect(rt, "memory for a book");
     SharedGate::open(alloc, word, book, passes).expect(rt, "memory for a gate")
 }

@@ -2,8 +2,9 @@
 // trait's method, so what is tried here is told by an enum.
 ghost use Rattle.std.specs.Prelude.{◌≡◌};
 ghost use Rattle.limit_kinds.specs.AnyKinds.{any_rules};
-ghost use Rattle.gate_ledgers.specs.Course.{course_of};
+ghost use Rattle.gate_journal.specs.Settings.{begun};
 ghost use Rattle.gate_ledgers.specs.Names.{AreNamed, AreWhole};
+ghost use Rattle.gate_history.specs.Book.{made_with};
 ghost use Rattle.shared_gate.specs.Log.{CallsAllLegal};
 
 use crate::closing::two_threads_close;
@@ -66,12 +67,7 @@ fn try_named<M: GateNaming + Send + Sync, R: Threads + Wait + SystemClock + Abor
     requires parts { AreWhole blanks }
     requires word { word ≡ M.word }
     requires legal { CallsAllLegal M.legal }
-    requires rows { M.rows ≡ making.table }
-    requires room { M.room ≡ making.room }
-    requires promote { M.promote ≡ making.promote }
-    requires kept { M.kept ≡ making.kept }
-    requires rolling { M.is_rolling ≡ making.is_rolling }
-    requires limit { M.limit ≡ course_of any_rules making.limit }
+    requires making { M.making ≡ made_with any_rules (begun making.settings) }
 {
     let (gate, passes) = opened::<M, R>(rt, alloc, blanks, word, making);
     call(rt, alloc, gate, passes, threaded);

@@ -1,21 +1,20 @@
 -- A session in which nothing was asked yet, and the text of its lines.
-use Rattle.std.proofs.Common.{◌≡◌, ℕ, zero, suc, Bool, List, [], ◌∷◌, length}
+use Rattle.std.proofs.Common.{◌≡◌, ℕ, zero, suc, List, [], ◌∷◌, length}
 use Rattle.std.proofs.Common.{slice_index, nat_eq, refl, sym, ap, ◌∙◌, subst}
 use Rattle.std.specs.Map.{lookup}
 use Rattle.limit_laws.specs.Algorithm.{Algorithm, IsLawful}
-use Rattle.partitions.specs.Table.{Row}
-use Rattle.limiter_core.specs.declared.promote.Promote.{Promote}
 use Rattle.limiter_core.specs.declared.event.PermitFacts.{PermitFacts}
 use Rattle.limiter_core.specs.declared.event.Entry.{Entry}
 use Rattle.limiter_core.specs.History.{Gate, Image, image_after, empty_image}
 use Rattle.limiter_core.specs.Bound.{IsSound}
 use Rattle.limiter_core.specs.Legal.{IsLegal, nothing}
-use Rattle.limiter_core.specs.Limiter.{unasked}
 use Rattle.limiter_core.specs.Handed.{IsHanded}
 use Rattle.limiter_core.specs.Laws.{MayEndOpen, BeginsHanded, AnswersHanded, OpensByItsCall}
 use Rattle.limiter_core.specs.Laws.{StaysSound}
-use Rattle.gate_journal.specs.Journal.{Journal, gate, opening, opened}
+use Rattle.gate_journal.specs.declared.settings.GateSettings.{GateSettings}
+use Rattle.gate_journal.specs.Journal.{Journal, gate, opening}
 use Rattle.gate_journal.specs.Rolling.{IsLastStretch, StretchesJoin}
+use Rattle.gate_journal.specs.Settings.{begun}
 use Rattle.load_driver.specs.Replay.{lines_text}
 use Rattle.limiter_core.specs.Open.{open_permit}
 use Rattle.load_driver.specs.Session.{open_in, Session, Permits, IsSession, IsUnasked}
@@ -30,20 +29,18 @@ zeros (suc (suc (suc zero))) = refl
 zeros (suc (suc (suc (suc zero)))) = refl
 zeros (suc (suc (suc (suc (suc p))))) = refl
 
--- a journal that opens with a limiter that was asked nothing
-pub opens_unasked : {S : Type 0} (rows : List Row) (room : ℕ) (promote : Promote) (limit : S)
-    (kept : ℕ) (is_rolling : Bool) (j : Journal S)
-    → j ≡ opened (unasked rows room promote limit) kept is_rolling
+-- a journal that was just begun
+pub opens_unasked : {S : Type 0} (settings : GateSettings S) (j : Journal S) → j ≡ begun settings
     → IsUnasked j
-opens_unasked {S} rows room promote limit kept is_rolling j begun =
-    let there : IsUnasked (opened (unasked rows room promote limit) kept is_rolling) = record {
+opens_unasked {S} settings j is =
+    let there : IsUnasked (begun settings) = record {
       empty = refl;
       base = refl;
       idle = refl;
       nobody_waits = refl;
       none_granted = refl;
     } in
-    subst (λ (w : Journal S). IsUnasked w) (sym begun) there
+    subst (λ (w : Journal S). IsUnasked w) (sym is) there
 
 module _ {S : Type 0} (rules : Algorithm S) (j : Journal S) (fresh : IsUnasked j)
     (sound : IsSound (gate rules j) (opening j)) (hands : (g : Gate S) → BeginsHanded g) where

@@ -3,20 +3,18 @@ ghost use Rattle.std.specs.Prelude.{◌≡◌, ◌≤◌, ◌<◌, ◌+◌, ◌^
 ghost use Rattle.std.specs.Prelude.{◌==◌, if◌then◌else◌, IfOk, IfSome, OnOk, is_none};
 ghost use Rattle.std.specs.HashMap.{get, spare};
 ghost use Rattle.limiter_core.specs.declared.event.Entry.TheVariants.{Call};
-ghost use Rattle.lifo_backlog.specs.Waiters.{most_waiters};
 ghost use Rattle.limiter_core.specs.Bound.{IsSound};
-ghost use Rattle.limiter_core.specs.Limiter.{unasked};
 ghost use Rattle.limiter_core.specs.Handed.{open_after};
 ghost use Rattle.gate_journal.specs.Journal.{gate, opening, next_number, is_over, answered};
-ghost use Rattle.gate_journal.specs.Journal.{opened, most_kept};
 ghost use Rattle.gate_journal.specs.Rolling.{after};
+ghost use Rattle.gate_journal.specs.Settings.{AreInRange, begun};
 ghost use Rattle.load_driver.specs.Session.{open_in};
 ghost use Rattle.load_driver.specs.Stretches.{IsOpen, StandsFor, told_at, open_then};
 
-use gate_journal::{Journal, rolling_runs_are_legal};
+use gate_journal::{GateSettings, Journal, rolling_runs_are_legal};
 use limit_laws::{LAST_MOMENT, Limit};
 use limiter_core::{
-    Entry, Event, PermitFacts, Promote, Reply, open_permits_are_in_flight, open_permits_may_end,
+    Entry, Event, PermitFacts, Reply, open_permits_are_in_flight, open_permits_may_end,
 };
 use partitions::PartitionTable;
 use std::alloc::{AllocError, Global};
@@ -52,29 +50,16 @@ pub struct Added {
 }
 
 impl<L: Limit> Session<L> {
-    /// Nothing was asked yet; up to `room` may wait, waiters are promoted by this rule, and so many
-    /// entries are kept of a history that rolls or doesn't.
-    pub fn new(
-        alloc: Global,
-        limit: L,
-        table: PartitionTable,
-        room: u32,
-        promote: Promote,
-        kept: usize,
-        is_rolling: bool,
-    ) -> Result<Session<L>, AllocError>
-        requires room { room ≤ most_waiters }
-        requires some_kept { 1 ≤ kept }
-        requires few_kept { kept ≤ most_kept }
-        ensures begun { IfOk result (λ session. session ≡ record {
-          journal = opened (unasked table room promote limit) kept is_rolling;
-          permits = [];
-        }) }
+    /// Nothing was asked yet.
+    pub fn new(alloc: Global, settings: GateSettings<L>) -> Result<Session<L>, AllocError>
+        requires { AreInRange settings }
+        ensures begun { IfOk result (λ session.
+            session ≡ record { journal = begun settings; permits = [] }) }
         ensures stands { IfOk result (λ session.
-            StandsFor L.rules (opened (unasked table room promote limit) kept is_rolling) session) }
+            StandsFor L.rules (begun settings) session) }
     {
         open_permits_are_in_flight::<L>();
-        let journal = Journal::begin(alloc, limit, table, room, promote, kept, is_rolling)?;
+        let journal = Journal::begin(alloc, settings)?;
         let _entries = journal.entries();
         Ok(Session {
             journal,

@@ -1,21 +1,16 @@
 -- What is written of a run.
-use Rattle.std.proofs.Common.{◌≡◌, ℕ, ◌≤◌, Bool, List, [], None, Result, Ok, Err, IfErr, IfOk, length, drop}
-use Rattle.std.proofs.Common.{ap, subst, sym, arith, refl}
+use Rattle.std.proofs.Common.{◌≡◌, ℕ, ◌≤◌, List, [], None, Result, Err, IfErr, length, drop}
+use Rattle.std.proofs.Common.{ap, subst, sym, arith}
 use Rattle.std.specs.Prelude.{Vec}
 use Rattle.std.specs.declared.alloc.Global.{Global}
 use Rattle.std.proofs.lemmas.List.Elements.{All-nil}
 use mathlib.Core.List.{IsPrefix}
 use Rattle.limit_kinds.specs.declared.kinds.AnyLimit.{AnyLimit}
 use Rattle.limit_kinds.specs.AnyKinds.{any_rules}
-use Rattle.partitions.specs.Table.{Row}
 use Rattle.limiter_core.specs.declared.event.Entry.{Entry}
 use Rattle.gate_journal.specs.Image.{Standing}
-use Rattle.limiter_core.specs.declared.promote.Promote.{Promote}
-use Rattle.limiter_core.specs.Limiter.{unasked}
-use Rattle.gate_journal.specs.Journal.{opened}
-use Rattle.gate_ledgers.specs.Course.{Change}
+use Rattle.gate_ledgers.specs.Making.{Making}
 use Rattle.gate_ledgers.specs.Told.{Told}
-use Rattle.gate_history.specs.Book.{Making, made_as}
 use Rattle.gate_history.specs.Refusal.{Refusal}
 use Rattle.audit.specs.declared.cause.Cause.{Cause}
 use Rattle.audit.specs.declared.cause.Cause.TheVariants as cause
@@ -30,7 +25,7 @@ use Rattle.load_run.specs.declared.fault.LoadFault.TheVariants.{Audit}
 use Rattle.load_run.specs.declared.summary.Summary.{Summary}
 use Rattle.load_run.specs.Summary.{summary_text}
 use Rattle.load_run.specs.Workers.{AreWork}
-use Rattle.load_run.specs.Load.{AreOf, IsAccepted, IsRejected, IsRun, IsUnaccepted, making_of}
+use Rattle.load_run.specs.Load.{IsAccepted, IsRejected, IsRun, IsUnaccepted, making_of}
 use Rattle.load_run.specs.Driver.{IsLoaded, StopsRun}
 
 pub is_loaded : (workers n : ℕ) (text all : List ℕ) (Written : List ℕ → Type 0) (summary : Summary)
@@ -46,20 +41,6 @@ is_loaded workers n text all Written summary same small whole run written =
       written = written;
     } in
     subst (λ (t : List ℕ). IsLoaded workers n t Written) same here
-
--- what is made so is this
-pub same_making : (m : Making) (rows : List Row) (room : ℕ) (promote : Promote) (kept : ℕ)
-    (is_rolling : Bool) (limit : List Change → ℕ)
-    → AreOf m rows room promote kept is_rolling limit
-    → made_as rows room promote kept is_rolling limit ≡ m
-same_making m rows room promote kept is_rolling limit of = λ k. record {
-  rows = of.0 k;
-  room = of.1 k;
-  promote = of.2 k;
-  kept = of.3 k;
-  is_rolling = of.4 k;
-  limit = of.5 k;
-}
 
 -- a run of a gate that is made of the settings
 pub is_run : (workers n : ℕ) (settings : SettingFacts) (arrivals : List Arrival)
@@ -121,17 +102,3 @@ pub audit_stops : {A : Type 0} (workers n : ℕ) (settings : SettingFacts) (arri
 audit_stops {A} workers n settings arrivals told cause is unaccepted =
     subst (λ (r : Result A LoadFault). IfErr r (StopsRun workers n settings arrivals)) (sym is)
     unaccepted
-
--- a journal that opens with what is made of these opens with what is made of those
-pub opened_alike : {S : Type 0} (state : S) {rows rows' : List Row} {room room' : ℕ}
-    {promote promote' : Promote} {kept kept' : ℕ} {rolls rolls' : Bool} → rows ≡ rows'
-    → room ≡ room' → promote ≡ promote' → kept ≡ kept' → rolls ≡ rolls'
-    → opened (unasked rows room promote state) kept rolls
-    ≡ opened (unasked rows' room' promote' state) kept' rolls'
-opened_alike state a b c d e = rw (a, b, c, d, e) refl
-
--- a fact of what is answered
-pub on_ok : {A E : Type 0} (P Q : A → Type 0) → ((a : A) → P a → Q a) → (r : Result A E)
-    → IfOk r P → IfOk r Q
-on_ok P Q f (Ok a) p = f a p
-on_ok P Q f (Err e) p = tt

@@ -1,22 +1,21 @@
 -- What a load is: an audited run of the calls of a trace.
-use Rattle.std.specs.Prelude.{◌≡◌, ℕ, Bool, List, Vec, length}
+use Rattle.std.specs.Prelude.{◌≡◌, ℕ, List, Vec, length}
 use Rattle.std.specs.declared.alloc.Global.{Global}
 use Rattle.limit_kinds.specs.declared.kinds.AnyLimit.{AnyLimit}
 use Rattle.limit_kinds.specs.AnyKinds.{any_rules}
-use Rattle.partitions.specs.Table.{Row}
 use Rattle.limiter_core.specs.declared.event.Entry.{Entry}
 use Rattle.gate_journal.specs.Image.{Standing}
-use Rattle.limiter_core.specs.declared.promote.Promote.{Promote}
-use Rattle.gate_ledgers.specs.Course.{Change, course_of}
+use Rattle.gate_ledgers.specs.Making.{Making}
 use Rattle.gate_ledgers.specs.Told.{Told}
-use Rattle.gate_history.specs.Book.{Making, made_as}
+use Rattle.gate_history.specs.Book.{made_with}
 use Rattle.gate_history.specs.Refusal.{Refusal}
 use Rattle.audit.specs.declared.cause.Cause.{Cause}
 use Rattle.audit.specs.Accepted.{IsHistoryOf}
 use Rattle.shared_gate.specs.Calls.{Pass}
 use Rattle.shared_gate.specs.Closing.{FailsBy, IsKept}
-use Rattle.script.specs.Settings.{SettingFacts, kept_of, limit_of, promote_of, room_of}
+use Rattle.script.specs.Settings.{SettingFacts}
 use Rattle.load_driver.specs.Limits.{kept_entries}
+use Rattle.load_driver.specs.Opening.{journal_of}
 use Rattle.trace.specs.declared.arrival.Arrival.{Arrival}
 use Rattle.load_run.specs.Workers.{AllOfAllFit, AreWork}
 use Rattle.load_run.specs.declared.summary.Summary.{Summary}
@@ -24,15 +23,7 @@ use Rattle.load_run.specs.Summary.{summary_of}
 
 -- what a gate of these settings is made with, whose limit is fixed at n where no line gives one
 abbrev pub making_of : ℕ → SettingFacts → Making
-making_of n settings =
-    made_as settings.rows (room_of settings) (promote_of settings) (kept_of kept_entries settings)
-    settings.is_rolling (course_of any_rules (limit_of n settings))
-
--- these are what is made so
-abbrev pub AreOf : Making → List Row → ℕ → Promote → ℕ → Bool → (List Change → ℕ) → Type 0
-AreOf m rows room promote kept is_rolling limit =
-    (rows ≡ m.rows) × (room ≡ m.room) × (promote ≡ m.promote) × (kept ≡ m.kept)
-    × (is_rolling ≡ m.is_rolling) × (limit ≡ m.limit)
+making_of n settings = made_with any_rules (journal_of n kept_entries settings)
 
 -- AN ACCEPTED HISTORY of a gate that was made so: it is whole and legal, and that of just these
 -- receipts; these refusals fit it; and what is told is counted from it

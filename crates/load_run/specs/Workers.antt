@@ -1,8 +1,8 @@
 -- What all workers make of the arrivals.
 use Rattle.std.specs.Prelude.{◌≡◌, ℕ, ◌≤◌, List, Vec, Some, slice_get}
 use Rattle.std.specs.declared.alloc.Global.{Global}
+use Rattle.gate_ledgers.specs.Making.{Making}
 use Rattle.gate_ledgers.specs.Told.{Told}
-use Rattle.gate_history.specs.Book.{Making}
 use Rattle.gate_history.specs.Refusal.{Refusal}
 use Rattle.audit.specs.Firsts.{EachHas}
 use Rattle.trace.specs.declared.arrival.Arrival.{Arrival}

@@ -4,16 +4,14 @@ ghost use Rattle.counted_io.specs.Count.{raised};
 ghost use Rattle.tasks.specs.Refused.{refused_of};
 ghost use Rattle.limit_laws.specs.Algorithm.{greatest_limit};
 ghost use Rattle.limit_kinds.specs.AnyKinds.{any_rules};
-ghost use Rattle.limiter_core.specs.Limiter.{unasked};
-ghost use Rattle.gate_journal.specs.Journal.{opened};
-ghost use Rattle.gate_ledgers.specs.Course.{course_of};
+ghost use Rattle.gate_journal.specs.Settings.{AreInRange, begun};
 ghost use Rattle.gate_ledgers.specs.Names.{AreNamed, AreWhole};
-ghost use Rattle.gate_history.specs.Book.{made_as};
+ghost use Rattle.gate_history.specs.Book.{made_with};
 ghost use Rattle.shared_gate.specs.Log.{CallsLegal};
-ghost use Rattle.script.specs.Settings.{kept_of, limit_of, promote_of, room_of};
 ghost use Rattle.load_driver.specs.Limits.{kept_entries};
+ghost use Rattle.load_driver.specs.Opening.{journal_of};
 ghost use Rattle.load_run.specs.Driver.{StopsRun};
-ghost use Rattle.load_run.specs.Load.{AreOf, IsAccepted, IsRejected, IsRun, making_of};
+ghost use Rattle.load_run.specs.Load.{IsAccepted, IsRejected, IsRun, making_of};
 
 use crate::counting::count_entries;
 use crate::fault::LoadFault;
@@ -22,10 +20,10 @@ use crate::making::make_workers;
 use crate::summary::Summary;
 use crate::worker::{Shop, Worker};
 use crate::workers::{Worked, run_all};
-use gate_history::{Blanks, Book, Naming};
+use gate_history::{Blanks, Book, GateSettings};
 use limit_kinds::AnyLimit;
 use limit_laws::Limit;
-use load_driver::KEPT;
+use load_driver::{KEPT, gate_settings};
 use script::Settings;
 use shared_gate::{Cause, Clock, GateNaming, SharedGate, Word};
 use std::alloc::{AllocError, Global};
@@ -61,13 +59,11 @@ where
     requires most { crew.limit ≤ greatest_limit }
     requires some { 1 ≤ crew.workers }
     requires few { crew.workers ≤ 64 }
-    requires making { AreOf (making_of crew.limit settings)
-        M.rows M.room M.promote M.kept M.is_rolling M.limit }
+    requires making { M.making ≡ making_of crew.limit settings }
     requires names { AreNamed M.calls M.place blanks }
     requires parts { AreWhole blanks }
     requires word { word ≡ M.word }
-    requires legal { CallsLegal any_rules settings.rows (room_of settings) (promote_of settings)
-        (limit_of crew.limit settings) M.legal }
+    requires legal { CallsLegal any_rules (journal_of crew.limit kept_entries settings) M.legal }
     ensures run { IfOk result (IsRun crew.workers crew.limit settings.entry arrivals.items) }
     ensures stops { IfErr result
         (StopsRun crew.workers crew.limit settings.entry arrivals.items) }
@@ -100,73 +96,39 @@ fn open_gate<M: GateNaming>(
 ) -> Result<(SharedGate<AnyLimit, M>, Vec<Worker<M>>), AllocError>
     requires least { 1 ≤ crew.limit }
     requires most { crew.limit ≤ greatest_limit }
-    requires making { AreOf (making_of crew.limit settings)
-        M.rows M.room M.promote M.kept M.is_rolling M.limit }
+    requires making { M.making ≡ making_of crew.limit settings }
     requires names { AreNamed M.calls M.place blanks }
     requires parts { AreWhole blanks }
     requires word { word ≡ M.word }
-    requires legal { CallsLegal any_rules settings.rows (room_of settings) (promote_of settings)
-        (limit_of crew.limit settings) M.legal }
+    requires legal { CallsLegal any_rules (journal_of crew.limit kept_entries settings) M.legal }
     ensures { IfOk result (λ opened. vec_len opened.1 ≡ crew.workers) }
 {
-    let limit = settings.limit(crew.limit);
-    open_over(alloc, blanks, word, settings, limit, crew.workers, turns)
+    let settings = gate_settings(settings, crew.limit, KEPT);
+    open_over(alloc, blanks, word, settings, crew.workers, turns)
 }
 
-/// The gate over a limit, whichever it is, and so many workers, each with room for so many turns.
+/// The gate of these settings, whichever its limit is, and so many workers, each with room for so
+/// many turns.
 fn open_over<L: Limit, M: GateNaming>(
     alloc: Global,
     blanks: Blanks,
     word: Word,
-    settings: Settings,
-    limit: L,
+    settings: GateSettings<L>,
     workers: usize,
     turns: usize,
 ) -> Result<(SharedGate<L, M>, Vec<Worker<M>>), AllocError>
-    requires rows { M.rows ≡ settings.rows }
-    requires room { M.room ≡ room_of settings }
-    requires promote { M.promote ≡ promote_of settings }
-    requires kept { M.kept ≡ kept_of kept_entries settings }
-    requires rolling { M.is_rolling ≡ settings.is_rolling }
-    requires limit { M.limit ≡ course_of L.rules limit }
+    requires range { AreInRange settings }
+    requires making { M.making ≡ made_with L.rules (begun settings) }
     requires names { AreNamed M.calls M.place blanks }
     requires parts { AreWhole blanks }
     requires word { word ≡ M.word }
-    requires legal { CallsLegal L.rules settings.rows (room_of settings) (promote_of settings) limit
-        M.legal }
+    requires legal { CallsLegal L.rules (begun settings) M.legal }
     ensures { IfOk result (λ opened. vec_len opened.1 ≡ workers) }
 {
-    let book = begin_book::<L, M>(alloc, blanks, settings, limit)?;
+    let book = Book::begin(alloc, settings, blanks)?;
     let (gate, passes) = SharedGate::open(alloc, word, book, workers)?;
     let workers = make_workers(alloc, passes, turns)?;
     Ok((gate, workers))
-}
-
-/// The book of a run, in which nothing was asked.
-fn begin_book<L: Limit, M: Naming>(
-    alloc: Global,
-    blanks: Blanks,
-    settings: Settings,
-    limit: L,
-) -> Result<Book<L, M>, AllocError>
-    requires rows { M.rows ≡ settings.rows }
-    requires room { M.room ≡ room_of settings }
-    requires promote { M.promote ≡ promote_of settings }
-    requires kept { M.kept ≡ kept_of kept_entries settings }
-    requires rolling { M.is_rolling ≡ settings.is_rolling }
-    requires limit { M.limit ≡ course_of L.rules limit }
-    requires names { AreNamed M.calls M.place blanks }
-    requires parts { AreWhole blanks }
-    ensures { IfOk result (λ book. book.journal ≡
-        opened (unasked settings.entry.rows (room_of settings.entry) (promote_of settings.entry)
-        limit) (kept_of kept_entries settings.entry) settings.entry.is_rolling) }
-{
-    let room = settings.room();
-    let promote = settings.promote();
-    let kept = settings.kept(KEPT);
-    let is_rolling = settings.is_rolling();
-    let table = settings.into_table();
-    Book::begin(alloc, limit, table, room, promote, kept, is_rolling, blanks)
 }
 
 /// What is counted of the history of a gate that is closed, where its audit accepts it and the
@@ -178,11 +140,9 @@ fn close<M: GateNaming>(
     gate: SharedGate<AnyLimit, M>,
     worked: Worked<M>,
 ) -> Result<Summary, Cause>
-    ensures accepted { IfOk result (IsAccepted
-        (made_as M.rows M.room M.promote M.kept M.is_rolling M.limit)
+    ensures accepted { IfOk result (IsAccepted M.making
         worked.kept.items worked.spent.items) }
-    ensures rejected { IfErr result (IsRejected
-        (made_as M.rows M.room M.promote M.kept M.is_rolling M.limit) worked.kept.items) }
+    ensures rejected { IfErr result (IsRejected M.making worked.kept.items) }
 {
     let Worked {
         passes,

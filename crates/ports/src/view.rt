@@ -19,11 +19,9 @@ impl<'a, L: Limit, M: GateNaming, R> View<'a, L, M, R> {
 }
 
 impl<'a, L: Limit, M: GateNaming, R: Wait> GateView for View<'a, L, M, R> {
-    ghost use Rattle.gate_history.specs.Book.{made_as};
     ghost use Rattle.shared_gate.specs.Reported.{IsReportOf};
 
-    ghost shows = { IsReportOf L.rules
-        (made_as M.rows M.room M.promote M.kept M.is_rolling M.limit) };
+    ghost shows = { IsReportOf L.rules M.making };
 
     fn report(&self) -> Report {
         self.gate.report(self.rt)

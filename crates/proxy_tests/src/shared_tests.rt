@@ -1,14 +1,13 @@
 // A port over a gate that threads share, whose one permit is out.
-ghost use Rattle.std.specs.Prelude.{◌≡◌, [], false};
-ghost use Rattle.limiter_core.specs.declared.promote.Promote.TheVariants.{Newest};
+ghost use Rattle.std.specs.Prelude.{◌≡◌};
 ghost use Rattle.limit_laws.specs.FixedRules.{fixed_rules};
-ghost use Rattle.gate_journal.specs.Journal.{next_number};
-ghost use Rattle.gate_ledgers.specs.Course.{course_of};
+ghost use Rattle.gate_journal.specs.Settings.{AreInRange, begun};
 ghost use Rattle.gate_ledgers.specs.Names.{AreNamed, AreWhole};
+ghost use Rattle.gate_history.specs.Book.{made_with};
 ghost use Rattle.shared_gate.specs.Log.{CallsAllLegal};
 
 use crate::devices::{SECOND, Ticking};
-use gate_history::{Blanks, Book, Naming};
+use gate_history::{Blanks, Book, GateSettings};
 use limit_laws::Fixed;
 use limiter_core::{Outcome, Promote};
 use partitions::{Part, PartitionTable};
@@ -23,39 +22,21 @@ use std::time::Clock as SystemClock;
 #[test]
 fn a_full_gate_refuses_at_once_or_at_the_deadline(rt: HostRuntime) {
     let word = Word::new(rt.alloc()).expect(&rt, "memory for a word");
-    over_one_permit::<Brand, _>(&rt, rt.alloc(), Blanks::new(), word);
-}
-
-/// A book with room for one permit.
-fn open_book<N: Naming, R: Abort>(rt: &R, alloc: Global, blanks: Blanks) -> Book<Fixed, N>
-    requires names { AreNamed N.calls N.place blanks }
-    requires parts { AreWhole blanks }
-    requires rows { N.rows ≡ [] }
-    requires room { N.room ≡ 100 }
-    requires promote { N.promote ≡ Newest }
-    requires kept { N.kept ≡ 100 }
-    requires rolling { N.is_rolling ≡ false }
-    requires limit { N.limit ≡ course_of fixed_rules 1 }
-    ensures { next_number result.journal ≡ 0 }
-{
-    let table = PartitionTable::unknown_only();
-    let limit = Fixed::new(1).expect(rt, "a limit");
-    Book::begin(
-        alloc,
-        limit,
-        table,
-        100,
-        Promote::Newest,
-        100,
-        false,
-        blanks,
-    )
-    .expect(rt, "memory")
+    let settings = GateSettings {
+        limit: Fixed::new(1).expect(&rt, "a limit"),
+        table: PartitionTable::unknown_only(),
+        room: 100,
+        promote: Promote::Newest,
+        kept: 100,
+        is_rolling: false,
+    };
+    over_one_permit::<Brand, _>(&rt, rt.alloc(), settings, Blanks::new(), word);
 }
 
 fn over_one_permit<N: GateNaming, R: Wait + SystemClock + Abort>(
     rt: &R,
     alloc: Global,
+    settings: GateSettings<Fixed>,
     blanks: Blanks,
     word: Word,
 )
@@ -63,14 +44,10 @@ fn over_one_permit<N: GateNaming, R: Wait + SystemClock + Abort>(
     requires parts { AreWhole blanks }
     requires word { word ≡ N.word }
     requires legal { CallsAllLegal N.legal }
-    requires rows { N.rows ≡ [] }
-    requires room { N.room ≡ 100 }
-    requires promote { N.promote ≡ Newest }
-    requires kept { N.kept ≡ 100 }
-    requires rolling { N.is_rolling ≡ false }
-    requires limit { N.limit ≡ course_of fixed_rules 1 }
+    requires range { AreInRange settings }
+    requires making { N.making ≡ made_with fixed_rules (begun settings) }
 {
-    let book = open_book::<N, R>(rt, alloc, blanks);
+    let book = Book::begin(alloc, settings, blanks).expect(rt, "memory for a book");
     let made = SharedGate::open(alloc, word, book, 1);
     let (gate, mut passes) = made.expect(rt, "memory for a gate");
     refuses(rt, &gate, passes.pop().expect(rt, "a pass"));

@@ -1,3 +1,2 @@
-mod Made
 mod Runs
 mod Whys

@@ -11,9 +11,8 @@ use Rattle.counted_io.specs.Effects.{Wrote}
 use Rattle.limit_kinds.specs.AnyKinds.{any_hi, any_rules}
 use Rattle.partitions.specs.Table.{bound}
 use Rattle.limiter_core.specs.declared.counters.Counters.{Counters}
-use Rattle.gate_ledgers.specs.Course.{course_of}
-use Rattle.gate_history.specs.Book.{Making, made_as}
 use Rattle.gate_config.specs.declared.settings.Settings.{Settings}
+use Rattle.gate_opening.specs.Opening.{making_of}
 use Rattle.config_file.specs.Reading.{Held, IsUnset, Says}
 use Rattle.config_file.specs.declared.file_fault.FileFault.TheVariants as File
 use Rattle.serve_reports.specs.CountersLine.{counters_line}
@@ -25,10 +24,6 @@ use Rattle.serve_command.specs.Runs.{AreCountersOfRuns}
 -- where callers wait
 abbrev pub most_inside : Settings → ℕ
 most_inside s = bound s.table (any_hi s.limit) + (if s.wait then s.backlog else 0)
-
--- what the gate of these settings is made with
-abbrev pub making_of : Settings → Making
-making_of s = made_as s.table s.backlog s.promote s.keep true (course_of any_rules s.limit)
 
 -- THE SETTINGS of a file that was opened as it says: its text was read whole, and holds them
 abbrev pub AreOfFile : {F : Type 0} → (F → Type 0) → (F → Option (List ℕ)) → Settings → Type 0

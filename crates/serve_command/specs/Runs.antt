@@ -3,7 +3,7 @@ use Rattle.std.specs.Prelude.{◌≡◌, ◌≤◌, ◌+◌, ℕ, Bool, false, L
 use Rattle.limit_laws.specs.Algorithm.{Algorithm}
 use Rattle.limiter_core.specs.declared.counters.Counters.{Counters}
 use Rattle.limiter_core.specs.declared.event.Entry.{Entry}
-use Rattle.gate_history.specs.Book.{Making}
+use Rattle.gate_ledgers.specs.Making.{Making}
 use Rattle.shared_gate.specs.Calls.{Pass}
 use Rattle.shared_gate.specs.Reported.{AreCountersBehind}
 use Rattle.gate_config.specs.declared.settings.Settings.{Settings}

@@ -8,7 +8,8 @@ ghost use Rattle.fault_lines.specs.FaultLine.{IsTold, fault_line};
 ghost use Rattle.config_file.specs.Reading.{Says};
 ghost use Rattle.serve_command.specs.declared.fault.ServiceFault.TheVariants.{Listen};
 ghost use Rattle.serve_command.specs.Command.{HasServed, IsBound, IsBoundToo, IsOfAdmin};
-ghost use Rattle.serve_command.specs.Command.{IsOfServing, IsWhyOfService, making_of};
+ghost use Rattle.serve_command.specs.Command.{IsOfServing, IsWhyOfService};
+ghost use Rattle.gate_opening.specs.Opening.{making_of};
 ghost use Rattle.serve_command.specs.Runs.{AreCountersOfRuns};
 ghost use Rattle.serve_command.specs.ServiceFault.{service_fault_text};
 

@@ -1,19 +1,17 @@
 // The gate of a configuration, and its workers.
-ghost use Rattle.std.specs.Prelude.{◌≡◌, ◌≤◌, ◌+◌, [], ◌∷◌, true, map, replicate, vec_len};
+ghost use Rattle.std.specs.Prelude.{◌≡◌, ◌≤◌, ◌+◌, [], ◌∷◌, map, replicate, vec_len};
 ghost use Rattle.std.specs.Prelude.{All, IfOk, IsErrOf, if◌then◌else◌, option_to_list};
 ghost use Rattle.counted_io.specs.Count.{raised};
 ghost use Rattle.tasks.specs.Refused.{refused_of};
 ghost use Rattle.limit_kinds.specs.AnyKinds.{any_rules};
-ghost use Rattle.gate_ledgers.specs.Course.{course_of};
 ghost use Rattle.gate_ledgers.specs.Names.{AreNamed, AreWhole};
 ghost use Rattle.gate_config.specs.Settings.{AreSound};
-ghost use Rattle.gate_history.specs.Book.{made_as};
 ghost use Rattle.shared_gate.specs.Calls.{pass_of};
 ghost use Rattle.shared_gate.specs.Log.{CallsLegal};
+ghost use Rattle.gate_opening.specs.Opening.{journal_of, making_of};
 ghost use Rattle.ports.specs.declared.asked.Asked.TheVariants.{Nothing};
 ghost use Rattle.ports.specs.Asked.{port_in};
 ghost use Rattle.serving.specs.Workers.{ended_in};
-ghost use Rattle.serve_command.specs.Command.{making_of};
 ghost use Rattle.serve_command.specs.Runs.{AreCountersOfRuns};
 
 use crate::desk_log::DeskLog;
@@ -99,15 +97,9 @@ where
     requires names { AreNamed M.calls M.place blanks }
     requires parts { AreWhole blanks }
     requires word { word ≡ M.word }
-    requires rows { M.rows ≡ settings.now.table }
-    requires room { M.room ≡ settings.now.backlog }
-    requires promote { M.promote ≡ settings.now.promote }
-    requires kept { M.kept ≡ settings.now.keep }
-    requires rolling { M.is_rolling ≡ true }
-    requires limit { M.limit ≡ course_of any_rules settings.now.limit }
+    requires making { M.making ≡ making_of settings.now }
     requires sound { AreSound settings.now }
-    requires legal { CallsLegal any_rules settings.now.table settings.now.backlog
-        settings.now.promote settings.now.limit M.legal }
+    requires legal { CallsLegal any_rules (journal_of settings.now) M.legal }
     requires few { workers ≤ 64 }
     ensures counted { IfOk result (AreCountersOfRuns any_rules (making_of settings.now)
         (S.gives common.now.source.now) workers common.now.per_worker) }
@@ -146,8 +138,7 @@ where
     R::Stream: Send + Sync,
     R::Listener: Send + Sync,
     requires unused { All (λ pass. pass.log ≡ []) passes.items }
-    ensures counted { IfOk result (AreCountersOfRuns G.rules
-        (made_as M.rows M.room M.promote M.kept M.is_rolling M.limit)
+    ensures counted { IfOk result (AreCountersOfRuns G.rules M.making
         (S.gives common.now.source.now) (vec_len passes) common.now.per_worker) }
     ensures thread { IsErrOf result ServeFault.Thread →
         refused_of spawner.new ≡ raised (refused_of spawner.old) }

@@ -5,7 +5,7 @@ ghost use Rattle.tasks.specs.Refused.{refused_of};
 ghost use Rattle.limit_kinds.specs.AnyKinds.{any_rules};
 ghost use Rattle.gate_config.specs.Settings.{AreSound};
 ghost use Rattle.config_file.specs.Reading.{Says};
-ghost use Rattle.serve_command.specs.Command.{making_of};
+ghost use Rattle.gate_opening.specs.Opening.{making_of};
 ghost use Rattle.serve_command.specs.Runs.{AreCountersOfRuns};
 
 use crate::admin::{AdminAddress, listener_of, operating_at};

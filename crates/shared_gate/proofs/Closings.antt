@@ -10,8 +10,9 @@ use Rattle.limiter_core.specs.Legal.{IsLegal}
 use Rattle.limiter_core.specs.Bound.{IsSound}
 use Rattle.gate_journal.specs.Image.{Standing, image_of}
 use Rattle.gate_journal.specs.Journal.{Journal, gate, opening}
+use Rattle.gate_ledgers.specs.Making.{Making}
 use Rattle.gate_ledgers.specs.Told.{Told}
-use Rattle.gate_history.specs.Book.{Agrees, Book, IsUnasked, Making, calls_of}
+use Rattle.gate_history.specs.Book.{Agrees, Book, IsMadeAs, IsUnasked, calls_of}
 use Rattle.audit.specs.declared.cause.Cause.{Cause}
 use Rattle.audit.specs.declared.judge.Calls.{Calls}
 use Rattle.audit.specs.Accepted.{IsHistoryOf}
@@ -37,15 +38,24 @@ drop_seam [] ys (suc k) e = absurd (omega arith)
 drop_seam (x ∷ xs) ys zero e = absurd (omega arith)
 drop_seam (x ∷ xs) ys (suc k) e = drop_seam xs ys k (omega arith)
 
+-- the gate of a journal that is made so
+pub same_gate : {S : Type 0} (rules : Algorithm S) (m : Making) (j : Journal S) → IsMadeAs m j
+    → gate rules j ≡ limiter_of rules m
+same_gate rules m j made =
+    λ k. record {
+      rules = rules;
+      rows = made.rows k;
+      room = made.room k;
+      promote = made.promote k;
+    }
+
 -- the journal of a book behind a log is the end of that
 pub is_end_of : {S : Type 0} (rules : Algorithm S) (m : Making) (legal : List Entry → Type 0)
     (log : List Entry) (b : Book S) (base : ℕ) (entries : List Entry)
-    → IsBehind rules m.limit legal log b → b.journal.rows ≡ m.rows → b.journal.room ≡ m.room
-    → b.journal.promote ≡ m.promote → IsHistoryIn b base entries
+    → IsBehind rules m.limit legal log b → IsMadeAs m b.journal → IsHistoryIn b base entries
     → IsEndOf rules m log base entries
-is_end_of {S} rules m legal log b base entries behind of_rows of_room rule is =
-    let same_gate : gate rules b.journal ≡ limiter_of rules m =
-    (λ k. record { rules = rules; rows = of_rows k; room = of_room k; promote = rule k }) in
+is_end_of {S} rules m legal log b base entries behind made is =
+    let here : gate rules b.journal ≡ limiter_of rules m = same_gate rules m b.journal made in
     let parts : log ≡ behind.earlier ++ entries =
     behind.ends ∙ ap (λ (h : List Entry). behind.earlier ++ h) (sym is.all) in
     let at : base ≡ length behind.earlier = is.first ∙ behind.first in
@@ -53,7 +63,7 @@ is_end_of {S} rules m legal log b base entries behind of_rows of_room rule is =
       origin = behind.origin;
       unasked = behind.unasked;
       legal =
-          subst (λ (g : Gate S). IsLegal g (image_of behind.origin) log) same_gate
+          subst (λ (g : Gate S). IsLegal g (image_of behind.origin) log) here
           behind.stretch.whole;
       long = omega (
         arith,
@@ -102,17 +112,13 @@ pub is_kept : {S : Type 0} (rules : Algorithm S) (m : Making) (b : Book S)
     (j : Journal S) (o : Standing S) (base : ℕ) (entries : List Entry)
     → IsLegal (gate rules b.journal) (opening b.journal) b.journal.entries
     → IsSound (gate rules b.journal) (opening b.journal)
-    → b.journal.rows ≡ m.rows → b.journal.room ≡ m.room → b.journal.promote ≡ m.promote
-    → b.journal.is_rolling ≡ m.is_rolling
+    → IsMadeAs m b.journal
     → (b.journal.opening.next ≡ 0 → IsUnasked rules m.limit b.journal.opening) → Agrees rules b
     → j ≡ b.journal → o ≡ j.opening → base ≡ j.opening.next → entries ≡ j.entries
     → IsKept rules m o base entries
-is_kept {S} rules m b j o base entries legal sound of_rows of_room rule rolling unasked agrees
-    same opens
-    first all =
+is_kept {S} rules m b j o base entries legal sound made unasked agrees same opens first all =
     let g : Gate S = limiter_of rules m in
-    let same_gate : gate rules b.journal ≡ g =
-    (λ k. record { rules = rules; rows = of_rows k; room = of_room k; promote = rule k }) in
+    let here : gate rules b.journal ≡ g = same_gate rules m b.journal made in
     let same_opening : b.journal.opening ≡ o =
     sym (opens ∙ ap (λ (k : Journal S). k.opening) same) in
     let same_entries : b.journal.entries ≡ entries =
@@ -121,19 +127,18 @@ is_kept {S} rules m b j o base entries legal sound of_rows of_room rule rolling 
     first ∙ ap (λ (k : Journal S). k.opening.next) same in
     record {
       first = first ∙ ap (λ (s : Standing S). s.next) (sym opens);
-      whole = λ still. same_base ∙ agrees.begins (rolling ∙ still);
+      whole = λ still. same_base ∙ agrees.begins (made.is_rolling ∙ still);
       unasked =
           λ zero_base.
           subst (λ (s : Standing S). IsUnasked rules m.limit s) same_opening
           (unasked (sym same_base ∙ zero_base));
       sound =
           subst (λ (s : Standing S). IsSound g (image_of s)) same_opening
-          (subst (λ (h : Gate S). IsSound h (opening b.journal)) same_gate sound);
+          (subst (λ (h : Gate S). IsSound h (opening b.journal)) here sound);
       legal =
           subst (λ (xs : List Entry). IsLegal g (image_of o) xs) same_entries
           (subst (λ (s : Standing S). IsLegal g (image_of s) b.journal.entries) same_opening
-          (subst (λ (h : Gate S). IsLegal h (opening b.journal) b.journal.entries) same_gate
-          legal));
+          (subst (λ (h : Gate S). IsLegal h (opening b.journal) b.journal.entries) here legal));
     }
 
 -- facts of what is answered, and of what is faulted

@@ -12,7 +12,8 @@ use Rattle.limiter_core.specs.Legal.{IsLegal}
 use Rattle.limiter_core.specs.Limiter.{Limiter, gate_of, stands}
 use Rattle.gate_journal.specs.Image.{image_of}
 use Rattle.gate_journal.specs.Journal.{gate, image}
-use Rattle.gate_history.specs.Book.{Book, Making}
+use Rattle.gate_ledgers.specs.Making.{Making}
+use Rattle.gate_history.specs.Book.{Book, IsMadeAs}
 use Rattle.gate_port.specs.declared.report.Report.{Report}
 use Rattle.gate_port.specs.Report.{report_in}
 use Rattle.shared_gate.specs.Closing.{limiter_of}
@@ -32,18 +33,19 @@ same_gate rules a b c = rw (a, b, c) refl
 pub reported : {S : Type 0} (rules : Algorithm S) (m : Making) (legal : List Entry → Type 0)
     (log : List Entry) (b : Book S) (c : Limiter S) (report : Report)
     → IsBehind rules m.limit legal log b
-    → b.journal.rows ≡ m.rows → b.journal.room ≡ m.room → b.journal.promote ≡ m.promote
+    → IsMadeAs m b.journal
     → c.rows ≡ b.journal.rows → c.room ≡ b.journal.room → c.promote ≡ b.journal.promote
     → stands c ≡ image rules b.journal
     → c.counters ≡ counters_after b.journal.opening.counters b.journal.entries
     → IsSound (gate rules b.journal) (image rules b.journal)
     → report ≡ report_in (gate_of rules c) (stands c) c.counters
     → IsReportAfter rules m log report
-reported {S} rules m legal log b c report behind rows room promote own_rows own_room own_promote
-    same counted sound is =
-    let here : gate rules b.journal ≡ limiter_of rules m = same_gate rules rows room promote in
+reported {S} rules m legal log b c report behind made own_rows own_room own_promote same counted
+    sound is =
+    let here : gate rules b.journal ≡ limiter_of rules m =
+    same_gate rules made.rows made.room made.promote in
     let there : gate_of rules c ≡ limiter_of rules m =
-    same_gate rules (own_rows ∙ rows) (own_room ∙ room) (own_promote ∙ promote) in
+    same_gate rules (own_rows ∙ made.rows) (own_room ∙ made.room) (own_promote ∙ made.promote) in
     let o = image_of behind.origin in
     let leads : image rules b.journal ≡ image_after (limiter_of rules m) o log =
     behind.stretch.leads ∙ ap (λ (g : Gate S). image_after g o log) here in record {

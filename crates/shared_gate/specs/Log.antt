@@ -1,15 +1,12 @@
 -- The log of a gate: all entries of its book from the first on, however often that rolled.
 use Rattle.std.specs.Prelude.{◌≡◌, ℕ, List, ◌++◌, length}
 use Rattle.limit_laws.specs.Algorithm.{Algorithm}
-use Rattle.partitions.specs.Table.{Row}
 use Rattle.limiter_core.specs.declared.event.Entry.{Entry}
 use Rattle.limiter_core.specs.History.{Gate, Image}
-use Rattle.limiter_core.specs.declared.promote.Promote.{Promote}
 use Rattle.limiter_core.specs.Counting.{counters_after}
 use Rattle.limiter_core.specs.Legal.{IsLegal}
-use Rattle.limiter_core.specs.Limiter.{gate_of, unasked}
-use Rattle.gate_journal.specs.Image.{Standing, image_of, standing_of}
-use Rattle.gate_journal.specs.Journal.{gate}
+use Rattle.gate_journal.specs.Image.{Standing, image_of}
+use Rattle.gate_journal.specs.Journal.{Journal, gate, opening}
 use Rattle.gate_journal.specs.Rolling.{IsLastStretch}
 use Rattle.gate_ledgers.specs.Course.{Change}
 use Rattle.gate_history.specs.Book.{Book, IsUnasked, calls_of}
@@ -22,19 +19,13 @@ MeansAtLeast g o legal = (h : List Entry) → IsLegal g o h → legal h
 abbrev pub MeansAtMost : {S : Type 0} → Gate S → Image S → (List Entry → Type 0) → Type 0
 MeansAtMost g o legal = (h : List Entry) → legal h → IsLegal g o h
 
--- what is legal from a limiter of which nothing was asked, that is made with these and whose limit
--- is in this state
-abbrev pub IsLegalFrom : {S : Type 0}
-    → Algorithm S → List Row → ℕ → Promote → S → List Entry → Type 0
-IsLegalFrom rules rows room promote state h =
-    let core = unasked rows room promote state in
-    IsLegal (gate_of rules core) (image_of (standing_of core)) h
+-- what is legal from a journal's opening, of a gate whose book begins with that journal
+abbrev pub IsLegalFrom : {S : Type 0} → Algorithm S → Journal S → List Entry → Type 0
+IsLegalFrom rules j h = IsLegal (gate rules j) (opening j) h
 
--- a gate over such a limiter calls legal at least what is
-abbrev pub CallsLegal : {S : Type 0}
-    → Algorithm S → List Row → ℕ → Promote → S → (List Entry → Type 0) → Type 0
-CallsLegal rules rows room promote state legal =
-    (h : List Entry) → IsLegalFrom rules rows room promote state h → legal h
+-- such a gate calls legal at least what is
+abbrev pub CallsLegal : {S : Type 0} → Algorithm S → Journal S → (List Entry → Type 0) → Type 0
+CallsLegal rules j legal = (h : List Entry) → IsLegalFrom rules j h → legal h
 
 -- every log: for gates of whose log nothing is asked
 abbrev pub CallsAllLegal : (List Entry → Type 0) → Type 0

@@ -9,7 +9,8 @@ use Rattle.limiter_core.specs.Counting.{counters_after, no_counts}
 use Rattle.limiter_core.specs.declared.counters.Counters.{Counters}
 use Rattle.limiter_core.specs.Legal.{IsLegal}
 use Rattle.gate_journal.specs.Image.{Standing, image_of}
-use Rattle.gate_history.specs.Book.{IsUnasked, Making, calls_of}
+use Rattle.gate_ledgers.specs.Making.{Making}
+use Rattle.gate_history.specs.Book.{IsUnasked, calls_of}
 use Rattle.gate_port.specs.declared.report.Report.{Report}
 use Rattle.gate_port.specs.Report.{report_in}
 use Rattle.shared_gate.specs.Calls.{Pass}

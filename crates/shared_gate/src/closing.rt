@@ -3,7 +3,7 @@ ghost use Rattle.std.specs.Prelude.{◌≡◌, ◌≤◌, All, IfOk, IfErr};
 ghost use mathlib.Core.List.{IsPrefix};
 ghost use Rattle.audit.specs.Accepted.{IsHistoryOf};
 ghost use Rattle.audit.specs.Verdict.{audited, IsFirstCause};
-ghost use Rattle.gate_history.specs.Book.{calls_of, made_as};
+ghost use Rattle.gate_history.specs.Book.{calls_of};
 ghost use Rattle.shared_gate.specs.Closing.{IsEndOf, IsKept, calls_by};
 
 use crate::naming::GateNaming;
@@ -67,21 +67,18 @@ pub(crate) fn judge<L: Limit, M: GateNaming>(
 ) -> Result<History<L>, AuditFault<L, M>>
     requires book { calls.book ≡ calls_of sealed }
     ensures whole { IfOk result (λ history. history.base ≡ 0) }
-    ensures legal { IfOk result (λ history. IsKept L.rules
-        (made_as M.rows M.room M.promote M.kept M.is_rolling M.limit)
+    ensures legal { IfOk result (λ history. IsKept L.rules M.making
         history.opening.standing history.base history.entries.items) }
     ensures log { IfOk result (λ history. history.entries.items ≡ sealed) }
     ensures counted { IfOk result (λ history. calls.sum ≡ calls_of history.entries.items) }
     ensures accepted { IfOk result (λ history.
         IsHistoryOf history.entries.items kept.items) }
-    ensures end { IfErr result (λ fault. IsEndOf L.rules
-        (made_as M.rows M.room M.promote M.kept M.is_rolling M.limit)
+    ensures end { IfErr result (λ fault. IsEndOf L.rules M.making
         sealed fault.history.base fault.history.entries.items) }
     ensures first { IfErr result (λ fault. IsFirstCause
         (audited (record { book = calls_of sealed; sum = calls.sum })
         fault.history.base fault.history.entries.items fault.kept.items) fault.cause) }
-    ensures history { IfErr result (λ fault. IsKept L.rules
-        (made_as M.rows M.room M.promote M.kept M.is_rolling M.limit)
+    ensures history { IfErr result (λ fault. IsKept L.rules M.making
         fault.history.opening.standing fault.history.base fault.history.entries.items) }
     ensures kept { IfErr result (λ fault. fault.kept ≡ kept) }
 {

@@ -4,13 +4,13 @@ ghost use mathlib.Core.List.{IsPrefix};
 ghost use Rattle.limiter_core.specs.declared.event.Event.TheVariants.{SetLimit, Reset, Look};
 ghost use Rattle.audit.specs.Accepted.{IsHistoryOf};
 ghost use Rattle.gate_journal.specs.Journal.{gate, next_number, opening};
-ghost use Rattle.gate_history.specs.Book.{calls_of, made_as};
+ghost use Rattle.gate_history.specs.Book.{calls_of};
 ghost use Rattle.gate_history.specs.Handing.{IsChange};
 ghost use Rattle.gate_history.specs.Steps.{event_of};
 ghost use Rattle.shared_gate.specs.Calls.{Tells, Gets, Waits, Claims, GivesUp, Ends, Changes};
 ghost use Rattle.shared_gate.specs.Calls.{pass_of};
 ghost use Rattle.shared_gate.specs.Closing.{FailsBy, IsKept, calls_by};
-ghost use Rattle.shared_gate.specs.Log.{MeansAtLeast};
+ghost use Rattle.shared_gate.specs.Log.{CallsLegal};
 ghost use Rattle.shared_gate.specs.Reported.{AreCountersBehind, AreCountersOf, IsReportOf};
 
 use crate::answers::Waited;
@@ -63,7 +63,7 @@ impl<L: Limit, M: GateNaming> SharedGate<L, M> {
         requires word { word ≡ M.word }
         requires sealed { book.is_sealed ≡ true }
         requires unasked { next_number book.journal ≡ 0 }
-        requires legal { MeansAtLeast (gate L.rules book.journal) (opening book.journal) M.legal }
+        requires legal { CallsLegal L.rules book.journal M.legal }
         ensures passes { IfOk result (λ made. made.1.items ≡ map pass_of passes.items) }
     {
         book.invariant();
@@ -87,16 +87,14 @@ impl<L: Limit, M: GateNaming> SharedGate<L, M> {
 
     /// How many replies, promotions and outcomes of each kind there were so far.
     pub fn counters(&self, rt: &impl Wait) -> Counters
-        ensures { AreCountersOf L.rules
-            (made_as M.rows M.room M.promote M.kept M.is_rolling M.limit) result }
+        ensures { AreCountersOf L.rules M.making result }
     {
         self.report(rt).counters
     }
 
     /// What was counted so far, once these passes call no more: all their calls are in it.
     pub fn counters_behind(&self, rt: &impl Wait, passes: Vec<Pass<M>>) -> Counters
-        ensures { AreCountersBehind L.rules
-            (made_as M.rows M.room M.promote M.kept M.is_rolling M.limit) passes.items result }
+        ensures { AreCountersBehind L.rules M.making passes.items result }
     {
         let mut sealed = self.book.lock(rt);
         sealed.take_back(&self.word, passes);
@@ -106,8 +104,7 @@ impl<L: Limit, M: GateNaming> SharedGate<L, M> {
     /// What stands at one moment, and the counters so far. It makes no step of the history, and
     /// takes no memory.
     pub fn report(&self, rt: &impl Wait) -> Report
-        ensures { IsReportOf L.rules
-            (made_as M.rows M.room M.promote M.kept M.is_rolling M.limit) result }
+        ensures { IsReportOf L.rules M.making result }
     {
         self.book.lock(rt).report()
     }
@@ -288,8 +285,7 @@ impl<L: Limit, M: GateNaming> SharedGate<L, M> {
         kept: Vec<Vec<Receipt<M>>>,
     ) -> Result<History<L>, AuditFault<L, M>>
         ensures whole { IfOk result (λ history. history.base ≡ 0) }
-        ensures legal { IfOk result (λ history. IsKept L.rules
-            (made_as M.rows M.room M.promote M.kept M.is_rolling M.limit)
+        ensures legal { IfOk result (λ history. IsKept L.rules M.making
             history.opening.standing history.base history.entries.items) }
         ensures counted { IfOk result (λ history.
             calls_by passes.items ≡ calls_of history.entries.items) }
@@ -297,11 +293,9 @@ impl<L: Limit, M: GateNaming> SharedGate<L, M> {
             IsHistoryOf history.entries.items kept.items) }
         ensures begun { IfOk result (λ history.
             All (λ pass. IsPrefix pass.log history.entries.items) passes.items) }
-        ensures first { IfErr result (λ fault. FailsBy L.rules
-            (made_as M.rows M.room M.promote M.kept M.is_rolling M.limit) passes.items
+        ensures first { IfErr result (λ fault. FailsBy L.rules M.making passes.items
             fault.history.base fault.history.entries.items fault.kept.items fault.cause) }
-        ensures history { IfErr result (λ fault. IsKept L.rules
-            (made_as M.rows M.room M.promote M.kept M.is_rolling M.limit)
+        ensures history { IfErr result (λ fault. IsKept L.rules M.making
             fault.history.opening.standing fault.history.base fault.history.entries.items) }
         ensures kept { IfErr result (λ fault. fault.kept ≡ kept) }
     {

@@ -1,8 +1,8 @@
 // A gate with its passes.
 ghost use Rattle.std.specs.Prelude.{◌≡◌, IfOk, OnOk, replicate, vec_len};
-ghost use Rattle.gate_journal.specs.Journal.{gate, next_number, opening};
+ghost use Rattle.gate_journal.specs.Journal.{next_number};
 ghost use Rattle.shared_gate.specs.Calls.{pass_of};
-ghost use Rattle.shared_gate.specs.Log.{MeansAtLeast};
+ghost use Rattle.shared_gate.specs.Log.{CallsLegal};
 
 use crate::gate::SharedGate;
 use crate::naming::GateNaming;
@@ -25,7 +25,7 @@ impl<L: Limit, M: GateNaming> SharedGate<L, M> {
     ) -> Result<(SharedGate<L, M>, Vec<Pass<M>>), AllocError>
         requires word { word ≡ M.word }
         requires unasked { next_number book.journal ≡ 0 }
-        requires legal { MeansAtLeast (gate L.rules book.journal) (opening book.journal) M.legal }
+        requires legal { CallsLegal L.rules book.journal M.legal }
         ensures all { IfOk result (λ made. vec_len made.1 ≡ count) }
         ensures passes { IfOk result (λ made.
             made.1.items ≡ replicate count (pass_of 0)) }

@@ -1,7 +1,7 @@
 // What lies under the lock.
 ghost use Rattle.std.specs.Prelude.{◌≡◌, ◌≤◌, All};
 ghost use mathlib.Core.List.{IsPrefix};
-ghost use Rattle.gate_history.specs.Book.{calls_of, made_as};
+ghost use Rattle.gate_history.specs.Book.{calls_of};
 ghost use Rattle.gate_history.specs.Steps.{event_of};
 ghost use Rattle.shared_gate.specs.Calls.{Tells};
 ghost use Rattle.shared_gate.specs.Closing.{calls_by};
@@ -36,7 +36,7 @@ impl<L: Limit, M: GateNaming> Model for Sealed<L, M> {
     ghost view = { λ s. s.keeper.log };
 
     ghost invariant = { λ s. (s.keeper.table ≡ M.word) × (s.book.is_sealed ≡ true)
-        × IsBehind L.rules M.limit M.legal s.keeper.log s.book };
+        × IsBehind L.rules M.making.limit M.legal s.keeper.log s.book };
 }
 
 impl<L: Limit, M: GateNaming> Sealed<L, M> {
@@ -75,8 +75,7 @@ impl<L: Limit, M: GateNaming> Sealed<L, M> {
 
     /// What stands, and what was counted by then.
     pub(crate) fn report(&self) -> Report
-        ensures { IsReportAfter L.rules
-            (made_as M.rows M.room M.promote M.kept M.is_rolling M.limit) self.now result }
+        ensures { IsReportAfter L.rules M.making self.now result }
     {
         self.book.invariant();
         let journal = self.book.journal();

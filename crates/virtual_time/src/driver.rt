@@ -13,7 +13,7 @@ ghost use Rattle.virtual_time.specs.Simulation.{IsRunOf, IsSimulated};
 
 use super::course::run;
 use counted_io::{Counted, read_all, write_and_flush};
-use load_driver::{DriverFault, KEPT, LineFault, MOST_BYTES, MOST_READS, Session};
+use load_driver::{DriverFault, KEPT, LineFault, MOST_BYTES, MOST_READS, Session, gate_settings};
 use std::alloc::{AllocError, Global};
 use std::io::{Read, Write};
 use trace::{Trace, read_trace};
@@ -39,14 +39,8 @@ fn run_trace(
         arrivals,
         fault,
     } = read_trace(alloc, text)?;
-    let limit = settings.limit(n);
-    let room = settings.room();
-    let promote = settings.promote();
-    let kept = settings.kept(kept);
-    let is_rolling = settings.is_rolling();
     let timeout = settings.timeout();
-    let table = settings.into_table();
-    let mut session = Session::new(alloc, limit, table, room, promote, kept, is_rolling)?;
+    let mut session = Session::new(alloc, gate_settings(settings, n, kept))?;
     let told = run(alloc, &mut session, &arrivals, timeout)?;
     Ok((told, fault))
 }

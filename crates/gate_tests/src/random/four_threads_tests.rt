@@ -8,6 +8,7 @@ use crate::gates::{Making, next_of};
 use crate::threaded::{Threaded, try_by_threads};
 use crate::threads::{Work, four_done};
 use aimd::Aimd;
+use gate_history::GateSettings;
 use limit_kinds::{AnyLimit, BaseLimit};
 use limit_laws::Limit;
 use limiter_core::{Core, Counters, Event, Promote, Reply};
@@ -66,13 +67,16 @@ fn making<R: Abort>(
     kept: usize,
     is_rolling: bool,
 ) -> Making {
-    Making {
+    let settings = GateSettings {
         limit: AnyLimit::Plain(BaseLimit::Aimd(limit(rt))),
         table: classes(rt, alloc),
         room: ROOM,
         promote,
         kept,
         is_rolling,
+    };
+    Making {
+        settings,
         passes: 5,
     }
 }

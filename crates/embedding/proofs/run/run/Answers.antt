@@ -1,8 +1,8 @@
 use Rattle.std.proofs.Common.{ap, sym, subst}
 use Rattle.aimd.specs.AimdRules.{AimdState, aimd_rules}
-use Rattle.gate_journal.specs.Journal.{gate, next_number, opening}
+use Rattle.gate_journal.specs.Journal.{next_number}
 use Rattle.gate_history.specs.Book.{Book}
-use Rattle.shared_gate.specs.Log.{MeansAtLeast}
+use Rattle.shared_gate.specs.Log.{CallsLegal}
 use Rattle.embedding.proofs.run.run.Goals as goal
 
 -- the book was just begun
@@ -12,6 +12,5 @@ open-requires-clause-unasked g c =
 
 pub open-requires-clause-legal : goal.open-requires-clause-legal
 open-requires-clause-legal g c =
-    subst (λ (b : Book AimdState).
-    MeansAtLeast (gate aimd_rules b.journal) (opening b.journal) g.M.GateNaming.legal)
+    subst (λ (b : Book AimdState). CallsLegal aimd_rules b.journal g.M.GateNaming.legal)
     (sym c.in_ok-book.ensures) c.requires.legal

@@ -1,7 +1,5 @@
 use Rattle.std.proofs.Common.{◌≡◌, sym, ap, ◌∙◌}
 use Rattle.limit_kinds.specs.declared.kinds.AnyLimit.{AnyLimit}
-use Rattle.limiter_core.specs.Limiter.{unasked}
-use Rattle.gate_journal.specs.Journal.{opened}
 use Rattle.load_driver.specs.Session.{Session}
 use Rattle.load_driver.specs.Opening.{journal_of, text_after}
 use Rattle.load_driver.proofs.Openings.{text_of_session}
@@ -10,7 +8,7 @@ use Rattle.load_driver.proofs.opening.answer_script.Goals as goal
 
 pub answer_all-requires-clause-unasked : goal.answer_all-requires-clause-unasked
 answer_all-requires-clause-unasked c =
-    opens_unasked _ _ _ _ _ _ c.in_ok-session.session.journal
+    opens_unasked c.gate_settings.result c.in_ok-session.session.journal
     (ap (λ (s : Session AnyLimit). s.journal) c.in_ok-session.ensures.begun)
 
 pub answer_all-requires-clause-none_open : goal.answer_all-requires-clause-none_open
@@ -22,9 +20,7 @@ returns c =
     let read = c.in_ok-settings.field-0 in
     let opens : c.in_ok-session.session.journal ≡ journal_of c.args.n c.args.kept read.settings =
     ap (λ (s : Session AnyLimit). s.journal) c.in_ok-session.ensures.begun
-    ∙ (λ k. opened (unasked (c.into_table-table.ensures k) (c.room-room.ensures.value k)
-    (c.promote-promote.ensures k) (c.limit-limit.ensures k)) (c.kept-kept.ensures.value k)
-    (c.is_rolling-is_rolling.ensures k)) in
+    ∙ c.gate_settings.ensures.begins in
     c.in_ok-fault.ensures
     ∙ text_of_session c.args.n c.args.kept read.settings read.line read.rest.now read.fault
     c.in_ok-session.session.journal _ c.new-text.ensures.bytes opens

@@ -1,6 +1,5 @@
 use Rattle.std.proofs.Common.{rules, ◌≡◌, ℕ, length, subst}
 use Rattle.limit_kinds.specs.AnyKinds.{any_rules}
-use Rattle.gate_history.specs.Book.{Making, made_as}
 use Rattle.shared_gate.specs.Closing.{IsKept}
 use Rattle.load_run.specs.Summary.{summary_of}
 use Rattle.load_run.specs.Workers.{AllOfAllFit}
@@ -9,8 +8,7 @@ use Rattle.load_run.proofs.run.close.Goals as goal
 
 pub returns-then-all_fit-clause-accepted : goal.returns-then-all_fit-clause-accepted
 returns-then-all_fit-clause-accepted g c =
-    let n = g.M.Naming in
-    let m : Making = made_as n.rows n.room n.promote n.kept n.is_rolling n.limit in
+    let m = g.M.Naming.making in
     let history = c.in-Ok.history in
     let held : c.len.result ≡ length history.entries.items = search rules in
     let told : c.count_entries.result ≡ summary_of history.entries.items = search rules in

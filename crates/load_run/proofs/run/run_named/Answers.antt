@@ -1,7 +1,7 @@
 use Rattle.std.proofs.Common.{rules, ◌≡◌, length, Err}
 use Rattle.load_run.specs.Workers.{AreWork}
 use Rattle.load_run.specs.declared.fault.LoadFault.TheVariants.{Audit}
-use Rattle.load_run.proofs.Runs.{audit_stops, is_unaccepted, same_making}
+use Rattle.load_run.proofs.Runs.{audit_stops, is_unaccepted}
 use Rattle.load_run.proofs.run.run_named.Goals as goal
 
 pub returns-in_err-close-clause-stops : goal.returns-in_err-close-clause-stops
@@ -16,4 +16,4 @@ returns-in_err-close-clause-stops g c =
     c.from_residual-in_err-close.result c.in_err-close.field-0.0 is
     (is_unaccepted c.args.crew.workers c.args.crew.limit c.args.settings c.args.arrivals.items
     kept c.in_ok-worked.worked.spent.items _ c.in_err-close.field-0.0
-    (same_making _ _ _ _ _ _ _ c.requires.making) many work c.in_err-close.ensures.rejected)
+    c.requires.making many work c.in_err-close.ensures.rejected)

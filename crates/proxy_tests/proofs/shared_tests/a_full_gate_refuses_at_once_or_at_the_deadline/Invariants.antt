@@ -1,23 +1,16 @@
-use Rattle.std.specs.Prelude.{[], false}
-use Rattle.limiter_core.specs.declared.promote.Promote.TheVariants.{Newest}
 use Rattle.limit_laws.specs.FixedRules.{fixed_rules}
-use Rattle.gate_ledgers.specs.Course.{course_of}
+use Rattle.gate_journal.specs.Settings.{begun}
 use Rattle.gate_ledgers.specs.Names.{places_of}
+use Rattle.gate_history.specs.Book.{made_with}
 use Rattle.proxy_tests.proofs.shared_tests.a_full_gate_refuses_at_once_or_at_the_deadline.Given as goal
 
--- the ledgers that were just made, over a table without classes
+-- the ledgers that were just made, and what the gate is made with
 abbrev pub ghosts-over_one_permit-N-Naming : goal.ghosts-over_one_permit-N-Naming
-ghosts-over_one_permit-N-Naming g a =
-    record {
-      calls = a.blanks.calls.name;
-      place = places_of a.blanks;
-      rows = [];
-      room = 100;
-      promote = Newest;
-      kept = 100;
-      is_rolling = false;
-      limit = course_of fixed_rules 1;
-    }
+ghosts-over_one_permit-N-Naming g a = record {
+  calls = a.blanks.calls.name;
+  place = places_of a.blanks;
+  making = made_with fixed_rules (begun a.settings);
+}
 
 -- and the table of its word; each log is called legal
 abbrev pub ghosts-over_one_permit-N-GateNaming : goal.ghosts-over_one_permit-N-GateNaming

@@ -2,7 +2,8 @@ use Rattle.std.proofs.Common.{rules, ◌≡◌, ℕ, List, Ok, Err, subst}
 use Rattle.tasks.specs.Refused.{refused_of}
 use Rattle.limit_kinds.specs.AnyKinds.{any_rules}
 use Rattle.config_file.specs.Reading.{IsFaultOf, Says}
-use Rattle.serve_command.specs.Command.{IsOfServing, making_of}
+use Rattle.gate_opening.specs.Opening.{making_of}
+use Rattle.serve_command.specs.Command.{IsOfServing}
 use Rattle.serve_command.specs.Runs.{AreCountersOfRuns}
 use Rattle.serve_command.specs.declared.fault.ServiceFault.TheVariants as Service
 use Rattle.serve_command.proofs.Whys.{serving_is, why_unread, why_unserved, why_unset, why_unwritten}

@@ -1,9 +1,8 @@
 use Rattle.std.proofs.Common.{◌≡◌, ℕ, IfOk, subst, vec_len}
 use Rattle.limit_kinds.specs.AnyKinds.{any_rules}
-use Rattle.gate_history.specs.Book.{Making}
-use Rattle.serve_command.specs.Command.{making_of}
+use Rattle.gate_ledgers.specs.Making.{Making}
+use Rattle.gate_opening.specs.Opening.{making_of}
 use Rattle.serve_command.specs.Runs.{AreCountersOfRuns}
-use Rattle.serve_command.proofs.Made.{made_alike}
 use Rattle.serve_command.proofs.gateway.serve_named.Goals as goal
 
 -- the counters are those of the gate that was opened, whose names say how it was made
@@ -16,5 +15,4 @@ returns-clause-counted g c =
     (AreCountersOfRuns any_rules (making_of c.args.settings.now) gives n common.per_worker)) all
     (subst (λ (m : Making). IfOk c.serve_through.result
     (AreCountersOfRuns any_rules m gives (vec_len c.take_own-own.new.passes) common.per_worker))
-    (made_alike c.requires.rows c.requires.room c.requires.promote c.requires.kept
-    c.requires.rolling c.requires.limit) c.serve_through.ensures.counted)
+    c.requires.making c.serve_through.ensures.counted)

@@ -1,7 +1,7 @@
 use Rattle.std.proofs.Common.{rules, ◌≡◌, ℕ, IfOk, Ok, subst}
 use Rattle.limit_kinds.specs.AnyKinds.{any_rules}
 use Rattle.config_file.specs.Reading.{Says}
-use Rattle.serve_command.specs.Command.{making_of}
+use Rattle.gate_opening.specs.Opening.{making_of}
 use Rattle.serve_command.specs.Runs.{AreCountersOfRuns}
 use Rattle.serve_command.proofs.standing.serve_standing.Goals as goal
 

@@ -1,5 +1,4 @@
 use Rattle.std.proofs.Common.{subst}
-use Rattle.gate_history.specs.Book.{Making, made_as}
 use Rattle.shared_gate.specs.Closing.{IsEndOf}
 use Rattle.shared_gate.proofs.Closings.{first_of, has_the_calls, is_accepted, is_all, is_end_of}
 use Rattle.shared_gate.proofs.Closings.{is_history_in, is_kept}
@@ -13,8 +12,7 @@ returns-in-None-clause-legal g c =
     is_kept g.L.Limit.rules _ c.sealed.inside.book c.into_journal.result
     c.into_history-history.result.opening.standing c.into_history-history.result.base
     c.into_history-history.result.entries.items c.invariant.ensures.legal c.invariant.ensures.sound
-    c.invariant.ensures.rows c.invariant.ensures.room c.invariant.ensures.promote
-    c.invariant.ensures.rolling
+    c.invariant.ensures.making
     c.invariant.ensures.unasked
     c.invariant.ensures.agrees c.into_journal.ensures
     c.into_history-history.ensures.opening c.into_history-history.ensures.base
@@ -22,17 +20,14 @@ returns-in-None-clause-legal g c =
 
 pub returns-in-None-clause-log : goal.returns-in-None-clause-log
 returns-in-None-clause-log g c =
-    let names = g.M.Naming in
-    let m : Making =
-    made_as names.rows names.room names.promote names.kept names.is_rolling names.limit in
+    let m = g.M.Naming.making in
     is_all g.L.Limit.rules m c.args.sealed c.into_history-history.result.base
     c.into_history-history.result.entries.items
     (subst (λ log. IsEndOf g.L.Limit.rules m log c.into_history-history.result.base
     c.into_history-history.result.entries.items) c.sealed.view_is
     (is_end_of g.L.Limit.rules m g.M.GateNaming.legal c.sealed.inside.keeper.log
     c.sealed.inside.book c.into_history-history.result.base
-    c.into_history-history.result.entries.items c.sealed.invariant.2 c.invariant.ensures.rows
-    c.invariant.ensures.room c.invariant.ensures.promote
+    c.into_history-history.result.entries.items c.sealed.invariant.2 c.invariant.ensures.making
     (is_history_in c.sealed.inside.book c.into_journal.result c.into_history-history.result.base
     c.into_history-history.result.entries.items c.into_journal.ensures
     c.into_history-history.ensures.base c.into_history-history.ensures.entries)))
@@ -51,15 +46,12 @@ returns-in-None-clause-accepted g c =
 
 pub returns-clause-end : goal.returns-clause-end
 returns-clause-end g c =
-    let names = g.M.Naming in
-    let m : Making =
-    made_as names.rows names.room names.promote names.kept names.is_rolling names.limit in
+    let m = g.M.Naming.making in
     subst (λ log. IsEndOf g.L.Limit.rules m log c.into_history-history.result.base
     c.into_history-history.result.entries.items) c.sealed.view_is
     (is_end_of g.L.Limit.rules m g.M.GateNaming.legal c.sealed.inside.keeper.log
     c.sealed.inside.book c.into_history-history.result.base
-    c.into_history-history.result.entries.items c.sealed.invariant.2 c.invariant.ensures.rows
-    c.invariant.ensures.room c.invariant.ensures.promote
+    c.into_history-history.result.entries.items c.sealed.invariant.2 c.invariant.ensures.making
     (is_history_in c.sealed.inside.book c.into_journal.result c.into_history-history.result.base
     c.into_history-history.result.entries.items c.into_journal.ensures
     c.into_history-history.ensures.base c.into_history-history.ensures.entries))
@@ -76,8 +68,7 @@ returns-clause-history g c =
     is_kept g.L.Limit.rules _ c.sealed.inside.book c.into_journal.result
     c.into_history-history.result.opening.standing c.into_history-history.result.base
     c.into_history-history.result.entries.items c.invariant.ensures.legal c.invariant.ensures.sound
-    c.invariant.ensures.rows c.invariant.ensures.room c.invariant.ensures.promote
-    c.invariant.ensures.rolling
+    c.invariant.ensures.making
     c.invariant.ensures.unasked
     c.invariant.ensures.agrees c.into_journal.ensures
     c.into_history-history.ensures.opening c.into_history-history.ensures.base

@@ -1,8 +1,7 @@
 use Rattle.std.proofs.Common.{◌≡◌, ap, sym, ◌∙◌, subst}
 use Rattle.limit_kinds.specs.declared.kinds.AnyLimit.{AnyLimit}
 use Rattle.limit_kinds.specs.AnyKinds.{any_rules}
-use Rattle.limiter_core.specs.Limiter.{unasked}
-use Rattle.gate_journal.specs.Journal.{Journal, opened}
+use Rattle.gate_journal.specs.Journal.{Journal}
 use Rattle.script.specs.Settings.{timeout_of}
 use Rattle.load_driver.specs.Opening.{journal_of}
 use Rattle.load_driver.specs.Session.{Session}
@@ -28,9 +27,7 @@ returns-clause-run c =
     let opens : c.in_ok-session.session.journal
     ≡ journal_of c.args.n c.args.kept (trace_of c.args.text.now).settings =
     ap (λ (s : Session AnyLimit). s.journal) c.in_ok-session.ensures.begun
-    ∙ (λ k. opened (unasked (c.into_table-table.ensures k) (c.room-room.ensures.value k)
-    (c.promote-promote.ensures k) (c.limit-limit.ensures k)) (c.kept-kept.ensures.value k)
-    (c.is_rolling-is_rolling.ensures k))
+    ∙ c.gate_settings.ensures.begins
     ∙ ap (journal_of c.args.n c.args.kept) c.in_ok-settings.ensures.settings in
     same_run _ _ _ _ _ _ _ (ap (limiter_of any_rules) opens)
     (c.deref.ensures.value ∙ c.in_ok-settings.ensures.arrivals)

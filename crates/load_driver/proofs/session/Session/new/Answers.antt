@@ -7,8 +7,7 @@ use Rattle.load_driver.proofs.session.Session.new.Goals as goal
 pub invariant_of-result : goal.invariant_of-result
 invariant_of-result g c =
     begins g.L.Limit.rules c.in_ok-journal.journal
-    (opens_unasked c.args.table c.args.room c.args.promote c.args.limit _ _ c.in_ok-journal.journal
-    c.in_ok-journal.ensures)
+    (opens_unasked c.args.settings c.in_ok-journal.journal c.in_ok-journal.ensures)
     c.entries-entries.ensures.sound c.open_permits_are_in_flight.ensures.begins c.new.result
     c.new.ensures.empty
 

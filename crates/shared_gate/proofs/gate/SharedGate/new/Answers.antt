@@ -9,7 +9,7 @@ invariant_of-new g c =
     let book = c.invariant.ensures in (
       ap (λ k. k.table) keeper ∙ c.requires.word,
       c.requires.sealed,
-      behind_none g.L.Limit.rules g.M.Naming.limit g.M.GateNaming.legal c.args.book _
+      behind_none g.L.Limit.rules g.M.Naming.making.limit g.M.GateNaming.legal c.args.book _
           (ap (λ k. k.log) keeper) c.requires.unasked c.requires.legal book.sound.four
           book.unasked book.legal book.agrees,
     )

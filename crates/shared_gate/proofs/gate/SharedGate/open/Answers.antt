@@ -1,7 +1,7 @@
 use Rattle.std.proofs.Common.{rules, ◌≡◌, ap, map, sym, subst, ◌∙◌}
-use Rattle.gate_journal.specs.Journal.{Journal, gate, next_number, opening}
+use Rattle.gate_journal.specs.Journal.{Journal, next_number}
 use Rattle.shared_gate.specs.Calls.{pass_of}
-use Rattle.shared_gate.specs.Log.{MeansAtLeast}
+use Rattle.shared_gate.specs.Log.{CallsLegal}
 use Rattle.shared_gate.proofs.Opened.{made_alike}
 use Rattle.shared_gate.proofs.gate.SharedGate.open.Goals as goal
 
@@ -13,9 +13,8 @@ new-requires-clause-unasked g c =
 pub new-requires-clause-legal : goal.new-requires-clause-legal
 new-requires-clause-legal g c =
     let stays : c.seal.new.self.journal ≡ c.args.book.journal = search rules in
-    subst (λ (j : Journal g.row.L.Denot).
-    MeansAtLeast (gate g.L.Limit.rules j) (opening j) g.M.GateNaming.legal) (sym stays)
-    c.requires.legal
+    subst (λ (j : Journal g.row.L.Denot). CallsLegal g.L.Limit.rules j g.M.GateNaming.legal)
+    (sym stays) c.requires.legal
 
 pub returns-clause-passes : goal.returns-clause-passes
 returns-clause-passes g c =

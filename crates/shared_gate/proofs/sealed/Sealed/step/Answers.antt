@@ -21,7 +21,7 @@ raise-requires-clause-next g c =
     (c.invariant.ensures.same e) in
     c.number-next.ensures
     ∙ next_after rules old new c.pass.inside.pass c.step-step.new.pass e same
-    g.M.Naming.limit g.M.GateNaming.legal c.self.inside.keeper.log c.self.invariant.2
+    g.M.Naming.making.limit g.M.GateNaming.legal c.self.inside.keeper.log c.self.invariant.2
     c.journal-journal.result.now c.journal-journal.ensures (told_of c.step-step.result)
     (given_by c.step-step.result) c.step-step.ensures
 
@@ -38,13 +38,13 @@ invariant_of-self g c =
     let raised = c.raise.ensures.keeper in (
       ap (λ k. k.table) raised ∙ c.self.invariant.0,
       sealed_after rules old new c.pass.inside.pass c.step-step.new.pass e
-          same g.M.Naming.limit g.M.GateNaming.legal c.self.inside.keeper.log c.self.invariant.2
-          c.journal-journal.result.now c.journal-journal.ensures (told_of c.step-step.result)
+          same g.M.Naming.making.limit g.M.GateNaming.legal c.self.inside.keeper.log
+          c.self.invariant.2 c.journal-journal.result.now c.journal-journal.ensures (told_of c.step-step.result)
           (given_by c.step-step.result) c.step-step.ensures
           ∙ c.self.invariant.1,
       behind_after rules old new c.pass.inside.pass c.step-step.new.pass e
-          same g.M.Naming.limit g.M.GateNaming.legal c.self.inside.keeper.log c.self.invariant.2
-          c.journal-journal.result.now c.journal-journal.ensures c.raise.new.keeper.log
+          same g.M.Naming.making.limit g.M.GateNaming.legal c.self.inside.keeper.log
+          c.self.invariant.2 c.journal-journal.result.now c.journal-journal.ensures c.raise.new.keeper.log
           (ap (λ k. k.log) raised) (c.rolling_runs_are_legal.ensures.stretches rules)
           c.counters_add_up.ensures (told_of c.step-step.result)
           (given_by c.step-step.result) c.step-step.ensures,
@@ -57,8 +57,8 @@ invariant_of-pass g c =
       c.raise.ensures.table ∙ c.pass.invariant.0,
       c.number-next.ensures
           ∙ (ap next_number c.journal-journal.ensures
-          ∙ (number_is g.L.Limit.rules g.M.Naming.limit g.M.GateNaming.legal c.step-step.new.self
-          c.raise.new.keeper.log behind
+          ∙ (number_is g.L.Limit.rules g.M.Naming.making.limit g.M.GateNaming.legal
+          c.step-step.new.self c.raise.new.keeper.log behind
           ∙ ap (λ (l : List Entry). length l) (sym reader))),
       subst (λ (l : List Entry). g.M.GateNaming.legal l) (sym reader)
           (behind.means _ behind.stretch.whole),
@@ -80,8 +80,8 @@ returns g c =
     let after : Pass = record { count = c.step-step.new.pass; log = longer } in
     subst (λ (pass : Pass). Tells pass after e c.step-step.result) c.pass.view_is
     (tells_of rules old new c.pass.inside.pass c.step-step.new.pass e same
-    g.M.Naming.limit g.M.GateNaming.legal log c.self.invariant.2 c.journal-journal.result.now
-    c.journal-journal.ensures longer
+    g.M.Naming.making.limit g.M.GateNaming.legal log c.self.invariant.2
+    c.journal-journal.result.now c.journal-journal.ensures longer
     (c.raise.ensures.reader ∙ ap (λ k. k.log) c.raise.ensures.keeper)
     before after refl refl c.raise.ensures.before refl (told_of c.step-step.result)
     (given_by c.step-step.result) c.step-step.ensures)
