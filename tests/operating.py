@@ -299,7 +299,7 @@ class Operating(Served):
             self.judge(f"one behind both, {turn}", passed_on(BODY), gate.ask(PLAIN))
 
     def refuses_other_addresses(self, backend: Backend) -> None:
-        """Only a loopback address is taken; one that is taken is told with its reason."""
+        """Only a loopback address is taken; one that is taken is reported with its reason."""
         path = pathlib.Path(self.room) / "operated.toml"
         front = free_port()
         path.write_text(

@@ -225,7 +225,7 @@ class Limiter:
         return "".join(map(self.entry, ANSWERS[word](self, *rest)))
 
     def is_owed(self, word: str, rest: Sequence[str]) -> bool:
-        """Whether this is an ending, or a giving up of what waits or lies granted."""
+        """Whether this is an ending, or a giving up of what waits or is granted."""
         return word == "end" or word == "giveup" and (int(rest[0]) in self.waiting or int(rest[0]) in self.granted)
 
     def entry(self, text: str) -> str:
@@ -275,7 +275,7 @@ class Limiter:
         return next((waiter for waiter, part in reversed(self.waiting.items()) if part in parts), None)
 
     def promote(self, waiter: int, now: str) -> str:
-        """Has a waiter's permit lie granted, and tells of it."""
+        """Has a waiter's permit are granted, and tells of it."""
         got = self.granted[waiter] = Permit(self.waiting.pop(waiter), moment(int(now)), self.total() + 1)
         return f"promoted {waiter} inflight {got.inflight}"
 
@@ -286,7 +286,7 @@ class Limiter:
         return self.handed_out(int(number)) or ["timed out" if self.waiting.pop(int(number), None) else "lost"]
 
     def handed_out(self, number: int) -> list[str]:
-        """Hands a permit out that lies granted, and tells of it."""
+        """Hands a permit out that is granted, and tells of it."""
         if number not in self.granted:
             return []
         permit = self.open[number] = self.granted.pop(number)

@@ -69,7 +69,7 @@ class Telling(Served):
     """Cases on what the log tells."""
 
     def reports(self, backend: Backend) -> None:
-        """Every second a line says what stands, whose numbers add up with what was asked; it ends with the workers."""
+        """Every second a line tells the state, whose numbers add up with what was asked; it ends with the workers."""
         settings = "\n".join(
             (
                 "wait = false",
@@ -163,7 +163,7 @@ class Telling(Served):
             self.judge(what, wanted, lines_of(it, line))
 
     def tells_each_trouble(self, backend: Backend) -> None:
-        """A trouble is told whatever else was told a moment ago; and one that doesn't come isn't."""
+        """A trouble is reported whatever else was told a moment ago; and one that doesn't come isn't."""
 
         def breaks(client: socket.socket) -> None:
             client.recv(1024)
@@ -260,7 +260,7 @@ class Telling(Served):
             self.judge(f"warnings at {soft} descriptors", wanted, [it for it in gate.log if "WARN" in it])
 
     def tells_of_descriptors(self, backend: Backend) -> None:
-        """That no descriptor was free for the backend is told as that, whosever the limit is."""
+        """That no descriptor was free for the backend is reported as that, whosever the limit is."""
         few: dict[str, typing.Any] = {"front": ("sh", "-c", 'ulimit -Sn 5 && exec "$@"', "sh")}
         none: dict[str, typing.Any] = {"variables": {"LD_PRELOAD": self.library, "SOCKET_REFUSED": "2"}}
         for what, how, error in (

@@ -58,7 +58,7 @@ given_up : (number named : ℕ) (reply : Reply) (permit : PermitFacts)
 given_up number named (Granted part start inflight) permit hands = ap number_of (sym hands)
 given_up number named reply permit hands = absurd (none-some permit hands)
 
--- and that lies granted
+-- and that is granted
 claim_finds : (number named n : ℕ) (lies : Option PermitFacts) (waiting : Bool)
     (permit : PermitFacts)
     → handed_out number
@@ -126,7 +126,7 @@ module _ {S : Type 0} (g : Gate S) where
       promotions_hand_nothing start _ i k number entry here
 
 module _ {S : Type 0} (g : Gate S) where
-  -- a number that lies granted was given out before
+  -- a number that is granted was given out before
   granted_before : (i : Image S) (n : ℕ) → IsSound g i → is_some (granted_of i n) ≡ true
       → n < i.next
   granted_before i n sound lies = elim (cases_lt n i.next) [

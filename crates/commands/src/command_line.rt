@@ -35,7 +35,7 @@ pub enum Run<'a> {
     },
     /// Clients are served by the configuration in the file of this path. There are 1 to 64 workers;
     /// each ends once it has served `per_worker` connections, 1 to 1,000,000,000. A client may take
-    /// 1 to 3,600,000 milliseconds for its request, and again for its answer. What stands is logged
+    /// 1 to 3,600,000 milliseconds for its request, and again for its answer. The state is logged
     /// every `report_seconds`, 1 to 3,600, where they are given. An operator is served at `admin`,
     /// a loopback address with a port from 1 up, where it is given.
     Serve {

@@ -60,7 +60,7 @@ IsWhyOfFile {F} explain Unopened Opened remaining contents old new fault =
     × Opened (inner_of before) × (failures_of after ≡ failures_of before)
     × Held remaining before bytes × IsWhyAfter explain contents old new bytes fault)
 
--- REFUSED: the line of a fault is told, and this fault is why
+-- REFUSED: the line of a fault is reported, and this fault is why
 abbrev pub IsRefused : {E : Type 0} → (E → Option (List ℕ)) → Counted E → Counted E
     → (CheckFault → Type 0) → Type 0
 IsRefused contents old new P = (fault : CheckFault)

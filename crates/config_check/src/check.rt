@@ -37,7 +37,7 @@ pub fn check_file<F: Opener, W: Write, E: Write>(
         × IsAcceptedAfter explain W.contents writer.old writer.new bytes }
     ensures quiet { result ≡ 0 → errors.new ≡ errors.old }
 
-    // The first fault is told: of a file whose bytes were not had, or of its bytes.
+    // The first fault is reported: of a file whose bytes were not had, or of its bytes.
     ensures refused { result ≡ 1 → IsRefused E.contents errors.old errors.new
         (IsWhyOfFile explain (F.unopened path.now) (F.opened path.now) F.File.remaining
         W.contents writer.old writer.new) }
@@ -75,7 +75,7 @@ pub fn check_text<W: Write, E: Write>(
         IsAcceptedAfter explain W.contents writer.old writer.new bytes.now }
     ensures quiet { result ≡ 0 → errors.new ≡ errors.old }
 
-    // The first fault is told.
+    // The first fault is reported.
     ensures refused { result ≡ 1 → IsRefused E.contents errors.old errors.new
         (IsWhyAfter explain W.contents writer.old writer.new bytes.now) }
 {

@@ -22,8 +22,8 @@ const MOST_READS: u64 = 33_554_432;
 /// The text of the configuration in the file that is opened at a path: at most 1 MiB, in at most
 /// 2^25 reads.
 ///
-/// A file that can't be opened or read, isn't at its end after so many reads, or has more is told
-/// as one that can't be read; else the fault is that of running out of memory.
+/// A file that can't be opened or read, isn't at its end after so many reads, or has more is
+/// reported as one that can't be read; else the fault is that of running out of memory.
 pub fn read_file_text<F: Opener>(files: &F, alloc: Global, path: &str) -> Result<Vec<u8>, FileFault>
     ensures text { IfOk result (λ text. (before : CountedValue F.File)
         × (after : CountedValue F.File) × F.opened path.now (inner_of before)
@@ -40,8 +40,8 @@ pub fn read_file_text<F: Opener>(files: &F, alloc: Global, path: &str) -> Result
 
 /// The text that a reader gives up to its end, at most 1 MiB in at most 2^25 reads.
 ///
-/// A reader that fails, isn't at its end after so many reads, or has more is told as one that can't
-/// be read; else the fault is that of running out of memory.
+/// A reader that fails, isn't at its end after so many reads, or has more is reported as one that
+/// can't be read; else the fault is that of running out of memory.
 pub fn read_text<R: Read>(alloc: Global, reader: &mut Counted<R>) -> Result<Vec<u8>, FileFault>
     ensures text { IfOk result (λ text. Held R.remaining reader.old text.items) }
     ensures unfailing { OnOk result (failures_of reader.new ≡ failures_of reader.old) }

@@ -54,7 +54,7 @@ impl KeyAtFault {
     }
 }
 
-/// Why a configuration was refused. Of several faults the first in this order is told, and of
+/// Why a configuration was refused. Of several faults the first in this order is reported, and of
 /// several keys the first in the order of the keys; of unknown keys the one with the least path in
 /// byte order.
 ///

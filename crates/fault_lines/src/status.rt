@@ -3,7 +3,7 @@
 /// The exit status of a command that was carried out: 0.
 pub const DONE: u8 = 0;
 
-/// The exit status of a command that met a fault, whose line was told: 1.
+/// The exit status of a command that met a fault, whose line was reported: 1.
 pub const FAULT: u8 = 1;
 
 /// The exit status of words that are at fault: 2.

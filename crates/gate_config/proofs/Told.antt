@@ -1,4 +1,4 @@
--- Faults that are told before any memory is taken.
+-- Faults that are reported before any memory is taken.
 use Rattle.std.proofs.Common.{◌≡◌, sym, subst, Option, Some, None, Result, Ok, Err, ok_or}
 use Rattle.toml.specs.Data.{Members}
 use Rattle.config_values.specs.declared.fault.ConfigFault.{ConfigFault}

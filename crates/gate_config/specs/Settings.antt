@@ -74,7 +74,7 @@ settings_in_version t (Some version) =
 abbrev pub settings_of : Members → Result Settings ConfigFault
 settings_of t = settings_in_version t (version_of (get_member (codes "version") t))
 
--- the faults that are told whatever the memory: those of the version and of a key
+-- the faults that are reported whatever the memory: those of the version and of a key
 abbrev pub IsOfKey : ConfigFault → Type 0
 IsOfKey Fault.Memory = ⊥
 IsOfKey Fault.Toml = ⊥

@@ -43,8 +43,8 @@ pub struct RuleKeys<'a> {
     pub bypasses: Vec<(&'a Table, BypassKeys<'a>)>,
 }
 
-/// The keys of a configuration of a version, read in their order. The first fault of a key is told
-/// whatever the memory.
+/// The keys of a configuration of a version, read in their order. The first fault of a key is
+/// reported whatever the memory.
 pub fn read_document<'a>(
     alloc: Global,
     version: Version,

@@ -32,7 +32,7 @@ const MILLI: u64 = 1_000_000;
 
 /// The settings that a text of version 1 or 2 holds.
 ///
-/// The faults, of which the first is told: [`ConfigFault::Toml`] for a text that isn't TOML in
+/// The faults, of which the first is reported: [`ConfigFault::Toml`] for a text that isn't TOML in
 /// UTF-8; [`ConfigFault::Version`] unless `version` is 1 or 2; then key by key in the order of the
 /// keys, an array's members one after the other, [`ConfigFault::Missing`], [`ConfigFault::Kind`]
 /// and [`ConfigFault::Value`]; [`ConfigFault::Unknown`] for the least path that isn't allowed;

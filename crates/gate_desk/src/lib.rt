@@ -1,6 +1,6 @@
 //! The desk of a gateway that serves, and the thread of its operator.
 //!
-//! [`GateDesk`] shows what stands in a gate that threads share, and changes its limit by steps of a
+//! [`GateDesk`] shows the state of a gate that threads share, and changes its limit by steps of a
 //! pass of its own: `specs/Desk.antt` says which step each deed is. A [`DeskWatch`] hears of them.
 //! [`Operator`] serves one operator after the other at the desk.
 #![tactic(auto)]

@@ -48,7 +48,7 @@ module _ {X : Type 0} (t : X → Bool) where
       (any-at x xs (t x) e (any_counts xs))
 
 module _ {S : Type 0} (g : Gate S) (i : Image S) (sound : IsSound g i) where
-  -- a number that lies granted, or waits, was given out before
+  -- a number that is granted, or waits, was given out before
   earlier : (n : ℕ)
       → 0 < count_by (λ w. w.number == n) i.waiters
       + count_by (λ x. x.number == n) i.granted

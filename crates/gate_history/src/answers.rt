@@ -34,7 +34,7 @@ pub enum Claimed<N: Naming> {
     Granted(Receipt<N>, Permit<N>),
     /// Its waiter waits still.
     StillWaiting(Receipt<N>, Ticket<N>),
-    /// Its number neither waits nor lies granted.
+    /// Its number neither waits nor is granted.
     Lost(Receipt<N>),
     /// The history is exhausted.
     Exhausted(Spent<N>, Ticket<N>),
@@ -46,7 +46,7 @@ pub enum GaveUp<N: Naming> {
     Granted(Receipt<N>, Permit<N>),
     /// Its waiter waits no longer.
     TimedOut(Receipt<N>),
-    /// Its number neither waits nor lies granted.
+    /// Its number neither waits nor is granted.
     Lost(Receipt<N>),
     /// The history is exhausted, and the ticket spent.
     Exhausted(Spent<N>),

@@ -11,7 +11,7 @@ use Rattle.gate_port.specs.declared.report.Report.{Report}
 abbrev pub told_parts : List Part
 told_parts = Known 0 ∷ Known 1 ∷ Known 2 ∷ Known 3 ∷ Unknown ∷ []
 
--- THE REPORT of what stands: the limit, all that is in flight, waits and lies granted, the
+-- THE REPORT of the state: the limit, all that is in flight, waits and is granted, the
 -- in-flight counts and shares of the partitions, and the counters
 abbrev pub report_in : {S : Type 0} → Gate S → Image S → Counters → Report
 report_in g i counters = record {

@@ -1,4 +1,4 @@
-// What stands in a gate at one moment.
+// The state of a gate at one moment.
 ghost use Rattle.std.specs.Prelude.{◌≡◌};
 ghost use Rattle.limiter_core.specs.Limiter.{gate_of, stands};
 ghost use Rattle.gate_port.specs.Report.{report_in};
@@ -7,16 +7,16 @@ use limit_laws::Limit;
 use limiter_core::{Core, Counters};
 use partitions::Part;
 
-/// What stands in a gate at one moment, in permits and callers, and its counters so far.
+/// The state of a gate at one moment, in permits and callers, and its counters so far.
 #[derive(Clone, Copy)]
 pub struct Report {
     /// The limit.
     pub limit: u32,
-    /// How many permits aren't ended, those that lie granted among them.
+    /// How many permits aren't ended, those that are granted among them.
     pub inflight: u32,
     /// How many wait.
     pub waiters: u32,
-    /// How many promoted permits lie granted, which nobody has got yet.
+    /// How many promoted permits are granted, which nobody has got yet.
     pub granted: u32,
     /// How many permits of each partition aren't ended: of `Known(0)` to `Known(3)`, and last of
     /// `Unknown`. A partition that the table doesn't hold is read as unknown.
@@ -27,7 +27,7 @@ pub struct Report {
     pub counters: Counters,
 }
 
-/// What stands in a limiter. It takes no memory.
+/// The state of a limiter. It takes no memory.
 pub fn report_of<L: Limit>(core: &Core<L>) -> Report
     ensures { result
         ≡ report_in (gate_of L.rules core.now) (stands core.now) core.now.counters }

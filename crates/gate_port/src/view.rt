@@ -8,7 +8,7 @@ pub trait GateView {
     // What its reports are.
     ghost shows: { Report → Type 0 };
 
-    /// What stands at one moment, and the counters so far.
+    /// The state at one moment, and the counters so far.
     fn report(&self) -> Report
         ensures { shows result };
 }

@@ -82,7 +82,7 @@ fn admitted<M: Naming, R: Abort>(rt: &R, got: Got<M>) -> (Receipt<M>, Permit<M>)
     }
 }
 
-/// A look at what stands.
+/// A look at the state.
 pub(crate) fn look<M: GateNaming, R: Wait + Abort>(
     rt: &R,
     gate: &SharedGate<AnyLimit, M>,

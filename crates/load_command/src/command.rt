@@ -56,7 +56,7 @@ where
     ensures unfailing { result ≡ 0 → failures_of writer.new ≡ failures_of writer.old }
     ensures quiet { result ≡ 0 → errors.new ≡ errors.old }
 
-    // The fault is told.
+    // The fault is reported.
     ensures stopped { result ≡ 1 → (fault : LoadFault)
         × IsLoadStop R.remaining workers limit (refused_of spawner.old) (refused_of spawner.new)
         reader.old reader.new writer.old writer.new fault

@@ -14,7 +14,7 @@ use std::alloc::{AllocError, Global};
 /// The version of the program.
 const VERSION: &str = "1.1.0";
 
-/// The text of the metrics in the text format of Prometheus, version 0.0.4: of what stands in a
+/// The text of the metrics in the text format of Prometheus, version 0.0.4: of the state in a
 /// gate over these classes, in permits and callers, and of what was noted since the start. It fails
 /// only out of memory.
 pub fn metrics_text(
@@ -38,7 +38,7 @@ pub fn metrics_text(
     Ok(text)
 }
 
-/// Adds the limit, and how many are in flight, wait and lie granted.
+/// Adds the limit, and how many are in flight, wait and be granted.
 fn push_standing(text: &mut String, report: &Report) -> Result<(), AllocError>
     ensures { OnOk result (string_bytes text.new
         ≡ string_bytes text.old ++ standing_text report.now) }

@@ -1,6 +1,6 @@
 //! What the operator's address shows.
 //!
-//! [`metrics_text`] tells a scraper what stands in a gate and what its gateway noted, as
+//! [`metrics_text`] tells a scraper the state of a gate and what its gateway noted, as
 //! `specs/Metrics.antt` has it, family by family. [`PAGE`] draws it in a browser.
 #![tactic(auto)]
 

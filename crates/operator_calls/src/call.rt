@@ -3,9 +3,9 @@
 /// What an operator asks of a gateway.
 #[derive(Clone, Copy)]
 pub enum Call {
-    /// `GET /`: the page that draws what stands.
+    /// `GET /`: the page that draws the state.
     Page,
-    /// `GET /metrics`: what stands, and what was counted.
+    /// `GET /metrics`: the state, and what was counted.
     Metrics,
     /// `GET /health`: whether clients are accepted.
     Health,

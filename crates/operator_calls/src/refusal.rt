@@ -4,7 +4,7 @@ ghost use Rattle.operator_calls.specs.Calls.{refusal_status};
 
 use crate::endpoint::Verb;
 
-/// Why a request is no call. The first that applies is told.
+/// Why a request is no call. The first that applies is reported.
 #[derive(Clone, Copy)]
 pub enum Refusal {
     /// 403: it names a host that isn't the address itself, or none.

@@ -4,7 +4,7 @@ use Rattle.gate_port.specs.declared.report.Report.{Report}
 use Rattle.serve_reports.specs.declared.noted.Noted.{Noted}
 use Rattle.operator_serving.specs.declared.desk.ChangeFault.{ChangeFault}
 
--- what is seen: what stands in the gate; what was noted; whether clients are accepted
+-- what is seen: the state of the gate; what was noted; whether clients are accepted
 pub data Sight : Type 0 where
   Stands : Report → Sight
   Notes : Noted → Sight

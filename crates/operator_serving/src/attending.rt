@@ -27,7 +27,7 @@ pub struct Attended {
 
 /// Serves one connection of an operator's: reads a request, carries its call out at the desk, and
 /// answers with a status and a text. `host` is how the address is named, such as `127.0.0.1:9901`,
-/// and `page` the page that draws what stands.
+/// and `page` the page that draws the state.
 ///
 /// After a fault of reading, or where the request is no call, the desk isn't changed; the client is
 /// answered with the fault's own status, after a fault of the reader, the writer or too many reads

@@ -37,7 +37,7 @@ pub trait Desk {
     fn table(&self) -> &PartitionTable
         ensures { result.now ≡ rows self.now };
 
-    /// What stands in the gate.
+    /// The state of the gate.
     fn report(&self) -> Report
         ensures { shows self.now (Stands result) };
 

@@ -30,7 +30,7 @@ pub struct Operating<'a, L, C> {
     pub clock: &'a C,
     /// How the address is named by a client, such as `127.0.0.1:9901`.
     pub host: &'a str,
-    /// The page that draws what stands.
+    /// The page that draws the state.
     pub page: &'a str,
     /// How long a client may take to send its request, and again to take its answer, in
     /// nanoseconds.

@@ -34,7 +34,7 @@ pub(crate) fn tell<'a, D: Desk>(
     }
 }
 
-/// What stands at a desk, as a scraper reads it. It fails only out of memory.
+/// The state at a desk, as a scraper reads it. It fails only out of memory.
 fn tell_metrics<'a, D: Desk>(alloc: Global, desk: &D) -> Result<Told<'a>, AllocError>
     ensures { IfOk result
         (Tells D.rows D.shows D.does [] (Ok Call.Metrics) desk.now desk.now) }

@@ -15,6 +15,6 @@ pub trait Watch {
     /// A connection couldn't be accepted, for this cause.
     fn unaccepted(&self, error: &Error);
 
-    /// What stands in the gate, over these classes.
+    /// The state of the gate, over these classes.
     fn report(&self, table: &PartitionTable, report: &Report);
 }

@@ -46,7 +46,7 @@ pub enum Request<C> {
     Reset {
         now: u64,
     },
-    /// A look at what stands.
+    /// A look at the state.
     Look {
         class: C,
     },

@@ -95,7 +95,7 @@ where
         writer.old writer.new }
     ensures quiet { result ≡ 0 → errors.new ≡ errors.old }
 
-    // The first fault is told.
+    // The first fault is reported.
     ensures refused { result ≡ 1 → (fault : ServiceFault)
         × IsTold E.contents errors.old errors.new (fault_line (service_fault_text fault))
         × IsWhyOfService (F.unopened service.now.path.now)

@@ -11,7 +11,7 @@ use limiter_core::Counters;
 use partitions::{Part, PartitionTable};
 use std::alloc::{AllocError, Global};
 
-/// The text of what stands in a gate over these classes, of how many of its workers serve a client,
+/// The text of the state of a gate over these classes, of how many of its workers serve a client,
 /// and of how many exchanges ended in each of the gateway's own answers. It fails only out of
 /// memory.
 pub fn report_text(
@@ -33,7 +33,7 @@ pub fn report_text(
     Ok(text)
 }
 
-/// Adds the limit, and how many are in flight, wait and lie granted.
+/// Adds the limit, and how many are in flight, wait and be granted.
 fn push_stands(text: &mut String, report: &Report) -> Result<(), AllocError>
     ensures { OnOk result (string_bytes text.new
         ≡ string_bytes text.old ++ stands_text report.now) }

@@ -49,7 +49,7 @@ impl Notes {
 }
 
 /// Logs what workers and their backends meet: a trouble at most once in ten seconds, with how often
-/// it came since it was last told, and what stands as often as it is asked to.
+/// it came since it was last told, and the state as often as it is asked to.
 #[derive(Drop)]
 pub struct Watcher<'a, R: SystemClock> {
     rt: &'a R,

@@ -70,7 +70,7 @@ impl Present {
     }
 }
 
-/// Reports what stands in the gate every so many nanoseconds, until all workers have ended.
+/// Reports the state of the gate every so many nanoseconds, until all workers have ended.
 pub(crate) fn report_all<R, G, C, W>(
     rt: &R,
     present: &Present,

@@ -1,4 +1,4 @@
--- The report of what stands in a gate.
+-- The report of the state of a gate.
 use Rattle.std.proofs.Common.{◌≡◌, ◌∙◌, refl, ap, ap₂, subst, ℕ, List}
 use Rattle.limit_laws.specs.Algorithm.{Algorithm}
 use Rattle.partitions.specs.Table.{Row}
@@ -29,7 +29,7 @@ same_gate : {S : Type 0} (rules : Algorithm S) {rows rows' : List Row} {room roo
     → gate_with rules rows room promote ≡ gate_with rules rows' room' promote'
 same_gate rules a b c = rw (a, b, c) refl
 
--- what stands in the limiter of a sound journal that was made so, and what it has counted
+-- the state of the limiter of a sound journal that was made so, and what it has counted
 pub reported : {S : Type 0} (rules : Algorithm S) (m : Making) (legal : List Entry → Type 0)
     (log : List Entry) (b : Book S) (c : Limiter S) (report : Report)
     → IsBehind rules m.limit legal log b

@@ -17,7 +17,7 @@ use Rattle.shared_gate.specs.Calls.{Pass}
 use Rattle.shared_gate.specs.Closing.{calls_by, limiter_of}
 
 -- A REPORT AFTER A LOG of a gate that was made so: the log is legal, since nothing was asked; the
--- report tells what stands then, which is sound, and the counters of that log
+-- report tells the state then, which is sound, and the counters of that log
 pub record IsReportAfter {S : Type 0} (rules : Algorithm S) (m : Making) (log : List Entry)
     (report : Report) : Type 0 where
   pub origin : Standing S

@@ -101,7 +101,7 @@ impl<L: Limit, M: GateNaming> SharedGate<L, M> {
         sealed.report().counters
     }
 
-    /// What stands at one moment, and the counters so far. It makes no step of the history, and
+    /// The state at one moment, and the counters so far. It makes no step of the history, and
     /// takes no memory.
     pub fn report(&self, rt: &impl Wait) -> Report
         ensures { IsReportOf L.rules M.making result }
@@ -132,7 +132,7 @@ impl<L: Limit, M: GateNaming> SharedGate<L, M> {
     }
 
     /// Asks for a permit, and where there is no room waits for one until the clock reaches the
-    /// deadline: one step, and where that waits one giving up, once its permit lies granted or the
+    /// deadline: one step, and where that waits one giving up, once its permit is granted or the
     /// deadline has come. It looks at the clock at least every 100 ms.
     pub fn acquire_wait<R: Wait + SystemClock, C: Clock>(
         &self,
@@ -163,7 +163,7 @@ impl<L: Limit, M: GateNaming> SharedGate<L, M> {
         }
     }
 
-    /// Waits until a permit of this number lies granted, or the clock has reached the deadline.
+    /// Waits until a permit of this number is granted, or the clock has reached the deadline.
     fn wait_for<R: Wait + SystemClock, C: Clock>(
         &self,
         rt: &R,
@@ -260,7 +260,7 @@ impl<L: Limit, M: GateNaming> SharedGate<L, M> {
         receipt
     }
 
-    /// Shows what stands.
+    /// Shows the state.
     pub fn look(
         &self,
         rt: &impl Wait,

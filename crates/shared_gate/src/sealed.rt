@@ -73,7 +73,7 @@ impl<L: Limit, M: GateNaming> Sealed<L, M> {
         let _calls = count_calls(&mut self.book, word, &mut self.keeper, passes);
     }
 
-    /// What stands, and what was counted by then.
+    /// The state, and what was counted by then.
     pub(crate) fn report(&self) -> Report
         ensures { IsReportAfter L.rules M.making self.now result }
     {

@@ -42,7 +42,7 @@ pub fn run_text<R: Read, W: Write, E: Write>(
     ensures unfailing { result ≡ 0 → failures_of writer.new ≡ failures_of writer.old }
     ensures quiet { result ≡ 0 → errors.new ≡ errors.old }
 
-    // The fault is told.
+    // The fault is reported.
     ensures stopped { result ≡ 1 → (fault : DriverFault)
         × IsStop R.remaining W.contents task
         reader.old reader.new writer.old writer.new fault

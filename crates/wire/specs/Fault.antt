@@ -28,7 +28,7 @@ of_read read.Read = fault.Read
 of_read read.TurnLimit = fault.TurnLimit
 of_read (read.Bytes f) = of_bytes f
 
--- the fault of the bytes that is told, if it is one
+-- the fault of the bytes that is reported, if it is one
 abbrev pub bytes_fault : WireFault → Option Fault
 bytes_fault fault.Early = Some own.Early
 bytes_fault fault.Malformed = Some own.Malformed

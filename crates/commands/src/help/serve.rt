@@ -19,7 +19,7 @@ whether a file is right before anything is served. A connection carries one requ
   --report-seconds N     seconds between two lines of the report in the log, 1 to 3600; without it
                          there are none
   --admin ADDRESS        a loopback address of IPv4 with a port, such as 127.0.0.1:9901, at which
-                         the operator of this machine sees what stands and changes it; without it
+                         the operator of this machine sees the state and changes it; without it
                          there is none
 
 For example, with this file as gate.toml
@@ -70,7 +70,7 @@ gateway itself, so that each request would come back to it.
 
 While it serves the log says, at most once in ten seconds each and with the count since the last
 time, that the backend can't be reached, that it broke an answer, or that no descriptor was free.
-With --report-seconds N one line every N seconds says what stands: the limit, the requests in flight
+With --report-seconds N one line every N seconds tells the state: the limit, the requests in flight
 and those that wait, each class as in flight/share, the counters since the start, and how many
 exchanges ended in each status of the gateway's own:
 `report limit=L inflight=I waiters=V granted=G class.NAME=C/S class.unknown=C admitted=A ..
@@ -80,7 +80,7 @@ With --admin each connection to ADDRESS carries one call. Its Host has to be the
 a POST needs the line `X-Admission: yes`, so that no page in a browser can send one:
 
   GET /         a page that draws the last minutes in a browser
-  GET /metrics  what stands, in the text format of Prometheus
+  GET /metrics  the state, in the text format of Prometheus
   GET /health   200 while clients are accepted, 503 once the gateway drains
   POST /limit   the limit is set to the number in the body, where its kind is settable
   POST /reset   the algorithm of the limit begins anew

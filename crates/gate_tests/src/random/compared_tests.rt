@@ -98,7 +98,7 @@ fn has_seen_all(counters: Counters) -> bool {
 }
 
 /// What the limiter shows is what the plain one has; of the numbers, those of who waits, of what
-/// lies granted, and the last few.
+/// is granted, and the last few.
 fn shows_the_same(core: &Core<Aimd>, plain: &PlainLimiter) -> bool {
     shows_numbers(core, plain)
         && shows_parts(core, plain)
@@ -145,7 +145,7 @@ fn shows_lists(core: &Core<Aimd>, plain: &PlainLimiter) -> bool {
         && core.promotions() == plain.promotions.as_slice()
 }
 
-/// Each number from this one on, and two that aren't given out yet, waits and lies granted as in
+/// Each number from this one on, and two that aren't given out yet, waits and is granted as in
 /// the plain one.
 fn shows_numbers_from(core: &Core<Aimd>, plain: &PlainLimiter, first: u64) -> bool {
     for number in first..plain.next_number().saturating_add(2) {

@@ -1,4 +1,4 @@
-// Events that are drawn at random of what stands in a limiter.
+// Events that are drawn at random of the state of a limiter.
 use super::dice::Dice;
 use super::plain_limiter::PlainLimiter;
 use limiter_core::Event;
@@ -51,7 +51,7 @@ fn ending(dice: &mut Dice, plain: &PlainLimiter, now: u64) -> Event {
     }
 }
 
-/// The number of somebody who waits, of a permit that lies granted, or any one.
+/// The number of somebody who waits, of a permit that is granted, or any one.
 fn number(dice: &mut Dice, plain: &PlainLimiter) -> u64 {
     let any = dice.roll(plain.next_number().saturating_add(2));
     let waits = place_in(dice, plain.waiting.len());

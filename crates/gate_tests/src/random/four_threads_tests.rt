@@ -237,7 +237,7 @@ fn replay<L: Limit, R: Abort>(rt: &R, core: &mut Core<L>, told: Told) {
     assert!(rt; reply == told.reply);
 }
 
-/// Asks an event that may come: an ending where more of its place are in flight than lie granted.
+/// Asks an event that may come: an ending where more of its place are in flight than are granted.
 pub(super) fn reply_of<L: Limit, R: Abort>(rt: &R, core: &mut Core<L>, event: Event) -> Reply {
     assert!(rt; core.next_number() < 1_000_000);
     let Event::End { permit, .. } = event else {
@@ -248,7 +248,7 @@ pub(super) fn reply_of<L: Limit, R: Abort>(rt: &R, core: &mut Core<L>, event: Ev
     core.apply(event)
 }
 
-/// How many permits lie granted at a place.
+/// How many permits are granted at a place.
 fn lying_at<L: Limit>(core: &Core<L>, place: usize) -> usize
     ensures { result ≡ granted_at (gate_of L.rules core.now) (stands core.now) place }
 {

@@ -22,7 +22,7 @@ pub(crate) struct Waiter {
     pub(crate) part: Part,
 }
 
-/// All that came, and what stands after it.
+/// All that came, and the state after it.
 #[derive(Drop)]
 pub(crate) struct PlainLimiter {
     promotes_all: bool,
@@ -31,7 +31,7 @@ pub(crate) struct PlainLimiter {
     pub(crate) entries: Vec<Entry>,
     /// The permits that somebody has.
     pub(crate) open: Vec<PermitFacts>,
-    /// The permits that lie granted, in rising order of number.
+    /// The permits that are granted, in rising order of number.
     pub(crate) granted: Vec<PermitFacts>,
     /// Who waits, the newest last.
     pub(crate) waiting: Vec<Waiter>,
@@ -70,7 +70,7 @@ impl PlainLimiter {
         few(count_of(&self.open, part)).saturating_add(few(count_of(&self.granted, part)))
     }
 
-    /// The permit of a number that lies granted.
+    /// The permit of a number that is granted.
     pub(crate) fn granted_permit(&self, number: u64) -> Option<PermitFacts> {
         find(&self.granted, number)
     }
@@ -93,7 +93,7 @@ impl PlainLimiter {
         self.total() < self.limit || self.inflight(part) < self.share(part)
     }
 
-    /// What is answered, and what stands then.
+    /// What is answered, and the state then.
     pub(crate) fn answer<R: Abort>(&mut self, rt: &R, event: Event) -> Reply {
         self.promotions.clear();
         let reply = self.reply_to(rt, event);
@@ -221,7 +221,7 @@ impl PlainLimiter {
         found
     }
 
-    /// Hands out the permit of a number that lies granted; who gives up waits no longer.
+    /// Hands out the permit of a number that is granted; who gives up waits no longer.
     fn hand_out<R: Abort>(&mut self, rt: &R, number: u64, gives_up: bool) -> Reply {
         if let Some(permit) = self.granted_permit(number) {
             self.granted.retain(|granted| granted.number != number);
