@@ -11,7 +11,7 @@ use Rattle.serve_reports.specs.declared.tally.AnswerTally.{AnswerTally}
 use Rattle.serve_reports.specs.declared.workers.Workers.{Workers}
 use Rattle.metrics.specs.Families.{counters_text, gauge_text, head_text, sample_text}
 
--- the limit, and how many are in flight, wait and be granted
+-- the limit, and how many are in flight, wait and are granted
 abbrev pub standing_text : Report → List ℕ
 standing_text r =
     gauge_text (codes "admission_limit") (codes "The limit, in permits.") r.limit

@@ -38,7 +38,7 @@ pub fn metrics_text(
     Ok(text)
 }
 
-/// Adds the limit, and how many are in flight, wait and be granted.
+/// Adds the limit, and how many are in flight, wait and are granted.
 fn push_standing(text: &mut String, report: &Report) -> Result<(), AllocError>
     ensures { OnOk result (string_bytes text.new
         ≡ string_bytes text.old ++ standing_text report.now) }

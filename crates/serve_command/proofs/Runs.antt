@@ -12,9 +12,9 @@ use Rattle.gate_config.specs.declared.settings.Settings.{Settings}
 use Rattle.tcp_backend.specs.declared.connecting.TcpBackend.{TcpBackend}
 use Rattle.tcp_backend.specs.Connecting.{count_of}
 use Rattle.serving.specs.declared.doors.Door.{Door}
-use Rattle.serving.specs.declared.hands.Ended.{Ended}
-use Rattle.serving.specs.declared.hands.Left.{Left}
-use Rattle.serving.specs.declared.hands.Left.TheVariants as left
+use Rattle.serving.specs.declared.jobs.Ended.{Ended}
+use Rattle.serving.specs.declared.jobs.Left.{Left}
+use Rattle.serving.specs.declared.jobs.Left.TheVariants as left
 use Rattle.serving.specs.declared.working.WorkerSettings.{WorkerSettings}
 use Rattle.serving.specs.Doors.{failed_of, given_of, is_closed}
 use Rattle.serving.specs.Turns.{IsRun}

@@ -8,7 +8,7 @@ use Rattle.gate_port.specs.declared.report.Report.{Report}
 use Rattle.serve_reports.specs.declared.tally.AnswerTally.{AnswerTally}
 use Rattle.serve_reports.specs.declared.workers.Workers.{Workers}
 
--- the limit, and how many are in flight, wait and be granted
+-- the limit, and how many are in flight, wait and are granted
 abbrev pub stands_text : Report → List ℕ
 stands_text r = concat (
     codes "limit=" ∷ decimal r.limit ∷ codes " inflight=" ∷ decimal r.inflight

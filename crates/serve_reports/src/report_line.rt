@@ -33,7 +33,7 @@ pub fn report_text(
     Ok(text)
 }
 
-/// Adds the limit, and how many are in flight, wait and be granted.
+/// Adds the limit, and how many are in flight, wait and are granted.
 fn push_stands(text: &mut String, report: &Report) -> Result<(), AllocError>
     ensures { OnOk result (string_bytes text.new
         ≡ string_bytes text.old ++ stands_text report.now) }

@@ -10,13 +10,13 @@ use Rattle.backend.specs.Forwards.{Forwarded}
 use Rattle.tcp_backend.specs.declared.connecting.TcpBackend.{TcpBackend}
 use Rattle.tcp_backend.specs.Connecting.{count_of}
 use Rattle.serving.specs.declared.doors.Door.{Door}
-use Rattle.serving.specs.declared.hands.Context.{Context}
-use Rattle.serving.specs.declared.hands.Ended.{Ended}
-use Rattle.serving.specs.declared.hands.Hand.{Hand}
-use Rattle.serving.specs.declared.hands.Hand.TheVariants as hand
-use Rattle.serving.specs.declared.hands.Left.{Left}
-use Rattle.serving.specs.declared.hands.Left.TheVariants as left
-use Rattle.serving.specs.declared.hands.Worker.{Worker}
+use Rattle.serving.specs.declared.jobs.Context.{Context}
+use Rattle.serving.specs.declared.jobs.Ended.{Ended}
+use Rattle.serving.specs.declared.jobs.Job.{Job}
+use Rattle.serving.specs.declared.jobs.Job.TheVariants as job
+use Rattle.serving.specs.declared.jobs.Left.{Left}
+use Rattle.serving.specs.declared.jobs.Left.TheVariants as left
+use Rattle.serving.specs.declared.jobs.Worker.{Worker}
 use Rattle.serving.specs.declared.working.WorkerSettings.{WorkerSettings}
 use Rattle.serving.specs.Doors.{failed_of, given_of, is_closed}
 use Rattle.serving.specs.Turns.{IsRun, Place}
@@ -32,34 +32,34 @@ one_more R [] (z ∷ zs) x y all own = absurd all
 one_more R (w ∷ ws) [] x y all own = absurd all
 one_more R (w ∷ ws) (z ∷ zs) x y all own = (all.0, one_more R ws zs x y all.1 own)
 
--- one more worker among some hands
-pub one_worker : {A P B T X : Type 0} (hands : List (Hand A P B T X)) (h : Hand A P B T X)
+-- one more worker among some jobs
+pub one_worker : {A P B T X : Type 0} (jobs : List (Job A P B T X)) (h : Job A P B T X)
     (w : Worker A P B) → workers_in (h ∷ []) ≡ w ∷ []
-    → workers_in (hands ++ h ∷ []) ≡ workers_in hands ++ w ∷ []
+    → workers_in (jobs ++ h ∷ []) ≡ workers_in jobs ++ w ∷ []
 one_worker [] h w same = same
-one_worker (hand.Reporter context every ∷ hands) h w same = one_worker hands h w same
-one_worker (hand.Beside task ∷ hands) h w same = one_worker hands h w same
-one_worker {A} {P} {B} (hand.Worker context worker ∷ hands) h w same =
-    ap (λ (ws : List (Worker A P B)). worker ∷ ws) (one_worker hands h w same)
+one_worker (job.Reporter context every ∷ jobs) h w same = one_worker jobs h w same
+one_worker (job.Beside task ∷ jobs) h w same = one_worker jobs h w same
+one_worker {A} {P} {B} (job.Worker context worker ∷ jobs) h w same =
+    ap (λ (ws : List (Worker A P B)). worker ∷ ws) (one_worker jobs h w same)
 
 -- the tasks beside them are the same
-pub no_task : {A P B T X : Type 0} (hands : List (Hand A P B T X)) (h : Hand A P B T X)
-    → tasks_in (h ∷ []) ≡ [] → tasks_in (hands ++ h ∷ []) ≡ tasks_in hands
+pub no_task : {A P B T X : Type 0} (jobs : List (Job A P B T X)) (h : Job A P B T X)
+    → tasks_in (h ∷ []) ≡ [] → tasks_in (jobs ++ h ∷ []) ≡ tasks_in jobs
 no_task [] h none = none
-no_task (hand.Reporter context every ∷ hands) h none = no_task hands h none
-no_task {A} {P} {B} {T} (hand.Beside task ∷ hands) h none =
-    ap (λ (ts : List T). task ∷ ts) (no_task hands h none)
-no_task (hand.Worker context worker ∷ hands) h none = no_task hands h none
+no_task (job.Reporter context every ∷ jobs) h none = no_task jobs h none
+no_task {A} {P} {B} {T} (job.Beside task ∷ jobs) h none =
+    ap (λ (ts : List T). task ∷ ts) (no_task jobs h none)
+no_task (job.Worker context worker ∷ jobs) h none = no_task jobs h none
 
-pub one_within : {A P B T X : Type 0} (x : X) (hands : List (Hand A P B T X))
-    (h : Hand A P B T X)
-    → AreWithin x hands → AreWithin x (h ∷ []) → AreWithin x (hands ++ h ∷ [])
+pub one_within : {A P B T X : Type 0} (x : X) (jobs : List (Job A P B T X))
+    (h : Job A P B T X)
+    → AreWithin x jobs → AreWithin x (h ∷ []) → AreWithin x (jobs ++ h ∷ [])
 one_within x [] h all own = own
-one_within x (hand.Reporter context every ∷ hands) h all own =
-    (all.0, one_within x hands h all.1 own)
-one_within x (hand.Beside task ∷ hands) h all own = one_within x hands h all own
-one_within x (hand.Worker context worker ∷ hands) h all own =
-    (all.0, one_within x hands h all.1 own)
+one_within x (job.Reporter context every ∷ jobs) h all own =
+    (all.0, one_within x jobs h all.1 own)
+one_within x (job.Beside task ∷ jobs) h all own = one_within x jobs h all own
+one_within x (job.Worker context worker ∷ jobs) h all own =
+    (all.0, one_within x jobs h all.1 own)
 
 pub on_ok : {T E : Type 0} (r : Result T E) (P Q : T → Type 0) → IfOk r P
     → ((v : T) → P v → Q v) → IfOk r Q
@@ -80,27 +80,27 @@ module _ {A P B T S R G L C W : Type 0} (given failed : A → ℕ) (closed : A �
     (visits : A → Option Visits) (shown : P → Option Shown) (known : P → Option (List Entry))
     (forwarded : B → ℕ) (log : B → Option (List Forwarded))
     (gives : S → Settings → Type 0) (lacks : S → Type 0) (made : T → Type 0) where
-  abbrev Made : Hand A P B T (Context R G L C S W) → Left A P B → Type 0
+  abbrev Made : Job A P B T (Context R G L C S W) → Left A P B → Type 0
   Made = Makes given failed closed visits shown known forwarded log gives lacks made
 
-  made_in : (hands : List (Hand A P B T (Context R G L C S W))) (lefts : List (Left A P B))
-      → AllZip Made hands lefts → Each made (tasks_in hands)
+  made_in : (jobs : List (Job A P B T (Context R G L C S W))) (lefts : List (Left A P B))
+      → AllZip Made jobs lefts → Each made (tasks_in jobs)
   made_in [] [] all = tt
   made_in [] (l ∷ ls) all = absurd all
   made_in (h ∷ hs) [] all = absurd all
-  made_in (hand.Reporter context every ∷ hs) (l ∷ ls) all = made_in hs ls all.1
-  made_in (hand.Beside task ∷ hs) (left.Unbegun ∷ ls) all = absurd all.0
-  made_in (hand.Beside task ∷ hs) (left.Reported ∷ ls) all = absurd all.0
-  made_in (hand.Beside task ∷ hs) (left.Beside ∷ ls) all = (all.0, made_in hs ls all.1)
-  made_in (hand.Beside task ∷ hs) (left.Worked ended ∷ ls) all = absurd all.0
-  made_in (hand.Worker context worker ∷ hs) (l ∷ ls) all = made_in hs ls all.1
+  made_in (job.Reporter context every ∷ hs) (l ∷ ls) all = made_in hs ls all.1
+  made_in (job.Beside task ∷ hs) (left.Unbegun ∷ ls) all = absurd all.0
+  made_in (job.Beside task ∷ hs) (left.Reported ∷ ls) all = absurd all.0
+  made_in (job.Beside task ∷ hs) (left.Beside ∷ ls) all = (all.0, made_in hs ls all.1)
+  made_in (job.Beside task ∷ hs) (left.Worked ended ∷ ls) all = absurd all.0
+  made_in (job.Worker context worker ∷ hs) (l ∷ ls) all = made_in hs ls all.1
 
   -- what the task beside them made, where there is one
-  pub all_made : (task : Option T) (hands : List (Hand A P B T (Context R G L C S W)))
-      (lefts : List (Left A P B)) → tasks_in hands ≡ option_to_list task → AllZip Made hands lefts
+  pub all_made : (task : Option T) (jobs : List (Job A P B T (Context R G L C S W)))
+      (lefts : List (Left A P B)) → tasks_in jobs ≡ option_to_list task → AllZip Made jobs lefts
       → IfSome task made
-  all_made task hands lefts same all =
-      the_one made task (subst (λ (ts : List T). Each made ts) same (made_in hands lefts all))
+  all_made task jobs lefts same all =
+      the_one made task (subst (λ (ts : List T). Each made ts) same (made_in jobs lefts all))
 
 module _ {A P B T S R G L C W : Type 0} (given failed : A → ℕ) (closed : A → Bool)
     (visits : A → Option Visits) (shown : P → Option Shown) (known : P → Option (List Entry))
@@ -111,49 +111,49 @@ module _ {A P B T S R G L C W : Type 0} (given failed : A → ℕ) (closed : A �
   Worked = HasWorked given failed closed visits shown known forwarded log gives lacks
       x.common.now.source.now x.common.now.per_worker
 
-  abbrev All : List (Hand A P B T (Context R G L C S W)) → List (Left A P B) → Type 0
+  abbrev All : List (Job A P B T (Context R G L C S W)) → List (Left A P B) → Type 0
   All = AllZip (Made given failed closed visits shown known forwarded log gives lacks made)
 
-  worked_in : (hands : List (Hand A P B T (Context R G L C S W))) (lefts : List (Left A P B))
-      → All hands lefts → AreWithin x hands → list_all has_begun lefts ≡ true
-      → AllZip Worked (workers_in hands) (ended_in lefts)
+  worked_in : (jobs : List (Job A P B T (Context R G L C S W))) (lefts : List (Left A P B))
+      → All jobs lefts → AreWithin x jobs → list_all has_begun lefts ≡ true
+      → AllZip Worked (workers_in jobs) (ended_in lefts)
   worked_in [] [] all within begun = tt
   worked_in [] (l ∷ ls) all within begun = absurd all
   worked_in (h ∷ hs) [] all within begun = absurd all
-  worked_in (hand.Reporter context every ∷ hs) (left.Unbegun ∷ ls) all within begun =
+  worked_in (job.Reporter context every ∷ hs) (left.Unbegun ∷ ls) all within begun =
       absurd (true≢false (sym begun))
-  worked_in (hand.Reporter context every ∷ hs) (left.Reported ∷ ls) all within begun =
+  worked_in (job.Reporter context every ∷ hs) (left.Reported ∷ ls) all within begun =
       worked_in hs ls all.1 within.1 begun
-  worked_in (hand.Reporter context every ∷ hs) (left.Worked ended ∷ ls) all within begun =
+  worked_in (job.Reporter context every ∷ hs) (left.Worked ended ∷ ls) all within begun =
       absurd all.0
-  worked_in (hand.Reporter context every ∷ hs) (left.Beside ∷ ls) all within begun =
+  worked_in (job.Reporter context every ∷ hs) (left.Beside ∷ ls) all within begun =
       absurd all.0
-  worked_in (hand.Beside task ∷ hs) (left.Unbegun ∷ ls) all within begun = absurd all.0
-  worked_in (hand.Beside task ∷ hs) (left.Reported ∷ ls) all within begun = absurd all.0
-  worked_in (hand.Beside task ∷ hs) (left.Beside ∷ ls) all within begun =
+  worked_in (job.Beside task ∷ hs) (left.Unbegun ∷ ls) all within begun = absurd all.0
+  worked_in (job.Beside task ∷ hs) (left.Reported ∷ ls) all within begun = absurd all.0
+  worked_in (job.Beside task ∷ hs) (left.Beside ∷ ls) all within begun =
       worked_in hs ls all.1 within begun
-  worked_in (hand.Beside task ∷ hs) (left.Worked ended ∷ ls) all within begun = absurd all.0
-  worked_in (hand.Worker context worker ∷ hs) (left.Unbegun ∷ ls) all within begun =
+  worked_in (job.Beside task ∷ hs) (left.Worked ended ∷ ls) all within begun = absurd all.0
+  worked_in (job.Worker context worker ∷ hs) (left.Unbegun ∷ ls) all within begun =
       absurd (true≢false (sym begun))
-  worked_in (hand.Worker context worker ∷ hs) (left.Reported ∷ ls) all within begun =
+  worked_in (job.Worker context worker ∷ hs) (left.Reported ∷ ls) all within begun =
       absurd all.0
-  worked_in (hand.Worker context worker ∷ hs) (left.Beside ∷ ls) all within begun =
+  worked_in (job.Worker context worker ∷ hs) (left.Beside ∷ ls) all within begun =
       absurd all.0
-  worked_in (hand.Worker context worker ∷ hs) (left.Worked ended ∷ ls) all within begun = (
+  worked_in (job.Worker context worker ∷ hs) (left.Worked ended ∷ ls) all within begun = (
     subst (λ (c : Context R G L C S W). HasWorked given failed closed visits shown known
         forwarded log gives lacks c.common.now.source.now c.common.now.per_worker worker ended)
         within.0 all.0,
     worked_in hs ls all.1 within.1 begun,
   )
 
-  -- what the workers leave, where all hands began in the same context
+  -- what the workers leave, where all jobs began in the same context
   pub all_worked : (workers : List (Worker A P B))
-      (hands : List (Hand A P B T (Context R G L C S W))) (lefts : List (Left A P B))
-      → workers_in hands ≡ workers → All hands lefts → AreWithin x hands
+      (jobs : List (Job A P B T (Context R G L C S W))) (lefts : List (Left A P B))
+      → workers_in jobs ≡ workers → All jobs lefts → AreWithin x jobs
       → list_all has_begun lefts ≡ true → AllZip Worked workers (ended_in lefts)
-  all_worked workers hands lefts same all within begun =
+  all_worked workers jobs lefts same all within begun =
       subst (λ (ws : List (Worker A P B)). AllZip Worked ws (ended_in lefts)) same
-      (worked_in hands lefts all within begun)
+      (worked_in jobs lefts all within begun)
 
 -- what stands at a worker's end, or at its start
 abbrev from : {P : Type 0} → (P → Option Shown) → (P → Option (List Entry)) → ℕ → ℕ → Bool → P → ℕ

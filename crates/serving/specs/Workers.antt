@@ -8,38 +8,38 @@ use Rattle.backend.specs.Forwards.{Forwarded}
 use Rattle.tcp_backend.specs.declared.connecting.TcpBackend.{TcpBackend}
 use Rattle.tcp_backend.specs.Connecting.{count_of}
 use Rattle.serving.specs.declared.doors.Door.{Door}
-use Rattle.serving.specs.declared.hands.Context.{Context}
-use Rattle.serving.specs.declared.hands.Ended.{Ended}
-use Rattle.serving.specs.declared.hands.Hand.{Hand}
-use Rattle.serving.specs.declared.hands.Hand.TheVariants as hand
-use Rattle.serving.specs.declared.hands.Left.{Left}
-use Rattle.serving.specs.declared.hands.Left.TheVariants as left
-use Rattle.serving.specs.declared.hands.Worker.{Worker}
+use Rattle.serving.specs.declared.jobs.Context.{Context}
+use Rattle.serving.specs.declared.jobs.Ended.{Ended}
+use Rattle.serving.specs.declared.jobs.Job.{Job}
+use Rattle.serving.specs.declared.jobs.Job.TheVariants as job
+use Rattle.serving.specs.declared.jobs.Left.{Left}
+use Rattle.serving.specs.declared.jobs.Left.TheVariants as left
+use Rattle.serving.specs.declared.jobs.Worker.{Worker}
 use Rattle.serving.specs.declared.working.WorkerSettings.{WorkerSettings}
 use Rattle.serving.specs.Doors.{failed_of, given_of, is_closed}
 use Rattle.serving.specs.Turns.{IsRun, Place}
 use Rattle.serving.specs.Visits.{Visits}
 
--- the workers among some hands, in order
-abbrev pub workers_in : {A P B T X : Type 0} → List (Hand A P B T X) → List (Worker A P B)
+-- the workers among some jobs, in order
+abbrev pub workers_in : {A P B T X : Type 0} → List (Job A P B T X) → List (Worker A P B)
 workers_in [] = []
-workers_in (hand.Reporter context every ∷ hands) = workers_in hands
-workers_in (hand.Beside task ∷ hands) = workers_in hands
-workers_in (hand.Worker context worker ∷ hands) = worker ∷ workers_in hands
+workers_in (job.Reporter context every ∷ jobs) = workers_in jobs
+workers_in (job.Beside task ∷ jobs) = workers_in jobs
+workers_in (job.Worker context worker ∷ jobs) = worker ∷ workers_in jobs
 
 -- the tasks beside them
-abbrev pub tasks_in : {A P B T X : Type 0} → List (Hand A P B T X) → List T
+abbrev pub tasks_in : {A P B T X : Type 0} → List (Job A P B T X) → List T
 tasks_in [] = []
-tasks_in (hand.Reporter context every ∷ hands) = tasks_in hands
-tasks_in (hand.Beside task ∷ hands) = task ∷ tasks_in hands
-tasks_in (hand.Worker context worker ∷ hands) = tasks_in hands
+tasks_in (job.Reporter context every ∷ jobs) = tasks_in jobs
+tasks_in (job.Beside task ∷ jobs) = task ∷ tasks_in jobs
+tasks_in (job.Worker context worker ∷ jobs) = tasks_in jobs
 
--- all hands that are in a context are in this one
-abbrev pub AreWithin : {A P B T X : Type 0} → X → List (Hand A P B T X) → Type 0
+-- all jobs that are in a context are in this one
+abbrev pub AreWithin : {A P B T X : Type 0} → X → List (Job A P B T X) → Type 0
 AreWithin x [] = ⊤
-AreWithin x (hand.Reporter context every ∷ hands) = (context.now ≡ x) × AreWithin x hands
-AreWithin x (hand.Beside task ∷ hands) = AreWithin x hands
-AreWithin x (hand.Worker context worker ∷ hands) = (context.now ≡ x) × AreWithin x hands
+AreWithin x (job.Reporter context every ∷ jobs) = (context.now ≡ x) × AreWithin x jobs
+AreWithin x (job.Beside task ∷ jobs) = AreWithin x jobs
+AreWithin x (job.Worker context worker ∷ jobs) = (context.now ≡ x) × AreWithin x jobs
 
 -- what the workers among them left
 abbrev pub ended_in : {A P B : Type 0} → List (Left A P B) → List (Ended A P B)
@@ -115,12 +115,12 @@ module _ {A P B S : Type 0} (given failed : A → ℕ) (closed : A → Bool)
   IsMade made left.Beside = made
   IsMade made (left.Worked ended) = ⊥
 
-  -- what each hand leaves
+  -- what each job leaves
   abbrev pub Makes : {T R G L C W : Type 0} → (T → Type 0)
-      → Hand A P B T (Context R G L C S W) → Left A P B → Type 0
-  Makes made (hand.Reporter context every) left = Reports context.now.common.now.source.now left
-  Makes made (hand.Beside task) left = IsMade (made task) left
-  Makes made (hand.Worker context worker) left =
+      → Job A P B T (Context R G L C S W) → Left A P B → Type 0
+  Makes made (job.Reporter context every) left = Reports context.now.common.now.source.now left
+  Makes made (job.Beside task) left = IsMade (made task) left
+  Makes made (job.Worker context worker) left =
       Leaves context.now.common.now.source.now context.now.common.now.per_worker worker left
 
 -- a new worker, with this port, a backend that was given nothing, and a door without a visit

@@ -14,13 +14,13 @@
 
 mod doors;
 mod fault;
-mod hands;
+mod jobs;
 mod reporting;
 mod workers;
 mod working;
 
 pub use doors::{Accepts, Door};
 pub use fault::ServeFault;
-pub use hands::{Ended, Left};
+pub use jobs::{Ended, Left};
 pub use workers::serve;
 pub use working::{Buffers, Source, Tally, WorkerSettings, work};

@@ -8,7 +8,7 @@ ghost use Rattle.serving.specs.Workers.{ended_in, has_begun, tasks_in, workers_i
 
 use crate::doors::{Accepts, Door};
 use crate::fault::ServeFault;
-use crate::hands::{Context, Hand, Left, Worker};
+use crate::jobs::{Context, Job, Left, Worker};
 use crate::reporting::Present;
 use crate::working::{Buffers, Source, WorkerSettings};
 use backend::Backend;
@@ -143,14 +143,14 @@ where
         gate,
         present: Present::new(workers.len()),
     };
-    let hands = make_hands(
+    let jobs = make_jobs(
         common.alloc,
         &context,
         common.report_every_ns,
         beside,
         workers,
     )?;
-    let lefts = run_tasks(spawner, common.alloc, hands)?;
+    let lefts = run_tasks(spawner, common.alloc, jobs)?;
     if !have_begun(&lefts) {
         return Err(ServeFault::Memory);
     }
@@ -159,23 +159,23 @@ where
 
 /// Whoever reports every so many nanoseconds, where that is wanted, a task beside the workers, and
 /// the workers.
-fn make_hands<'a, A: Drop, P: Drop, B: Drop, T: Drop, X>(
+fn make_jobs<'a, A: Drop, P: Drop, B: Drop, T: Drop, X>(
     alloc: Global,
     context: &'a X,
     every: Option<u64>,
     beside: Option<T>,
     workers: Vec<Worker<A, P, B>>,
-) -> Result<Vec<Hand<'a, A, P, B, T, X>>, AllocError>
-    ensures all { IfOk result (λ hands. workers_in hands.items ≡ workers.items) }
-    ensures beside { IfOk result (λ hands. tasks_in hands.items ≡ option_to_list beside) }
-    ensures within { IfOk result (λ hands. AreWithin context.now hands.items) }
+) -> Result<Vec<Job<'a, A, P, B, T, X>>, AllocError>
+    ensures all { IfOk result (λ jobs. workers_in jobs.items ≡ workers.items) }
+    ensures beside { IfOk result (λ jobs. tasks_in jobs.items ≡ option_to_list beside) }
+    ensures within { IfOk result (λ jobs. AreWithin context.now jobs.items) }
 {
-    let mut hands = make_others(alloc, context, every, beside)?;
-    hands.reserve(workers.len())?;
+    let mut jobs = make_others(alloc, context, every, beside)?;
+    jobs.reserve(workers.len())?;
     for worker in workers {
-        hands.push_reserved(Hand::Worker(context, worker));
+        jobs.push_reserved(Job::Worker(context, worker));
     }
-    Ok(hands)
+    Ok(jobs)
 }
 
 /// Who isn't a worker: whoever reports, where that is wanted, and a task beside the workers.
@@ -184,19 +184,19 @@ fn make_others<'a, A: Drop, P: Drop, B: Drop, T: Drop, X>(
     context: &'a X,
     every: Option<u64>,
     beside: Option<T>,
-) -> Result<Vec<Hand<'a, A, P, B, T, X>>, AllocError>
-    ensures none { IfOk result (λ hands. workers_in hands.items ≡ []) }
-    ensures beside { IfOk result (λ hands. tasks_in hands.items ≡ option_to_list beside) }
-    ensures within { IfOk result (λ hands. AreWithin context.now hands.items) }
+) -> Result<Vec<Job<'a, A, P, B, T, X>>, AllocError>
+    ensures none { IfOk result (λ jobs. workers_in jobs.items ≡ []) }
+    ensures beside { IfOk result (λ jobs. tasks_in jobs.items ≡ option_to_list beside) }
+    ensures within { IfOk result (λ jobs. AreWithin context.now jobs.items) }
 {
-    let mut hands = Vec::with_capacity(alloc, 2)?;
+    let mut jobs = Vec::with_capacity(alloc, 2)?;
     if let Some(every) = every {
-        hands.push_reserved(Hand::Reporter(context, every));
+        jobs.push_reserved(Job::Reporter(context, every));
     }
     if let Some(task) = beside {
-        hands.push_reserved(Hand::Beside(task));
+        jobs.push_reserved(Job::Beside(task));
     }
-    Ok(hands)
+    Ok(jobs)
 }
 
 /// Whether all who had a thread had the memory to begin.

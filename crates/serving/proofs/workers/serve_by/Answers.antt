@@ -7,13 +7,13 @@ returns-clause-worked g c =
     all_worked g.A.Accepts.given g.A.Accepts.failed g.A.Accepts.closed g.A.Accepts.visits
     g.P.GatePort.shown g.P.GatePort.known g.B.Backend.forwarded g.B.Backend.shown
     g.S.Source.gives g.S.Source.lacks (λ task. g.T.Task.makes task tt) _
-    c.args.workers.items c.in_ok-hands.hands.items c.in_ok-lefts.lefts.items
-    c.in_ok-hands.ensures.all c.in_ok-lefts.ensures.made c.in_ok-hands.ensures.within (search rules)
+    c.args.workers.items c.in_ok-jobs.jobs.items c.in_ok-lefts.lefts.items
+    c.in_ok-jobs.ensures.all c.in_ok-lefts.ensures.made c.in_ok-jobs.ensures.within (search rules)
 
 pub returns-clause-beside : goal.returns-clause-beside
 returns-clause-beside g c =
     all_made g.A.Accepts.given g.A.Accepts.failed g.A.Accepts.closed g.A.Accepts.visits
     g.P.GatePort.shown g.P.GatePort.known g.B.Backend.forwarded g.B.Backend.shown
     g.S.Source.gives g.S.Source.lacks (λ task. g.T.Task.makes task tt)
-    c.args.beside c.in_ok-hands.hands.items c.in_ok-lefts.lefts.items
-    c.in_ok-hands.ensures.beside c.in_ok-lefts.ensures.made
+    c.args.beside c.in_ok-jobs.jobs.items c.in_ok-lefts.lefts.items
+    c.in_ok-jobs.ensures.beside c.in_ok-lefts.ensures.made

@@ -2,13 +2,13 @@ use Rattle.std.proofs.Common.{◌≡◌, ◌≤◌, ◌+◌, length, option_to_l
 use Rattle.std.specs.Prelude.{vec_len}
 use Rattle.std.specs.Vec.Iter.{into_iter_items}
 use Rattle.serving.specs.Workers.{AreWithin, tasks_in, workers_in}
-use Rattle.serving.proofs.workers.make_hands.Given as goal
+use Rattle.serving.proofs.workers.make_jobs.Given as goal
 
 -- the workers so far, in this context, with the task beside them, and there is room for the others
 abbrev pub invariant-loop-worker : goal.invariant-loop-worker
 invariant-loop-worker g l = record {
-  all : workers_in l.hands.items ≡ l.yielded;
-  beside : tasks_in l.hands.items ≡ option_to_list l.fn.beside;
-  within : AreWithin l.context l.hands.items;
-  room : vec_len l.hands + length (into_iter_items l.worker-iterator) ≤ vec_capacity l.hands;
+  all : workers_in l.jobs.items ≡ l.yielded;
+  beside : tasks_in l.jobs.items ≡ option_to_list l.fn.beside;
+  within : AreWithin l.context l.jobs.items;
+  room : vec_len l.jobs + length (into_iter_items l.worker-iterator) ≤ vec_capacity l.jobs;
 }

@@ -45,16 +45,16 @@ pub(crate) struct Context<'a, R, G, L, C, S, W> {
     pub(crate) present: Present,
 }
 
-/// Whoever has a thread: who reports in a context every so many nanoseconds, a task beside the
-/// workers, or a worker in a context.
+/// What a thread does: reports in a context every so many nanoseconds, runs a task beside the
+/// workers, or is a worker in a context.
 #[derive(Drop)]
-pub(crate) enum Hand<'a, A, P, B, T, X> {
+pub(crate) enum Job<'a, A, P, B, T, X> {
     Reporter(&'a X, u64),
     Beside(T),
     Worker(&'a X, Worker<A, P, B>),
 }
 
-/// What is left by who had a thread.
+/// What is left of a job.
 #[derive(Drop)]
 pub enum Left<A, P, B> {
     /// It had no memory to begin.
@@ -67,7 +67,7 @@ pub enum Left<A, P, B> {
     Worked(Ended<A, P, B>),
 }
 
-impl<'a, R, G, A, P, B, T, L, C, S, W> Task for Hand<'a, A, P, B, T, Context<'a, R, G, L, C, S, W>>
+impl<'a, R, G, A, P, B, T, L, C, S, W> Task for Job<'a, A, P, B, T, Context<'a, R, G, L, C, S, W>>
 where
     R: Wait + SystemClock + Sync,
     G: GateView + Sync,
@@ -89,12 +89,12 @@ where
 
     fn run(self) -> Left<A, P, B> {
         match self {
-            Hand::Reporter(context, every) => run_reports(context, every),
-            Hand::Beside(task) => {
+            Job::Reporter(context, every) => run_reports(context, every),
+            Job::Beside(task) => {
                 task.run();
                 Left::Beside
             }
-            Hand::Worker(context, worker) => {
+            Job::Worker(context, worker) => {
                 let left = run_one(context, worker);
                 leave(context);
                 left
