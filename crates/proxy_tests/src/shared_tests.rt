@@ -47,7 +47,7 @@ fn over_one_permit<N: GateNaming, R: Wait + SystemClock + Abort>(
     requires range { AreInRange settings }
     requires making { N.making ≡ made_with fixed_rules (begun settings) }
 {
-    let book = Book::begin(alloc, settings, blanks).expect(rt, "memory for a book");
+    let book = Book::<Fixed, N>::begin(alloc, settings, blanks).expect(rt, "memory for a book");
     let made = SharedGate::open(alloc, word, book, 1);
     let (gate, mut passes) = made.expect(rt, "memory for a gate");
     refuses(rt, &gate, passes.pop().expect(rt, "a pass"));
