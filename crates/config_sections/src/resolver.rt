@@ -173,7 +173,7 @@ fn routes_at<'a>(classes: &[ClassKeys], table: &'a Table) -> Result<&'a Table, C
         (get_member (name_of Key.ResolverRoutes) (table_view table.now)) }
 {
     let routes = read_table(table, Key::ResolverRoutes)?;
-    if !have_strings(routes) {
+    if !are_strings(routes) {
         return Err(ConfigFault::Kind(KeyAtFault::plain(Key::ResolverRoutes)));
     }
     if count_of(routes) <= MOST_ROUTES && are_classes(classes, routes) {
@@ -191,7 +191,7 @@ fn count_of(routes: &Table) -> usize
 }
 
 /// Whether each pattern has a text.
-fn have_strings(routes: &Table) -> bool
+fn are_strings(routes: &Table) -> bool
     ensures { result
         ≡ list_all (λ pair. is_some (as_str pair.1)) (pairs_of (table_view routes.now)) }
 {

@@ -1,7 +1,7 @@
 use Rattle.std.proofs.Common.{sym, ◌∙◌, is_some}
 use Rattle.toml.specs.Data.{as_str}
 use Rattle.config_sections.proofs.Lists.{all_values}
-use Rattle.config_sections.proofs.resolver.have_strings.Goals as goal
+use Rattle.config_sections.proofs.resolver.are_strings.Goals as goal
 
 pub returns : goal.returns
 returns c =
