@@ -19,7 +19,7 @@ use timed_io::{
 const PIECE: usize = 4_096;
 
 /// How long to rest where no connection could be had, in milliseconds.
-const WITHOUT_A_CLIENT: u64 = 10;
+const WITHOUT_A_CLIENT_MS: u64 = 10;
 
 /// What serves operators, and where they come from.
 #[derive(Drop)]
@@ -73,7 +73,7 @@ pub fn operate<R: Wait + SystemClock, L: Listener, C: Clock, D: Desk>(
                 if !common.listener.is_open() {
                     return;
                 }
-                thread::sleep(rt, Duration::from_millis(WITHOUT_A_CLIENT));
+                thread::sleep(rt, Duration::from_millis(WITHOUT_A_CLIENT_MS));
             }
         }
     }
@@ -125,11 +125,11 @@ fn linger_behind<T: Connection, I: Inlet<T> + Copy, C: Clock>(
     stream: &T,
     from: I,
     clock: &C,
-    most: u64,
+    most_ns: u64,
     sent: u64,
 ) {
     if attended.answer.is_some() && attended.is_written {
         let is_unread = !attended.is_read || ahead.left() > 0;
-        linger(stream, from, clock, most, is_unread, sent);
+        linger(stream, from, clock, most_ns, is_unread, sent);
     }
 }

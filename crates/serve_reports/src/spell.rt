@@ -3,7 +3,7 @@ ghost use Rattle.std.specs.Prelude.{◌≡◌, None};
 ghost use Rattle.serve_reports.specs.Spells.{is_due, noted, told};
 
 /// The least time from one telling to the next, in nanoseconds: ten seconds.
-const LENGTH: u64 = 10_000_000_000;
+const LENGTH_NS: u64 = 10_000_000_000;
 
 /// How often something happened: since it was last told, and at all.
 #[derive(Clone, Copy)]
@@ -58,7 +58,7 @@ fn is_due(last: Option<u64>, now: u64) -> bool
     ensures { result ≡ is_due last now }
 {
     match last {
-        Some(last) => LENGTH <= now.saturating_sub(last),
+        Some(last) => LENGTH_NS <= now.saturating_sub(last),
         None => true,
     }
 }

@@ -89,7 +89,7 @@ where
 
     fn run(self) -> Left<A, P, B> {
         match self {
-            Job::Reporter(context, every) => run_reports(context, every),
+            Job::Reporter(context, every_ns) => run_reports(context, every_ns),
             Job::Beside(task) => {
                 task.run();
                 Left::Beside
@@ -119,7 +119,7 @@ where
 /// The reports, with the names of settings of its own.
 fn run_reports<R, G, A, P, B, L, C, S, W>(
     context: &Context<'_, R, G, L, C, S, W>,
-    every: u64,
+    every_ns: u64,
 ) -> Left<A, P, B>
 where
     R: Wait + SystemClock,
@@ -144,7 +144,7 @@ where
         &settings.table,
         common.clock,
         common.watch,
-        every,
+        every_ns,
     );
     Left::Reported
 }

@@ -12,10 +12,10 @@ use std::time::{Clock as SystemClock, Duration};
 
 /// The most nanoseconds from one look at the clock to the next: a second, since the clock that is
 /// looked at need not go as the system's does.
-const LONGEST_REST: u64 = 1_000_000_000;
+const LONGEST_REST_NS: u64 = 1_000_000_000;
 
 /// The fewest that are slept: 1 ms, so that a clock that stands still keeps no processor busy.
-const SHORTEST_REST: u64 = 1_000_000;
+const SHORTEST_REST_NS: u64 = 1_000_000;
 
 /// How many workers haven't ended.
 #[derive(Drop)]
@@ -64,7 +64,7 @@ impl Present {
         if until <= now {
             return Some(true);
         }
-        let rest = Duration::from_nanos((until - now).clamp(SHORTEST_REST, LONGEST_REST));
+        let rest = Duration::from_nanos((until - now).clamp(SHORTEST_REST_NS, LONGEST_REST_NS));
         let _woken = self.left.wait_timeout(rt, count, rest);
         None
     }
@@ -78,7 +78,7 @@ pub(crate) fn report_all<R, G, C, W>(
     table: &PartitionTable,
     clock: &C,
     watch: &W,
-    every: u64,
+    every_ns: u64,
 )
 where
     R: Wait + SystemClock,
@@ -86,23 +86,23 @@ where
     C: Clock,
     W: Watch,
 {
-    let mut next = clock.now().saturating_add(every);
+    let mut next = clock.now().saturating_add(every_ns);
     for _ in rt.forever() {
         if !present.rest(rt, clock, next) {
             return;
         }
         watch.report(table, &gate.report());
-        next = after(next, every, clock.now());
+        next = after(next, every_ns, clock.now());
     }
 }
 
 /// When the next report comes: so long behind the last one, or behind now where that has gone by.
-fn after(last: u64, every: u64, now: u64) -> u64
-    ensures { result ≡ next_report last every now }
+fn after(last: u64, every_ns: u64, now: u64) -> u64
+    ensures { result ≡ next_report last every_ns now }
 {
-    let next = last.saturating_add(every);
+    let next = last.saturating_add(every_ns);
     if next <= now {
-        now.saturating_add(every)
+        now.saturating_add(every_ns)
     } else {
         next
     }

@@ -162,7 +162,7 @@ where
 fn make_jobs<'a, A: Drop, P: Drop, B: Drop, T: Drop, X>(
     alloc: Global,
     context: &'a X,
-    every: Option<u64>,
+    every_ns: Option<u64>,
     beside: Option<T>,
     workers: Vec<Worker<A, P, B>>,
 ) -> Result<Vec<Job<'a, A, P, B, T, X>>, AllocError>
@@ -170,7 +170,7 @@ fn make_jobs<'a, A: Drop, P: Drop, B: Drop, T: Drop, X>(
     ensures beside { IfOk result (λ jobs. tasks_in jobs.items ≡ option_to_list beside) }
     ensures within { IfOk result (λ jobs. AreWithin context.now jobs.items) }
 {
-    let mut jobs = make_others(alloc, context, every, beside)?;
+    let mut jobs = make_others(alloc, context, every_ns, beside)?;
     jobs.reserve(workers.len())?;
     for worker in workers {
         jobs.push_reserved(Job::Worker(context, worker));
@@ -182,7 +182,7 @@ fn make_jobs<'a, A: Drop, P: Drop, B: Drop, T: Drop, X>(
 fn make_others<'a, A: Drop, P: Drop, B: Drop, T: Drop, X>(
     alloc: Global,
     context: &'a X,
-    every: Option<u64>,
+    every_ns: Option<u64>,
     beside: Option<T>,
 ) -> Result<Vec<Job<'a, A, P, B, T, X>>, AllocError>
     ensures none { IfOk result (λ jobs. workers_in jobs.items ≡ []) }
@@ -190,8 +190,8 @@ fn make_others<'a, A: Drop, P: Drop, B: Drop, T: Drop, X>(
     ensures within { IfOk result (λ jobs. AreWithin context.now jobs.items) }
 {
     let mut jobs = Vec::with_capacity(alloc, 2)?;
-    if let Some(every) = every {
-        jobs.push_reserved(Job::Reporter(context, every));
+    if let Some(every_ns) = every_ns {
+        jobs.push_reserved(Job::Reporter(context, every_ns));
     }
     if let Some(task) = beside {
         jobs.push_reserved(Job::Beside(task));

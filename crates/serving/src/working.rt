@@ -25,7 +25,7 @@ use wire::WireFault;
 const PIECE: usize = 16_384;
 
 /// How long a worker rests that could have no connection, in milliseconds.
-const WITHOUT_A_CLIENT: u64 = 10;
+const WITHOUT_A_CLIENT_MS: u64 = 10;
 
 /// The buffers that a worker keeps for all its clients.
 #[derive(Drop)]
@@ -168,7 +168,7 @@ where
                 if door.is_closed() {
                     return tally;
                 }
-                thread::sleep(rt, Duration::from_millis(WITHOUT_A_CLIENT));
+                thread::sleep(rt, Duration::from_millis(WITHOUT_A_CLIENT_MS));
             }
         }
     }
@@ -245,12 +245,12 @@ fn linger_behind<T: Connection, I: Inlet<T> + Copy, C: Clock>(
     stream: &T,
     from: I,
     clock: &C,
-    most: u64,
+    most_ns: u64,
     sent: u64,
 ) {
     if served.answer.is_some() && served.written_fault.is_none() {
         let is_unread = served.class.is_none() || ahead.left() > 0;
-        linger(stream, from, clock, most, is_unread, sent);
+        linger(stream, from, clock, most_ns, is_unread, sent);
     }
 }
 

@@ -34,11 +34,11 @@ use std::time::{Clock as SystemClock, Duration};
 
 /// The most nanoseconds from one look at the clock of a waiter to the next: 100 ms, since the clock
 /// that it looks at need not go as the system's does.
-const LONGEST_PAUSE: u64 = 100_000_000;
+const LONGEST_PAUSE_NS: u64 = 100_000_000;
 
 /// The fewest that it asks to sleep: 1 ms, so that a clock that stands still before the deadline
 /// keeps no processor busy.
-const SHORTEST_PAUSE: u64 = 1_000_000;
+const SHORTEST_PAUSE_NS: u64 = 1_000_000;
 
 /// A gate that threads share. A call that takes the lock keeps its promise if it returns. Every
 /// moment is in nanoseconds; one above 2^62 is taken as 2^62.
@@ -180,7 +180,7 @@ impl<L: Limit, M: GateNaming> SharedGate<L, M> {
             if now >= deadline {
                 return;
             }
-            let nanos = (deadline - now).clamp(SHORTEST_PAUSE, LONGEST_PAUSE);
+            let nanos = (deadline - now).clamp(SHORTEST_PAUSE_NS, LONGEST_PAUSE_NS);
             let pause = Duration::from_nanos(nanos);
             locked = self.freed.wait_timeout(rt, locked, pause).0;
         }

@@ -11,11 +11,11 @@ use std::thread;
 use std::time::{Clock, Duration};
 
 /// From one look for connections that wait to the next, in milliseconds.
-const TURN: u64 = 1;
+const TURN_MS: u64 = 1;
 
 /// For how long a closing listener takes whoever comes, in milliseconds, before it takes those
 /// alone who wait.
-const OPEN_TO_ALL: u64 = 500;
+const OPEN_TO_ALL_MS: u64 = 500;
 
 /// Clients over TCP.
 #[derive(Drop)]
@@ -65,7 +65,7 @@ impl Listener for BoundListener {
     fn close<R: Clock>(&self, rt: &R, most: Duration) {
         if self.open.swap(false, Ordering::SeqCst) {
             let file = self.listener.as_raw_fd();
-            let first = most.min(Duration::from_millis(OPEN_TO_ALL));
+            let first = most.min(Duration::from_millis(OPEN_TO_ALL_MS));
             if !await_empty(rt, file, first) {
                 listen(file, 0);
                 await_empty(rt, file, most);
@@ -78,11 +78,11 @@ impl Listener for BoundListener {
 /// Waits until no connection waits to be accepted, for so long at most, and tells whether none
 /// does.
 fn await_empty<R: Clock>(rt: &R, file: RawFd, most: Duration) -> bool {
-    for _ in 0..most.as_millis() / u128::from(TURN) {
+    for _ in 0..most.as_millis() / u128::from(TURN_MS) {
         if !has_waiting(file) {
             return true;
         }
-        thread::sleep(rt, Duration::from_millis(TURN));
+        thread::sleep(rt, Duration::from_millis(TURN_MS));
     }
     false
 }

@@ -8,7 +8,7 @@ use std::io::Read;
 use std::time::Duration;
 
 /// How long a client may go on sending behind its answer, in nanoseconds.
-const LONGEST: u64 = 2_000_000_000;
+const LONGEST_NS: u64 = 2_000_000_000;
 
 /// How many reads that may take.
 const MOST_READS: u32 = 65_536;
@@ -26,20 +26,20 @@ pub fn linger<T: Connection, I: Inlet<T> + Copy, C: Clock>(
     stream: &T,
     from: I,
     clock: &C,
-    most: u64,
+    most_ns: u64,
     is_unread: bool,
     sent: u64,
 ) {
-    let most = most.min(LONGEST);
-    if (is_unread || has_more(stream, most, sent)) && stream.finish().is_ok() {
-        drop_rest(stream, from, clock, most);
+    let most_ns = most_ns.min(LONGEST_NS);
+    if (is_unread || has_more(stream, most_ns, sent)) && stream.finish().is_ok() {
+        drop_rest(stream, from, clock, most_ns);
     }
 }
 
 /// Whether the client hasn't taken its answer after so many nanoseconds, or sends more before it
 /// has.
-fn has_more<T: Connection>(stream: &T, most: u64, sent: u64) -> bool {
-    sent > ON_ITS_WAY && stream.is_behind(Duration::from_nanos(most)) || stream.has_unread()
+fn has_more<T: Connection>(stream: &T, most_ns: u64, sent: u64) -> bool {
+    sent > ON_ITS_WAY && stream.is_behind(Duration::from_nanos(most_ns)) || stream.has_unread()
 }
 
 /// Reads and drops what comes, up to its end or for so many nanoseconds.
@@ -47,9 +47,9 @@ fn drop_rest<T: Connection, I: Inlet<T> + Copy, C: Clock>(
     stream: &T,
     from: I,
     clock: &C,
-    most: u64,
+    most_ns: u64,
 ) {
-    let timed = TimedReader::new(Lent::new(stream, from), clock, most);
+    let timed = TimedReader::new(Lent::new(stream, from), clock, most_ns);
     let mut reader = Uninterrupted::new(timed);
     let mut dropped = [0u8; 4096];
     for _ in 0..MOST_READS {
