@@ -7,7 +7,8 @@ use Rattle.limit_kinds.specs.AnyKinds.{any_rules}
 use Rattle.gate_journal.specs.Journal.{Journal}
 use Rattle.script.specs.Settings.{SettingFacts}
 use Rattle.load_driver.specs.Replay.{after_text, lines_text}
-use Rattle.load_driver.specs.Opening.{journal_of, told_unless}
+use Rattle.script_gate.specs.Settings.{journal_of}
+use Rattle.load_driver.specs.Opening.{told_unless}
 
 pub text_of_session : (n kept : ℕ) (s : SettingFacts) (line : ℕ) (rest : List ℕ)
     (fault : Option LineFault) (j : Journal AnyLimit) (bytes : List ℕ)

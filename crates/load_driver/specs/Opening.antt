@@ -1,19 +1,10 @@
 -- The text of a whole script: its settings first, and then its other lines.
 use Rattle.std.specs.Prelude.{ℕ, List, [], Option, None, Some}
-use Rattle.limit_kinds.specs.declared.kinds.AnyLimit.{AnyLimit}
 use Rattle.limit_kinds.specs.AnyKinds.{any_rules}
-use Rattle.limiter_core.specs.Limiter.{unasked}
-use Rattle.gate_journal.specs.Journal.{Journal, opened}
 use Rattle.script.specs.declared.line_fault.LineFault.{LineFault}
-use Rattle.script.specs.Settings.{SettingFacts, limit_of, room_of, promote_of, kept_of}
 use Rattle.script.specs.Opening.{OpeningFacts, opening_of}
+use Rattle.script_gate.specs.Settings.{journal_of}
 use Rattle.load_driver.specs.Replay.{Told, lines_text}
-
--- the journal of a limiter that the settings make: fixed at n where they give no limit, with so
--- many entries kept where they don't say how many, and rolling where they say so
-abbrev pub journal_of : ℕ → ℕ → SettingFacts → Journal AnyLimit
-journal_of n kept s =
-    opened (unasked s.rows (room_of s) (promote_of s) (limit_of n s)) (kept_of kept s) s.is_rolling
 
 -- nothing is written where a setting is at fault, and else the text of the lines behind the
 -- settings

@@ -19,6 +19,5 @@ mod text;
 pub use answers::answer;
 pub use asked::{Asked, read_end};
 pub use driver::{DriverFault, KEPT, MOST_BYTES, MOST_READS, replay};
-pub use opening::gate_settings;
 pub use script::{FaultKind, LineFault};
 pub use session::{Added, Session};

@@ -14,8 +14,8 @@ use Rattle.audit.specs.Accepted.{IsHistoryOf}
 use Rattle.shared_gate.specs.Calls.{Pass}
 use Rattle.shared_gate.specs.Closing.{FailsBy, IsKept}
 use Rattle.script.specs.Settings.{SettingFacts}
+use Rattle.script_gate.specs.Settings.{journal_of}
 use Rattle.load_driver.specs.Limits.{kept_entries}
-use Rattle.load_driver.specs.Opening.{journal_of}
 use Rattle.trace.specs.declared.arrival.Arrival.{Arrival}
 use Rattle.load_run.specs.Workers.{AllOfAllFit, AreWork}
 use Rattle.load_run.specs.declared.summary.Summary.{Summary}

@@ -3,8 +3,8 @@ use Rattle.std.specs.Prelude.{◌≡◌, ℕ, ◌≤◌, List, length, Option}
 use Rattle.limit_kinds.specs.AnyKinds.{any_rules}
 use Rattle.script.specs.declared.line_fault.LineFault.{LineFault}
 use Rattle.script.specs.Settings.{timeout_of}
+use Rattle.script_gate.specs.Settings.{journal_of}
 use Rattle.load_driver.specs.Limits.{most_script, kept_entries}
-use Rattle.load_driver.specs.Opening.{journal_of}
 use Rattle.trace.specs.Trace.{TraceFacts, trace_of}
 use Rattle.virtual_time.specs.Course.{limiter_of, IsRun}
 

@@ -13,7 +13,8 @@ ghost use Rattle.virtual_time.specs.Simulation.{IsRunOf, IsSimulated};
 
 use super::course::run;
 use counted_io::{Counted, read_all, write_and_flush};
-use load_driver::{DriverFault, KEPT, LineFault, MOST_BYTES, MOST_READS, Session, gate_settings};
+use load_driver::{DriverFault, KEPT, LineFault, MOST_BYTES, MOST_READS, Session};
+use script_gate::gate_settings;
 use std::alloc::{AllocError, Global};
 use std::io::{Read, Write};
 use trace::{Trace, read_trace};

@@ -1,7 +1,8 @@
 use Rattle.std.proofs.Common.{◌≡◌, sym, ap, ◌∙◌}
 use Rattle.limit_kinds.specs.declared.kinds.AnyLimit.{AnyLimit}
 use Rattle.load_driver.specs.Session.{Session}
-use Rattle.load_driver.specs.Opening.{journal_of, text_after}
+use Rattle.script_gate.specs.Settings.{journal_of}
+use Rattle.load_driver.specs.Opening.{text_after}
 use Rattle.load_driver.proofs.Openings.{text_of_session}
 use Rattle.load_driver.proofs.Unasked.{opens_unasked}
 use Rattle.load_driver.proofs.opening.answer_script.Goals as goal

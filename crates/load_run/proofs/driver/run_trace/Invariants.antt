@@ -1,8 +1,8 @@
 use Rattle.limit_kinds.specs.AnyKinds.{any_rules}
 use Rattle.gate_ledgers.specs.Names.{places_of}
 use Rattle.shared_gate.specs.Log.{IsLegalFrom}
+use Rattle.script_gate.specs.Settings.{journal_of}
 use Rattle.load_driver.specs.Limits.{kept_entries}
-use Rattle.load_driver.specs.Opening.{journal_of}
 use Rattle.load_run.specs.Load.{making_of}
 use Rattle.load_run.proofs.driver.run_trace.Given as goal
 

@@ -3,7 +3,7 @@ use Rattle.limit_kinds.specs.declared.kinds.AnyLimit.{AnyLimit}
 use Rattle.limit_kinds.specs.AnyKinds.{any_rules}
 use Rattle.gate_journal.specs.Journal.{Journal}
 use Rattle.script.specs.Settings.{timeout_of}
-use Rattle.load_driver.specs.Opening.{journal_of}
+use Rattle.script_gate.specs.Settings.{journal_of}
 use Rattle.load_driver.specs.Session.{Session}
 use Rattle.load_driver.specs.Stretches.{StandsFor}
 use Rattle.trace.specs.Trace.{trace_of}
