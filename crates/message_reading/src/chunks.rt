@@ -10,11 +10,9 @@ use crate::fault::{Fault, MessageFault};
 use crate::plain_body::fill;
 use crate::trailers::read_trailers;
 use counted_io::Counted;
+use message_fields::MOST_BODY;
 use std::alloc::Global;
 use std::io::BufRead;
-
-/// The greatest number of bytes of a body.
-const MOST_BODY: u64 = 8_388_608;
 
 // A chunk's bytes, behind those of the body, and the CR LF behind them.
 fn read_piece<R: BufRead>(

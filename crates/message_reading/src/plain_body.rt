@@ -7,11 +7,9 @@ ghost use Rattle.message_reading.specs.Reading.{By, HasFailed, Reads};
 use crate::byte::read_some;
 use crate::fault::{Fault, MessageFault};
 use counted_io::Counted;
+use message_fields::MOST_BODY;
 use std::alloc::Global;
 use std::io::BufRead;
-
-/// The greatest number of bytes of a body.
-const MOST_BODY: usize = 8_388_608;
 
 /// Puts the next `size` bytes behind `body`.
 ///
@@ -81,7 +79,7 @@ pub(crate) fn read_to_end<R: BufRead>(
 {
     let mut body = Vec::new(alloc);
     loop {
-        let room = MOST_BODY - body.len();
+        let room = MOST_BODY as usize - body.len();
         let count = read_some(reader, limit, room + 1, &mut body)?;
         if count == 0 {
             return Ok(body);
