@@ -1,8 +1,8 @@
 // Bodies of a known length, and bodies that run to the reader's end.
-ghost use Rattle.std.specs.Prelude.{◌≡◌, ◌≤◌, ◌+◌, ◌++◌, max, length, drop, IsErrOf, OnOk};
-ghost use Rattle.counted_io.specs.Counted.{inner_of, calls_of, failures_of};
+ghost use Rattle.std.specs.Prelude.{◌≡◌, ◌≤◌, ◌+◌, ◌++◌, length, drop, OnOk};
+ghost use Rattle.counted_io.specs.Counted.{calls_of};
 ghost use Rattle.message_reading.specs.PlainBody.{all_of, sized_of};
-ghost use Rattle.message_reading.specs.Reading.{By, HasFailed, Reads};
+ghost use Rattle.message_reading.specs.Reading.{By, Reads, ReadsWithin};
 
 use crate::byte::read_some;
 use crate::fault::{Fault, MessageFault};
@@ -26,10 +26,7 @@ pub(crate) fn fill<R: BufRead>(
     ensures kept { body.new.items
         ≡ body.old.items ++ drop (length body.old.items) body.new.items }
     ensures length { OnOk result (length body.new.items ≡ length body.old.items + size) }
-    ensures read { IsErrOf result MessageFault.Read → HasFailed reader.old reader.new }
-    ensures unfailing { OnOk result (failures_of reader.new ≡ failures_of reader.old) }
-    ensures turns { IsErrOf result MessageFault.TurnLimit → limit ≤ calls_of reader.new }
-    ensures few { calls_of reader.new ≤ max limit (calls_of reader.old) }
+    ensures within { ReadsWithin limit result reader.old reader.new }
     ensures goes_on { calls_of reader.old ≤ calls_of reader.new }
 {
     let mut left = size;
@@ -52,10 +49,7 @@ pub(crate) fn read_sized<R: BufRead>(
 ) -> Result<Vec<u8>, MessageFault>
     ensures body { Reads R.remaining reader.old reader.new (λ body. body.items)
         (By (sized_of size)) result }
-    ensures read { IsErrOf result MessageFault.Read → HasFailed reader.old reader.new }
-    ensures unfailing { OnOk result (failures_of reader.new ≡ failures_of reader.old) }
-    ensures turns { IsErrOf result MessageFault.TurnLimit → limit ≤ calls_of reader.new }
-    ensures few { calls_of reader.new ≤ max limit (calls_of reader.old) }
+    ensures within { ReadsWithin limit result reader.old reader.new }
     ensures goes_on { calls_of reader.old ≤ calls_of reader.new }
 {
     let mut body = Vec::new(alloc);
@@ -71,10 +65,7 @@ pub(crate) fn read_to_end<R: BufRead>(
 ) -> Result<Vec<u8>, MessageFault>
     ensures body { Reads R.remaining reader.old reader.new (λ body. body.items)
         (By all_of) result }
-    ensures read { IsErrOf result MessageFault.Read → HasFailed reader.old reader.new }
-    ensures unfailing { OnOk result (failures_of reader.new ≡ failures_of reader.old) }
-    ensures turns { IsErrOf result MessageFault.TurnLimit → limit ≤ calls_of reader.new }
-    ensures few { calls_of reader.new ≤ max limit (calls_of reader.old) }
+    ensures within { ReadsWithin limit result reader.old reader.new }
     ensures goes_on { calls_of reader.old ≤ calls_of reader.new }
 {
     let mut body = Vec::new(alloc);
