@@ -13,7 +13,7 @@ use super::parts::{first_part, is_every_part, is_one_part};
 use message_parts::Header;
 
 /// The greatest number of bytes of a body.
-const MOST_BODY: u64 = 8_388_608;
+pub const MOST_BODY: u64 = 8_388_608;
 
 /// Why the lines of Content-Length give no length.
 #[derive(Clone, Copy)]

@@ -14,7 +14,7 @@ mod passed;
 mod passing;
 mod target;
 
-pub use length::{LengthFault, length_digits, length_of, length_of_one};
+pub use length::{LengthFault, MOST_BODY, length_digits, length_of, length_of_one};
 pub use lines::{
     asks_continue, count_codings_and_lengths, count_hosts, count_named, first_value,
     is_chunked_alone,

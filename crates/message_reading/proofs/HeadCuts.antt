@@ -10,6 +10,7 @@ use Rattle.message_reading.specs.Gather.{gather}
 use Rattle.message_reading.specs.HeadBytes.{ends_head}
 use Rattle.message_reading.specs.Progress.{HeadPasses, IsProgress}
 use Rattle.message_reading.proofs.HeadProgress.{head_ends_in_lf}
+use Rattle.message_reading.proofs.LastBytes.{long_line}
 use Rattle.message_reading.proofs.Pieces.{piece_more}
 
 -- no head ends within the piece behind these bytes, nor with it
@@ -74,3 +75,19 @@ line_more text bytes at len p q inside some before room progress by on =
           (append_assoc text front line ∙ ap (λ l. text ++ l) joined) (on (text ++ front) progress),
       subst (HeadPasses text) joined passes,
     )
+
+-- nor with a line of three bytes or more
+pub long_line_more : (text bytes : List ℕ) (at len : ℕ) → at + len ≤ length bytes → 3 ≤ len
+    → All (λ b. b ≢ 10) (take (len - 1) (take (length bytes - at) (drop at bytes)))
+    → ends_head (text ++ take (at + len) bytes) ≡ false
+long_line_more text bytes at len inside long before =
+    let front = take at bytes in
+    let behind = drop at bytes in
+    let line = take len behind in
+    let fits : len ≤ length behind = rw length-drop (omega (arith, inside)) in
+    let stops : StopsAt line 10 = StopsAt-take behind 10 len fits (rw take_rest at before) in
+    let size : length line ≡ len = length-take-le len behind fits in
+    let joined : (text ++ front) ++ line ≡ text ++ take (at + len) bytes =
+    append_assoc text front line ∙ ap (λ l. text ++ l) (sym (take-add at len bytes)) in
+    subst (λ seen. ends_head seen ≡ false) joined
+    (long_line (text ++ front) line (rw size long) stops)

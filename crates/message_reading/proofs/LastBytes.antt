@@ -1,13 +1,13 @@
 -- Bytes behind the empty lines in front: an LF stands at their end at most, and the last three
 -- decide.
-use Rattle.std.proofs.Common.{rules, arith, ◌≡◌, ◌≢◌, ◌≤◌, ◌+◌, ◌-◌, suc, zero, ◌∙◌, ◌++◌, All, ne_eqb, sym, ap, ap₂, subst, refl, ℕ, false, List, [], ◌∷◌, length, take, drop, get_or, append_assoc, take_all}
+use Rattle.std.proofs.Common.{rules, arith, ◌≡◌, ◌≢◌, ◌≤◌, ◌+◌, ◌-◌, ◌==◌, ◌&&◌, ◌||◌, not, suc, zero, ◌∙◌, ◌++◌, All, ne_eqb, sym, ap, ap₂, subst, refl, ℕ, true, false, List, [], ◌∷◌, length, take, drop, get_or, append_assoc, take_all}
 use Rattle.std.specs.Io.{StopsAt}
 use Rattle.std.proofs.lemmas.List.{append-nil, length-append, take_more}
 use Rattle.std.proofs.lemmas.List.Elements.{All-head, All-tail}
 use Rattle.message_reading.specs.declared.progress.Progress.{Progress}
-use Rattle.message_reading.specs.HeadBytes.{ended_by, is_blank, line_ends}
+use Rattle.message_reading.specs.HeadBytes.{ended_by, ends_head, is_blank, line_ends}
 use Rattle.message_reading.specs.Progress.{IsProgress}
-use Rattle.message_reading.specs.ChunkLines.{last_three}
+use Rattle.message_reading.specs.ChunkLines.{ends_in_empty, is_empty_end, last_three}
 use Rattle.message_reading.proofs.HeadProgress.{blank_more, ends_more, progress_more}
 
 -- bytes without an LF in front of the last one have none there behind some of them either
@@ -159,3 +159,36 @@ progress_behind text piece p q is blank long stops still third second last lines
     let others = subst (All (λ b. b ≢ 10)) (all_but_last piece long) stops in
     let past = progress_past text _ _ _ _ p q is blank others still third second last lines in
     subst (λ all. IsProgress (text ++ all) q) (sym (last_three_of piece long)) past
+
+three_of : (three : ℕ × ℕ × ℕ) (xs : List ℕ) (a b c : ℕ)
+    → last_three three (xs ++ a ∷ b ∷ c ∷ []) ≡ (a, b, c)
+three_of three [] a b c = refl
+three_of three (x ∷ xs) a b c = three_of (three.1, three.2, x) xs a b c
+
+-- a line of three bytes or more ends no head
+pub long_line : (text line : List ℕ) → 3 ≤ length line → StopsAt line 10
+    → ends_head (text ++ line) ≡ false
+unfolding ends_head ends_in_empty is_empty_end
+long_line text line long stops =
+    let front = take (length line - 3) line in
+    let a = get_or line (length line - 3) 0 in
+    let b = get_or line (length line - 2) 0 in
+    let c = get_or line (length line - 1) 0 in
+    let others = subst (All (λ x. x ≢ 10)) (all_but_last line long) stops in
+    let two = all_back front (a ∷ b ∷ []) others in
+    let one : (a == 10) ≡ false = ne_eqb a 10 (All-head (λ x. x ≢ 10) a (b ∷ []) two) in
+    let other : (b == 10) ≡ false =
+    ne_eqb b 10 (All-head (λ x. x ≢ 10) b [] (All-tail (λ x. x ≢ 10) a (b ∷ []) two)) in
+    let joined : text ++ line ≡ (text ++ front) ++ a ∷ b ∷ c ∷ [] =
+    ap (λ l. text ++ l) (last_three_of line long)
+    ∙ sym (append_assoc text front (a ∷ b ∷ c ∷ [])) in
+    let three : last_three (0, 0, 10) (text ++ line) ≡ (a, b, c) =
+    ap (last_three (0, 0, 10)) joined ∙ three_of (0, 0, 10) (text ++ front) a b c in
+    let none : ends_in_empty (text ++ line) ≡ false =
+    ap is_empty_end three ∙ rw (one, other) (elim (b == 13) as
+    (λ s. ((c == 10) && (false || (s && false))) ≡ false) [
+      | true ↦ elim (c == 10) as (λ t. (t && false) ≡ false) [ true ↦ refl | false ↦ refl ]
+      | false ↦ elim (c == 10) as (λ t. (t && false) ≡ false) [ true ↦ refl | false ↦ refl ]
+    ]) in
+    rw none (elim (not (is_blank 10 (text ++ line))) as (λ t. (t && false) ≡ false)
+    [ true ↦ refl | false ↦ refl ])

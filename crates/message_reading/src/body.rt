@@ -1,7 +1,7 @@
 // Bodies, as they are delimited.
-ghost use Rattle.std.specs.Prelude.{◌≡◌, ◌≤◌, max, IsErrOf, OnOk};
-ghost use Rattle.counted_io.specs.Counted.{calls_of, failures_of};
-ghost use Rattle.message_reading.specs.Reading.{HasFailed, Reads};
+ghost use Rattle.std.specs.Prelude.{◌≤◌};
+ghost use Rattle.counted_io.specs.Counted.{calls_of};
+ghost use Rattle.message_reading.specs.Reading.{Reads, ReadsWithin};
 ghost use Rattle.message_reading.specs.Body.{IsBody};
 
 use crate::chunks::read_chunked;
@@ -22,10 +22,7 @@ pub fn read_body<R: BufRead>(
     framing: Framing,
 ) -> Result<Option<Bytes>, MessageFault>
     ensures body { Reads R.remaining reader.old reader.new (λ body. body) (IsBody framing) result }
-    ensures read { IsErrOf result MessageFault.Read → HasFailed reader.old reader.new }
-    ensures unfailing { OnOk result (failures_of reader.new ≡ failures_of reader.old) }
-    ensures turns { IsErrOf result MessageFault.TurnLimit → limit ≤ calls_of reader.new }
-    ensures few { calls_of reader.new ≤ max limit (calls_of reader.old) }
+    ensures within { ReadsWithin limit result reader.old reader.new }
     ensures goes_on { calls_of reader.old ≤ calls_of reader.new }
 {
     let body = match framing {

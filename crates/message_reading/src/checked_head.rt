@@ -1,7 +1,7 @@
 // The head of a request, read and checked.
-ghost use Rattle.std.specs.Prelude.{◌≡◌, ◌≤◌, max, IsErrOf, OnOk};
-ghost use Rattle.counted_io.specs.Counted.{calls_of, failures_of};
-ghost use Rattle.message_reading.specs.Reading.{HasFailed, Reads, once_more};
+ghost use Rattle.std.specs.Prelude.{◌≤◌};
+ghost use Rattle.counted_io.specs.Counted.{calls_of};
+ghost use Rattle.message_reading.specs.Reading.{Reads, ReadsWithin, once_more};
 ghost use Rattle.message_reading.specs.Heads.{IsCheckedHead, IsRequestHead};
 
 use crate::fault::MessageFault;
@@ -20,10 +20,7 @@ fn read_request_head<R: BufRead>(
     limit: u64,
 ) -> Result<RequestHead, MessageFault>
     ensures head { Reads R.remaining reader.old reader.new (λ head. head) IsRequestHead result }
-    ensures read { IsErrOf result MessageFault.Read → HasFailed reader.old reader.new }
-    ensures unfailing { OnOk result (failures_of reader.new ≡ failures_of reader.old) }
-    ensures turns { IsErrOf result MessageFault.TurnLimit → limit ≤ calls_of reader.new }
-    ensures few { calls_of reader.new ≤ max limit (calls_of reader.old) }
+    ensures within { ReadsWithin limit result reader.old reader.new }
     ensures reads { once_more limit (calls_of reader.old) ≤ calls_of reader.new }
 {
     let text = read_head(alloc, reader, limit)?;
@@ -38,10 +35,7 @@ pub fn read_checked_head<R: BufRead>(
     limit: u64,
 ) -> Result<(RequestHead, Framing), MessageFault>
     ensures head { Reads R.remaining reader.old reader.new (λ head. head) IsCheckedHead result }
-    ensures read { IsErrOf result MessageFault.Read → HasFailed reader.old reader.new }
-    ensures unfailing { OnOk result (failures_of reader.new ≡ failures_of reader.old) }
-    ensures turns { IsErrOf result MessageFault.TurnLimit → limit ≤ calls_of reader.new }
-    ensures few { calls_of reader.new ≤ max limit (calls_of reader.old) }
+    ensures within { ReadsWithin limit result reader.old reader.new }
     ensures reads { once_more limit (calls_of reader.old) ≤ calls_of reader.new }
 {
     let head = read_request_head(alloc, reader, limit)?;

@@ -1,7 +1,7 @@
 // Chunked bodies.
-ghost use Rattle.std.specs.Prelude.{◌≡◌, ◌≤◌, ◌+◌, ◌++◌, max, drop, length, IfOk, IsErrOf, OnOk};
-ghost use Rattle.counted_io.specs.Counted.{calls_of, failures_of};
-ghost use Rattle.message_reading.specs.Reading.{By, HasFailed, Reads};
+ghost use Rattle.std.specs.Prelude.{◌≡◌, ◌≤◌, ◌+◌, ◌++◌, drop, length, IfOk};
+ghost use Rattle.counted_io.specs.Counted.{calls_of};
+ghost use Rattle.message_reading.specs.Reading.{By, Reads, ReadsWithin};
 ghost use Rattle.message_reading.specs.Chunks.{IsChunks, piece_of};
 
 use crate::byte::read_crlf;
@@ -10,11 +10,9 @@ use crate::fault::{Fault, MessageFault};
 use crate::plain_body::fill;
 use crate::trailers::read_trailers;
 use counted_io::Counted;
+use message_fields::MOST_BODY;
 use std::alloc::Global;
 use std::io::BufRead;
-
-/// The greatest number of bytes of a body.
-const MOST_BODY: u64 = 8_388_608;
 
 // A chunk's bytes, behind those of the body, and the CR LF behind them.
 fn read_piece<R: BufRead>(
@@ -28,10 +26,7 @@ fn read_piece<R: BufRead>(
     ensures kept { IfOk result (λ longer.
         longer.items ≡ body.items ++ drop (length body.items) longer.items) }
     ensures length { IfOk result (λ longer. length longer.items ≡ length body.items + size) }
-    ensures read { IsErrOf result MessageFault.Read → HasFailed reader.old reader.new }
-    ensures unfailing { OnOk result (failures_of reader.new ≡ failures_of reader.old) }
-    ensures turns { IsErrOf result MessageFault.TurnLimit → limit ≤ calls_of reader.new }
-    ensures few { calls_of reader.new ≤ max limit (calls_of reader.old) }
+    ensures within { ReadsWithin limit result reader.old reader.new }
     ensures goes_on { calls_of reader.old ≤ calls_of reader.new }
 {
     fill(reader, limit, &mut body, size)?;
@@ -52,10 +47,7 @@ pub(crate) fn read_chunked<R: BufRead>(
 ) -> Result<Vec<u8>, MessageFault>
     ensures body { Reads R.remaining reader.old reader.new (λ body. body.items)
         (IsChunks 0) result }
-    ensures read { IsErrOf result MessageFault.Read → HasFailed reader.old reader.new }
-    ensures unfailing { OnOk result (failures_of reader.new ≡ failures_of reader.old) }
-    ensures turns { IsErrOf result MessageFault.TurnLimit → limit ≤ calls_of reader.new }
-    ensures few { calls_of reader.new ≤ max limit (calls_of reader.old) }
+    ensures within { ReadsWithin limit result reader.old reader.new }
     ensures goes_on { calls_of reader.old ≤ calls_of reader.new }
 {
     let mut body = Vec::new(alloc);

@@ -1,7 +1,7 @@
 // The head of a response, behind the interim ones.
-ghost use Rattle.std.specs.Prelude.{◌≡◌, ◌≤◌, max, IfOk, IsErrOf, OnOk};
-ghost use Rattle.counted_io.specs.Counted.{calls_of, failures_of};
-ghost use Rattle.message_reading.specs.Reading.{HasFailed, Reads, once_more};
+ghost use Rattle.std.specs.Prelude.{◌≡◌, ◌≤◌, IfOk};
+ghost use Rattle.counted_io.specs.Counted.{calls_of};
+ghost use Rattle.message_reading.specs.Reading.{Reads, ReadsWithin, once_more};
 ghost use Rattle.message_reading.specs.Heads.{IsFinalHead, IsResponseHead, is_final, is_interim};
 
 use crate::fault::{Fault, MessageFault};
@@ -23,10 +23,7 @@ fn read_response_head<R: BufRead>(
 ) -> Result<ResponseHead, MessageFault>
     ensures head { Reads R.remaining reader.old reader.new (λ head. head) IsResponseHead result }
     ensures digits { IfOk result (λ head. head.status ≤ 999) }
-    ensures read { IsErrOf result MessageFault.Read → HasFailed reader.old reader.new }
-    ensures unfailing { OnOk result (failures_of reader.new ≡ failures_of reader.old) }
-    ensures turns { IsErrOf result MessageFault.TurnLimit → limit ≤ calls_of reader.new }
-    ensures few { calls_of reader.new ≤ max limit (calls_of reader.old) }
+    ensures within { ReadsWithin limit result reader.old reader.new }
     ensures reads { once_more limit (calls_of reader.old) ≤ calls_of reader.new }
 {
     let text = read_head(alloc, reader, limit)?;
@@ -58,10 +55,7 @@ pub fn read_final_head<R: BufRead>(
 ) -> Result<ResponseHead, MessageFault>
     ensures head { Reads R.remaining reader.old reader.new (λ head. head) (IsFinalHead 16) result }
     ensures status { IfOk result (λ head. (200 ≤ head.status) × (head.status ≤ 999)) }
-    ensures read { IsErrOf result MessageFault.Read → HasFailed reader.old reader.new }
-    ensures unfailing { OnOk result (failures_of reader.new ≡ failures_of reader.old) }
-    ensures turns { IsErrOf result MessageFault.TurnLimit → limit ≤ calls_of reader.new }
-    ensures few { calls_of reader.new ≤ max limit (calls_of reader.old) }
+    ensures within { ReadsWithin limit result reader.old reader.new }
     ensures reads { once_more limit (calls_of reader.old) ≤ calls_of reader.new }
 {
     let mut left = MOST_INTERIM;

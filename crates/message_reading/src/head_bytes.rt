@@ -1,8 +1,8 @@
 // The bytes of a head.
-ghost use Rattle.std.specs.Prelude.{◌≡◌, ◌≤◌, ◌<◌, ◌-◌, ◌⊎◌, ◌++◌, max, ℕ, List, [], length, IsErrOf, IfErr, IfOk, OnErr, OnOk};
-ghost use Rattle.counted_io.specs.Counted.{inner_of, calls_of, failures_of};
+ghost use Rattle.std.specs.Prelude.{◌≡◌, ◌≤◌, ◌<◌, ◌-◌, ◌⊎◌, ◌++◌, ℕ, List, [], length, IsErrOf, IfErr, IfOk, OnErr, OnOk};
+ghost use Rattle.counted_io.specs.Counted.{calls_of};
 ghost use Rattle.counted_io.specs.Effects.{Gave, IfLeft};
-ghost use Rattle.message_reading.specs.Reading.{By, HasFailed, Reads, once_more};
+ghost use Rattle.message_reading.specs.Reading.{By, Reads, ReadsWithin, once_more};
 ghost use Rattle.message_reading.specs.HeadBytes.{ends_head, head_of, line_ends};
 ghost use Rattle.message_reading.specs.Progress.{HeadPasses};
 
@@ -66,10 +66,7 @@ impl Seen {
             ⊎ (fault ≡ MessageFault.Bytes Fault.Early)) }
         ensures early { IsErrOf result (MessageFault.Bytes Fault.Early)
             → IfLeft R.remaining reader.old (λ left. left ≡ []) }
-        ensures read { IsErrOf result MessageFault.Read → HasFailed reader.old reader.new }
-        ensures unfailing { OnOk result (failures_of reader.new ≡ failures_of reader.old) }
-        ensures turns { IsErrOf result MessageFault.TurnLimit → limit ≤ calls_of reader.new }
-        ensures few { calls_of reader.new ≤ max limit (calls_of reader.old) }
+        ensures within { ReadsWithin limit result reader.old reader.new }
         ensures reads { once_more limit (calls_of reader.old) ≤ calls_of reader.new }
     {
         let mut cut = HeadCut::new(self.progress, MOST_HEAD - self.bytes.len());
@@ -110,10 +107,7 @@ pub(crate) fn read_head<R: BufRead>(
     ensures head { Reads R.remaining reader.old reader.new (λ head. head.items)
         (By head_of) result }
     ensures lines { IfOk result (λ head. line_ends head.items ≤ 102) }
-    ensures read { IsErrOf result MessageFault.Read → HasFailed reader.old reader.new }
-    ensures unfailing { OnOk result (failures_of reader.new ≡ failures_of reader.old) }
-    ensures turns { IsErrOf result MessageFault.TurnLimit → limit ≤ calls_of reader.new }
-    ensures few { calls_of reader.new ≤ max limit (calls_of reader.old) }
+    ensures within { ReadsWithin limit result reader.old reader.new }
     ensures reads { once_more limit (calls_of reader.old) ≤ calls_of reader.new }
 {
     let mut seen = Seen::new(alloc);

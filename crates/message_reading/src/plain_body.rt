@@ -1,17 +1,15 @@
 // Bodies of a known length, and bodies that run to the reader's end.
-ghost use Rattle.std.specs.Prelude.{◌≡◌, ◌≤◌, ◌+◌, ◌++◌, max, length, drop, IsErrOf, OnOk};
-ghost use Rattle.counted_io.specs.Counted.{inner_of, calls_of, failures_of};
+ghost use Rattle.std.specs.Prelude.{◌≡◌, ◌≤◌, ◌+◌, ◌++◌, length, drop, OnOk};
+ghost use Rattle.counted_io.specs.Counted.{calls_of};
 ghost use Rattle.message_reading.specs.PlainBody.{all_of, sized_of};
-ghost use Rattle.message_reading.specs.Reading.{By, HasFailed, Reads};
+ghost use Rattle.message_reading.specs.Reading.{By, Reads, ReadsWithin};
 
 use crate::byte::read_some;
 use crate::fault::{Fault, MessageFault};
 use counted_io::Counted;
+use message_fields::MOST_BODY;
 use std::alloc::Global;
 use std::io::BufRead;
-
-/// The greatest number of bytes of a body.
-const MOST_BODY: usize = 8_388_608;
 
 /// Puts the next `size` bytes behind `body`.
 ///
@@ -28,10 +26,7 @@ pub(crate) fn fill<R: BufRead>(
     ensures kept { body.new.items
         ≡ body.old.items ++ drop (length body.old.items) body.new.items }
     ensures length { OnOk result (length body.new.items ≡ length body.old.items + size) }
-    ensures read { IsErrOf result MessageFault.Read → HasFailed reader.old reader.new }
-    ensures unfailing { OnOk result (failures_of reader.new ≡ failures_of reader.old) }
-    ensures turns { IsErrOf result MessageFault.TurnLimit → limit ≤ calls_of reader.new }
-    ensures few { calls_of reader.new ≤ max limit (calls_of reader.old) }
+    ensures within { ReadsWithin limit result reader.old reader.new }
     ensures goes_on { calls_of reader.old ≤ calls_of reader.new }
 {
     let mut left = size;
@@ -54,10 +49,7 @@ pub(crate) fn read_sized<R: BufRead>(
 ) -> Result<Vec<u8>, MessageFault>
     ensures body { Reads R.remaining reader.old reader.new (λ body. body.items)
         (By (sized_of size)) result }
-    ensures read { IsErrOf result MessageFault.Read → HasFailed reader.old reader.new }
-    ensures unfailing { OnOk result (failures_of reader.new ≡ failures_of reader.old) }
-    ensures turns { IsErrOf result MessageFault.TurnLimit → limit ≤ calls_of reader.new }
-    ensures few { calls_of reader.new ≤ max limit (calls_of reader.old) }
+    ensures within { ReadsWithin limit result reader.old reader.new }
     ensures goes_on { calls_of reader.old ≤ calls_of reader.new }
 {
     let mut body = Vec::new(alloc);
@@ -73,15 +65,12 @@ pub(crate) fn read_to_end<R: BufRead>(
 ) -> Result<Vec<u8>, MessageFault>
     ensures body { Reads R.remaining reader.old reader.new (λ body. body.items)
         (By all_of) result }
-    ensures read { IsErrOf result MessageFault.Read → HasFailed reader.old reader.new }
-    ensures unfailing { OnOk result (failures_of reader.new ≡ failures_of reader.old) }
-    ensures turns { IsErrOf result MessageFault.TurnLimit → limit ≤ calls_of reader.new }
-    ensures few { calls_of reader.new ≤ max limit (calls_of reader.old) }
+    ensures within { ReadsWithin limit result reader.old reader.new }
     ensures goes_on { calls_of reader.old ≤ calls_of reader.new }
 {
     let mut body = Vec::new(alloc);
     loop {
-        let room = MOST_BODY - body.len();
+        let room = MOST_BODY as usize - body.len();
         let count = read_some(reader, limit, room + 1, &mut body)?;
         if count == 0 {
             return Ok(body);

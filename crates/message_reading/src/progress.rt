@@ -7,6 +7,9 @@ ghost use Rattle.message_reading.specs.Progress.{IsCut, IsProgress, lines_of};
 use crate::ending::ends_empty;
 use crate::line_len::line_len;
 
+/// How long the line may be that ends a head: CR LF.
+const EMPTY_LINE: usize = 2;
+
 /// What is kept beside the bytes of a head so far.
 #[derive(Clone, Copy, Drop)]
 pub(crate) struct Progress {
@@ -121,7 +124,7 @@ impl Progress {
             let len = line_len(&bytes[at..]);
             progress = progress.through(&bytes[at..at + len]);
             at += len;
-            if progress.ends() {
+            if len <= EMPTY_LINE && progress.ends() {
                 return (progress, at);
             }
         }

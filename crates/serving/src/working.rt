@@ -8,7 +8,7 @@ ghost use Rattle.serving.specs.Turns.{IsRun};
 use crate::doors::Accepts;
 use backend::Backend;
 use clocks::{Clock, Looks};
-use counted_io::Counted;
+use counted_io::{Counted, PIECE};
 use gate_config::Settings;
 use gate_port::GatePort;
 use lent_io::{BufferedRead, BufferedWrite, ReadBuffer, WriteBuffer};
@@ -20,9 +20,6 @@ use timed_io::{
     Arrival, Connection, Inlet, Lent, Outlet, TimedReader, TimedWriter, Uninterrupted, linger,
 };
 use wire::WireFault;
-
-/// How many bytes are read or written at once.
-const PIECE: usize = 16_384;
 
 /// How long a worker rests that could have no connection, in milliseconds.
 const WITHOUT_A_CLIENT_MS: u64 = 10;

@@ -9,14 +9,12 @@ use crate::dialing::{Connector, Dialer};
 use crate::watch::BackendWatch;
 use arrayvec::ArrayString;
 use backend::{Answer, Backend};
+use counted_io::PIECE;
 use itoa::Buffer;
 use lent_io::{ReadBuffer, WriteBuffer};
 use message_parts::Request;
 use std::alloc::{AllocError, Global};
 use std::net::{Net, SocketAddrV4};
-
-/// How many bytes are read or written at once.
-const PIECE: usize = 16_384;
 
 /// Why a backend was not made.
 #[derive(Clone, Copy, Drop)]

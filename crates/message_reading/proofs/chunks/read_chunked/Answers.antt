@@ -39,8 +39,8 @@ loop-body-preserved g c =
       failures = search rules;
       few = omega (
         arith,
-        c.in_ok-size.ensures.few,
-        c.in_ok-body.ensures.few,
+        c.in_ok-size.ensures.within.few,
+        c.in_ok-body.ensures.within.few,
         c.loop-body.invariant.few,
       );
       goes_on = omega (
@@ -64,78 +64,32 @@ returns-then-size-len-clause-body g c =
 pub loop-body-init : goal.loop-body-init
 loop-body-init g c = search rules
 
-pub returns-in_err-size-clause-read : goal.returns-in_err-size-clause-read
-returns-in_err-size-clause-read g c = search rules
-
-pub returns-in_err-size-clause-unfailing : goal.returns-in_err-size-clause-unfailing
-returns-in_err-size-clause-unfailing g c = search rules
-
-pub returns-in_err-size-clause-turns : goal.returns-in_err-size-clause-turns
-returns-in_err-size-clause-turns g c = search rules
-
-pub returns-in_err-size-clause-few : goal.returns-in_err-size-clause-few
-returns-in_err-size-clause-few g c = search rules
+pub returns-in_err-size-clause-within : goal.returns-in_err-size-clause-within
+returns-in_err-size-clause-within g c = search rules
 
 pub returns-in_err-size-clause-goes_on : goal.returns-in_err-size-clause-goes_on
 returns-in_err-size-clause-goes_on g c = search rules
 
-pub returns-in_err-read_trailers-clause-read : goal.returns-in_err-read_trailers-clause-read
-returns-in_err-read_trailers-clause-read g c = search rules
-
-pub returns-in_err-read_trailers-clause-unfailing :
-    goal.returns-in_err-read_trailers-clause-unfailing
-returns-in_err-read_trailers-clause-unfailing g c = search rules
-
-pub returns-in_err-read_trailers-clause-turns : goal.returns-in_err-read_trailers-clause-turns
-returns-in_err-read_trailers-clause-turns g c = search rules
-
-pub returns-in_err-read_trailers-clause-few : goal.returns-in_err-read_trailers-clause-few
-returns-in_err-read_trailers-clause-few g c = search rules
+pub returns-in_err-read_trailers-clause-within : goal.returns-in_err-read_trailers-clause-within
+returns-in_err-read_trailers-clause-within g c = search rules
 
 pub returns-in_err-read_trailers-clause-goes_on : goal.returns-in_err-read_trailers-clause-goes_on
 returns-in_err-read_trailers-clause-goes_on g c = search rules
 
-pub returns-then-size-eq0-clause-read : goal.returns-then-size-eq0-clause-read
-returns-then-size-eq0-clause-read g c = search rules
-
-pub returns-then-size-eq0-clause-unfailing : goal.returns-then-size-eq0-clause-unfailing
-returns-then-size-eq0-clause-unfailing g c = search rules
-
-pub returns-then-size-eq0-clause-turns : goal.returns-then-size-eq0-clause-turns
-returns-then-size-eq0-clause-turns g c = search rules
-
-pub returns-then-size-eq0-clause-few : goal.returns-then-size-eq0-clause-few
-returns-then-size-eq0-clause-few g c = search rules
+pub returns-then-size-eq0-clause-within : goal.returns-then-size-eq0-clause-within
+returns-then-size-eq0-clause-within g c = search rules
 
 pub returns-then-size-eq0-clause-goes_on : goal.returns-then-size-eq0-clause-goes_on
 returns-then-size-eq0-clause-goes_on g c = search rules
 
-pub returns-then-size-len-clause-read : goal.returns-then-size-len-clause-read
-returns-then-size-len-clause-read g c = search rules
-
-pub returns-then-size-len-clause-unfailing : goal.returns-then-size-len-clause-unfailing
-returns-then-size-len-clause-unfailing g c = search rules
-
-pub returns-then-size-len-clause-turns : goal.returns-then-size-len-clause-turns
-returns-then-size-len-clause-turns g c = search rules
-
-pub returns-then-size-len-clause-few : goal.returns-then-size-len-clause-few
-returns-then-size-len-clause-few g c = search rules
+pub returns-then-size-len-clause-within : goal.returns-then-size-len-clause-within
+returns-then-size-len-clause-within g c = search rules
 
 pub returns-then-size-len-clause-goes_on : goal.returns-then-size-len-clause-goes_on
 returns-then-size-len-clause-goes_on g c = search rules
 
-pub returns-in_err-body-clause-read : goal.returns-in_err-body-clause-read
-returns-in_err-body-clause-read g c = search rules
-
-pub returns-in_err-body-clause-unfailing : goal.returns-in_err-body-clause-unfailing
-returns-in_err-body-clause-unfailing g c = search rules
-
-pub returns-in_err-body-clause-turns : goal.returns-in_err-body-clause-turns
-returns-in_err-body-clause-turns g c = search rules
-
-pub returns-in_err-body-clause-few : goal.returns-in_err-body-clause-few
-returns-in_err-body-clause-few g c = search rules
+pub returns-in_err-body-clause-within : goal.returns-in_err-body-clause-within
+returns-in_err-body-clause-within g c = search rules
 
 pub returns-in_err-body-clause-goes_on : goal.returns-in_err-body-clause-goes_on
 returns-in_err-body-clause-goes_on g c = search rules

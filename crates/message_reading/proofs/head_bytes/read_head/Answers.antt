@@ -21,8 +21,8 @@ loop-seen-preserved g c =
     record {
       on = rw gave.3 on;
       fits = rw gave.3 (rw length-append room);
-      failures = c.in_ok-read_on.ensures.unfailing ∙ invariant.failures;
-      few = omega (arith, c.in_ok-read_on.ensures.few, invariant.few);
+      failures = c.in_ok-read_on.ensures.within.unfailing ∙ invariant.failures;
+      few = omega (arith, c.in_ok-read_on.ensures.within.few, invariant.few);
       goes_on = omega (arith, c.in_ok-read_on.ensures.reads, invariant.goes_on);
       read = λ _. omega (arith, c.in_ok-read_on.ensures.reads, invariant.goes_on);
     }
@@ -55,17 +55,8 @@ returns-in_err-read_on-clause-head g c = search rules
 pub returns-in_err-read_on-clause-lines : goal.returns-in_err-read_on-clause-lines
 returns-in_err-read_on-clause-lines g c = search rules
 
-pub returns-in_err-read_on-clause-read : goal.returns-in_err-read_on-clause-read
-returns-in_err-read_on-clause-read g c = search rules
-
-pub returns-in_err-read_on-clause-unfailing : goal.returns-in_err-read_on-clause-unfailing
-returns-in_err-read_on-clause-unfailing g c = search rules
-
-pub returns-in_err-read_on-clause-turns : goal.returns-in_err-read_on-clause-turns
-returns-in_err-read_on-clause-turns g c = search rules
-
-pub returns-in_err-read_on-clause-few : goal.returns-in_err-read_on-clause-few
-returns-in_err-read_on-clause-few g c = search rules
+pub returns-in_err-read_on-clause-within : goal.returns-in_err-read_on-clause-within
+returns-in_err-read_on-clause-within g c = search rules
 
 pub returns-in_err-read_on-clause-reads : goal.returns-in_err-read_on-clause-reads
 returns-in_err-read_on-clause-reads g c = search rules
@@ -73,17 +64,8 @@ returns-in_err-read_on-clause-reads g c = search rules
 pub returns-then-branch-clause-lines : goal.returns-then-branch-clause-lines
 returns-then-branch-clause-lines g c = search rules
 
-pub returns-then-branch-clause-read : goal.returns-then-branch-clause-read
-returns-then-branch-clause-read g c = search rules
-
-pub returns-then-branch-clause-unfailing : goal.returns-then-branch-clause-unfailing
-returns-then-branch-clause-unfailing g c = search rules
-
-pub returns-then-branch-clause-turns : goal.returns-then-branch-clause-turns
-returns-then-branch-clause-turns g c = search rules
-
-pub returns-then-branch-clause-few : goal.returns-then-branch-clause-few
-returns-then-branch-clause-few g c = search rules
+pub returns-then-branch-clause-within : goal.returns-then-branch-clause-within
+returns-then-branch-clause-within g c = search rules
 
 pub returns-then-branch-clause-reads : goal.returns-then-branch-clause-reads
 returns-then-branch-clause-reads g c = search rules
@@ -91,17 +73,8 @@ returns-then-branch-clause-reads g c = search rules
 pub returns-clause-lines : goal.returns-clause-lines
 returns-clause-lines g c = search rules
 
-pub returns-clause-read : goal.returns-clause-read
-returns-clause-read g c = search rules
-
-pub returns-clause-unfailing : goal.returns-clause-unfailing
-returns-clause-unfailing g c = search rules
-
-pub returns-clause-turns : goal.returns-clause-turns
-returns-clause-turns g c = search rules
-
-pub returns-clause-few : goal.returns-clause-few
-returns-clause-few g c = search rules
+pub returns-clause-within : goal.returns-clause-within
+returns-clause-within g c = search rules
 
 pub returns-clause-reads : goal.returns-clause-reads
 returns-clause-reads g c = search rules

@@ -24,8 +24,8 @@ loop-left-preserved g c =
         invariant.counted,
         c.in_ok-count.ensures.fits,
       ));
-      failures = c.in_ok-count.ensures.unfailing ∙ invariant.failures;
-      few = omega (arith, c.in_ok-count.ensures.few, invariant.few);
+      failures = c.in_ok-count.ensures.within.unfailing ∙ invariant.failures;
+      few = omega (arith, c.in_ok-count.ensures.within.few, invariant.few);
       goes_on = omega (arith, c.in_ok-count.ensures.goes_on, invariant.goes_on);
     }
 
@@ -46,17 +46,8 @@ returns-in_err-count-clause-kept c = search rules
 pub returns-in_err-count-clause-length : goal.returns-in_err-count-clause-length
 returns-in_err-count-clause-length c = search rules
 
-pub returns-in_err-count-clause-read : goal.returns-in_err-count-clause-read
-returns-in_err-count-clause-read c = search rules
-
-pub returns-in_err-count-clause-unfailing : goal.returns-in_err-count-clause-unfailing
-returns-in_err-count-clause-unfailing c = search rules
-
-pub returns-in_err-count-clause-turns : goal.returns-in_err-count-clause-turns
-returns-in_err-count-clause-turns c = search rules
-
-pub returns-in_err-count-clause-few : goal.returns-in_err-count-clause-few
-returns-in_err-count-clause-few c = search rules
+pub returns-in_err-count-clause-within : goal.returns-in_err-count-clause-within
+returns-in_err-count-clause-within c = search rules
 
 pub returns-in_err-count-clause-goes_on : goal.returns-in_err-count-clause-goes_on
 returns-in_err-count-clause-goes_on c = search rules
@@ -69,17 +60,8 @@ returns-then-count-eq0-clause-kept g c =
 pub returns-then-count-eq0-clause-length : goal.returns-then-count-eq0-clause-length
 returns-then-count-eq0-clause-length c = search rules
 
-pub returns-then-count-eq0-clause-read : goal.returns-then-count-eq0-clause-read
-returns-then-count-eq0-clause-read c = search rules
-
-pub returns-then-count-eq0-clause-unfailing : goal.returns-then-count-eq0-clause-unfailing
-returns-then-count-eq0-clause-unfailing c = search rules
-
-pub returns-then-count-eq0-clause-turns : goal.returns-then-count-eq0-clause-turns
-returns-then-count-eq0-clause-turns c = search rules
-
-pub returns-then-count-eq0-clause-few : goal.returns-then-count-eq0-clause-few
-returns-then-count-eq0-clause-few c = search rules
+pub returns-then-count-eq0-clause-within : goal.returns-then-count-eq0-clause-within
+returns-then-count-eq0-clause-within c = search rules
 
 pub returns-then-count-eq0-clause-goes_on : goal.returns-then-count-eq0-clause-goes_on
 returns-then-count-eq0-clause-goes_on c = search rules
@@ -93,17 +75,8 @@ returns-clause-kept c = search rules
 pub returns-clause-length : goal.returns-clause-length
 returns-clause-length c = grind (arith, common_steps)
 
-pub returns-clause-read : goal.returns-clause-read
-returns-clause-read c = search rules
-
-pub returns-clause-unfailing : goal.returns-clause-unfailing
-returns-clause-unfailing c = search rules
-
-pub returns-clause-turns : goal.returns-clause-turns
-returns-clause-turns c = search rules
-
-pub returns-clause-few : goal.returns-clause-few
-returns-clause-few c = search rules
+pub returns-clause-within : goal.returns-clause-within
+returns-clause-within c = search rules
 
 pub returns-clause-goes_on : goal.returns-clause-goes_on
 returns-clause-goes_on c = search rules

@@ -12,8 +12,8 @@ loop-body-preserved g c =
     record {
       consumed = rw gave.2 (Consumes-trans _ _ _ _ gave.0 invariant.consumed gave.3);
       fits = rw gave.2 (grind (arith, common_steps, size, gave.1, invariant.fits));
-      failures = c.in_ok-count.ensures.unfailing ∙ invariant.failures;
-      few = omega (arith, c.in_ok-count.ensures.few, invariant.few);
+      failures = c.in_ok-count.ensures.within.unfailing ∙ invariant.failures;
+      few = omega (arith, c.in_ok-count.ensures.within.few, invariant.few);
       goes_on = omega (arith, c.in_ok-count.ensures.goes_on, invariant.goes_on);
     }
 
@@ -35,47 +35,20 @@ returns-then-count-room-clause-body g c =
 pub returns-in_err-count-clause-body : goal.returns-in_err-count-clause-body
 returns-in_err-count-clause-body c = search rules
 
-pub returns-in_err-count-clause-read : goal.returns-in_err-count-clause-read
-returns-in_err-count-clause-read c = search rules
-
-pub returns-in_err-count-clause-unfailing : goal.returns-in_err-count-clause-unfailing
-returns-in_err-count-clause-unfailing c = search rules
-
-pub returns-in_err-count-clause-turns : goal.returns-in_err-count-clause-turns
-returns-in_err-count-clause-turns c = search rules
-
-pub returns-in_err-count-clause-few : goal.returns-in_err-count-clause-few
-returns-in_err-count-clause-few c = search rules
+pub returns-in_err-count-clause-within : goal.returns-in_err-count-clause-within
+returns-in_err-count-clause-within c = search rules
 
 pub returns-in_err-count-clause-goes_on : goal.returns-in_err-count-clause-goes_on
 returns-in_err-count-clause-goes_on c = search rules
 
-pub returns-then-count-eq0-clause-read : goal.returns-then-count-eq0-clause-read
-returns-then-count-eq0-clause-read c = search rules
-
-pub returns-then-count-eq0-clause-unfailing : goal.returns-then-count-eq0-clause-unfailing
-returns-then-count-eq0-clause-unfailing c = search rules
-
-pub returns-then-count-eq0-clause-turns : goal.returns-then-count-eq0-clause-turns
-returns-then-count-eq0-clause-turns c = search rules
-
-pub returns-then-count-eq0-clause-few : goal.returns-then-count-eq0-clause-few
-returns-then-count-eq0-clause-few c = search rules
+pub returns-then-count-eq0-clause-within : goal.returns-then-count-eq0-clause-within
+returns-then-count-eq0-clause-within c = search rules
 
 pub returns-then-count-eq0-clause-goes_on : goal.returns-then-count-eq0-clause-goes_on
 returns-then-count-eq0-clause-goes_on c = search rules
 
-pub returns-then-count-room-clause-read : goal.returns-then-count-room-clause-read
-returns-then-count-room-clause-read c = search rules
-
-pub returns-then-count-room-clause-unfailing : goal.returns-then-count-room-clause-unfailing
-returns-then-count-room-clause-unfailing c = search rules
-
-pub returns-then-count-room-clause-turns : goal.returns-then-count-room-clause-turns
-returns-then-count-room-clause-turns c = search rules
-
-pub returns-then-count-room-clause-few : goal.returns-then-count-room-clause-few
-returns-then-count-room-clause-few c = search rules
+pub returns-then-count-room-clause-within : goal.returns-then-count-room-clause-within
+returns-then-count-room-clause-within c = search rules
 
 pub returns-then-count-room-clause-goes_on : goal.returns-then-count-room-clause-goes_on
 returns-then-count-room-clause-goes_on c = search rules

@@ -1,8 +1,9 @@
 use Rattle.std.proofs.Common.{arith, ◌≡◌, ◌≤◌, ◌<◌, ◌+◌, ◌++◌, ◌∙◌, false, length, length-take-le, sym, take}
 use Rattle.std.proofs.lemmas.Grind.{common_steps}
 use Rattle.message_reading.specs.HeadBytes.{ends_head}
-use Rattle.message_reading.proofs.HeadCuts.{by_piece, line_more}
+use Rattle.message_reading.proofs.HeadCuts.{by_piece, line_more, long_line_more}
 use Rattle.message_reading.proofs.progress.Progress.until_end.Goals as goal
+use Rattle.message_reading.proofs.progress.Progress.until_end.Goals.{else-len-le-EMPTY_LINE-via-then-len-le-EMPTY_LINE+else-ends, else-len-le-EMPTY_LINE-via-else-len-le-EMPTY_LINE}
 
 pub loop-at-preserved : goal.loop-at-preserved
 loop-at-preserved c =
@@ -17,7 +18,13 @@ loop-at-preserved c =
           let more = line_more text bytes at line.result _ _ inside some line.ensures.before short
           before.0 before.1 c.through-progress.ensures.is in
           let none : ends_head (text ++ take (at + line.result) bytes) ≡ false =
-          sym (c.ends.ensures _ more.0) ∙ c.if-ends.false in
+          elim c.else-len-le-EMPTY_LINE.branch [
+            | else-len-le-EMPTY_LINE-via-then-len-le-EMPTY_LINE+else-ends w ↦
+                sym (w.ends.ensures _ more.0) ∙ w.if-ends.false
+            | else-len-le-EMPTY_LINE-via-else-len-le-EMPTY_LINE w ↦
+                long_line_more text bytes at line.result inside
+                (omega (arith, w.if-len-le-EMPTY_LINE.false)) line.ensures.before
+          ] in
           (more.0, by_piece text _ more.1 none, λ _. none);
       few = grind (arith, common_steps);
       inside = inside;
