@@ -1,8 +1,8 @@
 -- Tests of all items, or of any, through `map`, `filter` and `flat_map`.
-use Rattle.std.proofs.Common.{◌≡◌, ℕ, ◌+◌, ◌<◌, Bool, true, false, not, ◌||◌, ◌&&◌, List, [], ◌∷◌, ◌++◌, map, filter, get_or, length, take, refl, ap, ◌∙◌, sym, cond}
+use Rattle.std.proofs.Common.{◌≡◌, ℕ, ◌+◌, ◌<◌, Bool, true, false, not, ◌||◌, ◌&&◌, List, [], ◌∷◌, ◌++◌, map, filter, get_or, length, nat_lt, take, refl, ap, ◌∙◌, sym, cond, arith, rules}
 use Rattle.std.specs.Prelude.{count_by}
 use Rattle.std.specs.List.{list_all, list_any, flat_map, sum_by}
-use Rattle.std.proofs.lemmas.List.Sums.{sum_by_more}
+use Rattle.std.proofs.lemmas.List.Sums.{sum_by-cons, sum_by_more}
 
 -- each item of a map
 pub list_all-map : {X Y : Type 0} (p : Y → Bool) (f : X → Y) (xs : List X)
@@ -70,3 +70,18 @@ pub count_one_more : {X : Type 0} (p : X → Bool) (xs : List X) (i : ℕ) (x : 
 count_one_more {X} p xs i x inside is =
     let f : X → ℕ = λ y. cond (p y) 1 0 in
     sum_by_more f xs i x inside ∙ ap (λ y. sum_by f (take i xs) + f y) (sym is)
+
+-- some item passes where they are counted to one at least
+pub any_counted : {X : Type 0} (p : X → Bool) (xs : List X)
+    → list_any p xs ≡ nat_lt 0 (count_by p xs)
+any_counted p [] = refl
+any_counted p (x ∷ xs) =
+    let n = count_by p xs in
+    let more : 0 < 1 + n = omega arith in
+    let one : nat_lt 0 (1 + n) ≡ true = search rules in
+    let none : n ≡ 0 + n = omega arith in
+    elim (p x) as (λ b. (b || list_any p xs) ≡ nat_lt 0 (cond b 1 0 + n)) [
+      | true ↦ sym one
+      | false ↦ any_counted p xs ∙ ap (nat_lt 0) none
+    ]
+    ∙ ap (nat_lt 0) (sym (sum_by-cons (λ y. cond (p y) 1 0) x xs))

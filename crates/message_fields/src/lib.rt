@@ -16,7 +16,7 @@ mod target;
 
 pub use length::{LengthFault, MOST_BODY, length_digits, length_of, length_of_one};
 pub use lines::{
-    asks_continue, count_codings_and_lengths, count_hosts, count_named, first_value,
+    asks_continue, count_codings_and_lengths, count_hosts, count_named, first_value, has_host,
     is_chunked_alone,
 };
 pub use names::{is_host, is_same_name};

@@ -1,5 +1,5 @@
 // The lines of a name.
-ghost use Rattle.std.specs.Prelude.{◌≡◌, ◌≤◌, ◌&&◌, codes, option_map, if◌then◌else◌};
+ghost use Rattle.std.specs.Prelude.{◌≡◌, ◌≤◌, ◌&&◌, codes, nat_lt, option_map, if◌then◌else◌};
 ghost use Rattle.message_fields.specs.Names.{same_name};
 ghost use Rattle.message_fields.specs.Lines.{is_named, count_named, first_value, has_word, is_chunked_alone, asks_continue};
 
@@ -29,6 +29,13 @@ pub fn count_hosts(lines: &[Header]) -> usize
         .iter()
         .filter(|line| is_host(line.name.as_slice()))
         .count()
+}
+
+/// Whether some line is Host. Most requests have it in front, and then no other line is looked at.
+pub fn has_host(lines: &[Header]) -> bool
+    ensures { result ≡ nat_lt 0 (count_named (codes "host") lines.now) }
+{
+    lines.iter().any(|line| is_host(line.name.as_slice()))
 }
 
 /// 1 where something is so.

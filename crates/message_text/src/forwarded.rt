@@ -10,7 +10,7 @@ ghost use Rattle.message_text.specs.Forwarded.{lent, seen, first_text, forwarded
 
 use super::lines::{bytes_of, write_body_length, write_line, write_request_lines};
 use counted_io::{Counted, WriteFault, write_all, write_and_flush};
-use message_fields::{authority, count_hosts, is_whole_server, local_part, wants_slash};
+use message_fields::{authority, has_host, is_whole_server, local_part, wants_slash};
 use message_parts::{Header, Method};
 use std::io::Write;
 
@@ -100,7 +100,7 @@ impl Forwarded<'_> {
         ensures failed { OnErr result (IsWriteCause writer.old writer.new) }
         ensures flushes { flushes_of writer.new ≡ flushes_of writer.old }
     {
-        if count_hosts(self.headers) > 0 {
+        if has_host(self.headers) {
             return Ok(());
         }
         write_line(
