@@ -15,6 +15,7 @@ ghost use Rattle.config_sections.specs.Rows.{class_rows};
 use crate::version::Version;
 use arrayvec::ArrayVec;
 use config_values::{ConfigFault, Key, KeyAtFault, Range, read_number, read_text};
+use config_words::range_of;
 use partitions::{from_percent, is_name};
 use toml::{Table, Value};
 
@@ -90,10 +91,11 @@ fn read_thousandths(version: Version, left: u32, table: &Table) -> Result<u32, C
 {
     match version {
         Version::One => {
-            let percent = read_number(table, Key::ClassPercent, Range::required(1, left / 10))?;
+            let range = range_of!(ClassPercent, left / 10);
+            let percent = read_number(table, Key::ClassPercent, range)?;
             Ok(from_percent(u64::from(percent)) as u32)
         }
-        Version::Two => read_number(table, Key::ClassShare, Range::required(1, left)),
+        Version::Two => read_number(table, Key::ClassShare, range_of!(ClassShare, left)),
     }
 }
 
