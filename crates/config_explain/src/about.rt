@@ -3,20 +3,26 @@ ghost use Rattle.std.specs.Prelude.{◌≡◌};
 ghost use Rattle.config_explain.specs.Explained.{hangs_on_others};
 
 use config_values::Key;
-use config_words::key_words;
+use config_words::key_rows;
 
 /// The words of the key's row.
 macro_rules! words_of {
-    ([$of:ident] $($key:ident $start:literal $held:literal $help:literal $alone:literal;)*) => {
+    (
+        [$of:ident]
+        $(
+            $key:ident $start:literal $held:literal $([$($range:tt)*])?
+                $(help $help:literal)? $(explained $explained:literal)?;
+        )*
+    ) => {
         match $of {
-            $(Key::$key => concat!($held, $alone)),*
+            $(Key::$key => concat!($held, $(stringify!($($range)*),)? $($explained)?)),*
         }
     };
 }
 
 /// What a key holds: its unit, its range and its default.
 pub(crate) fn about(key: Key) -> &'static str {
-    key_words!(words_of key)
+    key_rows!(words_of, key)
 }
 
 /// Whether the range of a key's numbers hangs on other keys.

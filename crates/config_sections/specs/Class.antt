@@ -1,11 +1,9 @@
 -- A class of a configuration, and all of them one after the other.
-use Rattle.std.specs.Prelude.{ℕ, ◌*◌, ◌/◌, List, [], length, None, Result, Ok, codes}
-use Rattle.toml.specs.Data.{Members, get_member}
+use Rattle.std.specs.Prelude.{ℕ, ◌*◌, List, [], length, Result, Ok, codes}
+use Rattle.toml.specs.Data.{Members}
 use Rattle.partitions.specs.Table.{Row}
 use Rattle.config_values.specs.declared.fault.ConfigFault.{ConfigFault}
-use Rattle.config_values.specs.declared.key.Key.{Key}
-use Rattle.config_values.specs.Number.{number_from}
-use Rattle.config_values.specs.Outcomes.{of_member, result_map, ◌>>=◌}
+use Rattle.config_values.specs.Outcomes.{of_member, ◌>>=◌}
 use Rattle.config_sections.specs.declared.version.Version.{Version}
 use Rattle.config_sections.specs.declared.version.Version.TheVariants.{One, Two}
 use Rattle.config_sections.specs.Rows.{class_rows}
@@ -35,11 +33,3 @@ class_after version before t = of_member (length before) (class_from version bef
 -- the classes, one after the other
 abbrev pub classes_of : Version → List Members → Result (List Row) ConfigFault
 classes_of version tables = read_each (class_after version) [] tables
-
--- a class's share in thousandths by the one key that tells it, of which so many are left
-abbrev pub thousandths_from : Version → ℕ → Members → Result ℕ ConfigFault
-thousandths_from One left t =
-    result_map (λ percent. 10 * percent)
-    (number_from Key.ClassPercent 1 (left / 10) None (get_member (codes "percent") t))
-thousandths_from Two left t =
-    number_from Key.ClassShare 1 left None (get_member (codes "share") t)

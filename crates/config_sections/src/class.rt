@@ -8,13 +8,15 @@ ghost use Rattle.config_values.specs.Key.{name_of};
 ghost use Rattle.config_values.specs.Outcomes.{result_map};
 ghost use Rattle.config_values.specs.Table.{tables_among};
 ghost use Rattle.config_values.specs.Text.{text_from};
-ghost use Rattle.config_sections.specs.Class.{class_after, class_from, classes_of, thousandths_from};
+ghost use Rattle.config_sections.specs.declared.version.Version.TheVariants.{One, Two};
+ghost use Rattle.config_sections.specs.Class.{class_after, class_from, classes_of};
 ghost use Rattle.config_sections.specs.ClassRows.{class_row, is_class, is_new_name, left_by};
 ghost use Rattle.config_sections.specs.Rows.{class_rows};
 
 use crate::version::Version;
 use arrayvec::ArrayVec;
 use config_values::{ConfigFault, Key, KeyAtFault, Range, read_number, read_text};
+use config_words::range_of;
 use partitions::{from_percent, is_name};
 use toml::{Table, Value};
 
@@ -78,23 +80,33 @@ fn read_keys<'a>(
     ensures { result_map class_row result
         ≡ class_from version (map class_row before.now) (table_view table.now) }
 {
+    match version {
+        Version::One => read_by_percent(before, table),
+        Version::Two => read_by_share(before, table),
+    }
+}
+
+/// The keys of a class whose share is told in percent.
+fn read_by_percent<'a>(before: &[ClassKeys], table: &'a Table) -> Result<ClassKeys<'a>, ConfigFault>
+    ensures { result_map class_row result
+        ≡ class_from One (map class_row before.now) (table_view table.now) }
+{
     let name = new_name(before, table, Key::ClassName)?;
-    let thousandths = read_thousandths(version, left_by(before), table)?;
+    let left = left_by(before) / 10;
+    let percent = read_number(table, Key::ClassPercent, range_of!(ClassPercent, left))?;
+    let thousandths = from_percent(u64::from(percent)) as u32;
     Ok(ClassKeys { name, thousandths })
 }
 
-/// The share of a class in thousandths, of which so many are left.
-fn read_thousandths(version: Version, left: u32, table: &Table) -> Result<u32, ConfigFault>
-    requires { left ≤ 1000 }
-    ensures { result ≡ thousandths_from version left (table_view table.now) }
+/// The keys of a class whose share is told in thousandths.
+fn read_by_share<'a>(before: &[ClassKeys], table: &'a Table) -> Result<ClassKeys<'a>, ConfigFault>
+    ensures { result_map class_row result
+        ≡ class_from Two (map class_row before.now) (table_view table.now) }
 {
-    match version {
-        Version::One => {
-            let percent = read_number(table, Key::ClassPercent, Range::required(1, left / 10))?;
-            Ok(from_percent(u64::from(percent)) as u32)
-        }
-        Version::Two => read_number(table, Key::ClassShare, Range::required(1, left)),
-    }
+    let name = new_name(before, table, Key::ClassName)?;
+    let left = left_by(before);
+    let thousandths = read_number(table, Key::ClassShare, range_of!(ClassShare, left))?;
+    Ok(ClassKeys { name, thousandths })
 }
 
 /// The name of a partition that none of the classes has.

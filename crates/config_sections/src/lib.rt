@@ -23,8 +23,5 @@ pub use top::{TOP_KEYS, TopKeys, read_top};
 pub use version::Version;
 pub use window::{WINDOW_KEYS, read_window};
 
-/// One hour in microseconds.
-const HOUR_US: u32 = 3_600_000_000;
-
 /// The nanoseconds of a microsecond.
 const MICRO: u64 = 1_000;

@@ -10,13 +10,11 @@ ghost use Rattle.config_sections.specs.Limit.{kind_word, limit_in, limit_names, 
 ghost use Rattle.config_sections.specs.Rows.{limit_kinds, moving, moving_rows};
 ghost use Rattle.config_sections.specs.Section.{section_values};
 
-use crate::{HOUR_US, MICRO};
+use crate::MICRO;
 use config_values::{ConfigFault, Key, KeyAtFault, Range, read_number, read_text};
+use config_words::range_of;
 use limit_kinds::LimitSpec;
 use toml::Table;
-
-/// The greatest limit, in permits.
-const MOST: u32 = 10_000;
 
 /// How the limit is found.
 #[derive(Clone, Copy)]
@@ -109,7 +107,7 @@ fn read_fixed(table: &Table) -> Result<LimitSpec, ConfigFault>
     ensures sound { IfOk result (λ spec. IsOk (limit_made spec)) }
     ensures value { result ≡ limit_in (table_view table.now) }
 {
-    let initial = read_number(table, Key::LimitInitial, Range::new(1, MOST, 20))?;
+    let initial = read_number(table, Key::LimitInitial, range_of!(LimitInitial, of fixed))?;
     Ok(LimitSpec::Fixed {
         permits: u64::from(initial),
     })
@@ -138,12 +136,8 @@ fn read_aimd(table: &Table) -> Result<LimitSpec, ConfigFault>
     ensures value { result ≡ limit_in (table_view table.now) }
 {
     let moving = read_moving(table)?;
-    let ratio = read_number(table, Key::LimitRatio, Range::new(500, 999, 900))?;
-    let timeout_us = read_number(
-        table,
-        Key::LimitTimeoutUs,
-        Range::new(1, HOUR_US, 5_000_000),
-    )?;
+    let ratio = read_number(table, Key::LimitRatio, range_of!(LimitRatio))?;
+    let timeout_us = read_number(table, Key::LimitTimeoutUs, range_of!(LimitTimeoutUs))?;
     Ok(LimitSpec::Aimd {
         lo: u64::from(moving.min),
         first: u64::from(moving.initial),
@@ -161,9 +155,9 @@ fn read_vegas(table: &Table) -> Result<LimitSpec, ConfigFault>
     ensures value { result ≡ limit_in (table_view table.now) }
 {
     let moving = read_moving(table)?;
-    let alpha = read_number(table, Key::LimitAlpha, Range::new(1, 100, 3))?;
-    let beta = read_number(table, Key::LimitBeta, Range::new(alpha, 100, 6))?;
-    let probe_every = read_number(table, Key::LimitProbeEvery, Range::new(0, 1_000_000, 0))?;
+    let alpha = read_number(table, Key::LimitAlpha, range_of!(LimitAlpha))?;
+    let beta = read_number(table, Key::LimitBeta, range_of!(LimitBeta, alpha))?;
+    let probe_every = read_number(table, Key::LimitProbeEvery, range_of!(LimitProbeEvery))?;
     Ok(LimitSpec::Vegas {
         lo: u64::from(moving.min),
         first: u64::from(moving.initial),
@@ -192,8 +186,8 @@ fn read_moving(table: &Table) -> Result<Moving, ConfigFault>
         → result_map (moving_values kind) result
         ≡ section_values [] moving_rows (table_view table.now) }
 {
-    let min = read_number(table, Key::LimitMin, Range::new(1, MOST, 1))?;
-    let max = read_number(table, Key::LimitMax, Range::new(min, MOST, 200))?;
-    let initial = read_number(table, Key::LimitInitial, Range::new(min, max, 20))?;
+    let min = read_number(table, Key::LimitMin, range_of!(LimitMin))?;
+    let max = read_number(table, Key::LimitMax, range_of!(LimitMax, min))?;
+    let initial = read_number(table, Key::LimitInitial, range_of!(LimitInitial, min, max))?;
     Ok(Moving { min, max, initial })
 }

@@ -8,6 +8,7 @@ ghost use Rattle.config_sections.specs.Top.{IsTop, top_values};
 
 use crate::promote::{PromoteRule, read_promote};
 use config_values::{Address, ConfigFault, Key, Range, read_address, read_flag, read_number};
+use config_words::{default_of, range_of};
 use toml::Table;
 
 /// The keys outside all tables.
@@ -52,10 +53,10 @@ pub fn read_top(table: &Table) -> Result<TopKeys, ConfigFault>
 {
     let listen = read_address(table, Key::Listen)?;
     let backend = read_address(table, Key::Backend)?;
-    let backlog = read_number(table, Key::Backlog, Range::new(0, 10_000, 100))?;
-    let wait = read_flag(table, Key::Wait, true)?;
-    let timeout_ms = read_number(table, Key::TimeoutMs, Range::new(1, 3_600_000, 1_000))?;
-    let keep = read_number(table, Key::Keep, Range::new(1, 1_000_000, 4_096))?;
+    let backlog = read_number(table, Key::Backlog, range_of!(Backlog))?;
+    let wait = read_flag(table, Key::Wait, default_of!(Wait))?;
+    let timeout_ms = read_number(table, Key::TimeoutMs, range_of!(TimeoutMs))?;
+    let keep = read_number(table, Key::Keep, range_of!(Keep))?;
     let promote = read_promote(table)?;
     Ok(TopKeys {
         listen,

@@ -4,8 +4,9 @@ ghost use Rattle.toml.specs.View.{table_view};
 ghost use Rattle.limit_kinds.specs.Specs.{windows_made};
 ghost use Rattle.config_sections.specs.Window.{window_in};
 
-use crate::{HOUR_US, MICRO};
+use crate::MICRO;
 use config_values::{ConfigFault, Key, Range, read_number};
+use config_words::range_of;
 use limit_kinds::WindowSpec;
 use toml::Table;
 
@@ -22,14 +23,10 @@ pub fn read_window(table: &Table) -> Result<WindowSpec, ConfigFault>
     ensures sound { IfOk result (λ spec. IsOk (windows_made spec)) }
     ensures value { result ≡ window_in (table_view table.now) }
 {
-    let size = read_number(table, Key::WindowSize, Range::new(1, 1_000_000, 10))?;
-    let min_us = read_number(table, Key::WindowMinUs, Range::new(1, HOUR_US, 1_000_000))?;
-    let max_us = read_number(
-        table,
-        Key::WindowMaxUs,
-        Range::new(min_us, HOUR_US, 1_000_000),
-    )?;
-    let min_rtt_us = read_number(table, Key::WindowMinRttUs, Range::new(0, HOUR_US, 100))?;
+    let size = read_number(table, Key::WindowSize, range_of!(WindowSize))?;
+    let min_us = read_number(table, Key::WindowMinUs, range_of!(WindowMinUs))?;
+    let max_us = read_number(table, Key::WindowMaxUs, range_of!(WindowMaxUs, min_us))?;
+    let min_rtt_us = read_number(table, Key::WindowMinRttUs, range_of!(WindowMinRttUs))?;
     Ok(WindowSpec {
         size: u64::from(size),
         min_window_ns: u64::from(min_us) * MICRO,

@@ -1,5 +1,5 @@
 // The help of `check`.
-use config_words::key_words;
+use config_words::key_rows;
 
 pub(crate) const CHECK_ABOUT: &str =
     "Says whether a configuration is right, before anything is served";
@@ -7,15 +7,22 @@ pub(crate) const CHECK_ABOUT: &str =
 /// A text, the lines of the keys, and the text behind them.
 macro_rules! with_lines {
     (
-        [$before:literal $behind:literal]
-        $($key:ident $start:literal $held:literal $help:literal $alone:literal;)*
+        [$before:literal, $behind:literal]
+        $(
+            $key:ident $start:literal $held:literal $([$($range:tt)*])?
+                $(help $help:literal)? $(explained $explained:literal)?;
+        )*
     ) => {
-        concat!($before, $($start, $held, $help, "\n",)* $behind)
+        concat!(
+            $before,
+            $($start, $held, $(stringify!($($range)*),)? $($help,)? "\n",)*
+            $behind
+        )
     };
 }
 
-pub(crate) const CHECK_HELP: &str = key_words!(
-    with_lines
+pub(crate) const CHECK_HELP: &str = key_rows!(
+    with_lines,
     "\
 Reads the file CONFIG, TOML text of at most 1 MiB, and serves nothing. /dev/stdin as CONFIG reads
 standard input.
@@ -40,7 +47,7 @@ The keys, with unit, range and default. An omitted key takes its default, or the
 range if an earlier key leaves the default outside.
 
 Before the tables:
-"
+",
     "
 With a table of each kind:
 

@@ -1,0 +1,60 @@
+// What code reads off a row: the range of a key, and its default.
+
+/// The range of a key as a `Range`, which the caller has in scope. Behind the key stand the values
+/// of those ends that aren't numbers in its row, or `of` and the kind whose range is meant.
+#[macro_export]
+macro_rules! range_of {
+    ($key:ident $(, $($end:tt)+)?) => {
+        $crate::key_row! { $key [$crate::range_of_row] [$($($end)+)?] }
+    };
+}
+
+/// The range of a row, with the values of its ends.
+#[macro_export]
+macro_rules! range_of_row {
+    ($ends:tt $key:ident $start:literal $held:literal $range:tt $(help $help:literal)?;) => {
+        $crate::range_between! { $ends $range }
+    };
+}
+
+/// The range in a row's brackets, with the values of its ends.
+#[macro_export]
+macro_rules! range_between {
+    ([] [$low:literal to $high:literal; $default:literal $(, $meaning:ident)?]) => {
+        Range::new($low, $high, $default)
+    };
+    ([$low:ident] [$key:ident to $high:literal; $default:literal]) => {
+        Range::new($low, $high, $default)
+    };
+    (
+        [$low:ident, $high:ident]
+        [$key:ident to $other:ident, of fixed $least:literal to $most:literal; $default:literal]
+    ) => {
+        Range::new($low, $high, $default)
+    };
+    (
+        [of fixed]
+        [$key:ident to $other:ident, of fixed $low:literal to $high:literal; $default:literal]
+    ) => {
+        Range::new($low, $high, $default)
+    };
+    ([$($left:tt)+] [$low:literal to what the classes before leave of $all:literal; required]) => {
+        Range::required($low, $($left)+)
+    };
+}
+
+/// The default of a key that is true or false.
+#[macro_export]
+macro_rules! default_of {
+    ($key:ident) => {
+        $crate::key_row! { $key [$crate::default_of_row] }
+    };
+}
+
+/// The default of a row that is true or false.
+#[macro_export]
+macro_rules! default_of_row {
+    ($key:ident $start:literal $held:literal [true or false; $default:literal];) => {
+        $default
+    };
+}

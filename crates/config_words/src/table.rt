@@ -1,0 +1,167 @@
+// The table, and its rows one by one or all together.
+
+/// The row of a key, for the macro of the path in brackets, which takes it behind the tokens given.
+#[macro_export]
+macro_rules! key_row {
+    (Version [$($row:tt)*] $($given:tt)*) => { $($row)*! { $($given)*
+        Version "  version       " "2, or 1 with the shares of classes in percent; required";
+    } };
+    (Listen [$($row:tt)*] $($given:tt)*) => { $($row)*! { $($given)*
+        Listen "  listen        " "A.B.C.D:PORT, port 1 to 65535, where requests come in; required";
+    } };
+    (Backend [$($row:tt)*] $($given:tt)*) => { $($row)*! { $($given)*
+        Backend "  backend       " "A.B.C.D:PORT, port 1 to 65535, where they go to; required";
+    } };
+    (Backlog [$($row:tt)*] $($given:tt)*) => { $($row)*! { $($given)*
+        Backlog "  backlog       " "how many callers may wait for a permit, " [0 to 10000; 100];
+    } };
+    (Wait [$($row:tt)*] $($given:tt)*) => { $($row)*! { $($given)*
+        Wait "  wait          " "whether refused callers wait at all, " [true or false; true];
+    } };
+    (TimeoutMs [$($row:tt)*] $($given:tt)*) => { $($row)*! { $($given)*
+        TimeoutMs "  timeout_ms    " "the longest wait in milliseconds, " [1 to 3600000; 1000];
+    } };
+    (Keep [$($row:tt)*] $($given:tt)*) => { $($row)*! { $($given)*
+        Keep "  keep          " "entries of the history that are kept, " [1 to 1000000; 4096];
+    } };
+    (Promote [$($row:tt)*] $($given:tt)*) => { $($row)*! { $($given)*
+        Promote "  promote       "
+            "which waiters get room that falls free, \"newest\" or \"all\" who fit; \"newest\"";
+    } };
+    (Limit [$($row:tt)*] $($given:tt)*) => { $($row)*! { $($given)*
+        Limit "[limit], required:" "" explained "a table, [limit]; required";
+    } };
+    (LimitKind [$($row:tt)*] $($given:tt)*) => { $($row)*! { $($given)*
+        LimitKind "  kind          " "\"fixed\", \"settable\", \"aimd\" or \"vegas\"; required";
+    } };
+    (LimitMin [$($row:tt)*] $($given:tt)*) => { $($row)*! { $($given)*
+        LimitMin "  min           " "permits, " [1 to 10000; 1] help ". Not of fixed";
+    } };
+    (LimitMax [$($row:tt)*] $($given:tt)*) => { $($row)*! { $($given)*
+        LimitMax "  max           " "permits, " [min to 10000; 200] help ". Not of fixed";
+    } };
+    (LimitInitial [$($row:tt)*] $($given:tt)*) => { $($row)*! { $($given)*
+        LimitInitial "  initial       " "permits, " [min to max, of fixed 1 to 10000; 20];
+    } };
+    (LimitRatio [$($row:tt)*] $($given:tt)*) => { $($row)*! { $($given)*
+        LimitRatio "  ratio         aimd: " "what a drop leaves in thousandths, " [500 to 999; 900];
+    } };
+    (LimitTimeoutUs [$($row:tt)*] $($given:tt)*) => { $($row)*! { $($given)*
+        LimitTimeoutUs "  timeout_us    aimd: " "a round trip above it is a drop, microseconds, "
+            [1 to 3600000000; 5000000];
+    } };
+    (LimitAlpha [$($row:tt)*] $($given:tt)*) => { $($row)*! { $($given)*
+        LimitAlpha "  alpha         vegas: " "the limit rises below this queue, permits, "
+            [1 to 100; 3];
+    } };
+    (LimitBeta [$($row:tt)*] $($given:tt)*) => { $($row)*! { $($given)*
+        LimitBeta "  beta          vegas: " "the limit falls above this queue, permits, "
+            [alpha to 100; 6];
+    } };
+    (LimitProbeEvery [$($row:tt)*] $($given:tt)*) => { $($row)*! { $($given)*
+        LimitProbeEvery "  probe_every   vegas: "
+            "samples until the least round trip is measured anew, " [0 to 1000000; 0, never];
+    } };
+    (Window [$($row:tt)*] $($given:tt)*) => { $($row)*! { $($given)*
+        Window "[window], from which the limit then learns:" "" explained "a table, [window]; none";
+    } };
+    (WindowSize [$($row:tt)*] $($given:tt)*) => { $($row)*! { $($given)*
+        WindowSize "  size          " "samples, " [1 to 1000000; 10];
+    } };
+    (WindowMinUs [$($row:tt)*] $($given:tt)*) => { $($row)*! { $($given)*
+        WindowMinUs "  min_us        " "the shortest window in microseconds, "
+            [1 to 3600000000; 1000000];
+    } };
+    (WindowMaxUs [$($row:tt)*] $($given:tt)*) => { $($row)*! { $($given)*
+        WindowMaxUs "  max_us        " "the longest window in microseconds, "
+            [min_us to 3600000000; 1000000];
+    } };
+    (WindowMinRttUs [$($row:tt)*] $($given:tt)*) => { $($row)*! { $($given)*
+        WindowMinRttUs "  min_rtt_us    " "quicker answers are left out, microseconds, "
+            [0 to 3600000000; 100];
+    } };
+    (Class [$($row:tt)*] $($given:tt)*) => { $($row)*! { $($given)*
+        Class "[[class]], at most four, a promised share of the limit:" ""
+            explained "an array of at most four tables, [[class]]; none";
+    } };
+    (ClassName [$($row:tt)*] $($given:tt)*) => { $($row)*! { $($given)*
+        ClassName "  name          "
+            "1 to 32 of a-z 0-9 - _, not unknown, not given before; required";
+    } };
+    (ClassShare [$($row:tt)*] $($given:tt)*) => { $($row)*! { $($given)*
+        ClassShare "  share         version 2: " "thousandths, "
+            [1 to what the classes before leave of 1000; required];
+    } };
+    (ClassPercent [$($row:tt)*] $($given:tt)*) => { $($row)*! { $($given)*
+        ClassPercent "  percent       version 1: " "percent, "
+            [1 to what the classes before leave of 100; required];
+    } };
+    (Resolver [$($row:tt)*] $($given:tt)*) => { $($row)*! { $($given)*
+        Resolver "[[resolver]], at most 32; the first that finds a class tells it." ""
+            help " All its keys are required:"
+            explained "an array of at most 32 tables, [[resolver]]; none";
+    } };
+    (ResolverKind [$($row:tt)*] $($given:tt)*) => { $($row)*! { $($given)*
+        ResolverKind "  kind          " "\"header\", \"method\" or \"route\""
+            explained "; required";
+    } };
+    (ResolverHeader [$($row:tt)*] $($given:tt)*) => { $($row)*! { $($given)*
+        ResolverHeader "  header        header: " "the name of the header that has the class's name"
+            explained "; required";
+    } };
+    (ResolverMethod [$($row:tt)*] $($given:tt)*) => { $($row)*! { $($given)*
+        ResolverMethod "  method        method: " "requests of exactly this method"
+            help ", such as \"POST\", have the class of" explained " have the class; required";
+    } };
+    (ResolverClass [$($row:tt)*] $($given:tt)*) => { $($row)*! { $($given)*
+        ResolverClass "  class         method: " "" help "this name"
+            explained "the name of a class; required";
+    } };
+    (ResolverRoutes [$($row:tt)*] $($given:tt)*) => { $($row)*! { $($given)*
+        ResolverRoutes "  routes        route: "
+            "a table of at most 256 patterns, each with a class's name" explained "; required";
+    } };
+    (Bypass [$($row:tt)*] $($given:tt)*) => { $($row)*! { $($given)*
+        Bypass "[[bypass]], at most 32; one that holds lets a request past the limit." ""
+            help " All its keys are required:"
+            explained "an array of at most 32 tables, [[bypass]]; none";
+    } };
+    (BypassKind [$($row:tt)*] $($given:tt)*) => { $($row)*! { $($given)*
+        BypassKind "  kind          " "\"method\", \"prefix\" or \"header\"" explained "; required";
+    } };
+    (BypassMethod [$($row:tt)*] $($given:tt)*) => { $($row)*! { $($given)*
+        BypassMethod "  method        method: " "" help "of exactly this method"
+            explained "requests of exactly this method; required";
+    } };
+    (BypassPrefix [$($row:tt)*] $($given:tt)*) => { $($row)*! { $($given)*
+        BypassPrefix "  prefix        prefix: "
+            "paths that begin with this text, itself beginning with /" explained "; required";
+    } };
+    (BypassHeader [$($row:tt)*] $($given:tt)*) => { $($row)*! { $($given)*
+        BypassHeader "  header        header: " "" help "some header of this name has"
+            explained "the name of a header; required";
+    } };
+    (BypassEquals [$($row:tt)*] $($given:tt)*) => { $($row)*! { $($given)*
+        BypassEquals "  equals        header: " "exactly this text"
+            explained " is the header's value; required";
+    } };
+}
+
+/// All rows in the order of the help, for a macro that takes them behind the tokens given.
+#[macro_export]
+macro_rules! key_rows {
+    ($rows:ident, $($given:tt)*) => {
+        $crate::key_rows! {
+            @ $rows [$($given)*]
+            Version Listen Backend Backlog Wait TimeoutMs Keep Promote Limit LimitKind LimitMin
+            LimitMax LimitInitial LimitRatio LimitTimeoutUs LimitAlpha LimitBeta LimitProbeEvery
+            Window WindowSize WindowMinUs WindowMaxUs WindowMinRttUs Class ClassName ClassShare
+            ClassPercent Resolver ResolverKind ResolverHeader ResolverMethod ResolverClass
+            ResolverRoutes Bypass BypassKind BypassMethod BypassPrefix BypassHeader BypassEquals
+        }
+    };
+    // Each row goes behind those before it.
+    (@ $rows:ident $given:tt $first:ident $($key:ident)*) => {
+        $crate::key_row! { $first $([$crate::key_row] $key)* [$rows] $given }
+    };
+}
