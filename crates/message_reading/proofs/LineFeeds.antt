@@ -54,8 +54,10 @@ none_to_next bytes at next inside first none = λ k early is.
     size : length (take (length bytes - at) (drop at bytes)) ≡ length bytes - at
     size = ap length (take_rest bytes at) ∙ length-drop at bytes
 
-    go : (next : Option ℕ) → IsFirstByte (is_byte 10) (take (length bytes - at) (drop at bytes)) next
-        → (k : ℕ) → k < at + front_of (length bytes - at) next → at ≤ k → get_or bytes k 0 ≡ 10 → ⊥
+    go : (next : Option ℕ)
+        → IsFirstByte (is_byte 10) (take (length bytes - at) (drop at bytes)) next
+        → (k : ℕ) → k < at + front_of (length bytes - at) next → at ≤ k
+        → get_or bytes k 0 ≡ 10 → ⊥
     go None nowhere k early behind is =
         nowhere (k - at) (omega arith) (omega (arith, early, behind, size))
         (eq-eqb _ 10 (there k behind is))

@@ -97,7 +97,8 @@ rest_at t k =
 
 -- a local part is the rest of its target
 pub local_part_is_rest : (t : List ℕ)
-    → (length (local_part t) ≤ length t) × (drop (length t - length (local_part t)) t ≡ local_part t)
+    → (length (local_part t) ≤ length t)
+    × (drop (length t - length (local_part t)) t ≡ local_part t)
 local_part_is_rest t = go (is_absolute t)
   where
     IsRest : List ℕ → Type 0

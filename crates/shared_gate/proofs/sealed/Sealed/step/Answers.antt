@@ -39,12 +39,14 @@ invariant_of-self g c =
       ap (λ k. k.table) raised ∙ c.self.invariant.0,
       sealed_after rules old new c.pass.inside.pass c.step-step.new.pass e
           same g.M.Naming.making.limit g.M.GateNaming.legal c.self.inside.keeper.log
-          c.self.invariant.2 c.journal-journal.result.now c.journal-journal.ensures (told_of c.step-step.result)
+          c.self.invariant.2 c.journal-journal.result.now c.journal-journal.ensures
+          (told_of c.step-step.result)
           (given_by c.step-step.result) c.step-step.ensures
           ∙ c.self.invariant.1,
       behind_after rules old new c.pass.inside.pass c.step-step.new.pass e
           same g.M.Naming.making.limit g.M.GateNaming.legal c.self.inside.keeper.log
-          c.self.invariant.2 c.journal-journal.result.now c.journal-journal.ensures c.raise.new.keeper.log
+          c.self.invariant.2 c.journal-journal.result.now c.journal-journal.ensures
+          c.raise.new.keeper.log
           (ap (λ k. k.log) raised) (c.rolling_runs_are_legal.ensures.stretches rules)
           c.counters_add_up.ensures (told_of c.step-step.result)
           (given_by c.step-step.result) c.step-step.ensures,
