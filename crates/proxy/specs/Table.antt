@@ -1,12 +1,13 @@
 -- The table of answers: what a backend's answer tells the gate, and what the client gets.
 use Rattle.std.specs.Prelude.{ℕ, ◌||◌, List, [], Option, None, Some, Result, Ok, Err, nat_eq}
-use Rattle.std.specs.Prelude.{nat_lt, if◌then◌else◌, Bool, true, is_some}
+use Rattle.std.specs.Prelude.{nat_lt, if◌then◌else◌, Bool, is_err, is_some}
 use Rattle.limiter_core.specs.declared.event.Outcome.{Outcome}
 use Rattle.limiter_core.specs.declared.event.Outcome.TheVariants.{Success, Ignored, Dropped}
 use Rattle.message_text.specs.Answer.{local_text}
 use Rattle.wire.specs.declared.fault.WireFault.{WireFault}
 use Rattle.wire.specs.declared.fault.WireFault.TheVariants as fault
 use Rattle.message_parts.specs.declared.request.Request.{Request}
+use Rattle.wire.specs.Response.{ResponseValue}
 use Rattle.wire.specs.Written.{response_text}
 use Rattle.backend.specs.declared.answer.Answer.{Answer}
 use Rattle.backend.specs.declared.answer.Answer.TheVariants.{Answered, NotConnected, Broken}
@@ -45,31 +46,34 @@ fault_status fault.Read = None
 fault_status fault.Write = None
 fault_status fault.TurnLimit = None
 
--- THE STATUS OF A REPLY, where a request was read: none of a backend means that it wasn't asked
+-- THE REPLY, where a request was read: the response that is passed on, or else the status of the
+-- gateway's own answer; none of a backend means that it wasn't asked
+abbrev pub reply_of : Option Answer → Result ResponseValue ℕ
+reply_of (Some (Answered response)) = if nat_lt response.status 200 then Err 502 else Ok response
+reply_of (Some NotConnected) = Err 502
+reply_of (Some (Broken f)) = Err 502
+reply_of (Some Memory) = Err 500
+reply_of None = Err 429
+
+-- the status of a reply
+abbrev pub status_of : Result ResponseValue ℕ → ℕ
+status_of (Ok response) = response.status
+status_of (Err status) = status
+
+-- and its text, where the request has this method
+abbrev pub text_of : List ℕ → Result ResponseValue ℕ → List ℕ
+text_of method (Ok response) = response_text method response
+text_of method (Err status) = local_text status
+
 abbrev pub reply_status : Option Answer → ℕ
-reply_status (Some (Answered response)) =
-    if nat_lt response.status 200 then 502 else response.status
-reply_status (Some NotConnected) = 502
-reply_status (Some (Broken f)) = 502
-reply_status (Some Memory) = 500
-reply_status None = 429
+reply_status answer = status_of (reply_of answer)
 
 -- whether that is the gateway's own answer
 abbrev pub is_own : Option Answer → Bool
-is_own (Some (Answered response)) = nat_lt response.status 200
-is_own (Some NotConnected) = true
-is_own (Some (Broken f)) = true
-is_own (Some Memory) = true
-is_own None = true
+is_own answer = is_err (reply_of answer)
 
--- THE REPLY to a request of this method: the response, or the gateway's own answer of the status
 abbrev pub reply_text : List ℕ → Option Answer → List ℕ
-reply_text method (Some (Answered response)) =
-    if nat_lt response.status 200 then local_text 502 else response_text method response
-reply_text method (Some NotConnected) = local_text 502
-reply_text method (Some (Broken f)) = local_text 502
-reply_text method (Some Memory) = local_text 500
-reply_text method None = local_text 429
+reply_text method answer = text_of method (reply_of answer)
 
 abbrev pub local_or_nothing : Option ℕ → List ℕ
 local_or_nothing None = []

@@ -1,33 +1,47 @@
 // What the client gets.
-ghost use Rattle.std.specs.Prelude.{◌≡◌, ◌≤◌, None, OnOk, OnErr, IfSome, true};
+ghost use Rattle.std.specs.Prelude.{◌≡◌, ◌≤◌, None, OnOk, OnErr, IfOk, IfErr, IfSome, true};
 ghost use Rattle.counted_io.specs.Causes.{IsWriteCause};
 ghost use Rattle.counted_io.specs.Counted.{failures_of, is_flushed};
 ghost use Rattle.counted_io.specs.Effects.{Wrote};
-ghost use Rattle.proxy.specs.Table.{fault_status, is_own, reply_status, reply_text};
+ghost use Rattle.proxy.specs.Table.{fault_status, is_own, reply_of, reply_status, reply_text};
 
 use backend::Answer;
 use counted_io::{Counted, WriteFault};
 use message_parts::Method;
 use message_text::write_local_answer;
 use std::io::Write;
-use wire::{WireFault, write_response};
+use wire::{Response, WireFault, write_response};
 
-/// The status of what the client gets, of a backend that answered so or wasn't asked.
-pub(crate) fn reply_status(answer: &Option<Answer>) -> u16
-    ensures { result ≡ reply_status answer.now }
+/// What the client gets of a backend that answered so or wasn't asked: the response, where it is
+/// passed on, or else the status of the gateway's own answer. A status below 200 is of no final
+/// response, and isn't passed on.
+fn reply_of(answer: &Option<Answer>) -> Result<&Response, u16>
+    ensures passed { IfOk result (λ response. reply_of answer.now ≡ Ok response.now) }
+    ensures own { IfErr result (λ status. reply_of answer.now ≡ Err status) }
+    ensures three_digits { IfErr result (λ status. (100 ≤ status) × (status ≤ 999)) }
 {
     match answer {
         Some(Answer::Answered(response)) => {
             if response.status() < 200 {
-                502
+                Err(502)
             } else {
-                response.status()
+                Ok(response)
             }
         }
-        Some(Answer::NotConnected) => 502,
-        Some(Answer::Broken(_)) => 502,
-        Some(Answer::Memory) => 500,
-        None => 429,
+        Some(Answer::NotConnected) => Err(502),
+        Some(Answer::Broken(_)) => Err(502),
+        Some(Answer::Memory) => Err(500),
+        None => Err(429),
+    }
+}
+
+/// The status of what the client gets.
+pub(crate) fn reply_status(answer: &Option<Answer>) -> u16
+    ensures { result ≡ reply_status answer.now }
+{
+    match reply_of(answer) {
+        Ok(response) => response.status(),
+        Err(status) => status,
     }
 }
 
@@ -35,13 +49,7 @@ pub(crate) fn reply_status(answer: &Option<Answer>) -> u16
 pub(crate) fn is_own(answer: &Option<Answer>) -> bool
     ensures { result ≡ is_own answer.now }
 {
-    match answer {
-        Some(Answer::Answered(response)) => response.status() < 200,
-        Some(Answer::NotConnected) => true,
-        Some(Answer::Broken(_)) => true,
-        Some(Answer::Memory) => true,
-        None => true,
-    }
+    reply_of(answer).is_err()
 }
 
 /// Writes and flushes what the client gets, and tells a fault of writing.
@@ -76,18 +84,9 @@ fn write_reply<W: Write>(
     ensures unfailing { OnOk result (failures_of writer.new ≡ failures_of writer.old) }
     ensures failed { OnErr result (IsWriteCause writer.old writer.new) }
 {
-    match answer {
-        Some(Answer::Answered(response)) => {
-            if response.status() < 200 {
-                write_local_answer(writer, 502)
-            } else {
-                write_response(writer, response, method)
-            }
-        }
-        Some(Answer::NotConnected) => write_local_answer(writer, 502),
-        Some(Answer::Broken(_)) => write_local_answer(writer, 502),
-        Some(Answer::Memory) => write_local_answer(writer, 500),
-        None => write_local_answer(writer, 429),
+    match reply_of(answer) {
+        Ok(response) => write_response(writer, response, method),
+        Err(status) => write_local_answer(writer, status),
     }
 }
 

@@ -1,75 +1,26 @@
 use Rattle.std.proofs.Common.{rules}
 use Rattle.proxy.proofs.replying.write_reply.Goals as goal
 
-pub returns-then-status-lt200-clause-all : goal.returns-then-status-lt200-clause-all
-returns-then-status-lt200-clause-all g c = search rules
+pub returns-in-Ok-clause-all : goal.returns-in-Ok-clause-all
+returns-in-Ok-clause-all g c = rw c.in-Ok.ensures.passed c.write_response.ensures.all
 
-pub returns-then-status-lt200-clause-flushed : goal.returns-then-status-lt200-clause-flushed
-returns-then-status-lt200-clause-flushed g c = search rules
+pub returns-in-Ok-clause-flushed : goal.returns-in-Ok-clause-flushed
+returns-in-Ok-clause-flushed g c = search rules
 
-pub returns-then-status-lt200-clause-unfailing : goal.returns-then-status-lt200-clause-unfailing
-returns-then-status-lt200-clause-unfailing g c = search rules
+pub returns-in-Ok-clause-unfailing : goal.returns-in-Ok-clause-unfailing
+returns-in-Ok-clause-unfailing g c = search rules
 
-pub returns-then-status-lt200-clause-failed : goal.returns-then-status-lt200-clause-failed
-returns-then-status-lt200-clause-failed g c = search rules
+pub returns-in-Ok-clause-failed : goal.returns-in-Ok-clause-failed
+returns-in-Ok-clause-failed g c = search rules
 
-pub returns-else-status-lt200-clause-all : goal.returns-else-status-lt200-clause-all
-returns-else-status-lt200-clause-all g c = search rules
+pub returns-in-Err-clause-all : goal.returns-in-Err-clause-all
+returns-in-Err-clause-all g c = rw c.in-Err.ensures.own c.write_local_answer.ensures.all
 
-pub returns-else-status-lt200-clause-flushed : goal.returns-else-status-lt200-clause-flushed
-returns-else-status-lt200-clause-flushed g c = search rules
+pub returns-in-Err-clause-flushed : goal.returns-in-Err-clause-flushed
+returns-in-Err-clause-flushed g c = search rules
 
-pub returns-else-status-lt200-clause-unfailing : goal.returns-else-status-lt200-clause-unfailing
-returns-else-status-lt200-clause-unfailing g c = search rules
+pub returns-in-Err-clause-unfailing : goal.returns-in-Err-clause-unfailing
+returns-in-Err-clause-unfailing g c = search rules
 
-pub returns-else-status-lt200-clause-failed : goal.returns-else-status-lt200-clause-failed
-returns-else-status-lt200-clause-failed g c = search rules
-
-pub returns-in-Some-NotConnected-clause-all : goal.returns-in-Some-NotConnected-clause-all
-returns-in-Some-NotConnected-clause-all g c = search rules
-
-pub returns-in-Some-NotConnected-clause-flushed : goal.returns-in-Some-NotConnected-clause-flushed
-returns-in-Some-NotConnected-clause-flushed g c = search rules
-
-pub returns-in-Some-NotConnected-clause-unfailing :
-    goal.returns-in-Some-NotConnected-clause-unfailing
-returns-in-Some-NotConnected-clause-unfailing g c = search rules
-
-pub returns-in-Some-NotConnected-clause-failed : goal.returns-in-Some-NotConnected-clause-failed
-returns-in-Some-NotConnected-clause-failed g c = search rules
-
-pub returns-in-Some-Broken-clause-all : goal.returns-in-Some-Broken-clause-all
-returns-in-Some-Broken-clause-all g c = search rules
-
-pub returns-in-Some-Broken-clause-flushed : goal.returns-in-Some-Broken-clause-flushed
-returns-in-Some-Broken-clause-flushed g c = search rules
-
-pub returns-in-Some-Broken-clause-unfailing : goal.returns-in-Some-Broken-clause-unfailing
-returns-in-Some-Broken-clause-unfailing g c = search rules
-
-pub returns-in-Some-Broken-clause-failed : goal.returns-in-Some-Broken-clause-failed
-returns-in-Some-Broken-clause-failed g c = search rules
-
-pub returns-in-Some-Memory-clause-all : goal.returns-in-Some-Memory-clause-all
-returns-in-Some-Memory-clause-all g c = search rules
-
-pub returns-in-Some-Memory-clause-flushed : goal.returns-in-Some-Memory-clause-flushed
-returns-in-Some-Memory-clause-flushed g c = search rules
-
-pub returns-in-Some-Memory-clause-unfailing : goal.returns-in-Some-Memory-clause-unfailing
-returns-in-Some-Memory-clause-unfailing g c = search rules
-
-pub returns-in-Some-Memory-clause-failed : goal.returns-in-Some-Memory-clause-failed
-returns-in-Some-Memory-clause-failed g c = search rules
-
-pub returns-in-None-clause-all : goal.returns-in-None-clause-all
-returns-in-None-clause-all g c = search rules
-
-pub returns-in-None-clause-flushed : goal.returns-in-None-clause-flushed
-returns-in-None-clause-flushed g c = search rules
-
-pub returns-in-None-clause-unfailing : goal.returns-in-None-clause-unfailing
-returns-in-None-clause-unfailing g c = search rules
-
-pub returns-in-None-clause-failed : goal.returns-in-None-clause-failed
-returns-in-None-clause-failed g c = search rules
+pub returns-in-Err-clause-failed : goal.returns-in-Err-clause-failed
+returns-in-Err-clause-failed g c = search rules
