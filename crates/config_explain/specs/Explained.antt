@@ -1,5 +1,6 @@
 -- What is said of a fault to a person.
-use Rattle.std.specs.Prelude.{◌≡◌, ◌++◌, ◌+◌, ◌-◌, ◌^◌, ℕ, min, Bool, true, false, List, [], Option, Some, None, option_map, Err, codes, decimal, if◌then◌else◌}
+use Rattle.std.specs.List.{list_any}
+use Rattle.std.specs.Prelude.{◌≡◌, ◌++◌, ◌+◌, ◌-◌, ◌^◌, ℕ, min, Bool, true, false, ◌&&◌, ◌||◌, List, [], Option, Some, None, option_map, Err, bytes_eq, codes, decimal, if◌then◌else◌}
 use Rattle.toml.specs.Data.{Members}
 use Rattle.config_values.specs.declared.fault.ConfigFault.{ConfigFault}
 use Rattle.config_values.specs.declared.fault.ConfigFault.TheVariants as Fault
@@ -10,6 +11,7 @@ use Rattle.config_values.specs.declared.key.Section.TheVariants as In
 use Rattle.config_values.specs.declared.number.Range.{Range}
 use Rattle.config_values.specs.Fault.{plain}
 use Rattle.config_values.specs.Key.{path_of, section_of}
+use Rattle.config_sections.specs.Rows.{Bound, Holds, all_rows, left_of_hundred, left_of_thousand, number, of}
 use Rattle.gate_config.specs.Settings.{IsOfKey, Reads, settings_of}
 use Rattle.config_explain.specs.declared.members.Member.{Member}
 
@@ -39,15 +41,22 @@ key_line key is_missing held =
     path_of key ++ (if is_missing then codes " isn't there" else []) ++ codes ": " ++ held
     ++ codes "\n"
 
--- the range of the key's numbers hangs on other keys
+-- an end of a range hangs on other keys: it is an earlier key's number, or what the classes leave
+abbrev pub end_hangs : Bound → Bool
+end_hangs (of name) = true
+end_hangs left_of_hundred = true
+end_hangs left_of_thousand = true
+end_hangs _ = false
+
+-- a range of numbers has such an end
+abbrev pub range_hangs : Holds → Bool
+range_hangs (number low high default) = end_hangs low || end_hangs high
+range_hangs _ = false
+
+-- the range of the key's numbers hangs on other keys, in some row of the key
 abbrev pub hangs_on_others : Key → Bool
-hangs_on_others Key.LimitMax = true
-hangs_on_others Key.LimitInitial = true
-hangs_on_others Key.LimitBeta = true
-hangs_on_others Key.WindowMaxUs = true
-hangs_on_others Key.ClassShare = true
-hangs_on_others Key.ClassPercent = true
-hangs_on_others _ = false
+hangs_on_others key =
+    list_any (λ row. range_hangs row.holds && bytes_eq (path_of row.key) (path_of key)) all_rows
 
 -- the numbers from the least to the greatest
 abbrev pub numbers_line : Option Range → List ℕ

@@ -148,3 +148,9 @@ bypass_rows =
     ∷ row_for (codes "header" ∷ []) Key.BypassHeader token
     ∷ row_for (codes "header" ∷ []) Key.BypassEquals text
     ∷ []
+
+-- all rows, of both versions
+abbrev pub all_rows : List Row
+all_rows =
+    top_rows ++ limit_rows ++ window_rows ++ class_rows One ++ class_rows Two ++ resolver_rows
+    ++ bypass_rows

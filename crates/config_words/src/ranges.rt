@@ -43,6 +43,20 @@ macro_rules! range_between {
     };
 }
 
+/// Whether the range in a row's brackets hangs on other keys: one of its ends is no number.
+#[macro_export]
+macro_rules! range_hangs {
+    ([$low:literal to $high:literal; $($default:tt)*]) => {
+        false
+    };
+    ([$low:tt to $($rest:tt)*]) => {
+        true
+    };
+    ($($no_numbers:tt)*) => {
+        false
+    };
+}
+
 /// The default of a key that is true or false.
 #[macro_export]
 macro_rules! default_of {
