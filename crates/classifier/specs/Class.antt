@@ -6,7 +6,7 @@ use Rattle.matchit.specs.Seek.{first}
 use Rattle.partitions.specs.declared.part.Part.{Part}
 use Rattle.partitions.specs.declared.part.Part.TheVariants.{Unknown}
 use Rattle.partitions.specs.Table.{Row, find_part, place_of}
-use Rattle.message_parts.specs.declared.headers.Header.{Header}
+use Rattle.message_parts.specs.Header.{Header}
 use Rattle.message_parts.specs.declared.request.Request.{Request}
 use Rattle.classifier.specs.Rules.{RulesValue}
 use Rattle.classifier.specs.declared.bypass.Bypass.{Bypass}

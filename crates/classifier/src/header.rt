@@ -19,9 +19,9 @@ pub fn first_value<'a>(headers: &'a Headers, name: &[u8]) -> Option<&'a [u8]>
     let line = headers
         .as_slice()
         .iter()
-        .find(|line| is_same_name(line.name.as_slice(), name));
+        .find(|line| is_same_name(line.name(), name));
     match line {
-        Some(line) => Some(line.value.as_slice()),
+        Some(line) => Some(line.value()),
         None => None,
     }
 }
@@ -39,5 +39,5 @@ pub fn has_value(headers: &Headers, name: &[u8], value: &[u8]) -> bool
 fn is_line(line: &Header, name: &[u8], value: &[u8]) -> bool
     ensures { result ≡ has_line name.now value.now line.now }
 {
-    is_same_name(line.name.as_slice(), name) && line.value.as_slice() == value
+    is_same_name(line.name(), name) && line.value() == value
 }

@@ -2,7 +2,7 @@
 use Rattle.std.proofs.Common.{◌≡◌, ℕ, ◌+◌, Bool, true, false, cond, not, eqb, suc, List, [], ◌∷◌, ◌++◌, take, map, filter, refl, ap, ◌∙◌, sym, arith, None, Some}
 use Rattle.std.specs.Prelude.{codes, find, option_map, bytes_eq, ◌&&◌, if◌then◌else◌}
 use Rattle.std.specs.List.{slice_get, slice_split, onto_first, position_or_len, flat_map, list_all}
-use Rattle.message_parts.specs.declared.headers.Header.{Header}
+use Rattle.message_parts.specs.Header.{Header}
 use Rattle.message_fields.specs.Lines.{is_named, first_value}
 use Rattle.message_fields.specs.Parts.{parts, parts_named, trimmed}
 use Rattle.message_fields.specs.Lengths.{is_digits, length_digits, digits_first}

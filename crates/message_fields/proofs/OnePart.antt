@@ -5,7 +5,7 @@ use Rattle.std.specs.List.{slice_get, slice_split, onto_first, position_or_len, 
 use Rattle.std.proofs.lemmas.List.{append-nil}
 use Rattle.std.proofs.lemmas.List.Sums.{sum_by-cons}
 use Rattle.std.proofs.lemmas.Slice.Eq.{bytes_eq-Decides}
-use Rattle.message_parts.specs.declared.headers.Header.{Header}
+use Rattle.message_parts.specs.Header.{Header}
 use Rattle.message_fields.specs.Lines.{is_named, count_named, first_value}
 use Rattle.message_fields.specs.Parts.{parts, parts_named, trimmed}
 use Rattle.message_fields.specs.Lengths.{digits_length, is_digits, length_of}

@@ -1,7 +1,7 @@
 -- The lines of a name.
 use Rattle.std.specs.Prelude.{ℕ, Bool, ◌&&◌, ◌==◌, List, find, codes, Option, option_map, count_by}
 use Rattle.std.specs.List.{list_any}
-use Rattle.message_parts.specs.declared.headers.Header.{Header}
+use Rattle.message_parts.specs.Header.{Header}
 use Rattle.message_fields.specs.Names.{same_name}
 
 -- the line has the name

@@ -1,7 +1,7 @@
 -- Values that are lists with commas.
 use Rattle.std.specs.Prelude.{ℕ, ◌-◌, Bool, ◌||◌, ◌==◌, List, length, take, drop, map, filter}
 use Rattle.std.specs.List.{flat_map, prefix_len, suffix_len, slice_split}
-use Rattle.message_parts.specs.declared.headers.Header.{Header}
+use Rattle.message_parts.specs.Header.{Header}
 use Rattle.message_fields.specs.Lines.{is_named}
 
 -- a space or a tab

@@ -1,7 +1,7 @@
 -- The lines that are passed on.
 use Rattle.std.specs.Prelude.{ℕ, Bool, not, ◌&&◌, ◌||◌, List, [], ◌∷◌, filter, codes}
 use Rattle.std.specs.List.{list_any}
-use Rattle.message_parts.specs.declared.headers.Header.{Header}
+use Rattle.message_parts.specs.Header.{Header}
 use Rattle.message_fields.specs.Names.{same_name}
 use Rattle.message_fields.specs.Lines.{is_named}
 use Rattle.message_fields.specs.Parts.{parts_named}

@@ -1,6 +1,6 @@
 -- Header lines, some of which are passed on.
 use Rattle.std.specs.Prelude.{List}
-use Rattle.message_parts.specs.declared.headers.Header.{Header}
+use Rattle.message_parts.specs.Header.{Header}
 use Rattle.message_fields.specs.declared.passing.Passing.{Passing}
 
 -- the lines of the message

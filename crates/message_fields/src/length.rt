@@ -53,7 +53,7 @@ fn agrees(line: &Header, part: &[u8]) -> bool
     ensures { result ≡ (not (is_named (codes "content-length") line.now)
         || list_all (bytes_eq part.now) (parts line.now.value)) }
 {
-    !is_content_length(line.name.as_slice()) || is_every_part(line.value.as_slice(), part)
+    !is_content_length(line.name()) || is_every_part(line.value(), part)
 }
 
 /// Whether each part of each line of Content-Length is this one.

@@ -11,7 +11,7 @@ use message_parts::Header;
 pub(crate) fn is_named(line: &Header, name: &[u8]) -> bool
     ensures { result ≡ is_named name.now line.now }
 {
-    is_same_name(line.name.as_slice(), name)
+    is_same_name(line.name(), name)
 }
 
 /// How many lines have the name.
@@ -27,7 +27,7 @@ pub fn count_hosts(lines: &[Header]) -> usize
 {
     lines
         .iter()
-        .filter(|line| is_host(line.name.as_slice()))
+        .filter(|line| is_host(line.name()))
         .count()
 }
 
@@ -35,7 +35,7 @@ pub fn count_hosts(lines: &[Header]) -> usize
 pub fn has_host(lines: &[Header]) -> bool
     ensures { result ≡ nat_lt 0 (count_named (codes "host") lines.now) }
 {
-    lines.iter().any(|line| is_host(line.name.as_slice()))
+    lines.iter().any(|line| is_host(line.name()))
 }
 
 /// 1 where something is so.
@@ -55,7 +55,7 @@ pub fn count_codings_and_lengths(lines: &[Header]) -> (usize, usize)
     let mut codings = 0;
     let mut lengths = 0;
     for line in lines {
-        let name = line.name.as_slice();
+        let name = line.name();
         codings += one_where(is_same_name(name, b"transfer-encoding"));
         lengths += one_where(is_content_length(name));
     }
@@ -69,9 +69,9 @@ pub(crate) fn first_length(lines: &[Header]) -> Option<&[u8]>
 {
     match lines
         .iter()
-        .find(|line| is_content_length(line.name.as_slice()))
+        .find(|line| is_content_length(line.name()))
     {
-        Some(line) => Some(line.value.as_slice()),
+        Some(line) => Some(line.value()),
         None => None,
     }
 }
@@ -81,7 +81,7 @@ pub fn first_value<'a>(lines: &'a [Header], name: &[u8]) -> Option<&'a [u8]>
     ensures { option_map (λ value. value.now) result ≡ first_value name.now lines.now }
 {
     match lines.iter().find(|line| is_named(line, name)) {
-        Some(line) => Some(line.value.as_slice()),
+        Some(line) => Some(line.value()),
         None => None,
     }
 }
@@ -90,7 +90,7 @@ pub fn first_value<'a>(lines: &'a [Header], name: &[u8]) -> Option<&'a [u8]>
 fn is_line(line: &Header, name: &[u8], word: &[u8]) -> bool
     ensures { result ≡ (is_named name.now line.now && same_name line.now.value word.now) }
 {
-    is_named(line, name) && is_same_name(line.value.as_slice(), word)
+    is_named(line, name) && is_same_name(line.value(), word)
 }
 
 /// Whether some line of the name has the word as its value.

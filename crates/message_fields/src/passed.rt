@@ -49,11 +49,11 @@ fn names_field(line: &Header, name: &[u8]) -> bool
     ensures { result ≡ (is_named (codes "connection") line.now
         && list_any (λ part. same_name part name.now) (parts line.now.value)) }
 {
-    let value = line.value.as_slice();
+    let value = line.value();
     if value.len() < name.len() {
         return false;
     }
-    is_connection(line.name.as_slice()) && has_part(value, name)
+    is_connection(line.name()) && has_part(value, name)
 }
 
 /// Whether a Connection line names the field. Few names are short enough to be asked for.
@@ -69,8 +69,8 @@ fn options_len(line: &Header) -> usize
     ensures { (name : List ℕ) → result < length name → (is_named (codes "connection") line.now
         && list_any (λ part. same_name part name) (parts line.now.value)) ≡ false }
 {
-    if is_connection(line.name.as_slice()) {
-        line.value.as_slice().len()
+    if is_connection(line.name()) {
+        line.value().len()
     } else {
         0
     }
@@ -113,7 +113,7 @@ impl<'a> Passing<'a> {
     pub fn is_passed(&self, line: &Header) -> bool
         ensures { result ≡ is_passed (lines_of self.now) line.now }
     {
-        let name = line.name.as_slice();
+        let name = line.name();
         is_host(name) || (!is_own(name) && !self.is_option(name))
     }
 

@@ -1,26 +1,82 @@
 // The header lines of a message, in their order.
-ghost use Rattle.std.specs.Prelude.{◌≡◌, ◌↔◌, ◌∷◌, [], codes, length, IfSome, IsTrue};
+ghost use Rattle.std.specs.Prelude.{◌≡◌, ◌↔◌, ◌∷◌, [], codes, length, IfOk, IfSome, IsTrue};
 ghost use Rattle.std.specs.List.{concat};
 
-use crate::piece::Piece;
+use crate::piece::HeadText;
+use std::alloc::{AllocError, Global};
 use std::marker::Model;
+use std::ops::Range;
+use std::rc::Rc;
 
 /// A header line: its name as it was written, and its value without the blanks around it. Both lie
-/// in the text of the head.
+/// in the text of one head. A contract sees them as two lists of bytes.
 #[derive(Drop)]
 pub struct Header {
-    pub name: Piece,
-    pub value: Piece,
+    pub(crate) text: Rc<Vec<u8>>,
+    pub(crate) name: Range<usize>,
+    pub(crate) value: Range<usize>,
+}
+
+impl Model for Header {
+    ghost use Rattle.std.specs.Prelude.{◌≤◌, length, slice_range};
+    ghost use Rattle.message_parts.specs.Header.{Header as Line};
+
+    ghost Value = { Line };
+
+    ghost view = { λ h. record {
+      name = slice_range h.text.value.items h.name.start h.name.end;
+      value = slice_range h.text.value.items h.value.start h.value.end;
+    } };
+
+    ghost invariant = { λ h. (h.name.start ≤ h.name.end) × (h.name.end ≤ length h.text.value.items)
+        × (h.value.start ≤ h.value.end) × (h.value.end ≤ length h.text.value.items) };
 }
 
 impl Header {
+    /// A line of this name and value, in a text of its own. Fails out of memory.
+    pub fn new(alloc: Global, name: &[u8], value: &[u8]) -> Result<Header, AllocError>
+        ensures { IfOk result
+            (λ line. line ≡ record { name = name.now; value = value.now }) }
+    {
+        let (end, whole) = (name.len(), name.len() + value.len());
+        let mut bytes = Vec::with_capacity(alloc, whole)?;
+        bytes.extend_from_slice(name)?;
+        bytes.extend_from_slice(value)?;
+        HeadText::new(alloc, bytes)?.line(0..end, end..whole)
+    }
+
+    /// Its name in place, as it was written.
+    pub fn name(&self) -> &[u8]
+        ensures { result.now ≡ self.now.name }
+    {
+        &self.text[self.name.start..self.name.end]
+    }
+
+    /// Its value in place.
+    pub fn value(&self) -> &[u8]
+        ensures { result.now ≡ self.now.value }
+    {
+        &self.text[self.value.start..self.value.end]
+    }
+
     /// The text of the line as its head has it, from its name through CR LF, where that is
     /// `name: value` with one space alone; none elsewhere.
     pub fn line(&self) -> Option<&[u8]>
         ensures { IfSome result (λ line. line.now
             ≡ concat (self.now.name ∷ codes ": " ∷ self.now.value ∷ codes "\r\n" ∷ [])) }
     {
-        self.value.line_from(&self.name)
+        let text = self.text.as_slice();
+        let (colon, from, end) = (self.name.end, self.value.start, self.value.end);
+        if from < 2 || from - 2 != colon || text.len() - end < 2 {
+            return None;
+        }
+        if &text[colon..from] != b": ".as_slice() {
+            return None;
+        }
+        if &text[end..end + 2] != b"\r\n".as_slice() {
+            return None;
+        }
+        Some(&text[self.name.start..end + 2])
     }
 }
 
@@ -32,9 +88,9 @@ pub struct Headers {
 
 impl Model for Headers {
     ghost use Rattle.std.specs.Prelude.{List};
-    ghost use Rattle.message_parts.specs.declared.headers.Header.{Header};
+    ghost use Rattle.message_parts.specs.Header.{Header as Line};
 
-    ghost Value = { List Header };
+    ghost Value = { List Line };
 
     ghost view = { λ h. h.lines.items };
 }

@@ -2,8 +2,10 @@
 ghost use Rattle.std.specs.Prelude.{◌≡◌, ◌≤◌, ◌∷◌, [], IfOk, IfSome, codes, length, slice_range};
 ghost use Rattle.std.specs.List.{concat};
 
+use crate::headers::Header;
 use std::alloc::{AllocError, Global};
 use std::marker::Model;
+use std::ops::Range;
 use std::rc::Rc;
 
 /// The text of a head, in which its lines have their names and values. A contract sees the list of
@@ -41,6 +43,23 @@ impl HeadText {
             text: self.bytes.clone()?,
             start,
             end,
+        })
+    }
+
+    /// The line whose name and value lie at these places. Takes no memory; fails where 2^64 - 1
+    /// pieces of the text are there.
+    pub fn line(&self, name: Range<usize>, value: Range<usize>) -> Result<Header, AllocError>
+        requires name { (name.start ≤ name.end) × (name.end ≤ length self.now) }
+        requires value { (value.start ≤ value.end) × (value.end ≤ length self.now) }
+        ensures { IfOk result (λ line. line ≡ record {
+          name = slice_range self.now name.start name.end;
+          value = slice_range self.now value.start value.end;
+        }) }
+    {
+        Ok(Header {
+            text: self.bytes.clone()?,
+            name,
+            value,
         })
     }
 }
@@ -82,34 +101,6 @@ impl Piece {
             start: self.start + start,
             end: self.start + end,
         })
-    }
-
-    /// The text of a line of this name and value as a head has it, from the name through CR LF,
-    /// where this value's head has it so: `name: value`, with one space alone. None elsewhere.
-    ///
-    /// It costs a comparison of the names, whatever the value's length.
-    pub(crate) fn line_from(&self, name: &Piece) -> Option<&[u8]>
-        ensures { IfSome result (λ line. line.now
-            ≡ concat (name.now ∷ codes ": " ∷ self.now ∷ codes "\r\n" ∷ [])) }
-    {
-        let text = self.text.as_slice();
-        if self.start < 2 || text.len() - self.end < 2 {
-            return None;
-        }
-        let (start, colon, end) = (name.start, self.start - 2, self.end + 2);
-        if colon < start {
-            return None;
-        }
-        if &text[start..colon] != name.as_slice() {
-            return None;
-        }
-        if &text[colon..self.start] != b": ".as_slice() {
-            return None;
-        }
-        if &text[self.end..end] != b"\r\n".as_slice() {
-            return None;
-        }
-        Some(&text[start..end])
     }
 
     /// The first line of a request with this piece as its method, from it through CR LF, where its

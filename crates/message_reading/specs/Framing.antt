@@ -1,6 +1,6 @@
 -- How the body of a message is delimited, and the checks of a head before that.
 use Rattle.std.specs.Prelude.{ℕ, Bool, ◌&&◌, ◌||◌, ◌==◌, nat_lt, List, Result, Ok, Err, codes, bytes_eq, if◌then◌else◌}
-use Rattle.message_parts.specs.declared.headers.Header.{Header}
+use Rattle.message_parts.specs.Header.{Header}
 use Rattle.message_fields.specs.declared.length.LengthFault.{LengthFault}
 use Rattle.message_fields.specs.declared.length.LengthFault.TheVariants.{TooLarge}
 use Rattle.message_fields.specs.Lines.{count_named, is_chunked_alone}

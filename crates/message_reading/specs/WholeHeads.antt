@@ -3,7 +3,7 @@ use Rattle.std.specs.Prelude.{ℕ, List, [], map, Ok, Err}
 use Rattle.httparse.specs.declared.spans.HeaderSpan.{HeaderSpan}
 use Rattle.httparse.specs.Grammar.{Field, ReadsRequest, ReadsResponse, RequestHead as RequestText, ResponseHead as ResponseText, field_value, status_code}
 use Rattle.httparse.specs.Spans.{span_bytes}
-use Rattle.message_parts.specs.declared.headers.Header.{Header}
+use Rattle.message_parts.specs.Header.{Header}
 use Rattle.message_reading.specs.Reading.{Reading}
 use Rattle.message_reading.specs.declared.fault.Fault.TheVariants.{Malformed}
 use Rattle.message_reading.specs.declared.request_head.RequestHead.{RequestHead}

@@ -18,10 +18,8 @@ fn line_at(text: &HeadText, span: HeaderSpan) -> Result<Header, AllocError>
     requires { IsHeaderWithin (length text.now) span }
     ensures { IfOk result (λ line. line ≡ line_at text.now span) }
 {
-    Ok(Header {
-        name: text.piece(span.name.start, span.name.end)?,
-        value: text.piece(span.value.start, span.value.end)?,
-    })
+    let (name, value) = (span.name, span.value);
+    text.line(name.start..name.end, value.start..value.end)
 }
 
 // The lines that the spans cover, in their order.

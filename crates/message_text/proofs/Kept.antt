@@ -3,7 +3,7 @@ use Rattle.std.proofs.Common.{◌≡◌, ℕ, Bool, true, false, cond, List, [],
 use Rattle.std.specs.List.{flat_map}
 use Rattle.std.specs.Io.KnownBytes.{Appends}
 use Rattle.std.proofs.lemmas.List.{append-nil, take_all}
-use Rattle.message_parts.specs.declared.headers.Header.{Header}
+use Rattle.message_parts.specs.Header.{Header}
 use Rattle.message_text.specs.Line.{line_text, lines_text}
 
 -- the texts of what is kept, one after the other

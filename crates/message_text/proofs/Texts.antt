@@ -6,7 +6,7 @@ use Rattle.std.specs.Io.KnownBytes.{Appends}
 use Rattle.std.proofs.KnownBytes.{Appends-trans}
 use Rattle.std.proofs.lemmas.List.{append-nil}
 use Rattle.std.proofs.lemmas.Grind.{flat_map-append}
-use Rattle.message_parts.specs.declared.headers.Header.{Header}
+use Rattle.message_parts.specs.Header.{Header}
 use Rattle.message_fields.specs.Passed.{request_lines, response_lines}
 use Rattle.message_fields.specs.Target.{authority_of, ends_authority, forwarded_target, is_absolute}
 use Rattle.message_text.specs.Line.{line_text, lines_text, close_line}

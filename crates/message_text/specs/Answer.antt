@@ -2,7 +2,7 @@
 use Rattle.std.specs.Prelude.{ℕ, Bool, ◌||◌, ◌==◌, List, [], ◌∷◌, ◌++◌, codes, decimal, bytes_eq, Option, None, Some, unwrap_or, if◌then◌else◌}
 use Rattle.std.specs.List.{concat}
 use Rattle.http.specs.StatusCode.{reason_phrase}
-use Rattle.message_parts.specs.declared.headers.Header.{Header}
+use Rattle.message_parts.specs.Header.{Header}
 use Rattle.message_fields.specs.Passed.{response_lines}
 use Rattle.message_fields.specs.Lengths.{length_digits}
 use Rattle.message_text.specs.Line.{line_of, lines_text, close_line}

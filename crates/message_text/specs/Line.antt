@@ -1,7 +1,7 @@
 -- Header lines as they are written.
 use Rattle.std.specs.Prelude.{ℕ, List, [], ◌∷◌, codes, decimal, length}
 use Rattle.std.specs.List.{concat, flat_map}
-use Rattle.message_parts.specs.declared.headers.Header.{Header}
+use Rattle.message_parts.specs.Header.{Header}
 
 -- the line of a name and a value
 abbrev pub line_of : List ℕ → List ℕ → Header

@@ -54,7 +54,7 @@ fn write_kept<W: Write>(writer: &mut Counted<W>, line: &Header) -> Result<(), Wr
 {
     match line.line() {
         Some(text) => write_all(writer, text),
-        None => write_line(writer, line.name.as_slice(), line.value.as_slice()),
+        None => write_line(writer, line.name(), line.value()),
     }
 }
 
@@ -134,8 +134,8 @@ fn write_hosted<W: Write>(
     let Some(authority) = authority else {
         return write_kept(writer, line);
     };
-    if is_host(line.name.as_slice()) {
-        write_line(writer, line.name.as_slice(), authority)
+    if is_host(line.name()) {
+        write_line(writer, line.name(), authority)
     } else {
         write_kept(writer, line)
     }

@@ -2,7 +2,7 @@
 use Rattle.std.specs.Prelude.{ℕ, Bool, true, false, not, ◌&&◌, ◌^◌, nat_lt, List, codes, bytes_eq, Option, None, Some, Result, Ok, Err, if◌then◌else◌}
 use Rattle.std.specs.Option.{option_map_or}
 use Rattle.std.specs.Str.Parse.{digits_value}
-use Rattle.message_parts.specs.declared.headers.Header.{Header}
+use Rattle.message_parts.specs.Header.{Header}
 use Rattle.message_parts.specs.declared.request.Request.{Request}
 use Rattle.message_fields.specs.Lengths.{is_digits}
 use Rattle.message_fields.specs.Lines.{first_value}

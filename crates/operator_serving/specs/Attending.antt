@@ -4,7 +4,7 @@ use Rattle.counted_io.specs.declared.counted.Counted.{Counted}
 use Rattle.counted_io.specs.Effects.{Wrote}
 use Rattle.partitions.specs.Table.{Row}
 use Rattle.message_text.specs.Answer.{answer_text, local_text}
-use Rattle.message_parts.specs.declared.headers.Header.{Header}
+use Rattle.message_parts.specs.Header.{Header}
 use Rattle.message_parts.specs.declared.request.Request.{Request}
 use Rattle.wire.specs.declared.fault.WireFault.{WireFault}
 use Rattle.proxy.specs.Exchanges.{Bytes, IsRead, known}

@@ -4,7 +4,7 @@ use Rattle.partitions.specs.Table.{Row}
 use Rattle.gate_port.specs.declared.report.Report.{Report}
 use Rattle.serve_reports.specs.declared.noted.Noted.{Noted}
 use Rattle.metrics.specs.Metrics.{metrics_text}
-use Rattle.message_parts.specs.declared.headers.Header.{Header}
+use Rattle.message_parts.specs.Header.{Header}
 use Rattle.message_text.specs.Line.{line_of}
 use Rattle.operator_calls.specs.declared.call.Call.{Call}
 use Rattle.operator_calls.specs.declared.call.Call.TheVariants as call

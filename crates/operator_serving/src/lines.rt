@@ -3,7 +3,7 @@ ghost use Rattle.std.specs.Prelude.{◌≡◌, IfOk};
 ghost use Rattle.message_text.specs.Line.{line_of};
 ghost use Rattle.operator_serving.specs.Telling.{lines_of, media_of};
 
-use message_parts::{HeadText, Header, Headers, Piece};
+use message_parts::{Header, Headers};
 use operator_calls::{Call, Refusal};
 use std::alloc::{AllocError, Global};
 
@@ -35,16 +35,5 @@ fn media(call: &Result<Call, Refusal>) -> &'static str
 fn line(alloc: Global, name: &str, value: &str) -> Result<Header, AllocError>
     ensures { IfOk result (λ line. line ≡ line_of name.now value.now) }
 {
-    Ok(Header {
-        name: piece(alloc, name)?,
-        value: piece(alloc, value)?,
-    })
-}
-
-/// A piece with a text of its own. It fails only out of memory.
-fn piece(alloc: Global, text: &str) -> Result<Piece, AllocError>
-    ensures { IfOk result (λ piece. piece ≡ text.now) }
-{
-    let whole = HeadText::new(alloc, Vec::from_slice(alloc, text.as_bytes())?)?;
-    whole.piece(0, text.len())
+    Header::new(alloc, name.as_bytes(), value.as_bytes())
 }

@@ -4,7 +4,7 @@ use Rattle.std.specs.Prelude.{Option, Some, None, Result, Ok, Err, ◌&&◌, ◌
 use Rattle.std.specs.List.{list_all, slice_get, flat_map}
 use Rattle.std.proofs.lemmas.List.{nil_from_length}
 use Rattle.std.proofs.lemmas.List.Sums.{length-filter}
-use Rattle.message_parts.specs.declared.headers.Header.{Header}
+use Rattle.message_parts.specs.Header.{Header}
 use Rattle.message_fields.specs.Lengths.{digits_first, digits_length, is_digits}
 use Rattle.message_fields.specs.Lines.{count_named, is_chunked_alone, is_named}
 use Rattle.message_fields.specs.Parts.{parts, parts_named}

@@ -1,7 +1,7 @@
 -- How a message that was read says where its body ends: in one way.
 use Rattle.std.specs.Prelude.{◌≡◌, ◌≤◌, ◌⊎◌, ℕ, true, false, List, Ok, codes, bytes_eq}
 use Rattle.std.specs.List.{list_all}
-use Rattle.message_parts.specs.declared.headers.Header.{Header}
+use Rattle.message_parts.specs.Header.{Header}
 use Rattle.message_fields.specs.Lines.{count_named, is_chunked_alone}
 use Rattle.message_fields.specs.Parts.{parts_named}
 use Rattle.message_text.specs.Answer.{is_bodiless}
