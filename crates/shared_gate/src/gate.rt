@@ -68,13 +68,13 @@ impl<L: Limit, M: GateNaming> SharedGate<L, M> {
     {
         book.invariant();
         let (word, mut keeper) = word.share();
-        let passes = with_readers(alloc, &word, &mut keeper, passes)?;
+        let passes = with_readers(alloc, &word, &mut keeper, passes);
         let gate = SharedGate {
             book: Mutex::new(Sealed { book, keeper }),
             word,
             freed: Condvar::new(),
         };
-        Ok((gate, passes))
+        Ok((gate, passes?))
     }
 
     /// One step of the book under the lock.

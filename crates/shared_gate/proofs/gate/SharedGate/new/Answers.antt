@@ -5,7 +5,7 @@ use Rattle.shared_gate.proofs.gate.SharedGate.new.Goals as goal
 -- a book of which nothing was asked is behind an empty log
 pub invariant_of-new : goal.invariant_of-new
 invariant_of-new g c =
-    let keeper = c.with_readers.ensures.keeper ∙ c.share-word.ensures.keeper in
+    let keeper = c.with_readers-passes.ensures.keeper ∙ c.share-word.ensures.keeper in
     let book = c.invariant.ensures in (
       ap (λ k. k.table) keeper ∙ c.requires.word,
       c.requires.sealed,
