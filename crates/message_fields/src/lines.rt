@@ -25,10 +25,7 @@ pub fn count_named(lines: &[Header], name: &[u8]) -> usize
 pub fn count_hosts(lines: &[Header]) -> usize
     ensures { result ≡ count_named (codes "host") lines.now }
 {
-    lines
-        .iter()
-        .filter(|line| is_host(line.name()))
-        .count()
+    lines.iter().filter(|line| is_host(line.name())).count()
 }
 
 /// Whether some line is Host. Most requests have it in front, and then no other line is looked at.
@@ -67,10 +64,7 @@ pub(crate) fn first_length(lines: &[Header]) -> Option<&[u8]>
     ensures { option_map (λ value. value.now) result
         ≡ first_value (codes "content-length") lines.now }
 {
-    match lines
-        .iter()
-        .find(|line| is_content_length(line.name()))
-    {
+    match lines.iter().find(|line| is_content_length(line.name())) {
         Some(line) => Some(line.value()),
         None => None,
     }
