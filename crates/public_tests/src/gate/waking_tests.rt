@@ -37,12 +37,12 @@ pub(crate) fn real<R: SystemClock>(rt: &R) -> u64 {
     }
 }
 
-/// A gate, when its last ending began, and the longest time from one to where who waited went on.
+/// A gate, when its last ending began, and how often who waited went on soon after one.
 #[derive(Drop)]
 struct Watched<M: GateNaming> {
     gate: SharedGate<AnyLimit, M>,
     ended: AtomicU64,
-    longest: AtomicU64,
+    soon: AtomicU64,
 }
 
 impl<M: GateNaming> Watched<M> {
@@ -55,7 +55,9 @@ impl<M: GateNaming> Watched<M> {
     /// Somebody goes on who waited.
     fn goes_on<R: SystemClock>(&self, rt: &R) {
         let time = real(rt).saturating_sub(self.ended.load(Ordering::SeqCst));
-        self.longest.fetch_max(time, Ordering::SeqCst);
+        if time < SOON {
+            self.soon.fetch_add(1, Ordering::SeqCst);
+        }
     }
 
     /// How many have waited so far.
@@ -146,7 +148,10 @@ fn an_ending_wakes_whoever_it_promotes(rt: HostRuntime) {
     try_by_threads(&rt, rt.alloc(), making, Threaded::WaitOften);
 }
 
-/// Two wait again and again for the only permit, which a third one holds meanwhile.
+/// Two wait again and again for the only permit, which a third one holds meanwhile. Where no ending
+/// woke them, the first would go on as it looks at its clock by itself, 100 ms after it began to
+/// wait, and only the second perhaps soon behind it: half of them at most. A machine with other
+/// work may be late now and then.
 pub(crate) fn two_wait_for_a_third<
     M: GateNaming + Send + Sync,
     R: Threads + Wait + SystemClock + Abort + Sync,
@@ -157,7 +162,7 @@ pub(crate) fn two_wait_for_a_third<
     let watched = Watched {
         gate,
         ended: AtomicU64::new(0),
-        longest: AtomicU64::new(0),
+        soon: AtomicU64::new(0),
     };
     let waiting = || join(
         rt,
@@ -165,7 +170,7 @@ pub(crate) fn two_wait_for_a_third<
         || waits(rt, &watched, three),
     );
     let _done = join(rt, || holds(rt, &watched, one), waiting);
-    assert!(rt; watched.longest.load(Ordering::SeqCst) < SOON);
+    assert!(rt; watched.soon.load(Ordering::SeqCst) > TURNS + TURNS / 2);
 }
 
 /// A clock that counts how often it is looked at. It stands at `first` for so many looks and for so
