@@ -1,12 +1,12 @@
 -- The class of a request.
-use Rattle.std.specs.Prelude.{ℕ, Bool, ◌&&◌, List, map, find, Option, Some, None, option_map, option_and_then, unwrap_or, is_some, bytes_eq, nat_eq, nat_lt, if◌then◌else◌}
+use Rattle.std.specs.Prelude.{ℕ, Bool, ◌&&◌, List, find, Option, Some, None, option_map, option_and_then, unwrap_or, is_some, bytes_eq, nat_eq, nat_lt, if◌then◌else◌}
 use Rattle.std.specs.List.{list_any, starts_with}
-use Rattle.std.specs.Char.{to_ascii_lowercase}
 use Rattle.matchit.specs.Seek.{first}
 use Rattle.partitions.specs.declared.part.Part.{Part}
 use Rattle.partitions.specs.declared.part.Part.TheVariants.{Unknown}
 use Rattle.partitions.specs.Table.{Row, find_part, place_of}
 use Rattle.message_parts.specs.Header.{Header}
+use Rattle.message_parts.specs.Names.{same_name}
 use Rattle.message_parts.specs.declared.request.Request.{Request}
 use Rattle.classifier.specs.Rules.{RulesValue}
 use Rattle.classifier.specs.declared.bypass.Bypass.{Bypass}
@@ -14,10 +14,6 @@ use Rattle.classifier.specs.declared.bypass.Bypass.TheVariants as Rule
 use Rattle.classifier.specs.declared.class.Class.{Class}
 use Rattle.classifier.specs.declared.resolver.Resolver.{Resolver}
 use Rattle.classifier.specs.declared.resolver.Resolver.TheVariants as Read
-
--- two header names are the same where they agree without ASCII case
-unfoldable pub same_name : List ℕ → List ℕ → Bool
-same_name one other = bytes_eq (map to_ascii_lowercase one) (map to_ascii_lowercase other)
 
 -- the value of the first header line of a name
 abbrev pub header_value : List ℕ → List Header → Option (List ℕ)

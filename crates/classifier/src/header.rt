@@ -1,16 +1,9 @@
 // The header lines of a request, by name.
 ghost use Rattle.std.specs.Prelude.{◌≡◌, option_map};
 ghost use Rattle.std.specs.List.{list_any};
-ghost use Rattle.classifier.specs.Class.{header_value, has_line, same_name};
+ghost use Rattle.classifier.specs.Class.{header_value, has_line};
 
-use message_parts::{Header, Headers};
-
-/// Whether two header names are the same, read without ASCII case (RFC 9110, section 5.1).
-fn is_same_name(one: &[u8], other: &[u8]) -> bool
-    ensures { result ≡ same_name one.now other.now }
-{
-    one.eq_ignore_ascii_case(other)
-}
+use message_parts::{Header, Headers, is_same_name};
 
 /// The value of the first line of this name.
 pub fn first_value<'a>(headers: &'a Headers, name: &[u8]) -> Option<&'a [u8]>

@@ -5,5 +5,5 @@ pub mod Lists
 pub mod First
 pub mod OnePart
 pub mod Short
-mod Usual
 pub mod PartLengths
+pub mod Told

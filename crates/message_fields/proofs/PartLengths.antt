@@ -3,7 +3,7 @@ use Rattle.std.proofs.Common.{◌≡◌, ℕ, ◌-◌, ◌≤◌, ◌<◌, Bool,
 use Rattle.std.specs.List.{list_any, onto_first, slice_split, prefix_len, suffix_len}
 use Rattle.std.proofs.lemmas.List.Elements.{All-cons, All-head, All-nil, All-tail, All-weaker}
 use Rattle.std.proofs.lemmas.List.Folds.{list_any_none}
-use Rattle.message_fields.specs.Names.{same_name}
+use Rattle.message_parts.specs.Names.{same_name}
 use Rattle.message_fields.specs.Parts.{is_blank, trimmed, trimmed_start, parts}
 use Rattle.message_fields.proofs.SameName.{other_length}
 use Rattle.message_fields.proofs.Lists.{list_any-map}

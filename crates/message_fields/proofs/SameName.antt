@@ -1,19 +1,10 @@
 -- Field names.
-use Rattle.std.proofs.Common.{rules, ◌≡◌, ◌≢◌, ◌↔◌, ℕ, Bool, true, false, List, length, map, refl, sym, ◌∙◌, ap, IsTrue}
+use Rattle.std.proofs.Common.{◌≡◌, ◌≢◌, ℕ, true, false, List, length, map, refl, sym, ◌∙◌, ap}
 use Rattle.std.specs.Prelude.{bytes_eq}
 use Rattle.std.proofs.lemmas.List.{length-map}
 use Rattle.std.specs.Char.{to_ascii_lowercase}
 use Rattle.std.proofs.lemmas.Slice.Eq.{bytes_eq-Decides}
-use Rattle.message_fields.specs.Names.{same_name}
-
--- a test of the two lower-case names
-pub same_name-test : (test : Bool) (one other : List ℕ) →
-    (IsTrue test ↔ (map to_ascii_lowercase one ≡ map to_ascii_lowercase other)) →
-    test ≡ same_name one other
-unfolding same_name
-same_name-test test one other agrees =
-    let decides = bytes_eq-Decides (map to_ascii_lowercase one) (map to_ascii_lowercase other) in
-    search rules
+use Rattle.message_parts.specs.Names.{same_name}
 
 -- names of different lengths aren't the same
 pub other_length : (one other : List ℕ) → length one ≢ length other → same_name one other ≡ false

@@ -1,4 +1,3 @@
-pub mod Names
 pub mod Lines
 pub mod Parts
 pub mod Lengths

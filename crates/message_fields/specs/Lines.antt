@@ -2,7 +2,7 @@
 use Rattle.std.specs.Prelude.{ℕ, Bool, ◌&&◌, ◌==◌, List, find, codes, Option, option_map, count_by}
 use Rattle.std.specs.List.{list_any}
 use Rattle.message_parts.specs.Header.{Header}
-use Rattle.message_fields.specs.Names.{same_name}
+use Rattle.message_parts.specs.Names.{same_name}
 
 -- the line has the name
 abbrev pub is_named : List ℕ → Header → Bool

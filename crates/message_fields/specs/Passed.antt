@@ -1,22 +1,19 @@
 -- The lines that are passed on.
-use Rattle.std.specs.Prelude.{ℕ, Bool, not, ◌&&◌, ◌||◌, List, [], ◌∷◌, filter, codes}
+use Rattle.std.specs.Prelude.{ℕ, Bool, not, ◌&&◌, ◌||◌, List, filter, codes}
 use Rattle.std.specs.List.{list_any}
+use Rattle.message_parts.specs.Field.{coding_names, connection_names}
 use Rattle.message_parts.specs.Header.{Header}
-use Rattle.message_fields.specs.Names.{same_name}
+use Rattle.message_parts.specs.Names.{same_name}
 use Rattle.message_fields.specs.Lines.{is_named}
 use Rattle.message_fields.specs.Parts.{parts_named}
 
 -- the field says how one connection is used
 abbrev pub is_of_connection : List ℕ → Bool
-is_of_connection name =
-    list_any (same_name name)
-    (codes "connection" ∷ codes "proxy-connection" ∷ codes "keep-alive" ∷ codes "upgrade" ∷ [])
+is_of_connection name = list_any (same_name name) connection_names
 
 -- the field says how the body is sent over one connection
 abbrev pub is_of_coding : List ℕ → Bool
-is_of_coding name =
-    list_any (same_name name)
-    (codes "te" ∷ codes "trailer" ∷ codes "transfer-encoding" ∷ codes "content-length" ∷ [])
+is_of_coding name = list_any (same_name name) coding_names
 
 -- the field is of one connection alone
 abbrev pub is_own : List ℕ → Bool

@@ -1,7 +1,7 @@
 -- The target of a request.
 use Rattle.std.specs.Prelude.{ℕ, Bool, not, ◌&&◌, ◌||◌, ◌==◌, false, nat_eq, nat_lt, List, [], ◌++◌, length, take, drop, codes, bytes_eq, Option, None, Some, option_map, unwrap_or, if◌then◌else◌}
 use Rattle.std.specs.List.{list_any, starts_with, position_or_len, before_first}
-use Rattle.message_fields.specs.Names.{same_name}
+use Rattle.message_parts.specs.Names.{same_name}
 
 -- the target is an absolute URI of the scheme `http`
 abbrev pub is_absolute : List ℕ → Bool

@@ -7,8 +7,8 @@ ghost use Rattle.message_fields.specs.Lines.{count_named, is_named};
 ghost use Rattle.message_fields.specs.Parts.{parts, parts_named};
 ghost use Rattle.message_fields.specs.Lengths.{digits_length, is_digits, limited, length_digits, length_of};
 
+use super::fields::is_content_length;
 use super::lines::first_length;
-use super::names::is_content_length;
 use super::parts::{first_part, is_every_part, is_one_part};
 use message_parts::Header;
 
@@ -53,7 +53,7 @@ fn agrees(line: &Header, part: &[u8]) -> bool
     ensures { result ≡ (not (is_named (codes "content-length") line.now)
         || list_all (bytes_eq part.now) (parts line.now.value)) }
 {
-    !is_content_length(line.name()) || is_every_part(line.value(), part)
+    !is_content_length(line) || is_every_part(line.value(), part)
 }
 
 /// Whether each part of each line of Content-Length is this one.

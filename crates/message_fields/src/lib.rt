@@ -6,19 +6,19 @@
 //! the target (`Target`).
 #![tactic(auto)]
 
+mod fields;
 mod length;
 mod lines;
-mod names;
 mod parts;
 mod passed;
 mod passing;
 mod target;
 
+pub use fields::is_host;
 pub use length::{LengthFault, MOST_BODY, length_digits, length_of, length_of_one};
 pub use lines::{
     asks_continue, count_codings_and_lengths, count_hosts, count_named, first_value, has_host,
     is_chunked_alone,
 };
-pub use names::{is_host, is_same_name};
 pub use passing::Passing;
 pub use target::{authority, is_target, is_whole_server, local_part, wants_slash};

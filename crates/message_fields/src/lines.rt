@@ -1,14 +1,13 @@
 // The lines of a name.
 ghost use Rattle.std.specs.Prelude.{◌≡◌, ◌≤◌, ◌&&◌, codes, nat_lt, option_map, if◌then◌else◌};
-ghost use Rattle.message_fields.specs.Names.{same_name};
+ghost use Rattle.message_parts.specs.Names.{same_name};
 ghost use Rattle.message_fields.specs.Lines.{is_named, count_named, first_value, has_word, is_chunked_alone, asks_continue};
 
-use super::names::{is_content_length, is_host, is_same_name};
-use message_parts::Header;
+use super::fields::{is_content_length, is_host, is_transfer_encoding};
+use message_parts::{Header, is_same_name};
 
 /// Whether the line has the name.
-#[inline(always)]
-pub(crate) fn is_named(line: &Header, name: &[u8]) -> bool
+fn is_named(line: &Header, name: &[u8]) -> bool
     ensures { result ≡ is_named name.now line.now }
 {
     is_same_name(line.name(), name)
@@ -25,14 +24,14 @@ pub fn count_named(lines: &[Header], name: &[u8]) -> usize
 pub fn count_hosts(lines: &[Header]) -> usize
     ensures { result ≡ count_named (codes "host") lines.now }
 {
-    lines.iter().filter(|line| is_host(line.name())).count()
+    lines.iter().filter(|line| is_host(line)).count()
 }
 
 /// Whether some line is Host. Most requests have it in front, and then no other line is looked at.
 pub fn has_host(lines: &[Header]) -> bool
     ensures { result ≡ nat_lt 0 (count_named (codes "host") lines.now) }
 {
-    lines.iter().any(|line| is_host(line.name()))
+    lines.iter().any(|line| is_host(line))
 }
 
 /// 1 where something is so.
@@ -52,9 +51,8 @@ pub fn count_codings_and_lengths(lines: &[Header]) -> (usize, usize)
     let mut codings = 0;
     let mut lengths = 0;
     for line in lines {
-        let name = line.name();
-        codings += one_where(is_same_name(name, b"transfer-encoding"));
-        lengths += one_where(is_content_length(name));
+        codings += one_where(is_transfer_encoding(line));
+        lengths += one_where(is_content_length(line));
     }
     (codings, lengths)
 }
@@ -64,7 +62,7 @@ pub(crate) fn first_length(lines: &[Header]) -> Option<&[u8]>
     ensures { option_map (λ value. value.now) result
         ≡ first_value (codes "content-length") lines.now }
 {
-    match lines.iter().find(|line| is_content_length(line.name())) {
+    match lines.iter().find(|line| is_content_length(line)) {
         Some(line) => Some(line.value()),
         None => None,
     }

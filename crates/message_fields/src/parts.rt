@@ -1,10 +1,10 @@
 // Values that are lists with commas.
 ghost use Rattle.std.specs.Prelude.{◌≡◌, ◌≤◌, ◌-◌, ◌==◌, IsTrue, length, bytes_eq};
 ghost use Rattle.std.specs.List.{prefix_len, suffix_len, list_all, list_any, position, position_or_len, slice_get};
-ghost use Rattle.message_fields.specs.Names.{same_name};
+ghost use Rattle.message_parts.specs.Names.{same_name};
 ghost use Rattle.message_fields.specs.Parts.{is_blank, trimmed, trimmed_start, trimmed_end, parts};
 
-use super::names::is_same_name;
+use message_parts::is_same_name;
 
 /// Whether the byte is a space or a tab.
 fn is_blank(byte: u8) -> bool

@@ -3,7 +3,7 @@ ghost use Rattle.std.specs.Prelude.{◌≡◌, ◌≤◌, length, IsTrue, option
 ghost use Rattle.std.specs.List.{position, position_or_len};
 ghost use Rattle.message_fields.specs.Target.{is_absolute, ends_authority, authority_of, local_part, wants_slash, is_authority, is_target, is_whole_server};
 
-use super::names::is_same_name;
+use message_parts::is_same_name;
 
 /// Whether the target is an absolute URI of the scheme `http`, without ASCII case.
 fn is_absolute(target: &[u8]) -> bool

@@ -1,1 +1,3 @@
+pub mod Fields
 mod Ranges
+pub mod SameName

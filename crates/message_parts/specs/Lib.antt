@@ -1,1 +1,3 @@
+pub mod Field
 pub mod Header
+pub mod Names

@@ -1,7 +1,9 @@
 // The header lines of a message, in their order.
 ghost use Rattle.std.specs.Prelude.{◌≡◌, ◌↔◌, ◌∷◌, [], codes, length, IfOk, IfSome, IsTrue};
 ghost use Rattle.std.specs.List.{concat};
+ghost use Rattle.message_parts.specs.Field.{IsFieldOf};
 
+use crate::field::Field;
 use crate::piece::HeadText;
 use std::alloc::{AllocError, Global};
 use std::marker::Model;
@@ -15,10 +17,12 @@ pub struct Header {
     pub(crate) text: Rc<Vec<u8>>,
     pub(crate) name: Range<usize>,
     pub(crate) value: Range<usize>,
+    pub(crate) field: Field,
 }
 
 impl Model for Header {
     ghost use Rattle.std.specs.Prelude.{◌≤◌, length, slice_range};
+    ghost use Rattle.message_parts.specs.Field.{IsFieldOf};
     ghost use Rattle.message_parts.specs.Header.{Header as Line};
 
     ghost Value = { Line };
@@ -29,7 +33,8 @@ impl Model for Header {
     } };
 
     ghost invariant = { λ h. (h.name.start ≤ h.name.end) × (h.name.end ≤ length h.text.value.items)
-        × (h.value.start ≤ h.value.end) × (h.value.end ≤ length h.text.value.items) };
+        × (h.value.start ≤ h.value.end) × (h.value.end ≤ length h.text.value.items)
+        × IsFieldOf h.field (slice_range h.text.value.items h.name.start h.name.end) };
 }
 
 impl Header {
@@ -50,6 +55,13 @@ impl Header {
         ensures { result.now ≡ self.now.name }
     {
         &self.text[self.name.start..self.name.end]
+    }
+
+    /// The field that its name is of. It was looked at as the line was made.
+    pub fn field(&self) -> Field
+        ensures { IsFieldOf result self.now.name }
+    {
+        self.field
     }
 
     /// Its value in place.

@@ -5,16 +5,20 @@
 #![tactic(auto)]
 
 mod bytes;
+mod field;
 mod headers;
 mod method;
+mod names;
 mod piece;
 mod request;
 mod text;
 mod text_piece;
 
 pub use bytes::Bytes;
+pub use field::Field;
 pub use headers::{Header, Headers};
 pub use method::Method;
+pub use names::is_same_name;
 pub use piece::{HeadText, Piece};
 pub use request::{Request, Version};
 pub use text::Text;

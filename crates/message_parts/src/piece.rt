@@ -2,6 +2,7 @@
 ghost use Rattle.std.specs.Prelude.{◌≡◌, ◌≤◌, ◌∷◌, [], IfOk, IfSome, codes, length, slice_range};
 ghost use Rattle.std.specs.List.{concat};
 
+use crate::field::field_of;
 use crate::headers::Header;
 use std::alloc::{AllocError, Global};
 use std::marker::Model;
@@ -56,10 +57,12 @@ impl HeadText {
           value = slice_range self.now value.start value.end;
         }) }
     {
+        let field = field_of(&self.bytes[name.start..name.end]);
         Ok(Header {
             text: self.bytes.clone()?,
             name,
             value,
+            field,
         })
     }
 }

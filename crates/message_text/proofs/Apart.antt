@@ -5,7 +5,7 @@ use Rattle.std.specs.Char.{to_ascii_lowercase}
 use Rattle.std.proofs.lemmas.Bool.{false≢true}
 use Rattle.std.proofs.lemmas.Slice.Eq.{bytes_eq-Decides}
 use Rattle.message_parts.specs.Header.{Header}
-use Rattle.message_fields.specs.Names.{same_name}
+use Rattle.message_parts.specs.Names.{same_name}
 use Rattle.message_fields.specs.Lines.{is_named}
 use Rattle.message_fields.specs.Passed.{is_of_connection, is_of_coding, is_own, is_connection_option, is_passed}
 use Rattle.message_text.specs.Forwarded.{hosted}

@@ -7,7 +7,7 @@ use Rattle.std.proofs.lemmas.List.Elements.{filter-append}
 use Rattle.std.proofs.lemmas.List.Sums.{length-filter}
 use Rattle.std.proofs.lemmas.Bool.Decides.{nat_tests}
 use Rattle.message_parts.specs.Header.{Header}
-use Rattle.message_fields.specs.Names.{same_name}
+use Rattle.message_parts.specs.Names.{same_name}
 use Rattle.message_fields.specs.Lines.{is_named, count_named}
 use Rattle.message_fields.specs.Passed.{is_passed, is_passed_in_request, request_lines, response_lines}
 use Rattle.message_fields.specs.Target.{authority_of}

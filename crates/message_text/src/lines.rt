@@ -134,7 +134,7 @@ fn write_hosted<W: Write>(
     let Some(authority) = authority else {
         return write_kept(writer, line);
     };
-    if is_host(line.name()) {
+    if is_host(line) {
         write_line(writer, line.name(), authority)
     } else {
         write_kept(writer, line)

@@ -14,15 +14,11 @@ loop-line-preserved c =
     let sized = c.one_where-lengths.ensures in
     record {
       codings = ap₂ (λ m n. m + n) c.loop-line.invariant.codings
-          (coding.value ∙ ap (λ b. if b then 1 else 0)
-          (c.is_same_name.ensures ∙ ap (λ name. is_named (codes "transfer-encoding")
-          (record { name = name; value = line.value })) c.name-name.ensures))
+          (coding.value ∙ ap (λ b. if b then 1 else 0) c.is_transfer_encoding.ensures)
           ∙ sym (count_one_more (is_named (codes "transfer-encoding")) lines i line inside
           c.line-item.is);
       lengths = ap₂ (λ m n. m + n) c.loop-line.invariant.lengths
-          (sized.value ∙ ap (λ b. if b then 1 else 0)
-          (c.is_content_length.ensures ∙ ap (λ name. is_named (codes "content-length")
-          (record { name = name; value = line.value })) c.name-name.ensures))
+          (sized.value ∙ ap (λ b. if b then 1 else 0) c.is_content_length.ensures)
           ∙ sym (count_one_more (is_named (codes "content-length")) lines i line inside
           c.line-item.is);
       few = (

@@ -2,7 +2,7 @@ use Rattle.std.proofs.Common.{rules, tests, ◌∙◌, eqb}
 use Rattle.std.specs.List.{slice_split}
 use Rattle.std.proofs.lemmas.Iterator.Search.{any_from_yields_List}
 use Rattle.std.proofs.lemmas.Iterator.Splits.{YieldsList-from_slice_split}
-use Rattle.message_fields.specs.Names.{same_name}
+use Rattle.message_parts.specs.Names.{same_name}
 use Rattle.message_fields.specs.Parts.{trimmed}
 use Rattle.message_fields.proofs.Lists.{list_any-map}
 use Rattle.message_fields.proofs.parts.has_part.Goals as goal

@@ -3,7 +3,7 @@ use Rattle.std.specs.Prelude.{codes, ◌&&◌}
 use Rattle.std.specs.List.{list_any}
 use Rattle.std.proofs.lemmas.Iterator.{YieldsList-from_slice}
 use Rattle.std.proofs.lemmas.Iterator.Search.{any_from_yields_List}
-use Rattle.message_fields.specs.Names.{same_name}
+use Rattle.message_parts.specs.Names.{same_name}
 use Rattle.message_fields.specs.Lines.{is_named}
 use Rattle.message_fields.specs.Parts.{parts}
 use Rattle.message_fields.proofs.Lists.{list_any-chosen}

@@ -1,6 +1,6 @@
 use Rattle.std.proofs.Common.{◌∙◌, sym, ne_eqb}
-use Rattle.message_fields.proofs.SameName.{same_name-test, other_length}
-use Rattle.message_fields.proofs.names.is_same_name.Goals as goal
+use Rattle.message_parts.proofs.SameName.{same_name-test, other_length}
+use Rattle.message_parts.proofs.names.is_same_name.Goals as goal
 
 pub returns-then-one-other : goal.returns-then-one-other
 returns-then-one-other c =

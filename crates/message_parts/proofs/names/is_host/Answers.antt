@@ -1,7 +1,7 @@
 use Rattle.std.proofs.Common.{rules, ◌≡◌, true}
 use Rattle.std.specs.Prelude.{codes}
-use Rattle.message_fields.proofs.Usual.{usual_host, written_so}
-use Rattle.message_fields.proofs.names.is_host.Goals as goal
+use Rattle.message_parts.proofs.SameName.{usual_host, written_so}
+use Rattle.message_parts.proofs.names.is_host.Goals as goal
 
 pub returns-then-eq : goal.returns-then-eq
 returns-then-eq c =

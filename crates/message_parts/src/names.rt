@@ -1,6 +1,6 @@
 // Words that are compared without ASCII case.
 ghost use Rattle.std.specs.Prelude.{◌≡◌, codes};
-ghost use Rattle.message_fields.specs.Names.{same_name};
+ghost use Rattle.message_parts.specs.Names.{same_name};
 
 /// Whether two field names, or other words, are the same without ASCII case (RFC 9110,
 /// section 5.1).
@@ -30,7 +30,7 @@ pub(crate) fn is_content_length(name: &[u8]) -> bool
 
 /// Whether the name is `host`.
 #[inline(always)]
-pub fn is_host(name: &[u8]) -> bool
+pub(crate) fn is_host(name: &[u8]) -> bool
     ensures { result ≡ same_name name.now (codes "host") }
 {
     name == b"Host".as_slice() || is_same_name(name, b"host")
