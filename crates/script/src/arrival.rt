@@ -7,7 +7,7 @@ ghost use Rattle.script.specs.Arrival.{arrival_of, arrival_bytes};
 use super::fault_kind::FaultKind;
 use super::numbers::{next_number, read_lone_number};
 use super::request::{read_outcome, read_wait};
-use super::words::next_word;
+use super::words::{is_word, next_word};
 use limit_laws::HOUR;
 use limiter_core::Outcome;
 
@@ -65,9 +65,9 @@ fn read_arrive(line: &[u8]) -> Option<ArrivalLine<&[u8]>>
 fn read_words<'a>(first: &[u8], line: &'a [u8]) -> Option<ArrivalLine<&'a [u8]>>
     ensures { option_map arrival_bytes result ≡ arrival_words first.now (words line.now) }
 {
-    if first == b"arrive".as_slice() {
+    if is_word(first, "arrive") {
         read_arrive(line)
-    } else if first == b"bypass".as_slice() {
+    } else if is_word(first, "bypass") {
         let at = read_lone_number(line)?;
         Some(ArrivalLine::Bypass { at })
     } else {

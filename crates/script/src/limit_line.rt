@@ -5,7 +5,7 @@ ghost use Rattle.script.specs.LimitLine.{fixed_line, settable_line, aimd_line, v
 ghost use Rattle.script.specs.LimitLine.{first_limits, limit_line};
 
 use super::numbers::{next_number, read_lone_number, read_number_pair};
-use super::words::next_word;
+use super::words::{is_word, next_word};
 use limit_kinds::LimitSpec;
 
 /// What follows `fixed`.
@@ -76,13 +76,13 @@ pub(crate) fn read_limit(line: &[u8]) -> Option<LimitSpec>
     ensures { result ≡ limit_line (words line.now) }
 {
     let (kind, line) = next_word(line)?;
-    if kind == b"fixed".as_slice() {
+    if is_word(kind, "fixed") {
         read_fixed(line)
-    } else if kind == b"settable".as_slice() {
+    } else if is_word(kind, "settable") {
         read_settable(line)
-    } else if kind == b"aimd".as_slice() {
+    } else if is_word(kind, "aimd") {
         read_aimd(line)
-    } else if kind == b"vegas".as_slice() {
+    } else if is_word(kind, "vegas") {
         read_vegas(line)
     } else {
         None

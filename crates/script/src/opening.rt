@@ -9,7 +9,7 @@ use super::line_fault::LineFault;
 use super::lines::next_line;
 use super::setting::{Setting, read_setting};
 use super::settings::Settings;
-use super::words::next_word;
+use super::words::{is_comment, next_word};
 use std::alloc::{AllocError, Global};
 
 /// The settings at the head of a text, and what is left of it.
@@ -33,7 +33,7 @@ fn read_head(line: &[u8]) -> Option<Option<Setting<&[u8]>>>
     let Some((first, line)) = next_word(line) else {
         return Some(None);
     };
-    if first.first() == Some(&b'#') {
+    if is_comment(first) {
         return Some(None);
     }
     Some(Some(read_setting(first, line)?))

@@ -6,7 +6,7 @@ ghost use Rattle.script.specs.Request.{set_of, short_of, request_of, request_byt
 
 use super::fault_kind::FaultKind;
 use super::numbers::{next_number, read_lone_number, read_number_pair};
-use super::words::next_word;
+use super::words::{is_word, next_word};
 use limiter_core::Outcome;
 
 /// What is asked of a limiter. A class is told by a `C`, as a line is read by its name; moments are
@@ -59,7 +59,7 @@ pub(crate) fn read_wait(line: &[u8]) -> Option<bool>
     let Some((word, line)) = next_word(line) else {
         return Some(false);
     };
-    if next_word(line).is_some() || word != b"wait".as_slice() {
+    if next_word(line).is_some() || !is_word(word, "wait") {
         return None;
     }
     Some(true)
@@ -79,11 +79,11 @@ fn read_acquire(line: &[u8]) -> Option<Request<&[u8]>>
 pub(crate) fn read_outcome(word: &[u8]) -> Option<Outcome>
     ensures { result ≡ outcome_of word.now }
 {
-    if word == b"success".as_slice() {
+    if is_word(word, "success") {
         Some(Outcome::Success)
-    } else if word == b"ignored".as_slice() {
+    } else if is_word(word, "ignored") {
         Some(Outcome::Ignored)
-    } else if word == b"dropped".as_slice() {
+    } else if is_word(word, "dropped") {
         Some(Outcome::Dropped)
     } else {
         None
@@ -132,13 +132,13 @@ fn read_short<'a>(first: &[u8], line: &'a [u8]) -> Option<Request<&'a [u8]>>
     ensures { option_map request_bytes result ≡ short_of first.now (words line.now) }
 {
     let number = read_lone_number(line)?;
-    if first == b"bypass".as_slice() {
+    if is_word(first, "bypass") {
         Some(Request::Bypass { now: number })
-    } else if first == b"claim".as_slice() {
+    } else if is_word(first, "claim") {
         Some(Request::Claim { number })
-    } else if first == b"giveup".as_slice() {
+    } else if is_word(first, "giveup") {
         Some(Request::GiveUp { number })
-    } else if first == b"reset".as_slice() {
+    } else if is_word(first, "reset") {
         Some(Request::Reset { now: number })
     } else {
         None
@@ -149,13 +149,13 @@ fn read_short<'a>(first: &[u8], line: &'a [u8]) -> Option<Request<&'a [u8]>>
 pub(crate) fn read_request<'a>(first: &[u8], line: &'a [u8]) -> Result<Request<&'a [u8]>, FaultKind>
     ensures { result_map request_bytes result ≡ request_of first.now (words line.now) }
 {
-    if first == b"acquire".as_slice() {
+    if is_word(first, "acquire") {
         read_acquire(line).ok_or(FaultKind::Words)
-    } else if first == b"end".as_slice() {
+    } else if is_word(first, "end") {
         read_end(line).ok_or(FaultKind::Words)
-    } else if first == b"set".as_slice() {
+    } else if is_word(first, "set") {
         read_set(line)
-    } else if first == b"look".as_slice() {
+    } else if is_word(first, "look") {
         read_look(line).ok_or(FaultKind::Words)
     } else {
         read_short(first, line).ok_or(FaultKind::Words)

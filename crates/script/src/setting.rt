@@ -6,7 +6,7 @@ ghost use Rattle.script.specs.Setting.{class_line, share_line, rolling_of, keep_
 use super::limit_line::read_limit;
 use super::numbers::{next_number, read_lone_number};
 use super::window_line::read_window;
-use super::words::next_word;
+use super::words::{is_word, next_word};
 use limit_kinds::{LimitSpec, WindowSpec};
 use limiter_core::Promote;
 
@@ -58,7 +58,7 @@ fn read_rolling(line: &[u8]) -> Option<bool>
     let Some((word, line)) = next_word(line) else {
         return Some(false);
     };
-    if next_word(line).is_some() || word != b"rolling".as_slice() {
+    if next_word(line).is_some() || !is_word(word, "rolling") {
         return None;
     }
     Some(true)
@@ -84,9 +84,9 @@ fn read_rule(line: &[u8]) -> Option<Promote>
     if next_word(line).is_some() {
         return None;
     }
-    if word == b"newest".as_slice() {
+    if is_word(word, "newest") {
         Some(Promote::Newest)
-    } else if word == b"all".as_slice() {
+    } else if is_word(word, "all") {
         Some(Promote::All)
     } else {
         None
@@ -97,23 +97,23 @@ fn read_rule(line: &[u8]) -> Option<Promote>
 pub(crate) fn read_setting<'a>(first: &[u8], line: &'a [u8]) -> Option<Setting<&'a [u8]>>
     ensures { option_map setting_bytes result ≡ setting_of first.now (words line.now) }
 {
-    if first == b"limit".as_slice() {
+    if is_word(first, "limit") {
         Some(Setting::Limit(read_limit(line)?))
-    } else if first == b"window".as_slice() {
+    } else if is_word(first, "window") {
         Some(Setting::Window(read_window(line)?))
-    } else if first == b"class".as_slice() {
+    } else if is_word(first, "class") {
         read_class(line)
-    } else if first == b"share".as_slice() {
+    } else if is_word(first, "share") {
         read_share(line)
-    } else if first == b"backlog".as_slice() {
+    } else if is_word(first, "backlog") {
         let room = read_lone_number(line)?;
         Some(Setting::Backlog { room })
-    } else if first == b"keep".as_slice() {
+    } else if is_word(first, "keep") {
         read_keep(line)
-    } else if first == b"timeout".as_slice() {
+    } else if is_word(first, "timeout") {
         let nanos = read_lone_number(line)?;
         Some(Setting::Timeout { nanos })
-    } else if first == b"promote".as_slice() {
+    } else if is_word(first, "promote") {
         let rule = read_rule(line)?;
         Some(Setting::Promotion { rule })
     } else {

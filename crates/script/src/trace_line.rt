@@ -6,7 +6,7 @@ ghost use Rattle.script.specs.TraceLine.{trace_line_of, trace_line_bytes};
 use super::arrival::{ArrivalLine, read_arrival};
 use super::fault_kind::FaultKind;
 use super::setting::{Setting, read_setting};
-use super::words::next_word;
+use super::words::{is_comment, next_word};
 
 /// A line of a trace that isn't skipped. A class is told by a `C`, as a line is read by its name.
 #[derive(Drop)]
@@ -28,7 +28,7 @@ pub fn read_trace_line(line: &[u8]) -> Result<Option<TraceLine<&[u8]>>, FaultKin
     let Some((first, line)) = next_word(line) else {
         return Ok(None);
     };
-    if first.first() == Some(&b'#') {
+    if is_comment(first) {
         return Ok(None);
     }
     if let Some(setting) = read_setting(first, line) {

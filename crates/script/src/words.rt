@@ -1,6 +1,7 @@
 // The words of a line, one at a time.
-ghost use Rattle.std.specs.Prelude.{◌≡◌, ◌<◌, ◌≤◌, ◌==◌, [], ◌∷◌, length, IfSome, IfNone};
+ghost use Rattle.std.specs.Prelude.{◌≡◌, ◌<◌, ◌≤◌, ◌==◌, [], ◌∷◌, bytes_eq, length, IfSome, IfNone};
 ghost use Rattle.std.specs.List.{prefix_len, position_or_len};
+ghost use Rattle.script.specs.Line.{is_comment};
 ghost use Rattle.script.specs.Words.{words};
 
 use super::lines::place_of;
@@ -39,4 +40,18 @@ pub(crate) fn next_word(line: &[u8]) -> Option<(&[u8], &[u8])>
     }
     let end = place_of(rest, b' ');
     Some(rest.split_at(end))
+}
+
+/// Whether a word is this one.
+pub(crate) fn is_word(word: &[u8], wanted: &str) -> bool
+    ensures { result ≡ bytes_eq word.now wanted.now }
+{
+    word == wanted.as_bytes()
+}
+
+/// Whether the first word of a line begins a comment.
+pub(crate) fn is_comment(first: &[u8]) -> bool
+    ensures { result ≡ is_comment first.now }
+{
+    first.first() == Some(&b'#')
 }

@@ -7,8 +7,8 @@ returns-in_err-read_request c = search rules
 pub returns-in_default : goal.returns-in_default
 returns-in_default c = search rules
 
-pub returns-then-eq : goal.returns-then-eq
-returns-then-eq c = search rules
+pub returns-then-is_comment : goal.returns-then-is_comment
+returns-then-is_comment c = search rules
 
 pub returns-in-Some-read_setting : goal.returns-in-Some-read_setting
 returns-in-Some-read_setting c = search rules

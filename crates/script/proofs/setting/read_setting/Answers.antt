@@ -1,17 +1,17 @@
 use Rattle.std.proofs.Common.{rules}
 use Rattle.script.proofs.setting.read_setting.Goals as goal
 
-pub returns-then-eq-3 : goal.returns-then-eq-3
-returns-then-eq-3 c = search rules
+pub returns-then-is_word-3 : goal.returns-then-is_word-3
+returns-then-is_word-3 c = search rules
 
-pub returns-then-eq-4 : goal.returns-then-eq-4
-returns-then-eq-4 c = search rules
+pub returns-then-is_word-4 : goal.returns-then-is_word-4
+returns-then-is_word-4 c = search rules
 
-pub returns-then-eq-6 : goal.returns-then-eq-6
-returns-then-eq-6 c = search rules
+pub returns-then-is_word-6 : goal.returns-then-is_word-6
+returns-then-is_word-6 c = search rules
 
-pub returns-else-eq-8 : goal.returns-else-eq-8
-returns-else-eq-8 c = search rules
+pub returns-else-is_word-8 : goal.returns-else-is_word-8
+returns-else-is_word-8 c = search rules
 
 pub returns-in_ok-room : goal.returns-in_ok-room
 returns-in_ok-room c = search rules
