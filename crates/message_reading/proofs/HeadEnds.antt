@@ -1,27 +1,47 @@
--- What a call gives once the bytes of a head are found.
-use Rattle.std.proofs.Common.{rules, ◌≡◌, ◌≤◌, ◌<◌, refl, ℕ, true, false, List, nat_lt, Vec, Global}
-use Rattle.std.specs.Prelude.{Option, Result, Ok, Err, IfOk, IfErr, OnOk, OnErr}
+-- The head behind some of its bytes, while a reader gives more of them.
+use Rattle.std.proofs.Common.{rules, ◌≡◌, ◌≤◌, ◌∙◌, ◌++◌, sym, ap, refl, ℕ, true, false, List, [], ◌∷◌, length, nat_le, Vec, Global}
+use Rattle.std.specs.Prelude.{⊤, Option, Some, None, Result, Err}
+use Rattle.std.specs.Io.KnownBytes.{Consumes}
 use Rattle.message_reading.specs.declared.fault.Fault.TheVariants.{HeadTooLarge}
 use Rattle.message_reading.specs.declared.fault.MessageFault.{MessageFault}
 use Rattle.message_reading.specs.declared.fault.MessageFault.TheVariants.{Bytes}
 use Rattle.message_reading.specs.Reading.{By, Gives}
-use Rattle.message_reading.specs.HeadBytes.{ends_head, head_of, limit_lines, line_ends}
-use Rattle.message_reading.proofs.Pieces.{Found, gives_found, fails_found}
+use Rattle.message_reading.specs.Gather.{gather}
+use Rattle.message_reading.specs.HeadBytes.{ends_head, head_behind, limit_lines}
+use Rattle.message_reading.specs.Progress.{HeadPasses}
 
-abbrev GivesHead : Option (List ℕ) → Option (List ℕ) → Result (Vec ℕ Global) MessageFault → Type 0
-GivesHead = Gives {X = Vec ℕ Global} {V = List ℕ} (λ head. head.items) (By head_of)
+-- the head behind the first bytes is that behind those seen
+abbrev pub LeadsTo : List ℕ → Option (List ℕ) → Option (List ℕ) → List ℕ → Type 0
+LeadsTo first None new seen = ⊤
+LeadsTo first (Some xs) None seen = ⊥
+LeadsTo first (Some xs) (Some ys) seen = head_behind first xs ≡ head_behind seen ys
 
--- the bytes found, or their fault where they have too many lines
-pub head_given : (old new : Option (List ℕ)) (text : List ℕ)
-    (r : Result (Vec ℕ Global) MessageFault)
-    → Found ends_head 65536 HeadTooLarge old new text → IfOk r (λ head. head.items ≡ text)
-    → OnOk r (line_ends text ≤ 102) → IfErr r (λ fault. fault ≡ Bytes HeadTooLarge)
-    → OnErr r (102 < line_ends text) → GivesHead old new r
-head_given old new text (Ok head) found items few fault many =
-    let small : nat_lt 102 (line_ends text) ≡ false = search rules in
-    gives_found ends_head 65536 HeadTooLarge (λ (head : Vec ℕ Global). head.items) limit_lines
-    old new text head found (λ rest. rw (small, items) refl)
-head_given old new text (Err f) found items few fault many =
-    let large : nat_lt 102 (line_ends text) ≡ true = search rules in
-    rw fault (fails_found ends_head 65536 HeadTooLarge (λ (head : Vec ℕ Global). head.items)
-    limit_lines old new text HeadTooLarge found (λ rest. rw large refl))
+-- a piece more
+pub leads_more : (first : List ℕ) (old mid new : Option (List ℕ)) (seen piece : List ℕ)
+    → LeadsTo first old mid seen → Consumes mid new piece → HeadPasses seen piece
+    → ends_head seen ≡ false → LeadsTo first old new (seen ++ piece)
+leads_more first None mid new seen piece leads gave passes none = tt
+leads_more first (Some xs) None new seen piece leads gave passes none = absurd leads
+leads_more first (Some xs) (Some ys) None seen piece leads gave passes none = absurd gave
+leads_more first (Some xs) (Some ys) (Some zs) seen piece leads gave passes none =
+    leads ∙ ap (head_behind seen) gave ∙ rw none (ap limit_lines (passes zs))
+
+abbrev GivesHead : List ℕ → Option (List ℕ) → Option (List ℕ)
+    → Result (Vec ℕ Global) MessageFault → Type 0
+GivesHead first =
+    Gives {X = Vec ℕ Global} {V = List ℕ} (λ head. head.items) (By (head_behind first))
+
+-- as many bytes as a head may have
+pub too_many : (first : List ℕ) (old new : Option (List ℕ)) (seen : List ℕ)
+    → LeadsTo first old new seen → ends_head seen ≡ false → 65536 ≤ length seen
+    → GivesHead first old new (Err (Bytes HeadTooLarge))
+too_many first None new seen leads none full = tt
+too_many first (Some xs) None seen leads none full = absurd leads
+too_many first (Some xs) (Some ys) seen leads none full =
+    let over : nat_le 65536 (length seen) ≡ true = search rules in
+    sym (leads ∙ rw none (go ys over))
+  where
+    go : (ys : List ℕ) → nat_le 65536 (length seen) ≡ true
+        → limit_lines (gather ends_head 65536 HeadTooLarge seen ys) ≡ Err HeadTooLarge
+    go [] over = rw over refl
+    go (y ∷ ys) over = rw over refl

@@ -1,57 +1,28 @@
--- Each line of a head ends in an LF.
-use Rattle.std.proofs.Common.{rules, arith, ◌≡◌, ◌≤◌, ◌+◌, ◌∙◌, ◌++◌, ◌==◌, ◌&&◌, ◌||◌, subst, ap, refl, ℕ, Bool, true, false, cond, List, [], ◌∷◌, length, IsTrue}
-use Rattle.std.specs.Prelude.{count_by}
+-- The lines of a head, and how many they are: each ends in an LF.
+use Rattle.std.proofs.Common.{rules, arith, ◌≡◌, ◌<◌, ◌+◌, ◌∙◌, ◌++◌, ◌==◌, ◌&&◌, ◌||◌, All, subst, ap, refl, ℕ, Bool, true, false, List, [], ◌∷◌, length, append_assoc, IsTrue}
 use Rattle.std.specs.List.{flat_map}
-use Rattle.std.proofs.lemmas.List.Sums.{sum_by-append}
-use Rattle.httparse.specs.Grammar.{LineEnd, crlf, lf, print_end, print_blank, Field, print_field, print_section, print_reason, RequestHead, ResponseHead, IsToken, is_token_byte, print_version}
-use Rattle.httparse.proofs.GrammarLemmas.{print_request-append, print_response-append}
-use Rattle.message_reading.specs.HeadBytes.{stays_blank, after_blank, line_ends}
+use Rattle.std.proofs.lemmas.List.{append-nil}
+use Rattle.std.proofs.lemmas.List.Elements.{All-head, All-tail}
+use Rattle.httparse.specs.Grammar.{AllPass, Field, IsField, IsRequestHead, IsResponseHead, LineEnd, RequestHead, ResponseHead, crlf, is_token_byte, lf, print_blank, print_end, print_field, print_request, print_response, print_section, print_reason, print_version}
+use Rattle.httparse.proofs.GrammarLemmas.{cons-append}
+use Rattle.message_reading.specs.HeadBytes.{after_blank, is_blank, line_ends, stays_blank}
 use Rattle.message_reading.specs.WholeHeads.{IsWholeRequest, IsWholeResponse}
+use Rattle.message_reading.proofs.LongLines.{IsLong, feeds, feeds-append, feeds-end, field_long, request_line, request_long, response_line, response_long}
 
-abbrev feeds : List ℕ → ℕ
-feeds = count_by (λ b. b == 10)
+-- the line is none of the empty ones in front
+abbrev Shows : List ℕ → Type 0
+Shows [] = ⊥
+Shows (b ∷ bytes) = stays_blank 10 b ≡ false
 
-feeds-append : (a b : List ℕ) → feeds (a ++ b) ≡ feeds a + feeds b
-feeds-append a b = sum_by-append (λ b. cond (b == 10) 1 0) a b
+-- a first line, and lines behind it
+pub record IsHead (line : List ℕ) (fields : List Field) : Type 0 where
+  pub shows : Shows line
+  pub first : IsLong line
+  pub fields_are : All IsField fields
 
-feeds-end : (e : LineEnd) → feeds (print_end e) ≡ 1
-feeds-end crlf = refl
-feeds-end lf = refl
-
-feeds-more : (b : ℕ) (xs : List ℕ) → feeds xs ≤ feeds (b ∷ xs)
-feeds-more b xs =
-    let parts : feeds (b ∷ xs) ≡ feeds (b ∷ []) + feeds xs = feeds-append (b ∷ []) xs in
-    omega arith
-
-feeds-field : (f : Field) → 1 ≤ feeds (print_field f)
-feeds-field f =
-    let all : feeds (print_field f) ≡ feeds (f.name ++ 58 ∷ f.raw) + feeds (print_end f.end) =
-    feeds-append (f.name ++ 58 ∷ f.raw) (print_end f.end) in
-    let end = feeds-end f.end in
-    omega arith
-
-feeds-fields : (fs : List Field) → length fs ≤ feeds (flat_map print_field fs)
-feeds-fields [] = search rules
-feeds-fields (f ∷ fs) =
-    let all = feeds-append (print_field f) (flat_map print_field fs) in
-    let first = feeds-field f in
-    let others = feeds-fields fs in
-    let count : length (f ∷ fs) ≡ 1 + length fs = search rules in
-    omega arith
-
-feeds-section : (fs : List Field) (last : LineEnd) → 1 + length fs ≤ feeds (print_section fs last)
-feeds-section fs last =
-    let all = feeds-append (flat_map print_field fs) (print_end last) in
-    let fields = feeds-fields fs in
-    let end = feeds-end last in
-    omega arith
-
--- the empty lines in front are passed over
-blank_passed : (ends : List LineEnd) (b : ℕ) (rest : List ℕ) → stays_blank 10 b ≡ false
-    → after_blank 10 (print_blank ends ++ b ∷ rest) ≡ b ∷ rest
-blank_passed [] b rest is = rw is refl
-blank_passed (crlf ∷ ends) b rest is = blank_passed ends b rest is
-blank_passed (lf ∷ ends) b rest is = blank_passed ends b rest is
+-- their bytes
+abbrev pub print_head : List LineEnd → List ℕ → List Field → LineEnd → List ℕ
+print_head blank line fields last = print_blank blank ++ (line ++ print_section fields last)
 
 token_visible : (b : ℕ) → IsTrue (is_token_byte b) → stays_blank 10 b ≡ false
 unfolding is_token_byte
@@ -68,53 +39,101 @@ token_visible b is = go (b == 10) refl (b == 13) refl
         search rules
     go false e false f = refl
 
-method_first : (blank : List LineEnd) (m rest : List ℕ) → IsToken m
-    → after_blank 10 (print_blank blank ++ (m ++ rest)) ≡ m ++ rest
-method_first blank [] rest token = search rules
-method_first blank (b ∷ m) rest token =
-    let first : IsTrue (is_token_byte b) = token.1 0 b (search rules) in
-    blank_passed blank b (m ++ rest) (token_visible b first)
+method_shows : (method rest : List ℕ) → 0 < length method → AllPass is_token_byte method
+    → Shows (method ++ rest)
+method_shows [] rest some pass = absurd (omega arith)
+method_shows (b ∷ method) rest some pass =
+    token_visible b (All-head (λ b. IsTrue (is_token_byte b)) b method pass)
+
+pub request_is : (h : RequestHead) → IsRequestHead h → IsHead (request_line h) h.fields
+request_is h is =
+    let version = print_version h.minor in
+    let end = print_end h.line_end in
+    let rest = 32 ∷ h.target ++ 32 ∷ version ++ end in
+    record {
+      shows = subst Shows (regroup h.method h.target version end)
+          (method_shows h.method rest is.method.0 is.method.1);
+      first = request_long h is;
+      fields_are = is.fields;
+    }
+  where
+    regroup : (b c d e : List ℕ)
+        → b ++ (32 ∷ c ++ 32 ∷ d ++ e) ≡ b ++ 32 ∷ c ++ 32 ∷ d ++ e
+    regroup b c d e = simp (append_assoc, cons-append)
+
+pub response_is : (h : ResponseHead) → IsResponseHead h → IsHead (response_line h) h.fields
+response_is h is =
+    record { shows = refl; first = response_long h is; fields_are = is.fields }
+
+pub request_text : (text : List ℕ) (h : RequestHead) → IsWholeRequest text h
+    → text ≡ print_head h.blank (request_line h) h.fields h.last
+unfolding print_request
+request_text text h whole =
+    whole.1 ∙ append-nil (print_request h)
+    ∙ regroup (print_blank h.blank) h.method h.target (print_version h.minor)
+    (print_end h.line_end) (print_section h.fields h.last)
+  where
+    regroup : (a b c d e f : List ℕ)
+        → a ++ b ++ 32 ∷ c ++ 32 ∷ d ++ e ++ f ≡ a ++ ((b ++ 32 ∷ c ++ 32 ∷ d ++ e) ++ f)
+    regroup a b c d e f = simp (append_assoc, cons-append)
+
+pub response_text : (text : List ℕ) (h : ResponseHead) → IsWholeResponse text h
+    → text ≡ print_head h.blank (response_line h) h.fields h.last
+unfolding print_response
+response_text text h whole =
+    whole.1 ∙ append-nil (print_response h)
+    ∙ regroup (print_blank h.blank) (print_version h.minor) h.digits (print_reason h.reason)
+    (print_end h.line_end) (print_section h.fields h.last)
+  where
+    regroup : (a b c d e f : List ℕ)
+        → a ++ b ++ 32 ∷ c ++ d ++ e ++ f ≡ a ++ ((b ++ 32 ∷ c ++ d ++ e) ++ f)
+    regroup a b c d e f = simp (append_assoc, cons-append)
+
+-- the empty lines in front are passed over
+blank_passed : (ends : List LineEnd) (line rest : List ℕ) → Shows line
+    → after_blank 10 (print_blank ends ++ (line ++ rest)) ≡ line ++ rest
+blank_passed [] [] rest shows = absurd shows
+blank_passed [] (b ∷ line) rest shows = rw shows refl
+blank_passed (crlf ∷ ends) line rest shows = blank_passed ends line rest shows
+blank_passed (lf ∷ ends) line rest shows = blank_passed ends line rest shows
+
+-- and there are others
+pub not_blank : (ends : List LineEnd) (line rest : List ℕ) → Shows line
+    → is_blank 10 (print_blank ends ++ (line ++ rest)) ≡ false
+not_blank [] [] rest shows = absurd shows
+not_blank [] (b ∷ line) rest shows = rw shows refl
+not_blank (crlf ∷ ends) line rest shows = not_blank ends line rest shows
+not_blank (lf ∷ ends) line rest shows = not_blank ends line rest shows
+
+fields_feeds : (fields : List Field) → All IsField fields
+    → feeds (flat_map print_field fields) ≡ length fields
+fields_feeds [] are = refl
+fields_feeds (f ∷ fields) are =
+    let first = (field_long f (All-head IsField f fields are)).one in
+    let others = fields_feeds fields (All-tail IsField f fields are) in
+    feeds-append (print_field f) (flat_map print_field fields) ∙ omega arith
+
+-- each line but the empty ones in front ends once
+pub head_lines : (blank : List LineEnd) (line : List ℕ) (fields : List Field) (last : LineEnd)
+    → IsHead line fields → line_ends (print_head blank line fields last) ≡ 2 + length fields
+unfolding line_ends
+head_lines blank line fields last is =
+    let section = print_section fields last in
+    let passed = ap feeds (blank_passed blank line section is.shows) in
+    let one = is.first.one in
+    let others = fields_feeds fields is.fields_are in
+    let end = feeds-end last in
+    let parts = feeds-append (flat_map print_field fields) (print_end last) in
+    passed ∙ feeds-append line section ∙ omega arith
 
 pub request_lines : (text : List ℕ) (h : RequestHead) → IsWholeRequest text h
-    → 2 + length h.fields ≤ line_ends text
-unfolding line_ends
+    → line_ends text ≡ 2 + length h.fields
 request_lines text h whole =
-    let section = print_section h.fields h.last ++ [] in
-    let version = print_version h.minor ++ (print_end h.line_end ++ section) in
-    let rest = 32 ∷ (h.target ++ 32 ∷ version) in
-    let text_is : text ≡ print_blank h.blank ++ (h.method ++ rest) =
-    whole.1 ∙ print_request-append h [] in
-    let after : line_ends text ≡ feeds (h.method ++ rest) =
-    ap line_ends text_is ∙ ap feeds (method_first h.blank h.method rest whole.0.method) in
-    let one = feeds-append h.method rest in
-    let space = feeds-more 32 (h.target ++ 32 ∷ version) in
-    let two = feeds-append h.target (32 ∷ version) in
-    let gap = feeds-more 32 version in
-    let three = feeds-append (print_version h.minor) (print_end h.line_end ++ section) in
-    let four = feeds-append (print_end h.line_end) section in
-    let five = feeds-append (print_section h.fields h.last) [] in
-    let end = feeds-end h.line_end in
-    let fields = feeds-section h.fields h.last in
-    omega arith
+    ap line_ends (request_text text h whole)
+    ∙ head_lines h.blank (request_line h) h.fields h.last (request_is h whole.0)
 
 pub response_lines : (text : List ℕ) (h : ResponseHead) → IsWholeResponse text h
-    → 2 + length h.fields ≤ line_ends text
-unfolding line_ends
+    → line_ends text ≡ 2 + length h.fields
 response_lines text h whole =
-    let section = print_section h.fields h.last ++ [] in
-    let ended = print_end h.line_end ++ section in
-    let reason = print_reason h.reason ++ ended in
-    let rest = 32 ∷ (h.digits ++ reason) in
-    let text_is : text ≡ print_blank h.blank ++ (print_version h.minor ++ rest) =
-    whole.1 ∙ print_response-append h [] in
-    let after : line_ends text ≡ feeds (print_version h.minor ++ rest) =
-    ap line_ends text_is ∙ ap feeds (blank_passed h.blank 72 _ refl) in
-    let one = feeds-append (print_version h.minor) rest in
-    let space = feeds-more 32 (h.digits ++ reason) in
-    let two = feeds-append h.digits reason in
-    let three = feeds-append (print_reason h.reason) ended in
-    let four = feeds-append (print_end h.line_end) section in
-    let five = feeds-append (print_section h.fields h.last) [] in
-    let end = feeds-end h.line_end in
-    let fields = feeds-section h.fields h.last in
-    omega arith
+    ap line_ends (response_text text h whole)
+    ∙ head_lines h.blank (response_line h) h.fields h.last (response_is h whole.0)

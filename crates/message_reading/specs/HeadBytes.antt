@@ -32,6 +32,12 @@ abbrev pub limit_lines : Reading (List ℕ) → Reading (List ℕ)
 limit_lines (Ok p) = if nat_lt 102 (line_ends p.0) then Err HeadTooLarge else Ok p
 limit_lines (Err f) = Err f
 
+-- a head of which these bytes were read, where none ends among them: they are it, or more follow
+abbrev pub head_behind : List ℕ → List ℕ → Reading (List ℕ)
+head_behind seen bytes =
+    limit_lines (if ends_head seen then Ok (seen, bytes)
+    else gather ends_head 65536 HeadTooLarge seen bytes)
+
 -- the bytes of a head, those of empty lines before it included, of at most 65,536 bytes
 abbrev pub head_of : List ℕ → Reading (List ℕ)
 head_of bytes = limit_lines (gather ends_head 65536 HeadTooLarge [] bytes)

@@ -3,9 +3,11 @@ pub mod ChunkLines
 pub mod ChunkSize
 pub mod Chunks
 pub mod Continue
+pub mod FirstCuts
 pub mod Framing
 pub mod Gather
 pub mod HeadBytes
+pub mod HeadTexts
 pub mod Heads
 pub mod Laws
 pub mod PlainBody

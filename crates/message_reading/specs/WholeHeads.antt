@@ -1,8 +1,10 @@
 -- Heads that httparse reads whole.
-use Rattle.std.specs.Prelude.{ℕ, List, [], map, Ok, Err}
+use Rattle.std.specs.Prelude.{◌≤◌, ℕ, List, [], length, map, Ok, Err}
 use Rattle.httparse.specs.declared.spans.HeaderSpan.{HeaderSpan}
+use Rattle.httparse.specs.declared.spans.RequestSpans.{RequestSpans}
+use Rattle.httparse.specs.declared.spans.ResponseSpans.{ResponseSpans}
 use Rattle.httparse.specs.Grammar.{Field, ReadsRequest, ReadsResponse, RequestHead as RequestText, ResponseHead as ResponseText, field_value, status_code}
-use Rattle.httparse.specs.Spans.{span_bytes}
+use Rattle.httparse.specs.Spans.{IsRequestAt, IsRequestWithin, IsResponseAt, IsResponseWithin, span_bytes}
 use Rattle.message_parts.specs.Header.{Header}
 use Rattle.message_reading.specs.Reading.{Reading}
 use Rattle.message_reading.specs.declared.fault.Fault.TheVariants.{Malformed}
@@ -24,6 +26,28 @@ IsWholeResponse bytes h = ReadsResponse bytes h []
 -- the bytes are no response head
 abbrev pub HasNoWholeResponse : List ℕ → Type 0
 HasNoWholeResponse bytes = (h : ResponseText) → ¬ (IsWholeResponse bytes h)
+
+-- the parts are those of the request head that the bytes are, whose lines the spans cover
+abbrev pub AreRequestParts : RequestSpans → List HeaderSpan → List ℕ → Type 0
+AreRequestParts parts spans bytes =
+    ((h : RequestText) × IsRequestAt bytes spans parts h × IsWholeRequest bytes h)
+    × IsRequestWithin bytes spans parts
+
+-- the same of a response head
+abbrev pub AreResponseParts : ResponseSpans → List HeaderSpan → List ℕ → Type 0
+AreResponseParts parts spans bytes =
+    ((h : ResponseText) × IsResponseAt bytes spans parts h × IsWholeResponse bytes h)
+    × IsResponseWithin bytes spans parts
+
+-- no request head with so many lines behind its first one, or fewer, stands in front of the bytes
+abbrev pub HasNoRequestOf : ℕ → List ℕ → Type 0
+HasNoRequestOf most bytes =
+    (h : RequestText) (rest : List ℕ) → ReadsRequest bytes h rest → ¬ (length h.fields ≤ most)
+
+-- the same of a response head
+abbrev pub HasNoResponseOf : ℕ → List ℕ → Type 0
+HasNoResponseOf most bytes =
+    (h : ResponseText) (rest : List ℕ) → ReadsResponse bytes h rest → ¬ (length h.fields ≤ most)
 
 -- a field's name, and its value without the blanks around it
 abbrev pub line_of : Field → Header

@@ -7,7 +7,8 @@ ghost use Rattle.message_reading.specs.Heads.{IsCheckedHead, IsRequestHead};
 use crate::fault::MessageFault;
 use crate::framing::{Framing, frame_request};
 use crate::head_bytes::read_head;
-use crate::request_head::{RequestHead, parse_request};
+use crate::head_cut::{FirstCut, Kept};
+use crate::request_head::{RequestHead, head_at, parse_request};
 use counted_io::Counted;
 use std::alloc::Global;
 use std::io::BufRead;
@@ -23,8 +24,12 @@ fn read_request_head<R: BufRead>(
     ensures within { ReadsWithin limit result reader.old reader.new }
     ensures reads { once_more limit (calls_of reader.old) ≤ calls_of reader.new }
 {
-    let text = read_head(alloc, reader, limit)?;
-    parse_request(alloc, text)
+    let mut first = FirstCut::new();
+    let text = read_head(alloc, reader, limit, &mut first)?;
+    match first.kept {
+        Kept::Whole(found) => Ok(head_at(alloc, text, found, &first.spans)?),
+        Kept::Begun(_) => parse_request(alloc, text, &mut first.spans),
+    }
 }
 
 /// The head of a request, and how its body is delimited, once all checks passed.

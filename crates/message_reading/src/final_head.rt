@@ -6,7 +6,8 @@ ghost use Rattle.message_reading.specs.Heads.{IsFinalHead, IsResponseHead, is_fi
 
 use crate::fault::{Fault, MessageFault};
 use crate::head_bytes::read_head;
-use crate::response_head::{ResponseHead, parse_response};
+use crate::head_cut::{FirstCut, Kept};
+use crate::response_head::{ResponseHead, head_at, parse_response};
 use counted_io::Counted;
 use std::alloc::Global;
 use std::io::BufRead;
@@ -26,8 +27,12 @@ fn read_response_head<R: BufRead>(
     ensures within { ReadsWithin limit result reader.old reader.new }
     ensures reads { once_more limit (calls_of reader.old) ≤ calls_of reader.new }
 {
-    let text = read_head(alloc, reader, limit)?;
-    parse_response(alloc, text)
+    let mut first = FirstCut::new();
+    let text = read_head(alloc, reader, limit, &mut first)?;
+    match first.kept {
+        Kept::Whole(found) => Ok(head_at(alloc, text, found, &first.spans)?),
+        Kept::Begun(_) => parse_response(alloc, text, &mut first.spans),
+    }
 }
 
 // The status is of a response that others follow.

@@ -2,21 +2,20 @@
 ghost use Rattle.std.specs.Prelude.{◌≡◌, ◌≤◌, ◌<◌, ◌-◌, ◌⊎◌, ◌++◌, ℕ, List, [], length, IsErrOf, IfErr, IfOk, OnErr, OnOk};
 ghost use Rattle.counted_io.specs.Counted.{calls_of};
 ghost use Rattle.counted_io.specs.Effects.{Gave, IfLeft};
+ghost use Rattle.message_reading.specs.FirstCuts.{AreParts, kept_of, spans_of};
 ghost use Rattle.message_reading.specs.Reading.{By, Reads, ReadsWithin, once_more};
-ghost use Rattle.message_reading.specs.HeadBytes.{ends_head, head_of, line_ends};
-ghost use Rattle.message_reading.specs.Progress.{HeadPasses};
+ghost use Rattle.message_reading.specs.HeadBytes.{ends_head, head_behind, head_of, line_ends};
+ghost use Rattle.message_reading.specs.Progress.{HeadPasses, IsProgress};
 
 use crate::byte::read_wanted;
 use crate::fault::{Fault, MessageFault};
-use crate::head_cut::HeadCut;
+use crate::head_cut::{FirstCut, HeadCut, Kept, MOST_HEAD};
+use crate::head_parts::HeadParts;
 use crate::progress::Progress;
 use counted_io::Counted;
 use std::alloc::Global;
 use std::io::BufRead;
 use std::marker::Model;
-
-/// The greatest number of bytes of a head.
-const MOST_HEAD: usize = 65_536;
 
 /// The greatest number of lines, the first and the empty one among them.
 const MOST_LINES: usize = 102;
@@ -40,27 +39,24 @@ impl Model for Seen {
 }
 
 impl Seen {
-    fn new(alloc: Global) -> Seen
-        ensures { result ≡ [] }
+    // These bytes, of which this was kept.
+    fn new(bytes: Vec<u8>, progress: Progress) -> Seen
+        requires { IsProgress bytes.items progress }
+        ensures { result ≡ bytes.items }
     {
-        Seen {
-            bytes: Vec::new(alloc),
-            progress: Progress::new(),
-        }
+        Seen { bytes, progress }
     }
 
-    // Adds the next bytes that the reader shows, up to a head's end, and tells whether all are a
-    // head.
+    // Adds the next bytes that the reader shows, up to a head's end.
     fn read_on<R: BufRead>(
         &mut self,
         reader: &mut Counted<R>,
         limit: u64,
-    ) -> Result<bool, MessageFault>
+    ) -> Result<(), MessageFault>
         requires { length self.old < 65536 }
         ensures gave { OnOk result ((part : List ℕ) × (0 < length part)
             × (length part ≤ 65536 - length self.old) × (self.new ≡ self.old ++ part)
             × Gave R.remaining reader.old reader.new part × HeadPasses self.old part) }
-        ensures ends { IfOk result (λ ends. ends ≡ ends_head self.new) }
         ensures faults { IfErr result (λ fault. (fault ≡ MessageFault.TurnLimit)
             ⊎ (fault ≡ MessageFault.Read) ⊎ (fault ≡ MessageFault.Memory)
             ⊎ (fault ≡ MessageFault.Bytes Fault.Early)) }
@@ -72,7 +68,13 @@ impl Seen {
         let mut cut = HeadCut::new(self.progress, MOST_HEAD - self.bytes.len());
         read_wanted(reader, limit, &mut cut, &mut self.bytes)?;
         self.progress = cut.progress();
-        Ok(self.progress.ends())
+        Ok(())
+    }
+
+    fn ends(&self) -> bool
+        ensures { result ≡ ends_head self.now }
+    {
+        self.progress.ends()
     }
 
     fn len(&self) -> usize
@@ -95,26 +97,56 @@ impl Seen {
     }
 }
 
-/// The bytes of a head through its empty line, those of empty lines before it included.
+// The rest of a head behind its first bytes, of which this was kept.
+#[cold]
+#[inline(never)]
+fn read_rest<R: BufRead>(
+    reader: &mut Counted<R>,
+    limit: u64,
+    bytes: Vec<u8>,
+    progress: Progress,
+) -> Result<Vec<u8>, MessageFault>
+    requires fits { length bytes.items ≤ 65536 }
+    requires progress { IsProgress bytes.items progress }
+    ensures head { Reads R.remaining reader.old reader.new (λ head. head.items)
+        (By (head_behind bytes.items)) result }
+    ensures lines { IfOk result (λ head. line_ends head.items ≤ 102) }
+    ensures within { ReadsWithin limit result reader.old reader.new }
+    ensures goes_on { calls_of reader.old ≤ calls_of reader.new }
+{
+    let mut seen = Seen::new(bytes, progress);
+    while !seen.ends() {
+        if seen.len() == MOST_HEAD {
+            return Err(MessageFault::Bytes(Fault::HeadTooLarge));
+        }
+        seen.read_on(reader, limit)?;
+    }
+    seen.into_head()
+}
+
+/// The bytes of a head through its empty line, those of empty lines before it included, with its
+/// parts where the reader shows all of it at first.
 ///
 /// At most 65,536 bytes and, between the first line and the empty one, 100 lines; more is
 /// `HeadTooLarge`.
-pub(crate) fn read_head<R: BufRead>(
+pub(crate) fn read_head<R: BufRead, P: HeadParts>(
     alloc: Global,
     reader: &mut Counted<R>,
     limit: u64,
+    first: &mut FirstCut<P>,
 ) -> Result<Vec<u8>, MessageFault>
     ensures head { Reads R.remaining reader.old reader.new (λ head. head.items)
         (By head_of) result }
     ensures lines { IfOk result (λ head. line_ends head.items ≤ 102) }
+    ensures parts { IfOk result (λ head.
+        AreParts P.are_of (kept_of first.new) (spans_of first.new) head.items) }
     ensures within { ReadsWithin limit result reader.old reader.new }
     ensures reads { once_more limit (calls_of reader.old) ≤ calls_of reader.new }
 {
-    let mut seen = Seen::new(alloc);
-    while seen.len() < MOST_HEAD {
-        if seen.read_on(reader, limit)? {
-            return seen.into_head();
-        }
+    let mut bytes = Vec::new(alloc);
+    read_wanted(reader, limit, first, &mut bytes)?;
+    match first.kept {
+        Kept::Whole(_) => Ok(bytes),
+        Kept::Begun(progress) => read_rest(reader, limit, bytes, progress),
     }
-    Err(MessageFault::Bytes(Fault::HeadTooLarge))
 }

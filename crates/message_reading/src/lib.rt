@@ -25,6 +25,7 @@ mod framing;
 mod head_bytes;
 mod head_cut;
 mod head_lines;
+mod head_parts;
 mod laws;
 mod line_len;
 mod plain_body;

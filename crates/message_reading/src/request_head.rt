@@ -1,13 +1,13 @@
 // The head of a request, in its bytes.
 ghost use Rattle.std.specs.Prelude.{◌≡◌, ◌≤◌, ◌⊎◌, length, IfSome, IfOk, IfErr, IsNone, IsErrOf};
 ghost use Rattle.httparse.specs.Grammar.{RequestHead as GrammarHead};
-ghost use Rattle.httparse.specs.Spans.{IsRequestAt, IsRequestWithin};
 ghost use Rattle.message_reading.specs.HeadBytes.{line_ends};
 ghost use Rattle.message_reading.specs.declared.fault.Fault.TheVariants.{Malformed};
-ghost use Rattle.message_reading.specs.WholeHeads.{HasNoWholeRequest, IsWholeRequest, request_head};
+ghost use Rattle.message_reading.specs.WholeHeads.{AreRequestParts, HasNoWholeRequest, IsWholeRequest, request_head};
 
 use crate::fault::{Fault, MessageFault};
-use crate::head_lines::{FEW_LINES, MOST_LINES, lines_at};
+use crate::head_lines::{MOST_LINES, lines_at};
+use crate::head_parts::HeadParts;
 use httparse::Status;
 use httparse::spans::{EMPTY_HEADER_SPAN, HeaderSpan, RequestSpans, parse_request as find_request};
 use message_parts::{HeadText, Headers, Method, TextPiece};
@@ -24,11 +24,25 @@ pub struct RequestHead {
     pub lines: Headers,
 }
 
+impl HeadParts for RequestSpans {
+    ghost use Rattle.message_reading.specs.WholeHeads.{AreRequestParts, HasNoRequestOf};
+
+    ghost are_of = { AreRequestParts };
+
+    ghost has_none = { HasNoRequestOf };
+
+    #[inline(always)]
+    fn find(shown: &[u8], spans: &mut [HeaderSpan]) -> Option<(RequestSpans, usize)> {
+        match find_request(shown, spans) {
+            Ok(Status::Complete(found)) => Some((found, found.len)),
+            _ => None,
+        }
+    }
+}
+
 // The parts of a request head that is all of `text`.
 fn whole_request(text: &[u8], spans: &mut [HeaderSpan]) -> Option<RequestSpans>
-    ensures head { IfSome result (λ r.
-        (h : GrammarHead) × IsRequestAt text.now spans.new r h × IsWholeRequest text.now h) }
-    ensures within { IfSome result (IsRequestWithin text.now spans.new) }
+    ensures parts { IfSome result (λ parts. AreRequestParts parts spans.new text.now) }
     ensures none { IsNone result → (h : GrammarHead) → IsWholeRequest text.now h
         → length h.fields ≤ length spans.old → ⊥ }
 {
@@ -38,16 +52,15 @@ fn whole_request(text: &[u8], spans: &mut [HeaderSpan]) -> Option<RequestSpans>
     }
 }
 
-// The head that was found in `text`, where the spans cover its lines.
-fn head_at(
+/// The head that was found in `text`, where the spans cover its lines. They lie in these bytes,
+/// which aren't copied.
+pub(crate) fn head_at(
     alloc: Global,
     text: Vec<u8>,
     found: RequestSpans,
     spans: &[HeaderSpan],
 ) -> Result<RequestHead, AllocError>
-    requires head { (h : GrammarHead)
-        × IsRequestAt text.items spans.now found h × IsWholeRequest text.items h }
-    requires within { IsRequestWithin text.items spans.now found }
+    requires { AreRequestParts found spans.now text.items }
     ensures { IfOk result (λ head.
         (h : GrammarHead) × IsWholeRequest text.items h × (head ≡ request_head h)) }
 {
@@ -87,7 +100,13 @@ fn parse_long(alloc: Global, text: Vec<u8>) -> Result<RequestHead, MessageFault>
 /// them, but for the empty ones in front. Its lines lie in these bytes, which aren't copied.
 ///
 /// `Malformed` where they are no head and nothing else, `Memory` where a growth was refused.
-pub(crate) fn parse_request(alloc: Global, text: Vec<u8>) -> Result<RequestHead, MessageFault>
+#[cold]
+#[inline(never)]
+pub(crate) fn parse_request(
+    alloc: Global,
+    text: Vec<u8>,
+    spans: &mut [HeaderSpan],
+) -> Result<RequestHead, MessageFault>
     requires { line_ends text.items ≤ 102 }
     ensures head { IfOk result (λ head.
         (h : GrammarHead) × IsWholeRequest text.items h × (head ≡ request_head h)) }
@@ -96,9 +115,8 @@ pub(crate) fn parse_request(alloc: Global, text: Vec<u8>) -> Result<RequestHead,
     ensures faults { IfErr result (λ fault.
         (fault ≡ MessageFault.Memory) ⊎ (fault ≡ MessageFault.Bytes Malformed)) }
 {
-    let mut spans = [EMPTY_HEADER_SPAN; FEW_LINES];
-    match whole_request(&text, &mut spans) {
-        Some(found) => Ok(head_at(alloc, text, found, &spans)?),
+    match whole_request(&text, spans) {
+        Some(found) => Ok(head_at(alloc, text, found, spans)?),
         None => parse_long(alloc, text),
     }
 }

@@ -1,13 +1,13 @@
 // The head of a response, in its bytes.
 ghost use Rattle.std.specs.Prelude.{◌≡◌, ◌≤◌, ◌⊎◌, length, IfSome, IfOk, IfErr, IsNone, IsErrOf};
 ghost use Rattle.httparse.specs.Grammar.{ResponseHead as GrammarHead};
-ghost use Rattle.httparse.specs.Spans.{IsResponseAt, IsResponseWithin};
 ghost use Rattle.message_reading.specs.HeadBytes.{line_ends};
 ghost use Rattle.message_reading.specs.declared.fault.Fault.TheVariants.{Malformed};
-ghost use Rattle.message_reading.specs.WholeHeads.{HasNoWholeResponse, IsWholeResponse, response_head};
+ghost use Rattle.message_reading.specs.WholeHeads.{AreResponseParts, HasNoWholeResponse, IsWholeResponse, response_head};
 
 use crate::fault::{Fault, MessageFault};
-use crate::head_lines::{FEW_LINES, MOST_LINES, lines_at};
+use crate::head_lines::{MOST_LINES, lines_at};
+use crate::head_parts::HeadParts;
 use httparse::Status;
 use httparse::spans::{
     EMPTY_HEADER_SPAN, HeaderSpan, ResponseSpans, parse_response as find_response,
@@ -25,11 +25,25 @@ pub struct ResponseHead {
     pub lines: Headers,
 }
 
+impl HeadParts for ResponseSpans {
+    ghost use Rattle.message_reading.specs.WholeHeads.{AreResponseParts, HasNoResponseOf};
+
+    ghost are_of = { AreResponseParts };
+
+    ghost has_none = { HasNoResponseOf };
+
+    #[inline(always)]
+    fn find(shown: &[u8], spans: &mut [HeaderSpan]) -> Option<(ResponseSpans, usize)> {
+        match find_response(shown, spans) {
+            Ok(Status::Complete(found)) => Some((found, found.len)),
+            _ => None,
+        }
+    }
+}
+
 // The parts of a response head that is all of `text`.
 fn whole_response(text: &[u8], spans: &mut [HeaderSpan]) -> Option<ResponseSpans>
-    ensures head { IfSome result (λ r.
-        (h : GrammarHead) × IsResponseAt text.now spans.new r h × IsWholeResponse text.now h) }
-    ensures within { IfSome result (IsResponseWithin text.now spans.new) }
+    ensures parts { IfSome result (λ parts. AreResponseParts parts spans.new text.now) }
     ensures none { IsNone result → (h : GrammarHead) → IsWholeResponse text.now h
         → length h.fields ≤ length spans.old → ⊥ }
 {
@@ -39,16 +53,15 @@ fn whole_response(text: &[u8], spans: &mut [HeaderSpan]) -> Option<ResponseSpans
     }
 }
 
-// The head that was found in `text`, where the spans cover its lines.
-fn head_at(
+/// The head that was found in `text`, where the spans cover its lines. They lie in these bytes,
+/// which aren't copied.
+pub(crate) fn head_at(
     alloc: Global,
     text: Vec<u8>,
     found: ResponseSpans,
     spans: &[HeaderSpan],
 ) -> Result<ResponseHead, AllocError>
-    requires head { (h : GrammarHead)
-        × IsResponseAt text.items spans.now found h × IsWholeResponse text.items h }
-    requires within { IsResponseWithin text.items spans.now found }
+    requires { AreResponseParts found spans.now text.items }
     ensures head { IfOk result (λ head.
         (h : GrammarHead) × IsWholeResponse text.items h × (head ≡ response_head h)) }
     ensures three_digits { IfOk result (λ head. head.status ≤ 999) }
@@ -87,7 +100,13 @@ fn parse_long(alloc: Global, text: Vec<u8>) -> Result<ResponseHead, MessageFault
 /// them, but for the empty ones in front. Its lines lie in these bytes, which aren't copied.
 ///
 /// `Malformed` where they are no head and nothing else, `Memory` where a growth was refused.
-pub(crate) fn parse_response(alloc: Global, text: Vec<u8>) -> Result<ResponseHead, MessageFault>
+#[cold]
+#[inline(never)]
+pub(crate) fn parse_response(
+    alloc: Global,
+    text: Vec<u8>,
+    spans: &mut [HeaderSpan],
+) -> Result<ResponseHead, MessageFault>
     requires { line_ends text.items ≤ 102 }
     ensures head { IfOk result (λ head.
         (h : GrammarHead) × IsWholeResponse text.items h × (head ≡ response_head h)) }
@@ -97,9 +116,8 @@ pub(crate) fn parse_response(alloc: Global, text: Vec<u8>) -> Result<ResponseHea
         (fault ≡ MessageFault.Memory) ⊎ (fault ≡ MessageFault.Bytes Malformed)) }
     ensures three_digits { IfOk result (λ head. head.status ≤ 999) }
 {
-    let mut spans = [EMPTY_HEADER_SPAN; FEW_LINES];
-    match whole_response(&text, &mut spans) {
-        Some(found) => Ok(head_at(alloc, text, found, &spans)?),
+    match whole_response(&text, spans) {
+        Some(found) => Ok(head_at(alloc, text, found, spans)?),
         None => parse_long(alloc, text),
     }
 }

@@ -5,7 +5,7 @@ use Rattle.message_reading.proofs.request_head.head_at.Goals as goal
 
 pub returns : goal.returns
 returns c =
-    let head = c.requires.head in
+    let head = c.requires.0 in
     let lines : c.in_ok-lines.lines ≡ map line_of head.0.fields =
     c.in_ok-lines.ensures
     ∙ ap (λ text. map (line_at text) (take c.args.found.headers c.args.spans.now))

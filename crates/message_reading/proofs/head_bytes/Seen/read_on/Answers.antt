@@ -1,12 +1,8 @@
-use Rattle.std.proofs.Common.{arith, rules}
-use Rattle.std.proofs.lemmas.Grind.{common_steps}
+use Rattle.std.proofs.Common.{rules}
 use Rattle.message_reading.proofs.head_bytes.Seen.read_on.Goals as goal
 
 pub returns-in_err-read_wanted-clause-gave : goal.returns-in_err-read_wanted-clause-gave
 returns-in_err-read_wanted-clause-gave g c = search rules
-
-pub returns-in_err-read_wanted-clause-ends : goal.returns-in_err-read_wanted-clause-ends
-returns-in_err-read_wanted-clause-ends g c = search rules
 
 pub returns-in_err-read_wanted-clause-faults : goal.returns-in_err-read_wanted-clause-faults
 returns-in_err-read_wanted-clause-faults g c = search rules
@@ -22,9 +18,6 @@ returns-in_err-read_wanted-clause-reads g c = search rules
 
 pub returns-clause-gave : goal.returns-clause-gave
 returns-clause-gave g c = search rules
-
-pub returns-clause-ends : goal.returns-clause-ends
-returns-clause-ends g c = grind (arith, common_steps)
 
 pub returns-clause-faults : goal.returns-clause-faults
 returns-clause-faults g c = search rules

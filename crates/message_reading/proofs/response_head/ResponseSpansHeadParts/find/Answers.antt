@@ -1,0 +1,28 @@
+use Rattle.std.proofs.Common.{arith, ◌≤◌, length}
+use Rattle.message_reading.specs.WholeHeads.{AreResponseParts}
+use Rattle.message_reading.proofs.FoundParts.{IsFront, response_front}
+use Rattle.message_reading.proofs.response_head.ResponseSpansHeadParts.find.Goals as goal
+use Rattle.message_reading.proofs.response_head.ResponseSpansHeadParts.find.Goals.{In-Ok-Complete}
+
+front : (c : In-Ok-Complete)
+    → IsFront AreResponseParts c.args.shown.now c.parse_response.new.headers
+    c.in-Ok-Complete.found c.in-Ok-Complete.found.len
+front c =
+    let found = c.in-Ok-Complete in
+    let few : length c.parse_response.new.headers ≤ 100 = omega arith in
+    let complete = rw found.field-0-is at found.ensures.complete in
+    let within = rw found.field-0-is at found.ensures.within in
+    response_front c.args.shown.now c.parse_response.new.headers found.found c.requires.bytes few
+    complete within
+
+pub returns-in-Ok-Complete-clause-parts : goal.returns-in-Ok-Complete-clause-parts
+returns-in-Ok-Complete-clause-parts c =
+    (front (goal.at.returns-in-Ok-Complete-clause-parts c).In-Ok-Complete).are
+
+pub returns-in-Ok-Complete-clause-head : goal.returns-in-Ok-Complete-clause-head
+returns-in-Ok-Complete-clause-head c =
+    (front (goal.at.returns-in-Ok-Complete-clause-head c).In-Ok-Complete).text
+
+pub returns-in-Ok-Complete-clause-some : goal.returns-in-Ok-Complete-clause-some
+returns-in-Ok-Complete-clause-some c =
+    (front (goal.at.returns-in-Ok-Complete-clause-some c).In-Ok-Complete).some
