@@ -1,33 +1,40 @@
 -- Texts of decimal digits.
-use Rattle.std.proofs.Common.{◌≡◌, ℕ, ◌<◌, ◌^◌, true, ◌&&◌, List, rules, length, nat_lt, Some, None, Result, Ok, Err, if◌then◌else◌, arith}
-use Rattle.std.specs.Char.{is_ascii_digit}
+use Rattle.std.proofs.Common.{◌≡◌, ℕ, ◌+◌, ◌-◌, ◌*◌, ◌<◌, true, false, List, length, take, get_or, arith, refl, rules}
+use Rattle.std.specs.Char.{digit_value, is_ascii_digit}
 use Rattle.std.specs.List.{list_all}
-use Rattle.std.specs.Str.{IsUtf8}
-use Rattle.std.specs.Str.Parse.{digits_value, ParsesUnsigned}
-use Rattle.std.specs.Result.{OkIff, result_ok}
-use Rattle.std.proofs.lemmas.Str.Parse.{IsNumeralModel, numerals_by_value, parse_digits}
-use Rattle.std.proofs.lemmas.Fmt.{IsAscii-from_digits}
-use Rattle.std.proofs.lemmas.Str.{IsUtf8-from_ascii}
+use Rattle.std.specs.Prelude.{Err}
+use Rattle.std.specs.Str.Parse.{digits_value}
 use Rattle.std.proofs.lemmas.Bool.Decides.{nat_tests}
+use Rattle.std.proofs.lemmas.Int.Digits.{digits_value_more}
+use Rattle.std.proofs.lemmas.List.Folds.{list_all_at}
+use Rattle.std.proofs.lemmas.Str.Parse.{digits_value-take-le}
+use Rattle.message_fields.specs.declared.length.LengthFault.TheVariants as fault
+use Rattle.message_fields.specs.Lengths.{is_digits, limited}
 
--- the test of each byte tells the texts of digits
-own : IsNumeralModel (λ ds. list_all is_ascii_digit ds ≡ true) (digits_value 10)
-own = numerals_by_value _ (search rules)
+-- each byte of digits is one
+pub digit_at : (text : List ℕ) (i : ℕ) → is_digits text ≡ true → i < length text
+    → is_ascii_digit (get_or text i 0) ≡ true
+digit_at text i digits inside =
+    elim (is_ascii_digit (get_or text i 0)) as
+    (λ b. is_ascii_digit (get_or text i 0) ≡ b → b ≡ true) [
+      | true ↦ λ e. refl
+      | false ↦ λ e.
+          let none = list_all_at is_ascii_digit text i 0 inside e in
+          let all : list_all is_ascii_digit text ≡ true = search rules in
+          absurd (cc)
+    ] refl
 
--- digits are text
-pub digits_are_text : (bs : List ℕ) → list_all is_ascii_digit bs ≡ true → IsUtf8 bs
-digits_are_text bs h = IsUtf8-from_ascii bs (IsAscii-from_digits bs (own.to bs h))
+-- the value of digits, with the next one
+pub one_digit_more : (text : List ℕ) (i size : ℕ) → is_digits text ≡ true → i < length text
+    → size ≡ digits_value 10 (take i text)
+    → size * 10 + (get_or text i 0 - 48) ≡ digits_value 10 (take (i + 1) text)
+one_digit_more text i size digits inside value =
+    let digit = digit_at text i digits inside in
+    let worth : digit_value (get_or text i 0) ≡ get_or text i 0 - 48 = grind (arith, nat_tests) in
+    omega (arith, worth, value, digits_value_more 10 text i inside)
 
--- an `Ok` exactly where a fact holds, as an option
-from_ok_iff : {E : Type 0} (n v : ℕ) (r : Result ℕ E) → OkIff r ((0 < n) × (v < 2 ^ 64)) v
-    → result_ok r ≡ (if nat_lt 0 n && nat_lt v (2 ^ 64) then Some v else None)
-from_ok_iff n v (Ok x) h = grind (arith, nat_tests)
-from_ok_iff n v (Err e) h = grind (arith, nat_tests)
-
--- what `parse` gives of digits
-pub parsed : {E : Type 0} (bs : List ℕ) (r : Result ℕ E) → ParsesUnsigned 64 10 bs r
-    → list_all is_ascii_digit bs ≡ true
-    → result_ok r
-    ≡ (if nat_lt 0 (length bs) && nat_lt (digits_value 10 bs) (2 ^ 64)
-    then Some (digits_value 10 bs) else None)
-parsed bs r h p = from_ok_iff (length bs) (digits_value 10 bs) r (parse_digits own 64 bs r h p)
+-- where the first digits tell too much, all do
+pub too_large : (text : List ℕ) (i : ℕ) → 8388608 < digits_value 10 (take i text)
+    → Err fault.TooLarge ≡ limited (digits_value 10 text)
+too_large text i much =
+    let most = digits_value-take-le 10 text i (omega arith) in grind (arith, nat_tests)

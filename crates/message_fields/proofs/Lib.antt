@@ -7,3 +7,4 @@ pub mod OnePart
 pub mod Short
 pub mod PartLengths
 pub mod Told
+pub mod Counts

@@ -1,8 +1,8 @@
 -- Tests of all items, or of any, through `map`, `filter` and `flat_map`.
-use Rattle.std.proofs.Common.{◌≡◌, ℕ, ◌+◌, ◌<◌, Bool, true, false, not, ◌||◌, ◌&&◌, List, [], ◌∷◌, ◌++◌, map, filter, get_or, length, nat_lt, take, refl, ap, ◌∙◌, sym, cond, arith, rules}
+use Rattle.std.proofs.Common.{◌≡◌, ◌+◌, ◌<◌, Bool, true, false, not, ◌||◌, ◌&&◌, List, [], ◌∷◌, ◌++◌, map, filter, nat_lt, refl, ap, ◌∙◌, sym, cond, arith, rules}
 use Rattle.std.specs.Prelude.{count_by}
-use Rattle.std.specs.List.{list_all, list_any, flat_map, sum_by}
-use Rattle.std.proofs.lemmas.List.Sums.{sum_by-cons, sum_by_more}
+use Rattle.std.specs.List.{list_all, list_any, flat_map}
+use Rattle.std.proofs.lemmas.List.Sums.{sum_by-cons}
 
 -- each item of a map
 pub list_all-map : {X Y : Type 0} (p : Y → Bool) (f : X → Y) (xs : List X)
@@ -63,13 +63,6 @@ list_any-chosen p f chosen (x ∷ xs) =
           ∙ sym (list_any-append p (f x) (flat_map f (filter chosen xs)))
       | false ↦ list_any-chosen p f chosen xs
     ]
-
--- how many items pass, with the next one
-pub count_one_more : {X : Type 0} (p : X → Bool) (xs : List X) (i : ℕ) (x : X) → i < length xs
-    → x ≡ get_or xs i x → count_by p (take (i + 1) xs) ≡ count_by p (take i xs) + cond (p x) 1 0
-count_one_more {X} p xs i x inside is =
-    let f : X → ℕ = λ y. cond (p y) 1 0 in
-    sum_by_more f xs i x inside ∙ ap (λ y. sum_by f (take i xs) + f y) (sym is)
 
 -- some item passes where they are counted to one at least
 pub any_counted : {X : Type 0} (p : X → Bool) (xs : List X)

@@ -1,41 +1,51 @@
 -- One line of a name, and one part of its value.
-use Rattle.std.proofs.Common.{◌≡◌, ℕ, ◌+◌, Bool, true, false, cond, not, eqb, suc, List, [], ◌∷◌, ◌++◌, map, filter, length, refl, ap, ◌∙◌, sym, arith, None, Some}
-use Rattle.std.specs.Prelude.{codes, find, option_map, bytes_eq, ◌&&◌, if◌then◌else◌}
-use Rattle.std.specs.List.{slice_get, slice_split, onto_first, position_or_len, flat_map, list_all}
+use Rattle.std.proofs.Common.{◌≡◌, ℕ, ◌+◌, ◌-◌, ◌≤◌, ◌<◌, true, false, cond, eqb, List, [], ◌∷◌, ◌++◌, All, map, filter, get_or, length, drop, take_all, refl, ap, ◌∙◌, sym, arith, Some}
+use Rattle.std.specs.Prelude.{codes, find, option_map, bytes_eq}
+use Rattle.std.specs.List.{slice_get, prefix_len, suffix_len, flat_map}
+use Rattle.std.specs.Str.Parse.{digits_value}
+use Rattle.std.proofs.lemmas.Bool.Decides.{nat_tests}
 use Rattle.std.proofs.lemmas.List.{append-nil}
-use Rattle.std.proofs.lemmas.List.Sums.{sum_by-cons}
+use Rattle.std.proofs.lemmas.List.Elements.{All-from_get_or}
+use Rattle.std.proofs.lemmas.List.Splits.{slice_split_none}
+use Rattle.std.proofs.lemmas.List.Sums.{prefix_len-drop_no, suffix_len_is, sum_by-cons}
 use Rattle.std.proofs.lemmas.Slice.Eq.{bytes_eq-Decides}
 use Rattle.message_parts.specs.Header.{Header}
 use Rattle.message_fields.specs.Lines.{is_named, count_named, first_value}
-use Rattle.message_fields.specs.Parts.{parts, parts_named, trimmed}
-use Rattle.message_fields.specs.Lengths.{digits_length, is_digits, length_of}
-use Rattle.message_fields.proofs.First.{digits_some}
+use Rattle.message_fields.specs.Parts.{is_blank, parts, parts_named, trimmed, trimmed_end}
+use Rattle.message_fields.specs.Lengths.{digits_first, digits_length, is_digits, length_of, limited}
+use Rattle.message_fields.proofs.Digits.{digit_at}
 
--- without a place to cut at there is one piece
-split_whole : (p : ℕ → Bool) (xs : List ℕ) → position_or_len p xs ≡ length xs
-    → slice_split p xs ≡ xs ∷ []
-split_whole p [] whole = refl
-split_whole p (x ∷ xs) whole =
-    elim (p x) as
-    (λ b. cond (not b) (1 + position_or_len p xs) 0 ≡ suc (length xs)
-    → cond b ([] ∷ slice_split p xs) (onto_first x (slice_split p xs)) ≡ (x ∷ xs) ∷ []) [
-      | true ↦ λ none. absurd (omega (arith, none))
-      | false ↦ λ more. ap (onto_first x) (split_whole p xs (omega (arith, more)))
-    ] whole
+-- a digit is no blank and no comma
+not_blank : (text : List ℕ) (i : ℕ) → is_digits text ≡ true → i < length text
+    → is_blank (get_or text i 0) ≡ false
+not_blank text i digits inside =
+    let digit = digit_at text i digits inside in grind (arith, nat_tests)
 
-one_of : (one part : List ℕ) → slice_get (one ∷ []) 0 ≡ Some part → one ≡ part
-one_of one part first = cc
+not_comma : (text : List ℕ) (i : ℕ) → is_digits text ≡ true → i < length text
+    → eqb (get_or text i 0) 44 ≡ false
+not_comma text i digits inside =
+    let digit = digit_at text i digits inside in grind (arith, nat_tests)
 
--- the only part of a value
-one_part : (value part : List ℕ) → position_or_len (λ b. eqb b 44) value ≡ length value
-    → slice_get (parts value) 0 ≡ Some part → parts value ≡ part ∷ []
-one_part value part whole first =
-    let alone : parts value ≡ trimmed value ∷ [] =
-    ap (map trimmed) (split_whole (λ b. eqb b 44) value whole) in
-    let same : trimmed value ≡ part =
-    one_of (trimmed value) part
-    (sym (ap (λ (ps : List (List ℕ)). slice_get ps 0) alone) ∙ first) in
-    alone ∙ ap (λ one. one ∷ []) same
+-- around digits there are no blanks
+digits_trimmed : (text : List ℕ) → is_digits text ≡ true → trimmed text ≡ text
+digits_trimmed text digits =
+    let some : 0 < length text = grind (arith, nat_tests) in
+    let before : prefix_len is_blank text ≡ 0 =
+    prefix_len-drop_no is_blank text 0 0 some (not_blank text 0 digits some) in
+    let behind : suffix_len is_blank text ≡ length text - length text =
+    suffix_len_is is_blank text (length text) 0 (omega arith) (λ k from below. absurd (omega arith))
+    (λ more. not_blank text (length text - 1) digits (omega arith)) in
+    let whole : length text ≤ length text - suffix_len is_blank text = omega arith in
+    ap (λ n. trimmed_end (drop n text)) before
+    ∙ take_all (length text - suffix_len is_blank text) text whole
+
+-- digits are one part
+digits_part : (text : List ℕ) → is_digits text ≡ true → parts text ≡ text ∷ []
+digits_part text digits =
+    let none : All (λ b. eqb b 44 ≡ false) text =
+    All-from_get_or (λ b. eqb b 44 ≡ false) text 0 (λ i inside. not_comma text i digits inside) in
+    ap (map trimmed) (slice_split_none (λ b. eqb b 44) text none)
+    ∙ ap (λ one. one ∷ []) (digits_trimmed text digits)
 
 count_more : (name : List ℕ) (line : Header) (lines : List Header)
     → count_named name (line ∷ lines) ≡ cond (is_named name line) 1 0 + count_named name lines
@@ -73,24 +83,15 @@ one_line name (line ∷ lines) value found one =
       | false ↦ λ e count. one_line name lines value e (omega (arith, count))
     ] found (sym (count_more name line lines) ∙ one)
 
--- of one line with one part the length is that of the part, where it is digits
-pub length_alone : (lines : List Header) (value part : List ℕ)
+-- of one line whose value is digits the length is theirs
+pub length_alone : (lines : List Header) (value : List ℕ)
     → count_named (codes "content-length") lines ≡ 1
-    → first_value (codes "content-length") lines ≡ Some value
-    → position_or_len (λ b. eqb b 44) value ≡ length value
-    → slice_get (parts value) 0 ≡ Some part
-    → length_of lines ≡ digits_length (if is_digits part then Some part else None)
-length_alone lines value part one found whole first =
-    let all : parts_named (codes "content-length") lines ≡ part ∷ [] =
-    one_line (codes "content-length") lines value found one ∙ one_part value part whole first in
-    let agree : list_all (bytes_eq part) (parts_named (codes "content-length") lines) ≡ true =
-    ap (list_all (bytes_eq part)) all
-    ∙ ap (λ b. b && true) ((bytes_eq-Decides part part).1 refl) in
-    let both : (is_digits part
-    && list_all (bytes_eq part) (parts_named (codes "content-length") lines)) ≡ is_digits part =
-    ap (λ b. is_digits part && b) agree ∙ and_true (is_digits part) in
-    ap digits_length (digits_some lines value part found first
-    ∙ ap (λ b. if b then Some part else None) both)
-  where
-    and_true : (b : Bool) → (b && true) ≡ b
-    and_true b = elim b as (λ b. (b && true) ≡ b) [ true ↦ refl | false ↦ refl ]
+    → first_value (codes "content-length") lines ≡ Some value → is_digits value ≡ true
+    → limited (digits_value 10 value) ≡ length_of lines
+length_alone lines value one found digits =
+    let all : parts_named (codes "content-length") lines ≡ value ∷ [] =
+    one_line (codes "content-length") lines value found one ∙ digits_part value digits in
+    let same : bytes_eq value value ≡ true = (bytes_eq-Decides value value).1 refl in
+    let only : digits_first (value ∷ []) (Some value) ≡ Some value = rw (digits, same) refl in
+    ap digits_length
+    (sym (ap (λ (ps : List (List ℕ)). digits_first ps (slice_get ps 0)) all ∙ only))

@@ -1,7 +1,7 @@
 -- The fields of lines, by their names.
-use Rattle.std.proofs.Common.{rules, ◌≡◌, ◌≢◌, ◌⊎◌, ⊎_elim, ℕ, true, false, ◌||◌, List, [], ◌∷◌, All, refl, sym, ap, ap₂, ◌∙◌}
-use Rattle.std.specs.Prelude.{codes}
+use Rattle.std.proofs.Common.{rules, ◌≡◌, ◌≢◌, ◌⊎◌, ⊎_elim, ℕ, Bool, true, false, ◌||◌, List, [], ◌∷◌, All, map, get_or, eqb, eq-eqb, refl, sym, ap, ap₂, ◌∙◌, arith}
 use Rattle.std.specs.List.{list_any}
+use Rattle.std.proofs.lemmas.Bool.Decides.{nat_tests}
 use Rattle.std.proofs.lemmas.List.Elements.{All-head, All-tail}
 use Rattle.message_parts.specs.declared.field.Field.{Field}
 use Rattle.message_parts.specs.declared.field.Field.TheVariants as field
@@ -9,187 +9,99 @@ use Rattle.message_parts.specs.Field.{IsFieldOf, coding_names, connection_names,
 use Rattle.message_parts.specs.Names.{same_name}
 use Rattle.message_fields.specs.Passed.{is_own}
 
-not_host : (other : Field) → other ≢ field.Host
-    → same_name (name_of other) (codes "host") ≡ false
+-- all fields, and the place of each
+abbrev fields : List Field
+fields =
+    field.Host ∷ field.Expect ∷ field.Connection ∷ field.ProxyConnection ∷ field.KeepAlive
+    ∷ field.Upgrade ∷ field.Te ∷ field.Trailer ∷ field.TransferEncoding ∷ field.ContentLength
+    ∷ field.Other ∷ []
+
+abbrev place : Field → ℕ
+place field.Host = 0
+place field.Expect = 1
+place field.Connection = 2
+place field.ProxyConnection = 3
+place field.KeepAlive = 4
+place field.Upgrade = 5
+place field.Te = 6
+place field.Trailer = 7
+place field.TransferEncoding = 8
+place field.ContentLength = 9
+place field.Other = 10
+
+-- what a list that is made of all fields has of one
+at : {X : Type 0} (f : Field → X) (one : Field) (d : X)
+    → get_or (map f fields) (place one) d ≡ f one
+at f field.Host d = refl
+at f field.Expect d = refl
+at f field.Connection d = refl
+at f field.ProxyConnection d = refl
+at f field.KeepAlive d = refl
+at f field.Upgrade d = refl
+at f field.Te d = refl
+at f field.Trailer d = refl
+at f field.TransferEncoding d = refl
+at f field.ContentLength d = refl
+at f field.Other d = refl
+
+-- whether a field's name is that of another, and whether it stands at its place
+abbrev same_names : Field → List Bool
+same_names one = map (λ other. same_name (name_of other) (name_of one)) fields
+
+abbrev same_places : Field → List Bool
+same_places one = map (λ other. eqb (place other) (place one)) fields
+
+-- each field has a name of its own
+all_apart : map same_names fields ≡ map same_places fields
 unfolding same_name
-not_host field.Host apart = absurd (apart refl)
-not_host field.Expect apart = refl
-not_host field.Connection apart = refl
-not_host field.ProxyConnection apart = refl
-not_host field.KeepAlive apart = refl
-not_host field.Upgrade apart = refl
-not_host field.Te apart = refl
-not_host field.Trailer apart = refl
-not_host field.TransferEncoding apart = refl
-not_host field.ContentLength apart = refl
-not_host field.Other apart = refl
+all_apart = refl
 
-is_host : same_name (codes "host") (codes "host") ≡ true
-unfolding same_name
-is_host = refl
+names_apart : (one other : Field)
+    → same_name (name_of other) (name_of one) ≡ eqb (place other) (place one)
+names_apart one other =
+    let rows : same_names one ≡ same_places one =
+    sym (at same_names one [])
+    ∙ ap (λ (rows : List (List Bool)). get_or rows (place one) []) all_apart
+    ∙ at same_places one [] in
+    sym (at (λ x. same_name (name_of x) (name_of one)) other true)
+    ∙ ap (λ (row : List Bool). get_or row (place other) true) rows
+    ∙ at (λ x. eqb (place x) (place one)) other true
 
-pub host_told : (found : Field) (name : List ℕ) → IsFieldOf found name
-    → same_name name (codes "host") ≡ same_name (name_of found) (codes "host")
-host_told found name is = is.of_request 0 [] (search rules)
+-- fields of one place are one
+same_place : (one other : Field) → place other ≡ place one → other ≡ one
+same_place one other same =
+    sym (at (λ x. x) other field.Other)
+    ∙ ap (λ n. get_or (map (λ x. x) fields) n field.Other) same ∙ at (λ x. x) one field.Other
 
-pub host_is : (found : Field) (name : List ℕ) → IsFieldOf found name → found ≡ field.Host
-    → true ≡ same_name name (codes "host")
-host_is found name is that =
-    sym (host_told found name is ∙ ap (λ f. same_name (name_of f) (codes "host")) that
-    ∙ is_host)
+-- a name is told apart from a field's as the name of its own field is
+told : (one found : Field) (name : List ℕ) → one ≢ field.Other → IsFieldOf found name
+    → same_name name (name_of one) ≡ same_name (name_of found) (name_of one)
+told field.Host found name known is = is.of_request 0 [] (search rules)
+told field.Expect found name known is = is.of_request 1 [] (search rules)
+told field.Connection found name known is = is.of_connection 0 [] (search rules)
+told field.ProxyConnection found name known is = is.of_connection 1 [] (search rules)
+told field.KeepAlive found name known is = is.of_connection 2 [] (search rules)
+told field.Upgrade found name known is = is.of_connection 3 [] (search rules)
+told field.Te found name known is = is.of_coding 0 [] (search rules)
+told field.Trailer found name known is = is.of_coding 1 [] (search rules)
+told field.TransferEncoding found name known is = is.of_coding 2 [] (search rules)
+told field.ContentLength found name known is = is.of_coding 3 [] (search rules)
+told field.Other found name known is = absurd (known refl)
 
-pub host_is_not : (found : Field) (name : List ℕ) → IsFieldOf found name → found ≢ field.Host
-    → false ≡ same_name name (codes "host")
-host_is_not found name is apart =
-    sym (host_told found name is ∙ not_host found apart)
+-- a name has the name of its field
+pub has_name : (one found : Field) (name : List ℕ) → one ≢ field.Other → IsFieldOf found name
+    → found ≡ one → true ≡ same_name name (name_of one)
+has_name one found name known is that =
+    sym (told one found name known is ∙ names_apart one found
+    ∙ eq-eqb (place found) (place one) (ap place that))
 
-not_expect : (other : Field) → other ≢ field.Expect
-    → same_name (name_of other) (codes "expect") ≡ false
-unfolding same_name
-not_expect field.Host apart = refl
-not_expect field.Expect apart = absurd (apart refl)
-not_expect field.Connection apart = refl
-not_expect field.ProxyConnection apart = refl
-not_expect field.KeepAlive apart = refl
-not_expect field.Upgrade apart = refl
-not_expect field.Te apart = refl
-not_expect field.Trailer apart = refl
-not_expect field.TransferEncoding apart = refl
-not_expect field.ContentLength apart = refl
-not_expect field.Other apart = refl
-
-is_expect : same_name (codes "expect") (codes "expect") ≡ true
-unfolding same_name
-is_expect = refl
-
-pub expect_told : (found : Field) (name : List ℕ) → IsFieldOf found name
-    → same_name name (codes "expect") ≡ same_name (name_of found) (codes "expect")
-expect_told found name is = is.of_request 1 [] (search rules)
-
-pub expect_is : (found : Field) (name : List ℕ) → IsFieldOf found name → found ≡ field.Expect
-    → true ≡ same_name name (codes "expect")
-expect_is found name is that =
-    sym (expect_told found name is ∙ ap (λ f. same_name (name_of f) (codes "expect")) that
-    ∙ is_expect)
-
-pub expect_is_not : (found : Field) (name : List ℕ) → IsFieldOf found name
-    → found ≢ field.Expect
-    → false ≡ same_name name (codes "expect")
-expect_is_not found name is apart =
-    sym (expect_told found name is ∙ not_expect found apart)
-
-not_connection : (other : Field) → other ≢ field.Connection
-    → same_name (name_of other) (codes "connection") ≡ false
-unfolding same_name
-not_connection field.Host apart = refl
-not_connection field.Expect apart = refl
-not_connection field.Connection apart = absurd (apart refl)
-not_connection field.ProxyConnection apart = refl
-not_connection field.KeepAlive apart = refl
-not_connection field.Upgrade apart = refl
-not_connection field.Te apart = refl
-not_connection field.Trailer apart = refl
-not_connection field.TransferEncoding apart = refl
-not_connection field.ContentLength apart = refl
-not_connection field.Other apart = refl
-
-is_connection : same_name (codes "connection") (codes "connection") ≡ true
-unfolding same_name
-is_connection = refl
-
-pub connection_told : (found : Field) (name : List ℕ) → IsFieldOf found name
-    → same_name name (codes "connection") ≡ same_name (name_of found) (codes "connection")
-connection_told found name is = is.of_connection 0 [] (search rules)
-
-pub connection_is : (found : Field) (name : List ℕ) → IsFieldOf found name
-    → found ≡ field.Connection
-    → true ≡ same_name name (codes "connection")
-connection_is found name is that =
-    sym (connection_told found name is
-    ∙ ap (λ f. same_name (name_of f) (codes "connection")) that
-    ∙ is_connection)
-
-pub connection_is_not : (found : Field) (name : List ℕ) → IsFieldOf found name
-    → found ≢ field.Connection
-    → false ≡ same_name name (codes "connection")
-connection_is_not found name is apart =
-    sym (connection_told found name is ∙ not_connection found apart)
-
-not_transfer_encoding : (other : Field) → other ≢ field.TransferEncoding
-    → same_name (name_of other) (codes "transfer-encoding") ≡ false
-unfolding same_name
-not_transfer_encoding field.Host apart = refl
-not_transfer_encoding field.Expect apart = refl
-not_transfer_encoding field.Connection apart = refl
-not_transfer_encoding field.ProxyConnection apart = refl
-not_transfer_encoding field.KeepAlive apart = refl
-not_transfer_encoding field.Upgrade apart = refl
-not_transfer_encoding field.Te apart = refl
-not_transfer_encoding field.Trailer apart = refl
-not_transfer_encoding field.TransferEncoding apart = absurd (apart refl)
-not_transfer_encoding field.ContentLength apart = refl
-not_transfer_encoding field.Other apart = refl
-
-is_transfer_encoding : same_name (codes "transfer-encoding") (codes "transfer-encoding") ≡ true
-unfolding same_name
-is_transfer_encoding = refl
-
-pub transfer_encoding_told : (found : Field) (name : List ℕ) → IsFieldOf found name
-    → same_name name (codes "transfer-encoding")
-    ≡ same_name (name_of found) (codes "transfer-encoding")
-transfer_encoding_told found name is = is.of_coding 2 [] (search rules)
-
-pub transfer_encoding_is : (found : Field) (name : List ℕ) → IsFieldOf found name
-    → found ≡ field.TransferEncoding
-    → true ≡ same_name name (codes "transfer-encoding")
-transfer_encoding_is found name is that =
-    sym (transfer_encoding_told found name is
-    ∙ ap (λ f. same_name (name_of f) (codes "transfer-encoding")) that
-    ∙ is_transfer_encoding)
-
-pub transfer_encoding_is_not : (found : Field) (name : List ℕ) → IsFieldOf found name
-    → found ≢ field.TransferEncoding
-    → false ≡ same_name name (codes "transfer-encoding")
-transfer_encoding_is_not found name is apart =
-    sym (transfer_encoding_told found name is ∙ not_transfer_encoding found apart)
-
-not_content_length : (other : Field) → other ≢ field.ContentLength
-    → same_name (name_of other) (codes "content-length") ≡ false
-unfolding same_name
-not_content_length field.Host apart = refl
-not_content_length field.Expect apart = refl
-not_content_length field.Connection apart = refl
-not_content_length field.ProxyConnection apart = refl
-not_content_length field.KeepAlive apart = refl
-not_content_length field.Upgrade apart = refl
-not_content_length field.Te apart = refl
-not_content_length field.Trailer apart = refl
-not_content_length field.TransferEncoding apart = refl
-not_content_length field.ContentLength apart = absurd (apart refl)
-not_content_length field.Other apart = refl
-
-is_content_length : same_name (codes "content-length") (codes "content-length") ≡ true
-unfolding same_name
-is_content_length = refl
-
-pub content_length_told : (found : Field) (name : List ℕ) → IsFieldOf found name
-    → same_name name (codes "content-length")
-    ≡ same_name (name_of found) (codes "content-length")
-content_length_told found name is = is.of_coding 3 [] (search rules)
-
-pub content_length_is : (found : Field) (name : List ℕ) → IsFieldOf found name
-    → found ≡ field.ContentLength
-    → true ≡ same_name name (codes "content-length")
-content_length_is found name is that =
-    sym (content_length_told found name is
-    ∙ ap (λ f. same_name (name_of f) (codes "content-length")) that
-    ∙ is_content_length)
-
-pub content_length_is_not : (found : Field) (name : List ℕ) → IsFieldOf found name
-    → found ≢ field.ContentLength
-    → false ≡ same_name name (codes "content-length")
-content_length_is_not found name is apart =
-    sym (content_length_told found name is ∙ not_content_length found apart)
+-- and that of no other
+pub has_other_name : (one found : Field) (name : List ℕ) → one ≢ field.Other
+    → IsFieldOf found name → found ≢ one → false ≡ same_name name (name_of one)
+has_other_name one found name known is apart =
+    let differ : place found ≢ place one = λ same. apart (same_place one found same) in
+    let no : eqb (place found) (place one) ≡ false = grind (arith, nat_tests) in
+    sym (told one found name known is ∙ names_apart one found ∙ no)
 
 -- some name is told apart as another
 any_told : (one other : List ℕ) (names : List (List ℕ))

@@ -38,17 +38,6 @@ pub(crate) fn is_connection(line: &Header) -> bool
     }
 }
 
-/// Whether the line is Transfer-Encoding.
-#[inline(always)]
-pub(crate) fn is_transfer_encoding(line: &Header) -> bool
-    ensures { result ≡ is_named (codes "transfer-encoding") line.now }
-{
-    match line.field() {
-        Field::TransferEncoding => true,
-        _ => false,
-    }
-}
-
 /// Whether the line is Content-Length.
 #[inline(always)]
 pub(crate) fn is_content_length(line: &Header) -> bool

@@ -1,15 +1,15 @@
 // The length that the lines of Content-Length give.
-ghost use Rattle.std.specs.Prelude.{◌≡◌, ◌&&◌, ◌||◌, ◌^◌, not, nat_lt, length, bytes_eq, option_map, true, codes, if◌then◌else◌};
+ghost use Rattle.std.specs.Prelude.{◌≡◌, ◌&&◌, ◌||◌, not, bytes_eq, option_map, true, codes};
 ghost use Rattle.std.specs.Char.{is_ascii_digit};
 ghost use Rattle.std.specs.List.{list_all};
 ghost use Rattle.std.specs.Str.Parse.{digits_value};
 ghost use Rattle.message_fields.specs.Lines.{count_named, is_named};
 ghost use Rattle.message_fields.specs.Parts.{parts, parts_named};
-ghost use Rattle.message_fields.specs.Lengths.{digits_length, is_digits, limited, length_digits, length_of};
+ghost use Rattle.message_fields.specs.Lengths.{is_digits, limited, length_digits, length_of};
 
 use super::fields::is_content_length;
 use super::lines::first_length;
-use super::parts::{first_part, is_every_part, is_one_part};
+use super::parts::{first_part, is_every_part};
 use message_parts::Header;
 
 /// The greatest number of bytes of a body.
@@ -36,16 +36,6 @@ fn is_digits(text: &[u8]) -> bool
     ensures { result ≡ is_digits text.now }
 {
     !text.is_empty() && all_digits(text)
-}
-
-/// The number that digits spell, where it fits.
-fn parse_digits(text: &str) -> Option<u64>
-    requires { list_all is_ascii_digit text.now ≡ true }
-    ensures { result
-        ≡ (if nat_lt 0 (length text.now) && nat_lt (digits_value 10 text.now) (2 ^ 64)
-        then Some (digits_value 10 text.now) else None) }
-{
-    text.parse().ok()
 }
 
 /// The line is of another field, or each of its parts is this one.
@@ -99,31 +89,16 @@ pub fn length_of(lines: &[Header]) -> Result<usize, LengthFault>
     value_of(digits)
 }
 
-/// The length that a part gives which is the only one.
-fn length_in(part: &[u8]) -> Result<usize, LengthFault>
-    ensures { result ≡ digits_length (if is_digits part.now then Some part.now else None) }
-{
-    if is_digits(part) {
-        value_of(part)
-    } else {
-        Err(LengthFault::Malformed)
-    }
-}
-
-/// The same as [`length_of`], where one line alone is Content-Length, as in most heads: the other
-/// lines aren't looked at once more.
+/// The same as [`length_of`], where one line alone is Content-Length, as in most heads. A value
+/// that is digits alone, as most are, isn't cut at commas, and no other line has to agree with it.
 #[tactic(auto, using(crate::proofs::OnePart::length_alone))]
 pub fn length_of_one(lines: &[Header]) -> Result<usize, LengthFault>
     requires one { count_named (codes "content-length") lines.now ≡ 1 }
     ensures { result ≡ length_of lines.now }
 {
-    let Some(value) = first_length(lines) else {
-        return length_of(lines);
-    };
-    if is_one_part(value) {
-        length_in(first_part(value))
-    } else {
-        length_of(lines)
+    match first_length(lines) {
+        Some(value) if is_digits(value) => value_of(value),
+        _ => length_of(lines),
     }
 }
 
@@ -132,11 +107,12 @@ fn value_of(digits: &[u8]) -> Result<usize, LengthFault>
     requires { is_digits digits.now ≡ true }
     ensures { result ≡ limited (digits_value 10 digits.now) }
 {
-    let Ok(text) = str::from_utf8(digits) else {
-        return Err(LengthFault::Malformed);
-    };
-    match parse_digits(text) {
-        Some(size) if size <= MOST_BODY => Ok(size as usize),
-        _ => Err(LengthFault::TooLarge),
+    let mut size = 0;
+    for digit in digits {
+        size = size * 10 + u64::from(*digit - b'0');
+        if size > MOST_BODY {
+            return Err(LengthFault::TooLarge);
+        }
     }
+    Ok(size as usize)
 }

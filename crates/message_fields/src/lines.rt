@@ -1,10 +1,10 @@
 // The lines of a name.
-ghost use Rattle.std.specs.Prelude.{◌≡◌, ◌≤◌, ◌&&◌, codes, nat_lt, option_map, if◌then◌else◌};
+ghost use Rattle.std.specs.Prelude.{◌≡◌, ◌&&◌, codes, nat_lt, option_map};
 ghost use Rattle.message_parts.specs.Names.{same_name};
 ghost use Rattle.message_fields.specs.Lines.{is_named, count_named, first_value, has_word, is_chunked_alone, asks_continue};
 
-use super::fields::{is_content_length, is_host, is_transfer_encoding};
-use message_parts::{Header, is_same_name};
+use super::fields::{is_content_length, is_host};
+use message_parts::{Field, Header, is_same_name};
 
 /// Whether the line has the name.
 fn is_named(line: &Header, name: &[u8]) -> bool
@@ -34,15 +34,6 @@ pub fn has_host(lines: &[Header]) -> bool
     lines.iter().any(|line| is_host(line))
 }
 
-/// 1 where something is so.
-#[inline(always)]
-fn one_where(is_so: bool) -> usize
-    ensures value { result ≡ (if is_so then 1 else 0) }
-    ensures most { result ≤ 1 }
-{
-    if is_so { 1 } else { 0 }
-}
-
 /// How many lines are Transfer-Encoding, and how many are Content-Length: each is looked at once.
 pub fn count_codings_and_lengths(lines: &[Header]) -> (usize, usize)
     ensures codings { result.0 ≡ count_named (codes "transfer-encoding") lines.now }
@@ -51,8 +42,11 @@ pub fn count_codings_and_lengths(lines: &[Header]) -> (usize, usize)
     let mut codings = 0;
     let mut lengths = 0;
     for line in lines {
-        codings += one_where(is_transfer_encoding(line));
-        lengths += one_where(is_content_length(line));
+        match line.field() {
+            Field::TransferEncoding => codings += 1,
+            Field::ContentLength => lengths += 1,
+            _ => {}
+        }
     }
     (codings, lengths)
 }

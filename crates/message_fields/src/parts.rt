@@ -1,5 +1,5 @@
 // Values that are lists with commas.
-ghost use Rattle.std.specs.Prelude.{◌≡◌, ◌≤◌, ◌-◌, ◌==◌, IsTrue, length, bytes_eq};
+ghost use Rattle.std.specs.Prelude.{◌≡◌, ◌≤◌, ◌-◌, ◌==◌, length, bytes_eq};
 ghost use Rattle.std.specs.List.{prefix_len, suffix_len, list_all, list_any, position, position_or_len, slice_get};
 ghost use Rattle.message_parts.specs.Names.{same_name};
 ghost use Rattle.message_fields.specs.Parts.{is_blank, trimmed, trimmed_start, trimmed_end, parts};
@@ -80,13 +80,6 @@ pub(crate) fn first_part(value: &[u8]) -> &[u8]
     ensures { slice_get (parts value.now) 0 ≡ Some result.now }
 {
     trimmed(&value[..first_end(value)])
-}
-
-/// Whether the value has no comma, and so one part alone.
-pub(crate) fn is_one_part(value: &[u8]) -> bool
-    ensures { IsTrue result → position_or_len (λ byte. byte == 44) value.now ≡ length value.now }
-{
-    first_end(value) == value.len()
 }
 
 /// Whether the text, without its blanks, is this one.

@@ -4,7 +4,7 @@ ghost use Rattle.counted_io.specs.Counted.{failures_of, flushes_of, is_flushed};
 ghost use Rattle.counted_io.specs.Count.{raised};
 ghost use Rattle.counted_io.specs.Effects.{Wrote};
 ghost use Rattle.counted_io.specs.Causes.{IsWriteCause};
-ghost use Rattle.message_fields.specs.Target.{turned, forwarded_target};
+ghost use Rattle.message_fields.specs.Target.{authority_of, turned, forwarded_target};
 ghost use Rattle.message_text.specs.Line.{lines_text, line_text, close_line};
 ghost use Rattle.message_text.specs.Forwarded.{lent, seen, first_text, forwarded_lines, forwarded_text, host_lines, via_line};
 
@@ -65,24 +65,30 @@ fn write_target<W: Write>(
 impl Forwarded<'_> {
     /// The first line as the head has it, where that is how it is forwarded.
     #[tactic(auto, using(crate::proofs::Texts::plain_target))]
-    fn line_that_came(&self) -> Option<&[u8]>
+    fn line_that_came(&self, authority: Option<&[u8]>) -> Option<&[u8]>
+        requires told { lent authority ≡ authority_of self.now.target.now }
         ensures { IfSome result (λ line. line.now ≡ first_text (seen self.now)) }
     {
-        if authority(self.target).is_some() {
+        if authority.is_some() {
             return None;
         }
         self.method.first_line(self.target)
     }
 
     /// Writes the first line: in one piece, where its head has it as it is forwarded.
-    fn write_first<W: Write>(&self, writer: &mut Counted<W>) -> Result<(), WriteFault>
+    fn write_first<W: Write>(
+        &self,
+        writer: &mut Counted<W>,
+        authority: Option<&[u8]>,
+    ) -> Result<(), WriteFault>
+        requires told { lent authority ≡ authority_of self.now.target.now }
         ensures all { OnOk result
             (Wrote W.contents writer.old writer.new (first_text (seen self.now))) }
         ensures unfailing { OnOk result (failures_of writer.new ≡ failures_of writer.old) }
         ensures failed { OnErr result (IsWriteCause writer.old writer.new) }
         ensures flushes { flushes_of writer.new ≡ flushes_of writer.old }
     {
-        if let Some(line) = self.line_that_came() {
+        if let Some(line) = self.line_that_came(authority) {
             return write_all(writer, line);
         }
         write_all(writer, self.method.as_slice())?;
@@ -93,7 +99,12 @@ impl Forwarded<'_> {
 
     /// Writes a Host line, where the request has none.
     #[tactic(auto, using(crate::proofs::Kept::one_line), unfolding(crate::specs::Line::lines_text))]
-    fn write_host<W: Write>(&self, writer: &mut Counted<W>) -> Result<(), WriteFault>
+    fn write_host<W: Write>(
+        &self,
+        writer: &mut Counted<W>,
+        authority: Option<&[u8]>,
+    ) -> Result<(), WriteFault>
+        requires told { lent authority ≡ authority_of self.now.target.now }
         ensures all { OnOk result
             (Wrote W.contents writer.old writer.new (lines_text (host_lines (seen self.now)))) }
         ensures unfailing { OnOk result (failures_of writer.new ≡ failures_of writer.old) }
@@ -103,11 +114,7 @@ impl Forwarded<'_> {
         if has_host(self.headers) {
             return Ok(());
         }
-        write_line(
-            writer,
-            b"Host",
-            authority(self.target).unwrap_or(self.backend),
-        )
+        write_line(writer, b"Host", authority.unwrap_or(self.backend))
     }
 
     /// Writes the line that tells of the gateway, the one that ends the connection, and the empty
@@ -128,7 +135,12 @@ impl Forwarded<'_> {
     }
 
     /// Writes the lines that are forwarded, and the empty line behind them.
-    fn write_lines<W: Write>(&self, writer: &mut Counted<W>) -> Result<(), WriteFault>
+    fn write_lines<W: Write>(
+        &self,
+        writer: &mut Counted<W>,
+        authority: Option<&[u8]>,
+    ) -> Result<(), WriteFault>
+        requires told { lent authority ≡ authority_of self.now.target.now }
         ensures all { OnOk result
             (Wrote W.contents writer.old writer.new
             (lines_text (forwarded_lines (seen self.now)) ++ codes "\r\n")) }
@@ -136,8 +148,8 @@ impl Forwarded<'_> {
         ensures failed { OnErr result (IsWriteCause writer.old writer.new) }
         ensures flushes { flushes_of writer.new ≡ flushes_of writer.old }
     {
-        write_request_lines(writer, self.headers, authority(self.target))?;
-        self.write_host(writer)?;
+        write_request_lines(writer, self.headers, authority)?;
+        self.write_host(writer, authority)?;
         write_body_length(writer, self.body)?;
         self.write_last(writer)
     }
@@ -153,8 +165,9 @@ impl Forwarded<'_> {
         ensures flushes { OnOk result (flushes_of writer.new ≡ raised (flushes_of writer.old)) }
         ensures failed { OnErr result (IsWriteCause writer.old writer.new) }
     {
-        self.write_first(writer)?;
-        self.write_lines(writer)?;
+        let authority = authority(self.target);
+        self.write_first(writer, authority)?;
+        self.write_lines(writer, authority)?;
         write_and_flush(writer, bytes_of(self.body))
     }
 }

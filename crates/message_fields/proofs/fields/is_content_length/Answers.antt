@@ -1,12 +1,13 @@
-use Rattle.message_fields.proofs.Told.{content_length_is, content_length_is_not}
+use Rattle.message_parts.specs.declared.field.Field.TheVariants as field
+use Rattle.message_fields.proofs.Told.{has_name, has_other_name}
 use Rattle.message_fields.proofs.fields.is_content_length.Goals as goal
 
 pub returns-in-ContentLength : goal.returns-in-ContentLength
 returns-in-ContentLength c =
-    content_length_is c.field.result c.args.line.now.name c.field.ensures
+    has_name field.ContentLength c.field.result c.args.line.now.name (λ e. cc) c.field.ensures
     c.in-ContentLength.is
 
 pub returns-in_default : goal.returns-in_default
 returns-in_default c =
-    content_length_is_not c.field.result c.args.line.now.name c.field.ensures
+    has_other_name field.ContentLength c.field.result c.args.line.now.name (λ e. cc) c.field.ensures
     c.in_default.not-ContentLength

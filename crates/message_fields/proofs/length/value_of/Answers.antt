@@ -1,13 +1,18 @@
-use Rattle.std.proofs.Common.{◌≡◌, true, rules}
-use Rattle.std.specs.Char.{is_ascii_digit}
-use Rattle.std.specs.List.{list_all}
-use Rattle.message_fields.proofs.Digits.{digits_are_text}
+use Rattle.std.proofs.Common.{◌+◌, arith}
+use Rattle.message_fields.proofs.Digits.{one_digit_more, too_large}
 use Rattle.message_fields.proofs.length.value_of.Goals as goal
 
-pub returns-in_default : goal.returns-in_default
-returns-in_default c =
-    let digits : list_all is_ascii_digit c.args.digits.now ≡ true = search rules in
-    absurd (c.in_default.ensures.cases.0 (digits_are_text c.args.digits.now digits))
+pub returns-then-size-gt-MOST_BODY : goal.returns-then-size-gt-MOST_BODY
+returns-then-size-gt-MOST_BODY c =
+    let next = one_digit_more c.args.digits.now _ _ c.requires c.loop-digit-test.true
+    c.loop-digit.invariant.value in
+    too_large c.args.digits.now (c.loop-digit.digit-index + 1) (omega arith)
 
-pub returns-in-Some : goal.returns-in-Some
-returns-in-Some c = search rules
+pub loop-digit-preserved : goal.loop-digit-preserved
+loop-digit-preserved c =
+    let next = one_digit_more c.args.digits.now _ _ c.requires c.loop-digit-test.true
+    c.loop-digit.invariant.value in
+    record {
+      value = omega arith;
+      within = omega arith;
+    }

@@ -7,8 +7,7 @@ use Rattle.message_text.proofs.forwarded.Forwarded.write_lines.Goals as goal
 
 pub returns-clause-all : goal.returns-clause-all
 returns-clause-all g c =
-    let told : lent c.authority.result ≡ authority_of c.args.self.now.target.now =
-    c.authority.ensures in
+    let told : lent c.args.authority ≡ authority_of c.args.self.now.target.now = c.requires.told in
     wrote_then c.write_last.result _ _ _ _ _ _
     (forwarded_pieces (seen c.args.self.now))
     (Appends-trans _ _ _ _ _

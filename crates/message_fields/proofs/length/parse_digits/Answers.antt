@@ -1,7 +1,0 @@
-use Rattle.std.proofs.Common.{◌∙◌}
-use Rattle.message_fields.proofs.Digits.{parsed}
-use Rattle.message_fields.proofs.length.parse_digits.Goals as goal
-
-pub returns : goal.returns
-returns c =
-    c.ok.ensures.value ∙ parsed c.args.text.now c.parse.result c.parse.ensures.value.0 c.requires
