@@ -42,7 +42,3 @@ pub record IsFieldOf (field : Field) (name : List ℕ) : Type 0 where
   pub of_request : TellsAmong request_names field name
   pub of_connection : TellsAmong connection_names field name
   pub of_coding : TellsAmong coding_names field name
-
--- the name is none of these
-abbrev pub IsNoneOf : List (List ℕ) → List ℕ → Type 0
-IsNoneOf names name = All (λ known. same_name name known ≡ same_name [] known) names

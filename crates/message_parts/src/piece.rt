@@ -4,6 +4,7 @@ ghost use Rattle.std.specs.List.{concat};
 
 use crate::field::field_of;
 use crate::headers::Header;
+use crate::names::is_word;
 use std::alloc::{AllocError, Global};
 use std::marker::Model;
 use std::ops::Range;
@@ -49,6 +50,7 @@ impl HeadText {
 
     /// The line whose name and value lie at these places. Takes no memory; fails where 2^64 - 1
     /// pieces of the text are there.
+    #[inline(always)]
     pub fn line(&self, name: Range<usize>, value: Range<usize>) -> Result<Header, AllocError>
         requires name { (name.start ≤ name.end) × (name.end ≤ length self.now) }
         requires value { (value.start ≤ value.end) × (value.end ≤ length self.now) }
@@ -127,7 +129,7 @@ impl Piece {
         if &text[start..end] != target {
             return None;
         }
-        if &text[end..behind] != b" HTTP/1.1\r\n".as_slice() {
+        if !is_word(&text[end..behind], b" HTTP/1.1\r\n") {
             return None;
         }
         Some(&text[self.start..behind])

@@ -3,8 +3,8 @@ use Rattle.std.specs.Prelude.{codes}
 use Rattle.message_parts.proofs.SameName.{usual_host, written_so}
 use Rattle.message_parts.proofs.names.is_host.Goals as goal
 
-pub returns-then-eq : goal.returns-then-eq
-returns-then-eq c =
-    let found : c.eq.result ≡ true = search rules in
+pub returns-then-is_word : goal.returns-then-is_word
+returns-then-is_word c =
+    let found : c.is_word.result ≡ true = search rules in
     let is : c.args.name.now ≡ codes "Host" = search rules in
     written_so _ _ (codes "Host") (codes "host") found is usual_host
