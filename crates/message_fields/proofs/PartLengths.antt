@@ -1,5 +1,6 @@
 -- A part is no longer than the value that it is cut from.
-use Rattle.std.proofs.Common.{◌≡◌, ℕ, ◌-◌, ◌≤◌, ◌<◌, Bool, true, false, List, [], ◌∷◌, All, length, ◌∙◌, sym, refl, arith, suc, cond, eqb, ◌&&◌, length-take, length-drop}
+use Rattle.std.proofs.Common.{ap, ◌≡◌, ℕ, ◌-◌, ◌≤◌, ◌<◌, Bool, true, false, List, [], ◌∷◌, All, length, ◌∙◌, sym, refl, arith, suc, cond, eqb, ◌&&◌, length-take, length-drop}
+use Rattle.std.specs.Prelude.{codes}
 use Rattle.std.specs.List.{list_any, onto_first, slice_split, prefix_len, suffix_len}
 use Rattle.std.proofs.lemmas.List.Elements.{All-cons, All-head, All-nil, All-tail, All-weaker}
 use Rattle.std.proofs.lemmas.List.Folds.{list_any_none}
@@ -63,3 +64,22 @@ pub longer_names_none : (b : Bool) (value name : List ℕ) → length value < le
     → false ≡ (b && list_any (λ part. same_name part name) (parts value))
 longer_names_none true value name longer = sym (longer_is_no_part value name longer)
 longer_names_none false value name longer = refl
+
+-- a name that is shorter than a word without a comma or a blank is no part of that
+word_is_longer : (word value name : List ℕ) → parts word ≡ word ∷ [] → value ≡ word
+    → length name < length word → list_any (λ part. same_name part name) (parts value) ≡ false
+word_is_longer word value name alone is shorter =
+    let other : same_name word name ≡ false =
+    other_length word name (λ same. omega (arith, same, shorter)) in
+    ap (λ text. list_any (λ part. same_name part name) (parts text)) is
+    ∙ ap (list_any (λ part. same_name part name)) alone ∙ rw other refl
+
+pub close_is_longer : (value name : List ℕ) → value ≡ codes "close" → length name < 5
+    → list_any (λ part. same_name part name) (parts value) ≡ false
+close_is_longer value name is shorter =
+    word_is_longer (codes "close") value name refl is shorter
+
+pub keep_alive_is_longer : (value name : List ℕ) → value ≡ codes "keep-alive" → length name < 10
+    → list_any (λ part. same_name part name) (parts value) ≡ false
+keep_alive_is_longer value name is shorter =
+    word_is_longer (codes "keep-alive") value name refl is shorter

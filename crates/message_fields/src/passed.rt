@@ -48,16 +48,47 @@ fn options_len(line: &Header) -> usize
     }
 }
 
-/// How long the longest value of a Connection line is; 0 where there is no such line.
-fn longest_options(lines: &[Header]) -> usize
-    ensures { (name : List ℕ) → result < length name
+/// How long a name is at least that is the value, or a part of it: of the two that most have it is
+/// told, and else that is 0.
+fn least_part(value: &[u8]) -> usize
+    ensures { (name : List ℕ) → length name < result
+        → list_any (λ part. same_name part name) (parts value.now) ≡ false }
+{
+    if value == b"close".as_slice() {
+        5
+    } else if value == b"keep-alive".as_slice() {
+        10
+    } else {
+        0
+    }
+}
+
+/// How long a name is at least that the line gives as a Connection line.
+fn least_option(line: &Header) -> usize
+    ensures { (name : List ℕ) → length name < result → (is_named (codes "connection") line.now
+        && list_any (λ part. same_name part name) (parts line.now.value)) ≡ false }
+{
+    if is_connection(line) {
+        least_part(line.value())
+    } else {
+        usize::MAX
+    }
+}
+
+/// How long the names are, at least and at most, that Connection lines give.
+fn option_lengths(lines: &[Header]) -> (usize, usize)
+    ensures shortest { (name : List ℕ) → length name < result.0
+        → is_connection_option lines.now name ≡ false }
+    ensures longest { (name : List ℕ) → result.1 < length name
         → is_connection_option lines.now name ≡ false }
 {
+    let mut shortest = usize::MAX;
     let mut longest = 0;
     for line in lines {
+        shortest = shortest.min(least_option(line));
         longest = longest.max(options_len(line));
     }
-    longest
+    (shortest, longest)
 }
 
 impl<'a> Passing<'a> {
@@ -65,9 +96,11 @@ impl<'a> Passing<'a> {
     pub fn new(lines: &'a [Header]) -> Passing<'a>
         ensures { lines_of result ≡ lines.now }
     {
+        let (shortest, longest) = option_lengths(lines);
         Passing {
             lines,
-            longest: longest_options(lines),
+            shortest,
+            longest,
         }
     }
 
@@ -75,7 +108,8 @@ impl<'a> Passing<'a> {
     fn is_option(&self, name: &[u8]) -> bool
         ensures { result ≡ is_connection_option (lines_of self.now) name.now }
     {
-        name.len() <= self.longest && is_connection_option(self.lines, name)
+        let len = name.len();
+        self.shortest <= len && len <= self.longest && is_connection_option(self.lines, name)
     }
 
     /// Whether a line of the message is passed on: Host always, and another line where its field is

@@ -8,8 +8,11 @@ use message_parts::Header;
 #[derive(Drop)]
 pub struct Passing<'a> {
     pub(crate) lines: &'a [Header],
-    // No Connection line names a field of a longer name.
+    // No Connection line names a field of a shorter name, nor one of a longer name.
+    pub(crate) shortest: usize,
     pub(crate) longest: usize,
+    ghost none_shorter: { (name : List ℕ) → length name < shortest
+        → is_connection_option lines.now name ≡ false },
     ghost none_longer: { (name : List ℕ) → longest < length name
         → is_connection_option lines.now name ≡ false },
 }
