@@ -14,6 +14,7 @@ pub(crate) const MOST_LINES: usize = 100;
 pub(crate) const FEW_LINES: usize = 16;
 
 // The line that the spans cover.
+#[inline(always)]
 fn line_at(text: &HeadText, span: HeaderSpan) -> Result<Header, AllocError>
     requires { IsHeaderWithin (length text.now) span }
     ensures { IfOk result (λ line. line ≡ line_at text.now span) }
@@ -33,7 +34,7 @@ pub(crate) fn lines_at(
 {
     let mut lines = Vec::with_capacity(alloc, spans.len())?;
     for at in 0..spans.len() {
-        lines.push(line_at(text, spans[at])?)?;
+        lines.push_reserved(line_at(text, spans[at])?);
     }
     Ok(Headers::new(lines))
 }

@@ -13,10 +13,12 @@ returns-in_err-text-clause-reads g c = search rules
 pub returns-in_err-head_at-in-Whole-clause-head : goal.returns-in_err-head_at-in-Whole-clause-head
 returns-in_err-head_at-in-Whole-clause-head g c = search rules
 
-pub returns-in_err-head_at-in-Whole-clause-digits : goal.returns-in_err-head_at-in-Whole-clause-digits
+pub returns-in_err-head_at-in-Whole-clause-digits
+    : goal.returns-in_err-head_at-in-Whole-clause-digits
 returns-in_err-head_at-in-Whole-clause-digits g c = search rules
 
-pub returns-in_err-head_at-in-Whole-clause-within : goal.returns-in_err-head_at-in-Whole-clause-within
+pub returns-in_err-head_at-in-Whole-clause-within
+    : goal.returns-in_err-head_at-in-Whole-clause-within
 returns-in_err-head_at-in-Whole-clause-within g c = search rules
 
 pub returns-in_err-head_at-in-Whole-clause-reads : goal.returns-in_err-head_at-in-Whole-clause-reads

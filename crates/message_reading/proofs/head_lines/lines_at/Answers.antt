@@ -11,14 +11,18 @@ loop-at-init c = search rules
 pub returns-in_err-line_at : goal.returns-in_err-line_at
 returns-in_err-line_at c = search rules
 
-pub returns-in_err-push : goal.returns-in_err-push
-returns-in_err-push c = search rules
+pub push_reserved-requires : goal.push_reserved-requires
+push_reserved-requires c = grind (arith, common_steps)
 
 pub loop-at-smaller : goal.loop-at-smaller
 loop-at-smaller c = search rules
 
 pub loop-at-preserved : goal.loop-at-preserved
-loop-at-preserved c = grind (arith, common_steps)
+loop-at-preserved c = record {
+  copied = grind (arith, common_steps);
+  len = grind (arith, common_steps);
+  room = grind (arith, common_steps);
+}
 
 pub returns : goal.returns
 returns c = grind (arith, common_steps)
