@@ -84,6 +84,7 @@ impl<'s, S: OpenStream, E: Outlet<S>> Write for UnansweredWrite<'s, S, E> {
         let mut has_stalled = false;
         for _ in 0..MOST_TURNS {
             match self.end.send(&mut *self.stream, buf) {
+                Ok(count) => return Ok(count),
                 Err(fault) if fault.kind() == ErrorKind::Interrupted => {}
                 Err(fault) if fault.kind() == ErrorKind::WouldBlock => {
                     if has_stalled && is_answered(&*self.stream) {
@@ -91,7 +92,7 @@ impl<'s, S: OpenStream, E: Outlet<S>> Write for UnansweredWrite<'s, S, E> {
                     }
                     has_stalled = true;
                 }
-                outcome => return outcome,
+                Err(fault) => return Err(fault),
             }
         }
         Err(Error::new(ErrorKind::TimedOut, "nothing was taken"))

@@ -142,8 +142,9 @@ impl<'s, S: Connection, E: Inlet<S>> LimitedRead for Lent<'s, S, E> {
     fn read_within(&mut self, most: Duration, buf: &mut [u8]) -> Result<usize> {
         self.allowed = most;
         match self.end.receive_ready(self.connection, buf) {
+            Ok(count) => return Ok(count),
             Err(fault) if fault.kind() == ErrorKind::WouldBlock => {}
-            outcome => return outcome,
+            Err(fault) => return Err(fault),
         }
         self.connection.limit_reads(most)?;
         self.end.receive(self.connection, buf)
@@ -161,16 +162,15 @@ impl<'s, S: Connection, E: Outlet<S>> LimitedWrite for Lent<'s, S, E> {
     #[tactic(auto, using(crate::proofs::Known::anew))]
     fn write_within(&mut self, most: Duration, buf: &[u8]) -> Result<usize> {
         self.allowed = most;
-        let outcome = match self.end.send_ready(self.connection, buf) {
+        let count = match self.end.send_ready(self.connection, buf) {
+            Ok(count) => count,
             Err(fault) if fault.kind() == ErrorKind::WouldBlock => {
                 self.connection.limit_writes(most)?;
-                self.end.send(self.connection, buf)
+                self.end.send(self.connection, buf)?
             }
-            outcome => outcome,
+            Err(fault) => return Err(fault),
         };
-        if let Ok(count) = &outcome {
-            self.sent = self.sent.saturating_add(*count as u64);
-        }
-        outcome
+        self.sent = self.sent.saturating_add(count as u64);
+        Ok(count)
     }
 }
