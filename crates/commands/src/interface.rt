@@ -13,6 +13,7 @@ use super::help::{
 };
 use clap::builder::ValueParser;
 use clap::{Arg, ArgAction, Command, value_parser};
+use release::version;
 use std::alloc::{AllocError, Global};
 
 /// An option of this name that takes a number, which help calls `shown`.
@@ -237,7 +238,7 @@ fn text_command<'a>(alloc: Global) -> Result<Command<'a>, AllocError>
 {
     let whole = Command::new(alloc, "admission")
         .about(ABOUT)
-        .version("1.1.0")
+        .version(version())
         .subcommand_required(true);
     let whole = with_leaf(Ok(whole), replay_command(alloc));
     with_leaf(whole, simulate_command(alloc))

@@ -5,6 +5,7 @@ use Rattle.partitions.specs.declared.part.Part.TheVariants.{Known}
 use Rattle.partitions.specs.Table.{Row, name_of}
 use Rattle.limiter_core.specs.declared.counters.Counters.{Counters}
 use Rattle.gate_port.specs.declared.report.Report.{Report}
+use Rattle.release.specs.Release.{version}
 use Rattle.serve_reports.specs.declared.noted.Noted.{Noted}
 use Rattle.serve_reports.specs.declared.noted.Troubles.{Troubles}
 use Rattle.serve_reports.specs.declared.tally.AnswerTally.{AnswerTally}
@@ -91,7 +92,7 @@ program_text seconds =
     gauge_text (codes "admission_uptime_seconds") (codes "Whole seconds since the start.") seconds
     ++ head_text (codes "admission_build_info") (codes "gauge")
     (codes "Always 1, labelled with the version of the program.")
-    ++ sample_text (codes "admission_build_info") (codes "version") (codes "1.1.0") 1
+    ++ sample_text (codes "admission_build_info") (codes "version") version 1
 
 -- THE TEXT OF THE METRICS: fourteen families
 abbrev pub metrics_text : Report → List Row → Noted → List ℕ

@@ -1,5 +1,7 @@
 // The text of the metrics, in the format that scrapers read.
-ghost use Rattle.std.specs.Prelude.{◌≡◌, ◌++◌, ◌<◌, IfOk, OnOk, string_bytes};
+ghost use Rattle.std.specs.Prelude.{◌≡◌, ◌++◌, ◌<◌, IfOk, OnOk, codes, string_bytes};
+ghost use Rattle.release.specs.Release.{version};
+ghost use Rattle.metrics.specs.Families.{sample_text};
 ghost use Rattle.metrics.specs.Metrics.{answers_text, class_text, classes_text, decisions_text};
 ghost use Rattle.metrics.specs.Metrics.{metrics_text, outcomes_text, program_text, shares_text};
 ghost use Rattle.metrics.specs.Metrics.{standing_text, troubles_text, workers_text};
@@ -8,11 +10,9 @@ use crate::families::{push_gauge, push_head, push_sample, push_samples};
 use gate_port::Report;
 use limiter_core::Counters;
 use partitions::{Part, PartitionTable};
+use release::version;
 use serve_reports::{AnswerTally, Noted, Troubles, Workers};
 use std::alloc::{AllocError, Global};
-
-/// The version of the program.
-const VERSION: &str = "1.1.0";
 
 /// The text of the metrics in the text format of Prometheus, version 0.0.4: of the state in a
 /// gate over these classes, in permits and callers, and of what was noted since the start. It fails
@@ -207,5 +207,13 @@ fn push_program(text: &mut String, seconds: u64) -> Result<(), AllocError>
     let name = "admission_build_info";
     let help = "Always 1, labelled with the version of the program.";
     push_head(text, name, "gauge", help)?;
-    push_sample(text, name, "version", VERSION, 1)
+    push_version(text, name)
+}
+
+/// Adds the sample of the version.
+fn push_version(text: &mut String, name: &str) -> Result<(), AllocError>
+    ensures { OnOk result (string_bytes text.new
+        ≡ string_bytes text.old ++ sample_text name.now (codes "version") version 1) }
+{
+    push_sample(text, name, "version", version(), 1)
 }
