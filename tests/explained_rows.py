@@ -21,14 +21,14 @@ OF_FAULTS = [
         "",
         "backlog = 10001\n",
         FIXED,
-        "line 4: backlog = 10001\nbacklog: how many callers may wait for a permit, 0 to 10000; 100\n",
+        "line 4: backlog = 10001\nbacklog: how many callers may wait for a permit, 0 to 10000; default 100\n",
         "value backlog",
     ),
     (
         "",
         "keep = []\n",
         FIXED,
-        "line 4: keep = []\nkeep: entries of the history that are kept, 1 to 1000000; 4096\n",
+        "line 4: keep = []\nkeep: entries of the history that are kept, 1 to 1000000; default 4096\n",
         "kind keep",
     ),
     ("", "backlog = 5s\n", FIXED, "TOML parse error at line 4, column 11\n", "toml"),
@@ -44,21 +44,22 @@ OF_FAULTS = [
         SETTABLE,
         "min = 9\nmax = 8\n",
         "",
-        "line 7: max = 8\nlimit.max: permits, min to 10000; 200\nhere from 9 to 10000\n",
+        "line 7: max = 8\nlimit.max: permits, min to 10000; default 200\nhere from 9 to 10000\n",
         "value limit.max",
     ),
     (
         PLAIN,
         "initial = 0\n",
         "",
-        "line 6: initial = 0\nlimit.initial: permits, min to max, of fixed 1 to 10000; 20\nhere from 1 to 10000\n",
+        "line 6: initial = 0\nlimit.initial: permits, min to max, of fixed 1 to 10000; default 20\n"
+        "here from 1 to 10000\n",
         "value limit.initial",
     ),
     (
         'limit.kind = "vegas"\n',
         "limit.alpha = 9\nlimit.beta = 8\n",
         "",
-        "line 6: limit.beta = 8\nlimit.beta: the limit falls above this queue, permits, alpha to 100; 6\n"
+        "line 6: limit.beta = 8\nlimit.beta: the limit falls above this queue, permits, alpha to 100; default 6\n"
         "here from 9 to 100\n",
         "value limit.beta",
     ),
@@ -73,7 +74,7 @@ OF_FAULTS = [
         WINDOW,
         "min_us = 8\nmax_us = 7\n",
         "",
-        "line 8: max_us = 7\nwindow.max_us: the longest window in microseconds, min_us to 3600000000; 1000000\n"
+        "line 8: max_us = 7\nwindow.max_us: the longest window in microseconds, min_us to 3600000000; default 1000000\n"
         "here from 8 to 3600000000\n",
         "value window.max_us",
     ),
@@ -147,14 +148,14 @@ OF_FAULTS += [
         "",
         "timeout_ms = 0\n",
         FIXED,
-        "line 4: timeout_ms = 0\ntimeout_ms: the longest wait in milliseconds, 1 to 3600000; 1000\n",
+        "line 4: timeout_ms = 0\ntimeout_ms: the longest wait in milliseconds, 1 to 3600000; default 1000\n",
         "value timeout_ms",
     ),
     (
         "",
         "keep = 0\n",
         FIXED,
-        "line 4: keep = 0\nkeep: entries of the history that are kept, 1 to 1000000; 4096\n",
+        "line 4: keep = 0\nkeep: entries of the history that are kept, 1 to 1000000; default 4096\n",
         "value keep",
     ),
     (
@@ -162,43 +163,45 @@ OF_FAULTS += [
         'promote = ""\n',
         FIXED,
         'line 4: promote = ""\n'
-        'promote: which waiters get room that falls free, "newest" or "all" who fit; "newest"\n',
+        'promote: which waiters get room that falls free, "newest" or "all"; default "newest"\n',
         "value promote",
     ),
     (
         "",
         "wait = 1\n",
         FIXED,
-        "line 4: wait = 1\nwait: whether refused callers wait at all, true or false; true\n",
+        "line 4: wait = 1\nwait: whether refused callers wait at all, true or false; default true\n",
         "kind wait",
     ),
-    (SETTABLE, "min = 0\n", "", "line 6: min = 0\nlimit.min: permits, 1 to 10000; 1\n", "value limit.min"),
+    (SETTABLE, "min = 0\n", "", "line 6: min = 0\nlimit.min: permits, 1 to 10000; default 1\n", "value limit.min"),
     (
         SETTABLE,
         "max = 0\n",
         "",
-        "line 6: max = 0\nlimit.max: permits, min to 10000; 200\nhere from 1 to 10000\n",
+        "line 6: max = 0\nlimit.max: permits, min to 10000; default 200\nhere from 1 to 10000\n",
         "value limit.max",
     ),
     (
         SETTABLE,
         "initial = 201\n",
         "",
-        "line 6: initial = 201\nlimit.initial: permits, min to max, of fixed 1 to 10000; 20\nhere from 1 to 200\n",
+        "line 6: initial = 201\nlimit.initial: permits, min to max, of fixed 1 to 10000; default 20\n"
+        "here from 1 to 200\n",
         "value limit.initial",
     ),
     (
         AIMD,
         "min = 7\nmax = 40\ninitial = 41\n",
         "",
-        "line 8: initial = 41\nlimit.initial: permits, min to max, of fixed 1 to 10000; 20\nhere from 7 to 40\n",
+        "line 8: initial = 41\nlimit.initial: permits, min to max, of fixed 1 to 10000; default 20\n"
+        "here from 7 to 40\n",
         "value limit.initial",
     ),
     (
         AIMD,
         "ratio = 499\n",
         "",
-        "line 6: ratio = 499\nlimit.ratio: what a drop leaves in thousandths, 500 to 999; 900\n",
+        "line 6: ratio = 499\nlimit.ratio: what a drop leaves in thousandths, 500 to 999; default 900\n",
         "value limit.ratio",
     ),
     (
@@ -206,21 +209,21 @@ OF_FAULTS += [
         "timeout_us = 0\n",
         "",
         "line 6: timeout_us = 0\n"
-        "limit.timeout_us: a round trip above it is a drop, microseconds, 1 to 3600000000; 5000000\n",
+        "limit.timeout_us: a longer round trip is a drop, microseconds, 1 to 3600000000; default 5000000\n",
         "value limit.timeout_us",
     ),
     (
         VEGAS,
         "alpha = 101\n",
         "",
-        "line 6: alpha = 101\nlimit.alpha: the limit rises below this queue, permits, 1 to 100; 3\n",
+        "line 6: alpha = 101\nlimit.alpha: the limit rises below this queue, permits, 1 to 100; default 3\n",
         "value limit.alpha",
     ),
     (
         VEGAS,
         "beta = 2\n",
         "",
-        "line 6: beta = 2\nlimit.beta: the limit falls above this queue, permits, alpha to 100; 6\n"
+        "line 6: beta = 2\nlimit.beta: the limit falls above this queue, permits, alpha to 100; default 6\n"
         "here from 3 to 100\n",
         "value limit.beta",
     ),
@@ -229,22 +232,28 @@ OF_FAULTS += [
         "probe_every = 1000001\n",
         "",
         "line 6: probe_every = 1000001\n"
-        "limit.probe_every: samples until the least round trip is measured anew, 0 to 1000000; 0, never\n",
+        "limit.probe_every: samples until the base is measured anew, 0 to 1000000; default 0, never\n",
         "value limit.probe_every",
     ),
-    (WINDOW, "size = 0\n", "", "line 7: size = 0\nwindow.size: samples, 1 to 1000000; 10\n", "value window.size"),
+    (
+        WINDOW,
+        "size = 0\n",
+        "",
+        "line 7: size = 0\nwindow.size: samples, 1 to 1000000; default 10\n",
+        "value window.size",
+    ),
     (
         WINDOW,
         "min_us = 0\n",
         "",
-        "line 7: min_us = 0\nwindow.min_us: the shortest window in microseconds, 1 to 3600000000; 1000000\n",
+        "line 7: min_us = 0\nwindow.min_us: the shortest window in microseconds, 1 to 3600000000; default 1000000\n",
         "value window.min_us",
     ),
     (
         WINDOW,
         "max_us = 5\n",
         "",
-        "line 7: max_us = 5\nwindow.max_us: the longest window in microseconds, min_us to 3600000000; 1000000\n"
+        "line 7: max_us = 5\nwindow.max_us: the longest window in microseconds, min_us to 3600000000; default 1000000\n"
         "here from 1000000 to 3600000000\n",
         "value window.max_us",
     ),
@@ -253,28 +262,28 @@ OF_FAULTS += [
         "min_rtt_us = -1\n",
         "",
         "line 7: min_rtt_us = -1\n"
-        "window.min_rtt_us: quicker answers are left out, microseconds, 0 to 3600000000; 100\n",
+        "window.min_rtt_us: quicker answers are left out, microseconds, 0 to 3600000000; default 100\n",
         "value window.min_rtt_us",
     ),
     (
         FIXED,
         CLASSES + "[[class]]\n",
         "",
-        "line 7: [[class]]\nclass: an array of at most four tables, [[class]]; none\n",
+        "line 7: [[class]]\nclass: an array of at most four tables, [[class]]; default none\n",
         "value class",
     ),
     (
         FIXED + LIVE_OF_TWO,
         BY_METHOD * 33,
         "",
-        "line 10: [[resolver]]\nresolver: an array of at most 32 tables, [[resolver]]; none\n",
+        "line 10: [[resolver]]\nresolver: an array of at most 32 tables, [[resolver]]; default none\n",
         "value resolver",
     ),
     (
         FIXED,
         BYPASS * 33,
         "",
-        "line 7: [[bypass]]\nbypass: an array of at most 32 tables, [[bypass]]; none\n",
+        "line 7: [[bypass]]\nbypass: an array of at most 32 tables, [[bypass]]; default none\n",
         "value bypass",
     ),
     (

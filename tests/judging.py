@@ -1,4 +1,6 @@
 """Compares what is expected of the built program with what was found; and its line of counters."""
+import os
+import pathlib
 import re
 import sys
 import typing
@@ -19,6 +21,22 @@ def counts_of(line: str) -> dict[str, int] | None:
     if found is None:
         return None
     return {name: int(count) for name, count in zip(COUNTERS, found.groups()) if count != "0"}
+
+
+def program_of(words: list[str], doc: str | None) -> str:
+    """The program that a script is to try, by its words. The script ends with its own text where these are others, and
+    with a sentence where there is no such program."""
+    if len(words) != 1:
+        sys.exit(doc)
+    program = pathlib.Path(words[0]).resolve()
+    if not program.is_file() or not os.access(program, os.X_OK):
+        sys.exit(f"{pathlib.Path(sys.argv[0]).name}: {words[0]} is no program that can be started")
+    return str(program)
+
+
+def short_or_whole(words: list[str]) -> tuple[bool, list[str]]:
+    """Whether long cases are left out, and the other words."""
+    return words[:1] == ["--short"], words[words[:1] == ["--short"] :]
 
 
 class Judge:

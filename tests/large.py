@@ -14,6 +14,8 @@ from sockets import PLAIN, passed_on, unbroken
 from wires import local
 
 MEGABYTE = 1_000_000
+# A client whose machine has other work takes its time.
+LONG_TIME = ("--client-timeout-ms", "60000")
 STEPS = range(1, 9)
 HOW = {False: "by a length", True: "in chunks"}
 # How much of a large answer is read at once.
@@ -88,7 +90,7 @@ class Large(Served):
                 read_all(client)
 
             backend = Scripted(answers_first)
-            gate = self.gateway(backend, workers=8, each=2)
+            gate = self.gateway(backend, workers=8, each=2, words=LONG_TIME)
             asked = [(step * MEGABYTE, sends_chunks) for step in STEPS for sends_chunks in (False, True)]
             with ThreadPoolExecutor(8) as pool:
                 found = [*pool.map(posted, itertools.repeat(gate), asked)]
@@ -144,7 +146,7 @@ class Large(Served):
 
     def is_read_late(self, backend: Backend) -> None:
         """A client that sends more while it still reads a large answer, which is written by then, gets all of it."""
-        gate = self.gateway(backend, workers=3)
+        gate = self.gateway(backend, workers=3, words=LONG_TIME)
 
         def reads_late(_: int) -> tuple[int, str | None]:
             with socket.socket() as client:
@@ -155,8 +157,8 @@ class Large(Served):
                 begun = client.recv(HALF, socket.MSG_WAITALL)
                 whole = len(passed_on(b"")) + len(str(FIVE)) - 1 + FIVE
                 is_written = until(lambda: len(begun) + on_the_way(gate.port, client) >= whole)
-                # Who doesn't linger has closed it then.
-                until(lambda: rests(gate.process))
+                # Who doesn't linger has mostly closed it then; who does goes on for two seconds.
+                until(lambda: rests(gate.process), seconds=0.5)
                 found, why = unbroken(client, PLAIN) if is_written else (b"", "it isn't written")
                 return len((begun + found).partition(b"\r\n\r\n")[2]), why
 

@@ -10,7 +10,7 @@ from sockets import PLAIN, TRIES, passed_on, timed
 from wires import local
 
 # How often a case is tried that takes a while.
-FEW = 3
+MANY = 8
 NO_HOST = b"GET /plain HTTP/1.1\r\n\r\n"
 
 
@@ -70,9 +70,10 @@ class Lingering(Served):
 
     def lingers_for_nobody_who_took_nothing(self, backend: Backend) -> None:
         """Behind an answer that its client didn't take in time a worker serves the next one at once."""
-        gate = self.gateway(backend, each=2 * FEW, words=("--client-timeout-ms", "2000"))
-        took = []
-        for _ in range(FEW):
+        gate = self.gateway(backend, each=2 * MANY, words=("--client-timeout-ms", "2000"))
+        took: list[float] = []
+        # Who lingers takes four seconds each time; a machine with other work may take as long at times.
+        while len(took) < MANY and min(took, default=4) >= 3.5:
             with socket.socket() as deaf:
                 deaf.setsockopt(socket.SOL_SOCKET, socket.SO_RCVBUF, 4096)
                 deaf.connect(("127.0.0.1", gate.port))
@@ -82,7 +83,9 @@ class Lingering(Served):
                 self.judge("one behind a deaf client", (b"H", passed_on(BODY)), (begun, answer))
                 took.append(rest)
         self.judge("it waited for the deaf one's time alone", True, min(took) < 3.5)
-        self.judge("counters of deaf clients", {"admitted": 2 * FEW, "success": 2 * FEW}, gate.ending())
+        for _ in range(2 * (MANY - len(took))):
+            gate.ask(PLAIN)
+        self.judge("counters of deaf clients", {"admitted": 2 * MANY, "success": 2 * MANY}, gate.ending())
 
     def rests_for_a_moment(self, backend: Backend) -> None:
         """A connection that can't be had counts as one of a worker's, and the next is tried a moment later."""

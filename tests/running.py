@@ -1,9 +1,13 @@
 """Programs that a script runs on loopback: a port for each, a wait for what comes of them, and their end."""
 import socket
 import subprocess
+import sys
 import threading
 import time
 from collections.abc import Callable
+
+if sys.version_info < (3, 11):
+    sys.exit(f"{sys.argv[0]}: Python 3.11 or later is needed")
 
 # The seconds that a script waits for anything.
 PATIENCE = 20

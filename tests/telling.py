@@ -3,6 +3,7 @@ import contextlib
 import fcntl
 import os
 import pathlib
+import re
 import signal
 import socket
 import subprocess
@@ -34,7 +35,7 @@ OF_WORKERS = ("exceed", "are taken", "too few")
 # The names of a report's numbers, those of two classes among them.
 NAMES = (
     "limit inflight waiters granted busy class.live class.batch class.unknown admitted bypassed full backlog "
-    "waiting promoted timed-out success ignored dropped 400 413 429 431 500 501 502"
+    "waiting promoted timed-out success ignored dropped 400 413 429 431 500 501 502 504"
 ).split()
 
 
@@ -148,9 +149,12 @@ class Telling(Served):
         """Refused connections and broken answers are told once in ten seconds, with their count."""
         gate = Gateway(self.program, self.room, free_port(), workers=2, each=1_000_000)
         other = self.gateway(backend, workers=2, each=1_000_000)
+        began = time.monotonic()
         for _ in range(30):
             gate.ask(PLAIN)
             other.ask(b"GET /garbage HTTP/1.1\r\nHost: h\r\n\r\n")
+        # A machine with other work may take longer, and then there is one line more.
+        lines = 2 if time.monotonic() - began < 9 else 3
         time.sleep(10.5)
         gate.ask(PLAIN)
         other.ask(b"GET /closes HTTP/1.1\r\nHost: h\r\n\r\n")
@@ -158,9 +162,11 @@ class Telling(Served):
             ("refused connections", gate, UNREACHED, ["error=Connection refused (os error 111)"] * 2),
             ("broken answers", other, BROKEN, ["cause=malformed", "cause=cut off"]),
         ):
-            until(lambda it, line: len(lines_of(it, line)) == 2, it, line)
-            wanted = [f"{line}count={count} {why}" for count, why in zip((1, 30), causes)]
-            self.judge(what, wanted, lines_of(it, line))
+            until(lambda it, line: len(lines_of(it, line)) >= 2, it, line)
+            told = [re.fullmatch(rf"{re.escape(line)}count=(\d+) (.*)", it) for it in lines_of(it, line)]
+            counts = [int(found[1]) for found in told if found]
+            self.judge(f"how often {what} are told", (1, 31, True), (counts[0], sum(counts), 2 <= len(told) <= lines))
+            self.judge(f"the causes of {what}", causes, [told[0] and told[0][2], told[-1] and told[-1][2]])
 
     def tells_each_trouble(self, backend: Backend) -> None:
         """A trouble is reported whatever else was told a moment ago; and one that doesn't come isn't."""

@@ -9,6 +9,7 @@ use counted_io::Counted;
 use fault_lines::tell_unread_words;
 use file_opening::SystemFiles;
 use load_command::run_load;
+use log_lines::{LineStart, LogLines};
 use serve_command::{Service, serve_file};
 use std::env;
 use std::io::Error;
@@ -55,25 +56,21 @@ fn main(rt: HostRuntime) -> ExitCode {
                 &mut errors,
             )
         }
-        Run::Serve {
-            path,
-            workers,
-            per_worker,
-            client_timeout_ms,
-            report_seconds,
-            admin,
-        } => {
+        Run::Serve(options) => {
+            let logged = LogLines::new(rt, start_of(options.log_lines));
             let service = Service {
-                path,
-                workers,
-                per_worker,
-                client_timeout_ms,
-                report_seconds,
-                admin,
+                path: options.path,
+                workers: options.workers,
+                per_worker: options.per_worker,
+                client_timeout_ms: options.client_timeout_ms,
+                backend_timeout_ms: options.backend_timeout_ms,
+                report_seconds: options.report_seconds,
+                admin: options.admin,
+                status: options.status,
             };
             serve_file(
-                &rt,
-                &mut Spawner::new(&rt),
+                &logged,
+                &mut Spawner::new(&logged),
                 &files,
                 &SystemAddresses::new(&rt),
                 alloc,
@@ -83,4 +80,13 @@ fn main(rt: HostRuntime) -> ExitCode {
             )
         }
     })
+}
+
+/// How each line of the log is to begin.
+fn start_of(lines: commands::LogLines) -> LineStart {
+    match lines {
+        commands::LogLines::Plain => LineStart::Plain,
+        commands::LogLines::Time => LineStart::Time,
+        commands::LogLines::Journal => LineStart::Journal,
+    }
 }

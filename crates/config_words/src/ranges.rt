@@ -20,21 +20,27 @@ macro_rules! range_of_row {
 /// The range in a row's brackets, with the values of its ends.
 #[macro_export]
 macro_rules! range_between {
-    ([] [$low:literal to $high:literal; $default:literal $(, $meaning:ident)?]) => {
+    ([] [$low:literal to $high:literal; default $default:literal $(, $meaning:ident)?]) => {
         Range::new($low, $high, $default)
     };
-    ([$low:ident] [$key:ident to $high:literal; $default:literal]) => {
+    ([$low:ident] [$key:ident to $high:literal; default $default:literal]) => {
         Range::new($low, $high, $default)
     };
     (
         [$low:ident, $high:ident]
-        [$key:ident to $other:ident, of fixed $least:literal to $most:literal; $default:literal]
+        [
+            $key:ident to $other:ident, of fixed $least:literal to $most:literal;
+            default $default:literal
+        ]
     ) => {
         Range::new($low, $high, $default)
     };
     (
         [of fixed]
-        [$key:ident to $other:ident, of fixed $low:literal to $high:literal; $default:literal]
+        [
+            $key:ident to $other:ident, of fixed $low:literal to $high:literal;
+            default $default:literal
+        ]
     ) => {
         Range::new($low, $high, $default)
     };
@@ -68,7 +74,7 @@ macro_rules! default_of {
 /// The default of a row that is true or false.
 #[macro_export]
 macro_rules! default_of_row {
-    ($key:ident $start:literal $held:literal [true or false; $default:literal];) => {
+    ($key:ident $start:literal $held:literal [true or false; default $default:literal];) => {
         $default
     };
 }

@@ -13,20 +13,24 @@ macro_rules! key_row {
         Backend "  backend       " "A.B.C.D:PORT, port 1 to 65535, where they go to; required";
     } };
     (Backlog [$($row:tt)*] $($given:tt)*) => { $($row)*! { $($given)*
-        Backlog "  backlog       " "how many callers may wait for a permit, " [0 to 10000; 100];
+        Backlog "  backlog       " "how many callers may wait for a permit, "
+            [0 to 10000; default 100];
     } };
     (Wait [$($row:tt)*] $($given:tt)*) => { $($row)*! { $($given)*
-        Wait "  wait          " "whether refused callers wait at all, " [true or false; true];
+        Wait "  wait          " "whether refused callers wait at all, "
+            [true or false; default true];
     } };
     (TimeoutMs [$($row:tt)*] $($given:tt)*) => { $($row)*! { $($given)*
-        TimeoutMs "  timeout_ms    " "the longest wait in milliseconds, " [1 to 3600000; 1000];
+        TimeoutMs "  timeout_ms    " "the longest wait in milliseconds, "
+            [1 to 3600000; default 1000];
     } };
     (Keep [$($row:tt)*] $($given:tt)*) => { $($row)*! { $($given)*
-        Keep "  keep          " "entries of the history that are kept, " [1 to 1000000; 4096];
+        Keep "  keep          " "entries of the history that are kept, "
+            [1 to 1000000; default 4096];
     } };
     (Promote [$($row:tt)*] $($given:tt)*) => { $($row)*! { $($given)*
         Promote "  promote       "
-            "which waiters get room that falls free, \"newest\" or \"all\" who fit; \"newest\"";
+            "which waiters get room that falls free, \"newest\" or \"all\"; default \"newest\"";
     } };
     (Limit [$($row:tt)*] $($given:tt)*) => { $($row)*! { $($given)*
         Limit "[limit], required:" "" explained "a table, [limit]; required";
@@ -35,54 +39,57 @@ macro_rules! key_row {
         LimitKind "  kind          " "\"fixed\", \"settable\", \"aimd\" or \"vegas\"; required";
     } };
     (LimitMin [$($row:tt)*] $($given:tt)*) => { $($row)*! { $($given)*
-        LimitMin "  min           " "permits, " [1 to 10000; 1] help ". Not of fixed";
+        LimitMin "  min           " "permits, " [1 to 10000; default 1] help ". Not of fixed";
     } };
     (LimitMax [$($row:tt)*] $($given:tt)*) => { $($row)*! { $($given)*
-        LimitMax "  max           " "permits, " [min to 10000; 200] help ". Not of fixed";
+        LimitMax "  max           " "permits, " [min to 10000; default 200] help ". Not of fixed";
     } };
     (LimitInitial [$($row:tt)*] $($given:tt)*) => { $($row)*! { $($given)*
-        LimitInitial "  initial       " "permits, " [min to max, of fixed 1 to 10000; 20];
+        LimitInitial "  initial       " "permits, " [min to max, of fixed 1 to 10000; default 20];
     } };
     (LimitRatio [$($row:tt)*] $($given:tt)*) => { $($row)*! { $($given)*
-        LimitRatio "  ratio         aimd: " "what a drop leaves in thousandths, " [500 to 999; 900];
+        LimitRatio "  ratio         aimd: " "what a drop leaves in thousandths, "
+            [500 to 999; default 900];
     } };
     (LimitTimeoutUs [$($row:tt)*] $($given:tt)*) => { $($row)*! { $($given)*
-        LimitTimeoutUs "  timeout_us    aimd: " "a round trip above it is a drop, microseconds, "
-            [1 to 3600000000; 5000000];
+        LimitTimeoutUs "  timeout_us    aimd: " "a longer round trip is a drop, microseconds, "
+            [1 to 3600000000; default 5000000];
     } };
     (LimitAlpha [$($row:tt)*] $($given:tt)*) => { $($row)*! { $($given)*
         LimitAlpha "  alpha         vegas: " "the limit rises below this queue, permits, "
-            [1 to 100; 3];
+            [1 to 100; default 3];
     } };
     (LimitBeta [$($row:tt)*] $($given:tt)*) => { $($row)*! { $($given)*
         LimitBeta "  beta          vegas: " "the limit falls above this queue, permits, "
-            [alpha to 100; 6];
+            [alpha to 100; default 6];
     } };
     (LimitProbeEvery [$($row:tt)*] $($given:tt)*) => { $($row)*! { $($given)*
         LimitProbeEvery "  probe_every   vegas: "
-            "samples until the least round trip is measured anew, " [0 to 1000000; 0, never];
+            "samples until the base is measured anew, "
+            [0 to 1000000; default 0, never];
     } };
     (Window [$($row:tt)*] $($given:tt)*) => { $($row)*! { $($given)*
-        Window "[window], from which the limit then learns:" "" explained "a table, [window]; none";
+        Window "[window], from which the limit then learns:" ""
+            explained "a table, [window]; default none";
     } };
     (WindowSize [$($row:tt)*] $($given:tt)*) => { $($row)*! { $($given)*
-        WindowSize "  size          " "samples, " [1 to 1000000; 10];
+        WindowSize "  size          " "samples, " [1 to 1000000; default 10];
     } };
     (WindowMinUs [$($row:tt)*] $($given:tt)*) => { $($row)*! { $($given)*
         WindowMinUs "  min_us        " "the shortest window in microseconds, "
-            [1 to 3600000000; 1000000];
+            [1 to 3600000000; default 1000000];
     } };
     (WindowMaxUs [$($row:tt)*] $($given:tt)*) => { $($row)*! { $($given)*
         WindowMaxUs "  max_us        " "the longest window in microseconds, "
-            [min_us to 3600000000; 1000000];
+            [min_us to 3600000000; default 1000000];
     } };
     (WindowMinRttUs [$($row:tt)*] $($given:tt)*) => { $($row)*! { $($given)*
         WindowMinRttUs "  min_rtt_us    " "quicker answers are left out, microseconds, "
-            [0 to 3600000000; 100];
+            [0 to 3600000000; default 100];
     } };
     (Class [$($row:tt)*] $($given:tt)*) => { $($row)*! { $($given)*
         Class "[[class]], at most four, a promised share of the limit:" ""
-            explained "an array of at most four tables, [[class]]; none";
+            explained "an array of at most four tables, [[class]]; default none";
     } };
     (ClassName [$($row:tt)*] $($given:tt)*) => { $($row)*! { $($given)*
         ClassName "  name          "
@@ -99,7 +106,7 @@ macro_rules! key_row {
     (Resolver [$($row:tt)*] $($given:tt)*) => { $($row)*! { $($given)*
         Resolver "[[resolver]], at most 32; the first that finds a class tells it." ""
             help " All its keys are required:"
-            explained "an array of at most 32 tables, [[resolver]]; none";
+            explained "an array of at most 32 tables, [[resolver]]; default none";
     } };
     (ResolverKind [$($row:tt)*] $($given:tt)*) => { $($row)*! { $($given)*
         ResolverKind "  kind          " "\"header\", \"method\" or \"route\""
@@ -124,7 +131,7 @@ macro_rules! key_row {
     (Bypass [$($row:tt)*] $($given:tt)*) => { $($row)*! { $($given)*
         Bypass "[[bypass]], at most 32; one that holds lets a request past the limit." ""
             help " All its keys are required:"
-            explained "an array of at most 32 tables, [[bypass]]; none";
+            explained "an array of at most 32 tables, [[bypass]]; default none";
     } };
     (BypassKind [$($row:tt)*] $($given:tt)*) => { $($row)*! { $($given)*
         BypassKind "  kind          " "\"method\", \"prefix\" or \"header\"" explained "; required";

@@ -1,14 +1,20 @@
-//! The desk of a gateway that serves, and the thread of its operator.
+//! The desk of a gateway that serves, and the threads of its operators.
 //!
 //! [`GateDesk`] shows the state of a gate that threads share, and changes its limit by steps of a
 //! pass of its own: `specs/Desk.antt` says which step each deed is. A [`DeskWatch`] hears of them.
-//! [`Operator`] serves one operator after the other at the desk.
+//! [`Operator`] serves one operator after the other at a desk, and [`Operators`] several at once, a
+//! desk each. A [`LameDuck`] is what their desks share of a drain that is to come.
 #![tactic(auto)]
 
 mod desk;
+mod lame_duck;
 mod operator;
+mod operators;
+mod side_by_side;
 mod watch;
 
 pub use desk::GateDesk;
+pub use lame_duck::LameDuck;
 pub use operator::Operator;
+pub use operators::Operators;
 pub use watch::DeskWatch;

@@ -6,8 +6,9 @@ ghost use Rattle.limit_kinds.specs.AnyKinds.{any_rules};
 ghost use Rattle.gate_config.specs.Settings.{AreSound};
 ghost use Rattle.fault_lines.specs.FaultLine.{IsTold, fault_line};
 ghost use Rattle.config_file.specs.Reading.{Says};
-ghost use Rattle.serve_command.specs.declared.fault.ServiceFault.TheVariants.{Listen};
+ghost use Rattle.serve_command.specs.declared.fault.ServiceFault.TheVariants.{Listen, Memory};
 ghost use Rattle.serve_command.specs.Command.{HasServed, IsBound, IsBoundToo, IsOfAdmin};
+ghost use Rattle.serve_command.specs.Command.{IsUnboundToo};
 ghost use Rattle.serve_command.specs.Command.{IsOfServing, IsWhyOfService};
 ghost use Rattle.gate_opening.specs.Opening.{making_of};
 ghost use Rattle.serve_command.specs.Runs.{AreCountersOfRuns};
@@ -16,7 +17,7 @@ ghost use Rattle.serve_command.specs.ServiceFault.{service_fault_text};
 use crate::admin::AdminAddress;
 use crate::config_text::ConfigText;
 use crate::fault::{ServiceFault, tell_service_fault};
-use crate::logging::{log_admin, log_listening, log_unbound};
+use crate::logging::{log_admin, log_listening, log_status, log_unbound};
 use crate::standing::{Standing, serve_standing};
 use clocks::ProgramClock;
 use config_file::{read_bytes, read_file_text};
@@ -49,12 +50,18 @@ pub struct Service<'a> {
     /// How long a client may take to send its request, and again to take its answer, in
     /// milliseconds: 1 to 3,600,000.
     pub client_timeout_ms: u32,
+    /// How long a call of the backend may take, from its connect to the end of its answer, in
+    /// milliseconds: 1 to 3,600,000; as long as the backend takes without it.
+    pub backend_timeout_ms: Option<u32>,
     /// How many seconds there are from one line of the report to the next, 1 to 3,600; there is
     /// none without it.
     pub report_seconds: Option<u32>,
     /// A loopback address at which an operator looks at the gateway and changes it; there is none
     /// without it.
     pub admin: Option<SocketAddrV4>,
+    /// Any address of this machine at which whoever comes looks at the gateway's state, and changes
+    /// nothing; there is none without it.
+    pub status: Option<SocketAddrV4>,
 }
 
 /// Serves clients by the configuration in the file that is opened at the path, and at the end of
@@ -91,8 +98,8 @@ where
 
     // The line of counters is written, and nothing else.
     ensures served { result ≡ 0 → HasServed (F.opened service.now.path.now) F.File.remaining
-        B.bound W.contents service.now.admin service.now.workers service.now.per_worker
-        writer.old writer.new }
+        B.bound W.contents service.now.admin service.now.status service.now.workers
+        service.now.per_worker writer.old writer.new }
     ensures quiet { result ≡ 0 → errors.new ≡ errors.old }
 
     // The first fault is reported.
@@ -100,7 +107,7 @@ where
         × IsTold E.contents errors.old errors.new (fault_line (service_fault_text fault))
         × IsWhyOfService (F.unopened service.now.path.now)
         (F.opened service.now.path.now) F.File.remaining
-        (λ s. IsOfServing B.bound B.unbound s.listen service.now.admin
+        (λ s. IsOfServing B.bound B.unbound s.listen service.now.admin service.now.status
         (refused_of spawner.old) (refused_of spawner.new)) writer.old writer.new fault }
 {
     match serve_and_count(rt, spawner, files, addresses, alloc, service, writer) {
@@ -133,11 +140,11 @@ where
     requires some { 1 ≤ service.now.workers }
     requires few { service.now.workers ≤ 64 }
     ensures served { OnOk result (HasServed (F.opened service.now.path.now) F.File.remaining
-        B.bound W.contents service.now.admin service.now.workers service.now.per_worker
-        writer.old writer.new) }
+        B.bound W.contents service.now.admin service.now.status service.now.workers
+        service.now.per_worker writer.old writer.new) }
     ensures refused { IfErr result (IsWhyOfService (F.unopened service.now.path.now)
         (F.opened service.now.path.now) F.File.remaining
-        (λ s. IsOfServing B.bound B.unbound s.listen service.now.admin
+        (λ s. IsOfServing B.bound B.unbound s.listen service.now.admin service.now.status
         (refused_of spawner.old) (refused_of spawner.new)) writer.old writer.new) }
 {
     let text = read_file_text(files, alloc, service.path)?;
@@ -177,25 +184,44 @@ where
     requires few { service.now.workers ≤ 64 }
     ensures front { OnOk result (IsBound B.bound settings.now.listen) }
     ensures operator { OnOk result (IsBoundToo B.bound service.now.admin) }
+    ensures status { OnOk result (IsBoundToo B.bound service.now.status) }
     ensures counted { IfOk result (AreCountersOfRuns any_rules (making_of settings.now)
         (λ own. Says text.now.bytes.items (Ok own)) service.now.workers service.now.per_worker) }
     ensures refused { IfErr result (IsOfServing B.bound B.unbound settings.now.listen
-        service.now.admin (refused_of spawner.old) (refused_of spawner.new)) }
+        service.now.admin service.now.status
+        (refused_of spawner.old) (refused_of spawner.new)) }
 {
     let front = bind(rt, addresses, settings.listen.socket())?;
     let admin = bind_admin(rt, addresses, alloc, service.admin)?;
+    let status = bind_status(rt, addresses, service.status)?;
     log_listening(rt, files, alloc, settings, service.workers);
     let clock = ProgramClock::start(rt);
-    let watch = Watcher::new(rt, alloc, service.workers);
+    let watch = make_watch(rt, alloc, &clock, service)?;
     let standing = Standing {
         front: &front,
         admin: &admin,
+        status: &status,
         text,
         clock: &clock,
         watch: &watch,
         alloc,
     };
     Ok(serve_standing(rt, spawner, &standing, settings, service)?)
+}
+
+/// What notes and logs what happens. It fails only out of memory.
+fn make_watch<'a, R: SystemClock>(
+    rt: &'a R,
+    alloc: Global,
+    clock: &'a ProgramClock<&'a R>,
+    service: &Service<'_>,
+) -> Result<Watcher<'a, R>, ServiceFault>
+    ensures lacking { IfErr result (λ fault. fault ≡ Memory) }
+{
+    match Watcher::new(rt, alloc, clock, service.workers, service.report_seconds) {
+        Ok(watch) => Ok(watch),
+        Err(_) => Err(ServiceFault::Memory),
+    }
 }
 
 /// What listens at an address; where it can't be bound, the log has the system's reason.
@@ -236,6 +262,23 @@ fn bind_admin<R: Log, B: Binder>(
     let listener = bind(rt, addresses, address)?;
     log_admin(rt, address);
     Ok(Some(AdminAddress { listener, host }))
+}
+
+/// What listens at the address of whoever looks at the state, where there is one; the log says so.
+fn bind_status<R: Log, B: Binder>(
+    rt: &R,
+    addresses: &B,
+    address: Option<SocketAddrV4>,
+) -> Result<Option<B::Bound>, ServiceFault>
+    ensures bound { OnOk result (IsBoundToo B.bound address) }
+    ensures unbound { IfErr result (λ fault. (fault ≡ Listen) × IsUnboundToo B.unbound address) }
+{
+    let Some(address) = address else {
+        return Ok(None);
+    };
+    let listener = bind(rt, addresses, address)?;
+    log_status(rt, address);
+    Ok(Some(listener))
 }
 
 /// Tells a fault, and answers the status after it.

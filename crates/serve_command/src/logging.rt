@@ -52,6 +52,11 @@ pub(crate) fn log_admin<R: Log>(rt: &R, address: SocketAddrV4) {
     info!(rt; target: "admission", address:%; "listening for the operator");
 }
 
+/// Logs where whoever looks at the state is listened for.
+pub(crate) fn log_status<R: Log>(rt: &R, address: SocketAddrV4) {
+    info!(rt; target: "admission", address:%; "listening for looks at the state");
+}
+
 /// Logs why an address can't be bound.
 pub(crate) fn log_unbound<R: Log>(rt: &R, address: SocketAddrV4, error: &Error) {
     error!(rt; target: "admission", address:%, error:%; "the address can't be bound");

@@ -166,16 +166,18 @@ from shown known given failed closed port count = record {
   back = record { shown = shown port; known = known port; count = count; log = None };
 }
 
-module _ {R L C S W V P : Type 0} (gives : S → Settings → Type 0) (lacks : S → Type 0)
+module _ {R T L C S W V P : Type 0} (gives : S → Settings → Type 0) (lacks : S → Type 0)
     (shown : P → Option Shown) (known : P → Option (List Entry))
     (common : WorkerSettings L C S W) where
-  abbrev Did : Worker (Door L W) P (TcpBackend R V) → Ended (Door L W) P (TcpBackend R V) → Type 0
+  abbrev Did : Worker (Door L W) P (TcpBackend R T V C)
+      → Ended (Door L W) P (TcpBackend R T V C) → Type 0
   Did = HasWorked given_of failed_of is_closed (λ _. None) shown known count_of (λ _. None) gives
       lacks common.source.now common.per_worker
 
-  ran : (port : P) (worker : Worker (Door L W) P (TcpBackend R V))
-      (ended : Ended (Door L W) P (TcpBackend R V))
-      → Begins port worker → Did worker ended → HasRun gives shown known common port ended
+  ran : (port : P) (worker : Worker (Door L W) P (TcpBackend R T V C))
+      (ended : Ended (Door L W) P (TcpBackend R T V C))
+      → Begins common.backend_timeout_ns port worker → Did worker ended
+      → HasRun gives shown known common port ended
   ran port worker ended begins did =
       let s = did.settings in
       let most = common.per_worker in
@@ -214,8 +216,9 @@ module _ {R L C S W V P : Type 0} (gives : S → Settings → Type 0) (lacks : S
         whole = did.whole;
       }
 
-  pub all_ran : (ports : List P) (workers : List (Worker (Door L W) P (TcpBackend R V)))
-      (ended : List (Ended (Door L W) P (TcpBackend R V))) → AllZip Begins ports workers
+  pub all_ran : (ports : List P) (workers : List (Worker (Door L W) P (TcpBackend R T V C)))
+      (ended : List (Ended (Door L W) P (TcpBackend R T V C)))
+      → AllZip (Begins common.backend_timeout_ns) ports workers
       → AllZip Did workers ended → AllZip (HasRun gives shown known common) ports ended
   all_ran [] [] [] p q = tt
   all_ran [] [] (e ∷ es) p q = absurd q

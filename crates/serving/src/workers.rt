@@ -20,10 +20,14 @@ use std::alloc::{AllocError, Global};
 use std::net::Net;
 use std::sync::Wait;
 use std::thread::Threads;
-use std::time::Clock as SystemClock;
+use std::time::{Clock as SystemClock, Duration};
 use tasks::{Spawner, Task, run_tasks};
 use tcp_backend::{BackendWatch, TcpBackend};
 use timed_io::Listener;
+
+/// For how long a client takes nothing of its answer, in nanoseconds, before the system ends its
+/// connection, at least: five seconds. It isn't less than the client's time.
+const UNTAKEN_NS: u64 = 5_000_000_000;
 
 /// Serves clients by one worker for each port, each on a thread of its own with a door, and with a
 /// connection of its own to the backend of the settings, until all have ended; and tells what they
@@ -42,7 +46,7 @@ pub fn serve<'l, R, G, P, T, L, C, S, W>(
     gate: &G,
     ports: Vec<P>,
     beside: Option<T>,
-) -> Result<Vec<Left<Door<'l, L, W>, P, TcpBackend<&'l R, &'l W>>>, ServeFault>
+) -> Result<Vec<Left<Door<'l, L, W>, P, TcpBackend<'l, &'l R, R::Stream, &'l W, C>>>, ServeFault>
 where
     R: Net + Threads + Wait + SystemClock + Sync,
     G: GateView + Sync,
@@ -70,6 +74,10 @@ where
         refused_of spawner.new ≡ refused_of spawner.old }
 {
     let workers = make_workers(rt, common, settings, ports)?;
+    let untaken_ns = common.client_timeout_ns.max(UNTAKEN_NS);
+    common
+        .listener
+        .end_untaken(Duration::from_nanos(untaken_ns));
     serve_by(rt, spawner, common, gate, workers, beside)
 }
 
@@ -79,18 +87,20 @@ fn make_workers<'l, R: Net, P: Drop, L, C, S, W>(
     common: &WorkerSettings<'l, L, C, S, W>,
     settings: &Settings,
     ports: Vec<P>,
-) -> Result<Vec<Worker<Door<'l, L, W>, P, TcpBackend<&'l R, &'l W>>>, ServeFault>
-    ensures workers { IfOk result (λ workers. AllZip Begins ports.items workers.items) }
+) -> Result<Vec<Worker<Door<'l, L, W>, P, TcpBackend<'l, &'l R, R::Stream, &'l W, C>>>, ServeFault>
+    ensures workers { IfOk result (λ workers.
+        AllZip (Begins common.now.backend_timeout_ns) ports.items workers.items) }
     ensures lacking { OnErr result (IsErrOf result ServeFault.Memory) }
 {
     let (alloc, watch) = (common.alloc, common.watch);
+    let (clock, most_ns) = (common.clock, common.backend_timeout_ns);
     let address = settings.backend.socket();
     let mut workers = Vec::with_capacity(alloc, ports.len())?;
     for port in ports {
         let worker = Worker {
             door: Door::new(common.listener, watch),
             port,
-            backend: TcpBackend::new(rt, alloc, address, watch)?,
+            backend: TcpBackend::new(rt, alloc, address, watch, clock, most_ns)?,
             buffers: Buffers::new(alloc)?,
         };
         workers.push_reserved(worker);

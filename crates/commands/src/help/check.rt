@@ -37,7 +37,7 @@ A small configuration, for 64 workers, is
   version = 2
   listen = \"127.0.0.1:8080\"    # where requests come in
   backend = \"127.0.0.1:9000\"   # where they go to
-  backlog = 20                 # callers that may wait
+  backlog = 10                 # callers that may wait
 
   [limit]
   kind = \"fixed\"               # or settable, aimd, vegas
@@ -49,24 +49,27 @@ range if an earlier key leaves the default outside.
 Before the tables:
 ",
     "
-With a table of each kind:
+With a table of each kind, and the numbers of the packaged configuration:
 
   version = 2
   listen = \"127.0.0.1:8080\"
   backend = \"127.0.0.1:9000\"
   backlog = 10
-  timeout_ms = 500
 
   [limit]
-  kind = \"aimd\"
-  min = 5
-  max = 30
-  initial = 20
-  ratio = 900
-  timeout_us = 2_000_000
+  kind = \"vegas\"
+  min = 3
+  max = 32
+  initial = 6
+  alpha = 2
+  beta = 8
+  probe_every = 3_000
 
   [window]
-  size = 10
+  size = 3
+  min_us = 50_000
+  max_us = 2_000_000
+  min_rtt_us = 3_000
 
   [[class]]
   name = \"live\"

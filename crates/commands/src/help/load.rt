@@ -14,8 +14,8 @@ permit, for the timeout of the trace by the machine's own clock, until another w
 promotes it. Which worker comes first depends on the machine: where calls are refused or wait, two
 runs may end differently.
 
-  --limit N      the fixed limit of a trace without a limit line, permits, 1 to 10000; 20
-  --workers W    threads that make the calls, 1 to 64; 4
+  --limit N      the fixed limit of a trace without a limit line, permits, 1 to 10000; default 20
+  --workers W    threads that make the calls, 1 to 64; default 4
 
 At the end all that the workers were told is compared with the gate's history: each call stands in
 it once, in its worker's order, and each ending ends a permit that was handed out. Then two lines

@@ -26,12 +26,12 @@ limit is fixed at the N of --limit.
   share NAME THOUSANDTHS       a class and its share of the limit: 1 to 32 of a-z 0-9 - _ and not
                                unknown, at most four; 1 to 1000 thousandths, together at most 1000
   class NAME PERCENT           the same in percent, 1 to 100; both kinds of lines may stand together
-  backlog N                    how many may wait, 0 to 10000; 100 without this line
-  keep K                       how many entries of the history are kept, 1 to 1000000; 100000
-                               without this line
+  backlog N                    how many may wait, 0 to 10000; default 100
+  keep K                       how many entries of the history are kept, 1 to 1000000; default
+                               100000
   keep K rolling               the same of a history that rolls: it forgets entries to go on
   promote newest               who gets the room that falls free: after an ending the newest waiter,
-                               where it has room, and nobody else; so without this line
+                               if it has room, and nobody else; the default
   promote all                  after an ending, an accepted set and a reset the newest of those that
                                have room, again and again until none has
   timeout T                    accepted and ignored: it is a setting of `simulate`

@@ -3,46 +3,57 @@
 pub(crate) const SERVE_ABOUT: &str = "Stands before a backend, and forwards what the limit admits";
 
 pub(crate) const SERVE_HELP: &str = "\
-Serves clients at the address `listen` of the file CONFIG, TOML text of at most 1 MiB, and forwards
-to its `backend` what its limit admits. The keys are those of `admission check --help`, which says
-whether a file is right before anything is served. A connection carries one request, HTTP/1.1 or
-1.0, and is closed after its answer. Bodies are read whole, up to 8 MiB each way.
+Serves clients at the address `listen` of the file CONFIG and forwards to its `backend` what its
+limit admits. CONFIG is TOML text of at most 1 MiB; `admission check --help` has its keys, and
+`admission check` says whether a file is right before anything is served. A connection carries one
+request, HTTP/1.1 or 1.0, and is closed after its answer. Bodies are read whole, up to 8 MiB each
+way.
 
-  --workers W            threads that serve, 1 to 64; 4. Each serves one connection at a time, from
-                         its first byte to the last of its answer, also while it waits for a permit:
-                         at most W requests are in flight or wait. Use 64 for all but small limits
-  --per-worker M         connections that each worker serves before it ends, 1 to 1000000000;
-                         1000000000. The program ends once all workers have
-  --client-timeout-ms T  milliseconds that a client may take, 1 to 3600000; 10000: for its whole
-                         request, and again to take its whole answer. A slower client is cut off,
-                         and its permit is ended as always
-  --report-seconds N     seconds between two lines of the report in the log, 1 to 3600; without it
-                         there are none
-  --admin ADDRESS        a loopback address of IPv4 with a port, such as 127.0.0.1:9901, at which
-                         the operator of this machine sees the state and changes it; without it
-                         there is none
+  --workers W             threads that serve, 1 to 64; default 4. Each serves one connection at a
+                          time, from its first byte to the last of its answer, also while it waits
+                          for a permit: at most W requests are in flight or wait. Use 64 unless the
+                          limit is small
+  --per-worker M          connections that each worker serves before it ends, 1 to 1000000000;
+                          default 1000000000. The program ends once all workers have
+  --client-timeout-ms T   milliseconds that a client may take, 1 to 3600000; default 10000: for its
+                          whole request, and again to take its whole answer. A slower client is cut
+                          off, and its permit is ended
+  --backend-timeout-ms T  milliseconds that the backend may take from the connect to the end of its
+                          answer, 1 to 3600000; without it there is no limit. Past it the client is
+                          answered 504
+  --report-seconds N      seconds between two lines of the report in the log, 1 to 3600; without it
+                          there are none
+  --admin ADDRESS         a loopback address of IPv4 with a port, such as 127.0.0.1:9901, at which
+                          the operator of this machine sees the state and changes it; without it
+                          there is none
+  --status ADDRESS        an address of IPv4 with a port, such as 0.0.0.0:9902, at which GET /health
+                          and GET /metrics are answered, and nothing changes; without it there is
+                          none
+  --log-lines FORM        how each line of the log begins; default plain: with its level. With time
+                          it begins with the time in UTC, and with journal with the priority that
+                          systemd reads
 
 For example, with this file as gate.toml
 
-  version = 1
+  version = 2
   listen = \"127.0.0.1:8080\"
   backend = \"127.0.0.1:9000\"
-  backlog = 20
-  timeout_ms = 500
+  backlog = 10
 
   [limit]
   kind = \"fixed\"
   initial = 40
 
-`admission serve gate.toml --workers 64` lets 40 requests be at the backend at once and 20 more wait
-for half a second each; `python3 -m http.server 9000` is a backend to try it with, and
-`curl http://127.0.0.1:8080/` a client.
+`admission serve gate.toml --workers 64` lets 40 requests be at the backend at once and 10 more wait
+for a second each; `python3 -m http.server 9000` is a backend to try it with, and
+`curl http://127.0.0.1:8080/` a client. The packaged configuration finds its limit by itself: it is
+of the kind vegas, from 3 to 32 permits, and learns from windows.
 
-An answer of the backend lets the newest of those who wait in, where it has room; with
-`promote = \"all\"` all of them who have room, so that nobody waits below a limit that has risen.
+An answer of the backend lets the newest waiter in if it has room; with `promote = \"all\"` it lets
+in all waiters that have room, so that nobody waits below a limit that has risen.
 
-A request that is let through is forwarded once and never tried again. What the client gets, and
-what the limit learns from it:
+An admitted request is forwarded once and never tried again. What the client gets, and what the
+limit learns from it:
 
   what happened                                                 the client gets   the limit learns
   no permit: refused, backlog full, or waited too long          429               nothing
@@ -51,6 +62,7 @@ what the limit learns from it:
   the backend answered another status from 500 to 999           that answer       ignored
   the backend's answer is unreadable, cut off or above 8 MiB    502               dropped
   the backend can't be reached                                  502               ignored
+  the backend took longer than --backend-timeout-ms             504               dropped
   out of memory                                                 500               ignored
   the request is malformed, cut off, or has two lengths         400               nothing
   the request's body is above 8 MiB                             413               nothing
@@ -58,38 +70,40 @@ what the limit learns from it:
   the method is CONNECT or TRACE, or the coding isn't chunked   501               nothing
   the client left or was too slow with its request              no answer         nothing
 
-An ignored ending gives the permit back and changes no limit. The backend has no timeout: one that
-never answers holds its permit and its worker until it closes the connection.
+An ignored ending gives the permit back and changes no limit.
 
 The log on standard error says `listening`, with the address, the number of workers and the kind of
-limit, once the address is bound. Before it come warnings. One comes if the limit, or its max, with
-the shares of it and the backlog exceed the workers: callers past the workers then wait unseen in
-the system's accept queue and are never refused, so raise the workers or lower the others. Another
-comes if the workers may need more descriptors than the system gives, and one if the backend is this
-gateway itself, so that each request would come back to it.
+limit, once the address is bound. Three warnings may come before it: the limit, or its max, with its
+shares and the backlog exceed the workers, so that callers past the workers wait unseen in the
+system's accept queue and are never refused; the workers may need more descriptors than the system
+gives; or the backend is this gateway itself.
 
 While it serves the log says, at most once in ten seconds each and with the count since the last
-time, that the backend can't be reached, that it broke an answer, or that no descriptor was free.
-With --report-seconds N one line every N seconds tells the state: the limit, the requests in flight
-and those that wait, each class as in flight/share, the counters since the start, and how many
-exchanges ended in each status of the gateway's own:
+time, that the backend can't be reached, broke an answer or took too long, or that no descriptor was
+free. With --report-seconds N one line every N seconds tells the state: the limit, the requests in
+flight and those that wait, each class as in flight/share, the counters since the start, and how
+many exchanges ended in each status of the gateway's own, so that a stop loses N seconds of counters
+at most:
 `report limit=L inflight=I waiters=V granted=G class.NAME=C/S class.unknown=C admitted=A ..
-dropped=D 400=N 413=N 429=N 431=N 500=N 501=N 502=N`. So a stop loses N seconds of counters at most.
+dropped=D 400=N 413=N 429=N 431=N 500=N 501=N 502=N 504=N`.
 
 With --admin each connection to ADDRESS carries one call. Its Host has to be the address itself, and
 a POST needs the line `X-Admission: yes`, so that no page in a browser can send one:
 
   GET /         a page that draws the last minutes in a browser
   GET /metrics  the state, in the text format of Prometheus
-  GET /health   200 while clients are accepted, 503 once the gateway drains
-  POST /limit   the limit is set to the number in the body, where its kind is settable
-  POST /reset   the algorithm of the limit begins anew
-  POST /drain   nobody is accepted any more; the program ends once those inside, or waiting to be
-                accepted, are served
+  GET /health   200 while clients are accepted; 503 while all workers are held, and once the gateway
+                drains
+  POST /limit   sets the limit to the number in the body, if its kind is settable
+  POST /reset   begins the algorithm of the limit anew
+  POST /drain   accepts nobody any more; the program ends once those inside, or waiting to be
+                accepted, are served. With ?after-ms=N /health says so at once, and clients are
+                accepted for N milliseconds more
 
 At its end `serve` writes its counters to standard output, in one line:
 `admitted A bypassed B full F backlog G waiting W promoted P timed-out T success S ignored I
-dropped D`. SIGTERM, SIGINT, SIGHUP and SIGUSR1 end it at once, without counters.
+dropped D`. SIGTERM, SIGINT, SIGHUP and SIGUSR1 end it at once, without counters; `admission-run`
+starts it so that these drain it.
 
 Exits with status 0 once all workers have ended, with 2 for a wrong command line, and otherwise with
 1 and one line on standard error:

@@ -12,8 +12,8 @@ answer. Numbers are decimal without sign or unit, and times are nanoseconds (one
 
 The settings are those of `admission replay --help`, before any other line, and
 
-  timeout T                    how long an arrival waits, 1 ns to one hour; 1000000000, one second,
-                               without this line
+  timeout T                    how long an arrival waits, 1 ns to one hour; default 1000000000, one
+                               second
 
 Then the arrivals, in any order of their moments:
 

@@ -1,6 +1,6 @@
 use Rattle.std.specs.Prelude.{codes}
 use Rattle.clap.specs.Words.{new_app, with_rule}
-use Rattle.commands.specs.CommandLine.{limit_rule, workers_rule}
+use Rattle.commands.specs.Rules.{limit_rule, workers_rule}
 use Rattle.commands.proofs.interface.load_command.Goals as goal
 
 -- the arguments are added one by one
