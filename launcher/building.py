@@ -23,7 +23,7 @@ PROGRAM = "admission"
 OUT = TOP / "crates" / PROGRAM / "out"
 PROVED, UNPROVED = (OUT, "proof"), (OUT / "unproved", "sources")
 # As docs/GATE.md has them.
-TIME = "some 20 minutes on 4 slow processors"
+TIME = "some 30 minutes on 4 slow processors"
 COMPILING = 67
 
 

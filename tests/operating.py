@@ -282,18 +282,17 @@ class Operating(Served):
                 self.judge("counters of silent clients", {}, gate.ending())
             self.judge("silent clients get nothing", [b"", b""], [read_all(it) for it in (silent, half)])
 
-    def holds_its_own_thread_alone(self, backend: Backend) -> None:
-        """A silent client of the address holds up other operators for its time, and no client of the gateway."""
-        gate = self.operated(backend, workers=1, words=("--client-timeout-ms", "6000"))
+    def holds_its_own_threads_alone(self, backend: Backend) -> None:
+        """Silent clients of the address hold up other operators for a second, and no client of the gateway."""
+        gate = self.operated(backend, workers=1, words=("--client-timeout-ms", "60000"))
         begun = time.monotonic()
-        with socket.create_connection(("127.0.0.1", gate.operator), timeout=PATIENCE) as silent:
-            late = Later(gate.call, "GET /health")
-            for turn in range(3):
-                self.judge(f"one beside a silent operator, {turn}", passed_on(BODY), gate.ask(PLAIN))
-            self.judge("another operator meanwhile", (None, True), (late.found, time.monotonic() - begun < 6))
-            self.judge("another operator then", told(DONE), late.result())
-            self.judge("it had to wait", True, time.monotonic() - begun >= 6)
-            self.judge("the silent one gets nothing", b"", read_all(silent))
+        silent = [socket.create_connection(("127.0.0.1", gate.operator), timeout=PATIENCE) for _ in range(4)]
+        late = Later(gate.call, "GET /metrics")
+        for turn in range(3):
+            self.judge(f"one beside silent operators, {turn}", passed_on(BODY), gate.ask(PLAIN))
+        self.judge("another operator then", True, b" 200 OK" in late.result())
+        self.judge("it had to wait for a second", True, 1 <= time.monotonic() - begun < 6)
+        self.judge("silent ones get nothing", [b""] * 4, [read_all(it) for it in silent])
         with socket.create_connection(("127.0.0.1", gate.operator), timeout=PATIENCE) as deaf:
             deaf.sendall(request("GET / HTTP/1.1", f"Host: 127.0.0.1:{gate.operator}"))
             self.judge("one behind who reads nothing", told(DONE), gate.call("GET /health"))

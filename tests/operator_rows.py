@@ -26,6 +26,9 @@ OUT_OF_RANGE = (400, "the number is out of the limit's range\n")
 NOT_SETTABLE = (409, "the limit isn't of the kind settable\n")
 DONE = (200, "ok\n")
 CLOSING = (503, "draining\n")
+BUSY = (503, "busy\n")
+OTHER_QUERY = (400, "the query isn't after-ms=N with N from 1 to 3600000\n")
+LEFT = (400, "the caller has left: nothing was changed\n")
 DRAINED = (200, "draining\n")
 # The families of /metrics in their order, with their kinds, and of those with labels the label.
 FAMILIES = {
@@ -38,9 +41,11 @@ FAMILIES = {
     "admission_decisions_total": ("counter", "decision"),
     "admission_outcomes_total": ("counter", "outcome"),
     "admission_answers_total": ("counter", "status"),
+    "admission_empty_connections_total": ("counter", None),
     "admission_troubles_total": ("counter", "trouble"),
     "admission_workers": ("gauge", None),
     "admission_busy_workers": ("gauge", None),
+    "admission_oldest_permit_seconds": ("gauge", None),
     "admission_uptime_seconds": ("gauge", None),
     "admission_build_info": ("gauge", "version"),
 }
@@ -53,7 +58,7 @@ def told(
     status, text = answer
     lines = [f"HTTP/1.1 {status} {PHRASES[status]}", f"Content-Type: {media}", "Cache-Control: no-store"]
     lines += [f"Allow: {allow}"] if allow else []
-    lines += [f"Content-Length: {len(text.encode())}"] if has_body else []
+    lines += [f"Content-Length: {len(text.encode())}"]
     return "\r\n".join([*lines, "Connection: close", "", text if has_body else ""]).encode()
 
 
@@ -78,11 +83,11 @@ def refusals(port: int) -> Iterator[tuple[str, bytes, bytes]]:
     yield "of no path", request("OPTIONS * HTTP/1.1", own), told(NOTHING)
     for path in ("/", "/metrics", "/health"):
         for method in ("POST", "PUT", "DELETE", "OPTIONS", "get"):
-            yield f"{method} {path}", request(f"{method} {path} HTTP/1.1", own), told(OTHER, allow="GET")
-        yield f"HEAD {path}", request(f"HEAD {path} HTTP/1.1", own), told(OTHER, allow="GET", has_body=False)
+            yield f"{method} {path}", request(f"{method} {path} HTTP/1.1", own), told(OTHER, allow="GET, HEAD")
     for path in ("/limit", "/reset", "/drain"):
         for method in ("GET", "PUT", "OPTIONS", "post"):
             yield f"{method} {path}", request(f"{method} {path} HTTP/1.1", own), told(OTHER, allow="POST")
+        yield f"HEAD {path}", request(f"HEAD {path} HTTP/1.1", own), told(OTHER, allow="POST", has_body=False)
         for lines in ((), ("X-Admission: no",), ("X-Admission: Yes",), ("X-Admission: no", MARK), ("X-Other: yes",)):
             words = request(f"POST {path} HTTP/1.1", own, *lines, body="no number")
             yield f"POST {path} with {lines}", words, told(UNMARKED)

@@ -4,6 +4,8 @@ import collections
 import contextlib
 import http.client
 import itertools
+import re
+import shutil
 import socket
 import subprocess
 import threading
@@ -25,6 +27,9 @@ QUEUED, CALLERS = 20, 8
 RESTARTS, CALLS = 3, 50
 # For how long requests come behind a front meanwhile.
 SECONDS = 10
+# How many requests come across a restart behind HAProxy, how long each caller rests between two, for how many seconds
+# the gateway that is stopped accepts requests, and for how many it is then away, as the unit's RestartSec has it.
+ACROSS, REST, AFTER, AWAY = 420, 0.12, 3, 2
 # How often a case is tried that may fail by chance, seldom.
 FEW = 3
 
@@ -231,3 +236,106 @@ def across_drains(fronts: Fronts, requests: int | None = None) -> None:
             break
         fronts.stop_all()
     fronts.judge("none was lost, in the last of a few tries", {}, lost)
+
+
+class Balanced:
+    """Gateways behind examples/front/haproxy.cfg: the first one is stopped and started as its unit does it."""
+
+    def __init__(self, fronts: Fronts, count: int) -> None:
+        self.fronts, self.origin = fronts, Origin()
+        self.folder = fronts.room / f"balanced-{free_port()}"
+        self.folder.mkdir()
+        for name in ("admission-run", "admission-drain"):
+            shutil.copy(TOP / "packaging" / name, self.folder)
+        (self.folder / "admission").symlink_to(fronts.program)
+        # Of each its port, its operator's address and its port for balancers.
+        self.places = [(free_port(), f"127.0.0.1:{free_port()}", free_port()) for _ in range(count)]
+        self.gateways = [self.started(it) for it in self.places]
+        self.port = free_port()
+        self.start_front()
+
+    def started(self, place: tuple[int, str, int]) -> subprocess.Popen:
+        port, operator, checked = place
+        config = self.folder / f"{port}.toml"
+        config.write_text(
+            f'version = 2\nlisten = "127.0.0.1:{port}"\nbackend = "127.0.0.1:{self.origin.port}"\n'
+            '[limit]\nkind = "fixed"\ninitial = 20\n',
+            encoding="utf-8",
+        )
+        run = [self.folder / "admission-run", "--after", str(AFTER), "--wait", "50", config, "--workers", "64"]
+        words = [str(it) for it in (*run, "--admin", operator, "--status", f"127.0.0.1:{checked}")]
+        process = self.fronts.start(*words, stdout=subprocess.PIPE, text=True)
+        self.fronts.wait_for(port, process)
+        return process
+
+    def start_front(self) -> None:
+        lines = [f"server gateway{port} 127.0.0.1:{port} check port {checked}" for port, _, checked in self.places]
+        swaps = {
+            "bind :443 ssl crt /etc/haproxy/www.example.com.pem alpn h2,http/1.1": f"bind 127.0.0.1:{self.port}",
+            "log /dev/log local0": "",
+            "server gateway 127.0.0.1:8080 check port 9902": "\n    ".join(lines),
+            "server unchecked 127.0.0.1:8080": f"server unchecked 127.0.0.1:{self.places[0][0]}",
+        }
+        front = self.fronts.start("haproxy", "-f", str(self.fronts.configured("haproxy.cfg", swaps)), "-db")
+        self.fronts.wait_for(self.port, front)
+
+    def ask(self, number: int) -> int | str:
+        """The status of a request through the front, or the name of what went wrong."""
+        time.sleep(REST)
+        method, body = (("GET", None), ("POST", b"a"))[number % 2]
+        try:
+            return status(self.port, "/a", method, body, None, False)
+        except (OSError, http.client.HTTPException) as why:
+            return type(why).__name__
+
+    def admitted(self) -> str:
+        """How many the first gateway has let in, at its address for balancers."""
+        with socket.create_connection(("127.0.0.1", self.places[0][2]), timeout=PATIENCE) as client:
+            client.sendall(b"GET /metrics HTTP/1.0\r\n\r\n")
+            (count,) = re.findall(rb'_total\{decision="admitted"\} (\d+)', read_all(client))
+            return count.decode()
+
+    def restart(self) -> tuple[int | None, float, bool, bool]:
+        """Stops the first gateway by a signal, and starts it again: its status, how long the stop took, whether each of
+        its requests was served, and whether it was left alone in the end, while it still accepted requests."""
+        begun, process = time.monotonic(), self.gateways[0]
+        process.terminate()
+        time.sleep(AFTER - 1)
+        before = self.admitted()
+        time.sleep(0.7)
+        is_alone = before == self.admitted()
+        written, _ = process.communicate(timeout=3 * PATIENCE)
+        took, counts = time.monotonic() - begun, counts_of(written) or {}
+        time.sleep(AWAY)
+        self.gateways[0] = self.started(self.places[0])
+        return process.returncode, took, counts.get("admitted") == counts.get("success"), is_alone
+
+
+def requests_across_a_stop(fronts: Fronts, count: int) -> dict[object, int]:
+    """How often requests got another answer than 200 while the first of so many gateways was stopped and started."""
+    balanced = Balanced(fronts, count)
+    callers = Callers(balanced.ask)
+    fronts.judge("requests before", True, callers.have(ACROSS // 4))
+    ended, took, is_served, is_alone = balanced.restart()
+    fronts.judge("requests behind", True, until(lambda: len(callers.answers) >= ACROSS))
+    answers = callers.counted()
+    served = answers.pop(200, 0)
+    fronts.judge("how it ended, by itself", (0, True), (ended, is_served))
+    fronts.judge("whether it was left alone before, since another one served", count > 1, is_alone)
+    fronts.judge("how long that took", True, AFTER <= took < AFTER + 10)
+    fronts.judge(f"{served} requests were sent once", served, len(balanced.origin.paths()))
+    balanced.origin.close()
+    fronts.stop_all()
+    return answers
+
+
+def lame_duck(fronts: Fronts) -> None:
+    """No request is lost behind HAProxy as its only gateway, or one of two, is stopped and back two seconds later, but
+    for one that comes to the only gateway between a drain's last look and its close."""
+    for count in (1, 2):
+        fronts.group = f"a stop of one gateway of {count}"
+        for _ in range(FEW):
+            lost = requests_across_a_stop(fronts, count)
+            if not lost:
+                break
+        fronts.judge("none was lost, in the last of a few tries", {}, lost)

@@ -35,7 +35,7 @@ OF_WORKERS = ("exceed", "are taken", "too few")
 # The names of a report's numbers, those of two classes among them.
 NAMES = (
     "limit inflight waiters granted busy class.live class.batch class.unknown admitted bypassed full backlog "
-    "waiting promoted timed-out success ignored dropped 400 413 429 431 500 501 502"
+    "waiting promoted timed-out success ignored dropped 400 413 429 431 500 501 502 504"
 ).split()
 
 

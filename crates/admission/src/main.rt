@@ -8,7 +8,9 @@ use config_check::check_file;
 use counted_io::Counted;
 use fault_lines::tell_unread_words;
 use file_opening::SystemFiles;
+use line_explain::Kept;
 use load_command::run_load;
+use log_lines::{LineStart, LogLines};
 use serve_command::{Service, serve_file};
 use std::env;
 use std::io::Error;
@@ -34,15 +36,19 @@ fn main(rt: HostRuntime) -> ExitCode {
     let files = SystemFiles::new(&rt);
     let mut writer = Counted::new(rt.stdout());
     ExitCode::from(match run {
-        Run::Text(task) => {
-            let mut reader = Counted::new(rt.stdin());
-            run_text(alloc, task, &mut reader, &mut writer, &mut errors)
+        Run::Text { task, explain } => {
+            let mut reader = Counted::new(Kept::new(alloc, rt.stdin(), explain));
+            run_text(alloc, task, explain, &mut reader, &mut writer, &mut errors)
         }
         Run::Check { path, explain } => {
             check_file(&files, alloc, path, explain, &mut writer, &mut errors)
         }
-        Run::Load { limit, workers } => {
-            let mut reader = Counted::new(rt.stdin());
+        Run::Load {
+            limit,
+            workers,
+            explain,
+        } => {
+            let mut reader = Counted::new(Kept::new(alloc, rt.stdin(), explain));
             let workers = workers as usize;
             run_load(
                 &rt,
@@ -50,30 +56,27 @@ fn main(rt: HostRuntime) -> ExitCode {
                 alloc,
                 limit,
                 workers,
+                explain,
                 &mut reader,
                 &mut writer,
                 &mut errors,
             )
         }
-        Run::Serve {
-            path,
-            workers,
-            per_worker,
-            client_timeout_ms,
-            report_seconds,
-            admin,
-        } => {
+        Run::Serve(options) => {
+            let logged = LogLines::new(rt, start_of(options.log_lines));
             let service = Service {
-                path,
-                workers,
-                per_worker,
-                client_timeout_ms,
-                report_seconds,
-                admin,
+                path: options.path,
+                workers: options.workers,
+                per_worker: options.per_worker,
+                client_timeout_ms: options.client_timeout_ms,
+                backend_timeout_ms: options.backend_timeout_ms,
+                report_seconds: options.report_seconds,
+                admin: options.admin,
+                status: options.status,
             };
             serve_file(
-                &rt,
-                &mut Spawner::new(&rt),
+                &logged,
+                &mut Spawner::new(&logged),
                 &files,
                 &SystemAddresses::new(&rt),
                 alloc,
@@ -83,4 +86,13 @@ fn main(rt: HostRuntime) -> ExitCode {
             )
         }
     })
+}
+
+/// How each line of the log is to begin.
+fn start_of(lines: commands::LogLines) -> LineStart {
+    match lines {
+        commands::LogLines::Plain => LineStart::Plain,
+        commands::LogLines::Time => LineStart::Time,
+        commands::LogLines::Journal => LineStart::Journal,
+    }
 }

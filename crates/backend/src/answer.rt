@@ -10,6 +10,8 @@ pub enum Answer {
     NotConnected,
     /// There was one, and then the request wasn't written or no response was read, for this cause.
     Broken(WireFault),
+    /// The time for the whole call was over before a response was read whole.
+    Late,
     /// A growth was refused.
     Memory,
 }

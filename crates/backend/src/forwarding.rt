@@ -22,6 +22,12 @@ pub trait Backend {
         ensures count { forwarded self.new ≡ raised (forwarded self.old) }
         ensures log { Logs (shown self.old) (shown self.new) request.now result };
 
+    /// Lets go of what the last request left, as a connection whose answer was read. It is called
+    /// once the client was answered, so that nobody waits for it. Nothing is given to the backend.
+    fn leave(&mut self)
+        ensures count { forwarded self.new ≡ forwarded self.old }
+        ensures log { shown self.new ≡ shown self.old };
+
     /// How many requests it was given; the count stays at `u64::MAX`.
     fn forwards(&self) -> u64
         ensures { result ≡ forwarded self.now };

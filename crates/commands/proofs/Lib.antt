@@ -1,3 +1,3 @@
-mod Addresses
-mod Numbers
+mod GivenAddresses
+mod GivenNumbers
 mod Runs

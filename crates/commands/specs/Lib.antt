@@ -1,1 +1,4 @@
 pub mod CommandLine
+pub mod Rules
+pub mod ServeOptions
+pub mod Values

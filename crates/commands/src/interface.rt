@@ -1,11 +1,13 @@
 // The commands, and the words that each takes.
-ghost use Rattle.std.specs.Prelude.{◌≡◌, false, Ok, IfOk};
+ghost use Rattle.std.specs.Prelude.{◌≡◌, false, Ok, IfOk, None, Some};
 ghost use Rattle.clap.specs.Words.{App, Rule, app_of, new_app, rule_of, with_rule, with_subcommand};
-ghost use Rattle.commands.specs.CommandLine.{IsWithoutGlobals, admin_rule, admission_app, check_app};
-ghost use Rattle.commands.specs.CommandLine.{client_timeout_rule, config_rule, limit_rule};
-ghost use Rattle.commands.specs.CommandLine.{load_app, offline_app, option_rule, per_worker_rule};
-ghost use Rattle.commands.specs.CommandLine.{replay_app, serve_app, simulate_app, text_app};
-ghost use Rattle.commands.specs.CommandLine.{explain_rule, report_rule, workers_rule};
+ghost use Rattle.commands.specs.CommandLine.{IsWithoutGlobals, admission_app, check_app, limited_app};
+ghost use Rattle.commands.specs.CommandLine.{load_app, offline_app, replay_app, serve_app, simulate_app};
+ghost use Rattle.commands.specs.CommandLine.{text_app};
+ghost use Rattle.commands.specs.Rules.{admin_rule, backend_timeout_rule, client_timeout_rule};
+ghost use Rattle.commands.specs.Rules.{config_rule, explain_rule, limit_rule, log_lines_rule};
+ghost use Rattle.commands.specs.Rules.{option_rule, optional_rule, per_worker_rule, report_rule};
+ghost use Rattle.commands.specs.Rules.{status_rule, workers_rule};
 
 use super::help::{
     ABOUT, CHECK_ABOUT, CHECK_HELP, LOAD_ABOUT, LOAD_HELP, REPLAY_ABOUT, REPLAY_HELP, SERVE_ABOUT,
@@ -76,16 +78,53 @@ fn client_timeout_option<'a>(alloc: Global) -> Arg<'a>
     number_option(alloc, "client-timeout-ms", "T", help, numbers, "10000")
 }
 
+/// An option of this name that takes a number, which help calls `shown`, or is left out.
+fn optional_option<'a>(
+    alloc: Global,
+    name: &'a str,
+    shown: &'a str,
+    help: &'a str,
+    numbers: ValueParser<'a>,
+) -> Arg<'a>
+    ensures rule { rule_of result ≡ optional_rule name.now (Some numbers.entry) }
+    ensures local { result.global ≡ false }
+{
+    Arg::new(alloc, name)
+        .long(name)
+        .value_name(shown)
+        .help(help)
+        .value_parser(numbers)
+}
+
+/// `--backend-timeout-ms T`.
+fn backend_timeout_option<'a>(alloc: Global) -> Arg<'a>
+    ensures rule { rule_of result ≡ backend_timeout_rule }
+    ensures local { result.global ≡ false }
+{
+    let help = "Milliseconds for the backend, 1 to 3600000; without it no limit";
+    let numbers = value_parser!(u32).range(1..=3_600_000);
+    optional_option(alloc, "backend-timeout-ms", "T", help, numbers)
+}
+
 /// `--report-seconds N`.
 fn report_option<'a>(alloc: Global) -> Arg<'a>
     ensures rule { rule_of result ≡ report_rule }
     ensures local { result.global ≡ false }
 {
-    Arg::new(alloc, "report-seconds")
-        .long("report-seconds")
-        .value_name("N")
-        .help("Seconds between two lines of the report, 1 to 3600; without it none")
-        .value_parser(value_parser!(u32).range(1..=3_600))
+    let help = "Seconds between two lines of the report, 1 to 3600; without it none";
+    let numbers = value_parser!(u32).range(1..=3_600);
+    optional_option(alloc, "report-seconds", "N", help, numbers)
+}
+
+/// An option of this name that takes an address, or is left out.
+fn address_option<'a>(alloc: Global, name: &'a str, help: &'a str) -> Arg<'a>
+    ensures rule { rule_of result ≡ optional_rule name.now None }
+    ensures local { result.global ≡ false }
+{
+    Arg::new(alloc, name)
+        .long(name)
+        .value_name("ADDRESS")
+        .help(help)
 }
 
 /// `--admin ADDRESS`.
@@ -93,20 +132,39 @@ fn admin_option<'a>(alloc: Global) -> Arg<'a>
     ensures rule { rule_of result ≡ admin_rule }
     ensures local { result.global ≡ false }
 {
-    Arg::new(alloc, "admin")
-        .long("admin")
-        .value_name("ADDRESS")
-        .help("An address for the operator, such as 127.0.0.1:9901; without it none")
+    let help = "The operator's address, such as 127.0.0.1:9901; without it none";
+    address_option(alloc, "admin", help)
+}
+
+/// `--status ADDRESS`.
+fn status_option<'a>(alloc: Global) -> Arg<'a>
+    ensures rule { rule_of result ≡ status_rule }
+    ensures local { result.global ≡ false }
+{
+    let help = "An address for health and metrics alone; without it none";
+    address_option(alloc, "status", help)
+}
+
+/// `--log-lines FORM`.
+fn log_lines_option<'a>(alloc: Global) -> Arg<'a>
+    ensures rule { rule_of result ≡ log_lines_rule }
+    ensures local { result.global ≡ false }
+{
+    Arg::new(alloc, "log-lines")
+        .long("log-lines")
+        .value_name("FORM")
+        .help("How lines of the log begin: plain, time or journal")
+        .default_value("plain")
 }
 
 /// `--explain`.
-fn explain_flag<'a>(alloc: Global) -> Arg<'a>
+fn explain_flag<'a>(alloc: Global, help: &'a str) -> Arg<'a>
     ensures rule { rule_of result ≡ explain_rule }
     ensures local { result.global ≡ false }
 {
     Arg::new(alloc, "explain")
         .long("explain")
-        .help("Says more before: where the first fault is, and what is wanted there")
+        .help(help)
         .action(ArgAction::SetTrue)
 }
 
@@ -129,7 +187,7 @@ fn described<'a>(alloc: Global, name: &'a str, about: &'a str, help: &'a str) ->
 }
 
 /// A command of this name that takes `--limit N`.
-fn limited<'a>(
+fn limited_alone<'a>(
     alloc: Global,
     name: &'a str,
     about: &'a str,
@@ -138,6 +196,20 @@ fn limited<'a>(
     ensures { IfOk result (IsWithoutGlobals (with_rule (new_app name.now) limit_rule)) }
 {
     described(alloc, name, about, help).arg(limit_option(alloc))
+}
+
+/// A command of this name that takes `--limit N` and `--explain`.
+fn limited<'a>(
+    alloc: Global,
+    name: &'a str,
+    about: &'a str,
+    help: &'a str,
+) -> Result<Command<'a>, AllocError>
+    ensures { IfOk result (IsWithoutGlobals (limited_app name.now)) }
+{
+    let says = "Says more after a line's fault: which word is wrong, and what is wanted there";
+    let limited = limited_alone(alloc, name, about, help);
+    with_argument(limited, explain_flag(alloc, says))
 }
 
 /// A command of this name that takes `CONFIG`.
@@ -176,21 +248,21 @@ fn with_argument<'a>(
     command.arg(argument)
 }
 
-/// `replay [--limit N]`.
+/// `replay [--limit N] [--explain]`.
 fn replay_command<'a>(alloc: Global) -> Result<Command<'a>, AllocError>
     ensures { IfOk result (IsWithoutGlobals replay_app) }
 {
     limited(alloc, "replay", REPLAY_ABOUT, REPLAY_HELP)
 }
 
-/// `simulate [--limit N]`.
+/// `simulate [--limit N] [--explain]`.
 fn simulate_command<'a>(alloc: Global) -> Result<Command<'a>, AllocError>
     ensures { IfOk result (IsWithoutGlobals simulate_app) }
 {
     limited(alloc, "simulate", SIMULATE_ABOUT, SIMULATE_HELP)
 }
 
-/// `load [--limit N] [--workers W]`.
+/// `load [--limit N] [--explain] [--workers W]`.
 fn load_command<'a>(alloc: Global) -> Result<Command<'a>, AllocError>
     ensures { IfOk result (IsWithoutGlobals load_app) }
 {
@@ -203,20 +275,24 @@ fn check_command<'a>(alloc: Global) -> Result<Command<'a>, AllocError>
     ensures { IfOk result (IsWithoutGlobals check_app) }
 {
     let check = configured(alloc, "check", CHECK_ABOUT, CHECK_HELP);
-    with_argument(check, explain_flag(alloc))
+    let help = "Says more before: where the first fault is, and what is wanted there";
+    with_argument(check, explain_flag(alloc, help))
 }
 
-/// `serve CONFIG [--workers W] [--per-worker M] [--client-timeout-ms T] [--report-seconds N]
-/// [--admin ADDRESS]`.
-fn serve_command<'a>(alloc: Global) -> Result<Command<'a>, AllocError>
+/// `serve CONFIG [--workers W] [--per-worker M] [--client-timeout-ms T] [--backend-timeout-ms T]
+/// [--report-seconds N] [--admin ADDRESS] [--status ADDRESS] [--log-lines FORM]`.
+pub(crate) fn serve_command<'a>(alloc: Global) -> Result<Command<'a>, AllocError>
     ensures { IfOk result (IsWithoutGlobals serve_app) }
 {
     let serve = configured(alloc, "serve", SERVE_ABOUT, SERVE_HELP);
     let serve = with_argument(serve, workers_option(alloc));
     let serve = with_argument(serve, per_worker_option(alloc));
     let serve = with_argument(serve, client_timeout_option(alloc));
+    let serve = with_argument(serve, backend_timeout_option(alloc));
     let serve = with_argument(serve, report_option(alloc));
-    with_argument(serve, admin_option(alloc))
+    let serve = with_argument(serve, admin_option(alloc));
+    let serve = with_argument(serve, status_option(alloc));
+    with_argument(serve, log_lines_option(alloc))
 }
 
 /// The command, with a subcommand, where both were made.

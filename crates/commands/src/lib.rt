@@ -4,9 +4,12 @@
 //! numbers in their ranges, and which words are a fault.
 #![tactic(auto)]
 
+mod addresses;
 mod command_line;
 mod help;
 mod interface;
-mod loopback;
+mod numbers;
+mod serve_options;
 
 pub use command_line::{Run, TextTask, words};
+pub use serve_options::{LogLines, ServeOptions};

@@ -3,10 +3,11 @@ ghost use Rattle.std.specs.Prelude.{◌≡◌, false, ℕ, List, OnErr, OnOk};
 ghost use Rattle.counted_io.specs.Effects.{Wrote};
 ghost use Rattle.counted_io.specs.Causes.{IsWriteCause};
 
-use config_explain::{explanation, why_unread};
+use config_explain::explanation;
+use config_file::why_unread;
 use counted_io::{Counted, WriteFault, write_and_flush};
 use file_opening::Opener;
-use std::alloc::Global;
+use std::alloc::{AllocError, Global};
 use std::io::Write;
 
 /// Writes what there is to say of the bytes of a configuration; nothing where it is out of memory.
@@ -36,8 +37,14 @@ pub(crate) fn write_why_unread<F: Opener, W: Write>(
     ensures unasked { explain ≡ false → writer.new ≡ writer.old }
 {
     if explain {
-        if let Ok(words) = why_unread(files, alloc, path) {
+        if let Ok(words) = unread_line(files, alloc, path) {
             let _ = write_and_flush(writer, words.as_bytes());
         }
     }
+}
+
+/// The path of a file that can't be read, and why.
+fn unread_line<F: Opener>(files: &F, alloc: Global, path: &str) -> Result<String, AllocError> {
+    let reason = why_unread(files, alloc, path)?;
+    format!(in alloc; "{path}: {reason}\n")
 }

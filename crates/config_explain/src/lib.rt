@@ -1,8 +1,8 @@
 //! What `check --explain` says of a configuration to a person.
 //!
 //! [`explanation`] says where the first fault stands and what is wanted there, or what is worth
-//! knowing of a configuration without fault, and [`why_unread`] why a file can't be read. What the
-//! words are no contract says, but for the line of bytes that aren't UTF-8 (`place.rt`).
+//! knowing of a configuration without fault. What the words are no contract says, but for the line
+//! of bytes that aren't UTF-8 (`place.rt`).
 #![tactic(auto)]
 
 mod about;
@@ -16,7 +16,5 @@ mod place;
 mod routes;
 mod settings;
 mod unknown;
-mod unread;
 
 pub use explain::explanation;
-pub use unread::why_unread;

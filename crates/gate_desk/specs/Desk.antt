@@ -14,7 +14,7 @@ use Rattle.shared_gate.specs.Reported.{IsReportOf}
 use Rattle.operator_serving.specs.declared.desk.ChangeFault.{ChangeFault}
 use Rattle.operator_serving.specs.declared.desk.ChangeFault.TheVariants as fault
 use Rattle.operator_serving.specs.Desk.{Deed, Sight}
-use Rattle.operator_serving.specs.Desk.Deed.{SetTo, Begun, Drained}
+use Rattle.operator_serving.specs.Desk.Deed.{SetTo, Begun, Drained, DrainedAfter}
 use Rattle.operator_serving.specs.Desk.Sight.{Stands, Notes, Accepts}
 
 -- what became of a change, by its reply
@@ -45,3 +45,4 @@ abbrev pub DoneBy : Pass → Pass → Deed → Type 0
 DoneBy before after (SetTo n outcome) = Steps before after (SetLimit n) outcome
 DoneBy before after (Begun outcome) = Steps before after Reset outcome
 DoneBy before after Drained = after ≡ before
+DoneBy before after (DrainedAfter delay) = after ≡ before

@@ -2,6 +2,7 @@
 ghost use Rattle.std.specs.Prelude.{◌≡◌};
 ghost use Rattle.gate_desk.specs.Desk.{outcome_of};
 
+use crate::lame_duck::LameDuck;
 use crate::watch::DeskWatch;
 use clocks::Clock;
 use gate_history::{Receipt, Spent};
@@ -16,6 +17,9 @@ use std::sync::Wait;
 use std::time::{Clock as SystemClock, Duration};
 use timed_io::Listener;
 
+/// The nanoseconds of a millisecond.
+const MILLI: u64 = 1_000_000;
+
 /// Where an operator looks at a gateway and changes it, by a pass of its own.
 #[derive(Drop)]
 pub struct GateDesk<'a, G: Limit, M: GateNaming, R, L, C, W> {
@@ -29,6 +33,10 @@ pub struct GateDesk<'a, G: Limit, M: GateNaming, R, L, C, W> {
     pub watch: W,
     /// Where clients come from.
     pub front: &'a L,
+    /// Where those come from who are served at this desk.
+    pub own: &'a L,
+    /// When the gateway is to be drained.
+    pub lame_duck: &'a LameDuck,
     /// The clock of the gate's moments.
     pub clock: &'a C,
     /// The classes of callers, with their shares.
@@ -67,7 +75,7 @@ where
     }
 
     fn is_accepting(&self) -> bool {
-        self.front.is_open()
+        self.front.is_open() && !self.lame_duck.has_begun()
     }
 
     fn set_limit(&mut self, n: u32) -> Result<(), ChangeFault> {
@@ -92,6 +100,15 @@ where
 
     fn drain(&mut self) {
         self.watch.draining();
+        self.lame_duck.begin(0);
+        self.front.close(self.rt, self.most);
+    }
+
+    fn drain_after(&mut self, delay_ms: u32) {
+        self.watch.draining_after(delay_ms);
+        let until = self.clock.now().saturating_add(u64::from(delay_ms) * MILLI);
+        self.lame_duck.begin(until);
+        self.lame_duck.rest(self.rt, self.clock, self.own, delay_ms);
         self.front.close(self.rt, self.most);
     }
 }

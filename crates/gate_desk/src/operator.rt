@@ -7,16 +7,18 @@ use operator_serving::{Buffers, Operating, operate};
 use shared_gate::GateNaming;
 use std::alloc::AllocError;
 use std::sync::Wait;
-use std::time::Clock as SystemClock;
+use std::time::{Clock as SystemClock, Duration};
 use tasks::Task;
 use timed_io::Listener;
 
-/// Serves one operator after the other at a gateway's desk, until their listener is closed.
+/// Serves one operator after the other at a gateway's desk, until their listener is closed; and
+/// then closes another one too, where there is one.
 #[derive(Drop)]
 pub struct Operator<'a, G: Limit, M: GateNaming, R, L, C, W> {
     common: &'a Operating<'a, L, C>,
     desk: GateDesk<'a, G, M, R, L, C, W>,
     buffers: Buffers,
+    also: Option<&'a L>,
 }
 
 impl<'a, G: Limit, M: GateNaming, R, L, C, W: Drop> Operator<'a, G, M, R, L, C, W> {
@@ -24,12 +26,14 @@ impl<'a, G: Limit, M: GateNaming, R, L, C, W: Drop> Operator<'a, G, M, R, L, C, 
     pub fn new(
         common: &'a Operating<'a, L, C>,
         desk: GateDesk<'a, G, M, R, L, C, W>,
+        also: Option<&'a L>,
     ) -> Result<Operator<'a, G, M, R, L, C, W>, AllocError> {
         let buffers = Buffers::new(common.alloc)?;
         Ok(Operator {
             common,
             desk,
             buffers,
+            also,
         })
     }
 }
@@ -51,14 +55,18 @@ where
     ghost makes = { λ operator _. HasOperated operator.desk (λ desk. desk.table)
         (λ _ sight. ShownBy G.rules M.making sight)
         (λ before after deed. DoneBy before.pass after.pass deed)
-        operator.common.now.host.now operator.common.now.page.now };
+        operator.common.now.audience operator.common.now.page.now };
 
     fn run(self) {
         let Operator {
             common,
             mut desk,
             mut buffers,
+            also,
         } = self;
         operate(desk.rt, common, &mut desk, &mut buffers);
+        if let Some(also) = also {
+            also.close(desk.rt, Duration::ZERO);
+        }
     }
 }

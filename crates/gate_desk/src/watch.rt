@@ -15,4 +15,7 @@ pub trait DeskWatch {
 
     /// No further client comes from here on.
     fn draining(&self);
+
+    /// None comes in so many milliseconds, or before where that was said already.
+    fn draining_after(&self, delay_ms: u32);
 }

@@ -12,6 +12,8 @@ use Rattle.load_driver.specs.Driver.{IsOutOfMemory}
 use Rattle.load_driver.specs.Limits.{most_reads, most_script}
 use Rattle.load_run.specs.declared.fault.LoadFault.{LoadFault}
 use Rattle.load_run.specs.declared.fault.LoadFault.TheVariants.{Memory, Read, TooLarge, Line, Write, Thread, Audit}
+use Rattle.line_explain.specs.declared.forms.TextKind.TheVariants.{Trace}
+use Rattle.line_explain.specs.Told.{IsSaid}
 use Rattle.load_run.specs.Driver.{IfAudit, IfLine, IsAtFault, IsRefused, LacksThread}
 
 -- the text of a fault
@@ -23,6 +25,13 @@ load_fault_text (Line fault) = line_fault_text fault
 load_fault_text Write = codes "write"
 load_fault_text Thread = codes "thread"
 load_fault_text (Audit cause) = concat (codes "audit: " ∷ cause_text cause ∷ [])
+
+-- what is written behind the line of a fault, where an explanation is asked for: that of the line
+-- at fault, by what was kept of the trace, and of any other fault nothing
+abbrev pub IsMore : {E : Type 0} → Option (List ℕ) → (E → Option (List ℕ)) → LoadFault
+    → Counted E → Counted E → Type 0
+IsMore kept contents (Line at) old new = IsSaid Trace kept contents at old new
+IsMore kept contents _ old new = new ≡ old
 
 -- why a load stops, by how many threads were refused before and after: a line at fault is the
 -- trace's, and an audit's cause that of its run; each other fault has its cause, and no other call

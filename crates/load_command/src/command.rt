@@ -1,7 +1,7 @@
 // A load as a command.
 ghost use Rattle.std.specs.Prelude.{◌≡◌, ◌≤◌, ◌+◌, ◌⊎◌, true, IfErr, OnOk};
 ghost use Rattle.counted_io.specs.Causes.{HasRead};
-ghost use Rattle.counted_io.specs.Counted.{calls_of, failures_of, is_flushed};
+ghost use Rattle.counted_io.specs.Counted.{calls_of, failures_of, inner_of, is_flushed};
 ghost use Rattle.counted_io.specs.Effects.{IfLeft, Wrote};
 ghost use Rattle.tasks.specs.Refused.{refused_of};
 ghost use Rattle.limit_laws.specs.Algorithm.{greatest_limit};
@@ -9,12 +9,15 @@ ghost use Rattle.audit.specs.Text.{cause_text};
 ghost use Rattle.script.specs.Faults.{line_fault_text};
 ghost use Rattle.load_driver.specs.Limits.{most_reads};
 ghost use Rattle.fault_lines.specs.FaultLine.{IsTold, fault_line};
+ghost use Rattle.line_explain.specs.Kept.{kept_of, remaining_of};
+ghost use Rattle.line_explain.specs.Told.{IsToldAnd};
 ghost use Rattle.load_run.specs.Driver.{IsLoaded};
-ghost use Rattle.load_command.specs.Command.{IsLoadStop, load_fault_text};
+ghost use Rattle.load_command.specs.Command.{IsLoadStop, IsMore, load_fault_text};
 
 use counted_io::Counted;
 use fault_lines::{DONE, FAULT, tell_fault};
 use itoa::Buffer;
+use line_explain::{Kept, TextKind, tell_explained};
 use load_run::{LoadFault, load};
 use script::LineFault;
 use shared_gate::Cause;
@@ -30,13 +33,17 @@ use tasks::Spawner;
 ///
 /// `limit` is in permits, where the trace has no `limit` line. The line of the fault comes after
 /// all output, is flushed and takes no memory; where it can't be written itself, it is dropped.
+/// Behind it, where an explanation is asked for and a line is at fault, it is said which of its
+/// words is wrong and what is wanted there, by the text that the reader kept; out of memory for
+/// that, nothing is.
 pub fn run_load<T, R: Read, W: Write, E: Write>(
     rt: &T,
     spawner: &mut Spawner<'_, T>,
     alloc: Global,
     limit: u32,
     workers: usize,
-    reader: &mut Counted<R>,
+    explain: bool,
+    reader: &mut Counted<Kept<R>>,
     writer: &mut Counted<W>,
     errors: &mut Counted<E>,
 ) -> u8
@@ -49,18 +56,19 @@ where
     ensures status { (result ≡ 0) ⊎ (result ≡ 1) }
 
     // Both lines are written and flushed.
-    ensures done { result ≡ 0 → IfLeft R.remaining reader.old (λ text.
+    ensures done { result ≡ 0 → IfLeft (remaining_of R.remaining) reader.old (λ text.
         IsLoaded workers limit text (Wrote W.contents writer.old writer.new)) }
     ensures flushed { result ≡ 0 → is_flushed writer.new ≡ true }
     ensures read { result ≡ 0 → failures_of reader.new ≡ failures_of reader.old }
     ensures unfailing { result ≡ 0 → failures_of writer.new ≡ failures_of writer.old }
     ensures quiet { result ≡ 0 → errors.new ≡ errors.old }
 
-    // The fault is reported.
+    // The fault is reported, and behind it nothing but an explanation.
     ensures stopped { result ≡ 1 → (fault : LoadFault)
-        × IsLoadStop R.remaining workers limit (refused_of spawner.old) (refused_of spawner.new)
-        reader.old reader.new writer.old writer.new fault
-        × IsTold E.contents errors.old errors.new (fault_line (load_fault_text fault)) }
+        × IsLoadStop (remaining_of R.remaining) workers limit (refused_of spawner.old)
+        (refused_of spawner.new) reader.old reader.new writer.old writer.new fault
+        × IsToldAnd explain E.contents errors.old errors.new (fault_line (load_fault_text fault))
+        (IsMore (kept_of (inner_of reader.new)) E.contents fault) }
 
     // Whatever it answers.
     ensures few_reads { calls_of reader.new ≤ calls_of reader.old + most_reads }
@@ -69,9 +77,41 @@ where
     match carry_out(rt, spawner, alloc, limit, workers, reader, writer) {
         Ok(()) => DONE,
         Err(fault) => {
-            tell_load_fault(errors, fault);
+            tell(alloc, explain, reader.inner(), fault, errors);
             FAULT
         }
+    }
+}
+
+/// Tells why a load stopped, and says more of it if that is asked for.
+fn tell<R, E: Write>(
+    alloc: Global,
+    explain: bool,
+    reader: &Kept<R>,
+    fault: LoadFault,
+    errors: &mut Counted<E>,
+)
+    ensures { IsToldAnd explain E.contents errors.old errors.new
+        (fault_line (load_fault_text fault)) (IsMore (kept_of reader.now) E.contents fault) }
+{
+    tell_load_fault(errors, fault);
+    if !explain {
+        return;
+    }
+    explain_fault(alloc, reader, fault, errors);
+}
+
+/// Says more of a fault, where a line has it.
+fn explain_fault<R, E: Write>(
+    alloc: Global,
+    reader: &Kept<R>,
+    fault: LoadFault,
+    errors: &mut Counted<E>,
+)
+    ensures { IsMore (kept_of reader.now) E.contents fault errors.old errors.new }
+{
+    if let LoadFault::Line(at) = fault {
+        tell_explained(alloc, TextKind::Trace, reader, at, errors);
     }
 }
 

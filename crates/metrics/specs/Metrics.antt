@@ -8,9 +8,10 @@ use Rattle.gate_port.specs.declared.report.Report.{Report}
 use Rattle.release.specs.Release.{version}
 use Rattle.serve_reports.specs.declared.noted.Noted.{Noted}
 use Rattle.serve_reports.specs.declared.noted.Troubles.{Troubles}
+use Rattle.serve_reports.specs.declared.outstanding.Outstanding.{Outstanding}
 use Rattle.serve_reports.specs.declared.tally.AnswerTally.{AnswerTally}
 use Rattle.serve_reports.specs.declared.workers.Workers.{Workers}
-use Rattle.metrics.specs.Families.{counters_text, gauge_text, head_text, sample_text}
+use Rattle.metrics.specs.Families.{counters_text, gauge_text, head_text, number_text, sample_text}
 
 -- the limit, and how many are in flight, wait and are granted
 abbrev pub standing_text : Report → List ℕ
@@ -68,7 +69,15 @@ answers_text t =
     (codes "Exchanges that ended in an answer of the gateway's own.")
     ((codes "400", t.bad_request) ∷ (codes "413", t.too_large) ∷ (codes "429", t.refused)
     ∷ (codes "431", t.head_too_large) ∷ (codes "500", t.out_of_memory)
-    ∷ (codes "501", t.not_taken) ∷ (codes "502", t.bad_gateway) ∷ [])
+    ∷ (codes "501", t.not_taken) ∷ (codes "502", t.bad_gateway) ∷ (codes "504", t.timed_out)
+    ∷ [])
+
+-- how many clients sent nothing at all
+abbrev pub empty_text : AnswerTally → List ℕ
+empty_text t =
+    head_text (codes "admission_empty_connections_total") (codes "counter")
+    (codes "Connections that their client closed before it sent anything.")
+    ++ number_text (codes "admission_empty_connections_total") t.empty
 
 -- how often each trouble came
 abbrev pub troubles_text : Troubles → List ℕ
@@ -76,8 +85,8 @@ troubles_text t =
     counters_text (codes "admission_troubles_total") (codes "trouble")
     (codes "Troubles that the log tells of.")
     ((codes "unreached", t.unreached) ∷ (codes "broken", t.broken)
-    ∷ (codes "without-descriptor", t.without_descriptor) ∷ (codes "all-taken", t.all_taken)
-    ∷ [])
+    ∷ (codes "backend-timeout", t.late) ∷ (codes "without-descriptor", t.without_descriptor)
+    ∷ (codes "all-taken", t.all_taken) ∷ [])
 
 -- how many workers there are, and how many of them serve a client
 abbrev pub workers_text : Workers → List ℕ
@@ -85,6 +94,12 @@ workers_text w =
     gauge_text (codes "admission_workers") (codes "Workers that the gateway was started with.")
     w.count
     ++ gauge_text (codes "admission_busy_workers") (codes "Workers that serve a client.") w.busy
+
+-- for how long the oldest permit has been out
+abbrev pub oldest_text : Outstanding → List ℕ
+oldest_text o =
+    gauge_text (codes "admission_oldest_permit_seconds")
+    (codes "Whole seconds since the oldest permit was got that hasn't ended.") o.oldest_seconds
 
 -- for how long it has served, and which version it is
 abbrev pub program_text : ℕ → List ℕ
@@ -94,9 +109,10 @@ program_text seconds =
     (codes "Always 1, labelled with the version of the program.")
     ++ sample_text (codes "admission_build_info") (codes "version") version 1
 
--- THE TEXT OF THE METRICS: fourteen families
+-- THE TEXT OF THE METRICS: sixteen families
 abbrev pub metrics_text : Report → List Row → Noted → List ℕ
 metrics_text r rows n =
     standing_text r ++ shares_text r rows ++ decisions_text r.counters
-    ++ outcomes_text r.counters ++ answers_text n.answers ++ troubles_text n.troubles
-    ++ workers_text n.workers ++ program_text n.seconds
+    ++ outcomes_text r.counters ++ answers_text n.answers ++ empty_text n.answers
+    ++ troubles_text n.troubles ++ workers_text n.workers ++ oldest_text n.outstanding
+    ++ program_text n.seconds

@@ -3,15 +3,16 @@ ghost use Rattle.std.specs.Prelude.{◌≡◌, ◌++◌, ◌<◌, IfOk, OnOk, co
 ghost use Rattle.release.specs.Release.{version};
 ghost use Rattle.metrics.specs.Families.{sample_text};
 ghost use Rattle.metrics.specs.Metrics.{answers_text, class_text, classes_text, decisions_text};
-ghost use Rattle.metrics.specs.Metrics.{metrics_text, outcomes_text, program_text, shares_text};
-ghost use Rattle.metrics.specs.Metrics.{standing_text, troubles_text, workers_text};
+ghost use Rattle.metrics.specs.Metrics.{empty_text, metrics_text, oldest_text, outcomes_text};
+ghost use Rattle.metrics.specs.Metrics.{program_text};
+ghost use Rattle.metrics.specs.Metrics.{shares_text, standing_text, troubles_text, workers_text};
 
-use crate::families::{push_gauge, push_head, push_sample, push_samples};
+use crate::families::{push_gauge, push_head, push_number, push_sample, push_samples};
 use gate_port::Report;
 use limiter_core::Counters;
 use partitions::{Part, PartitionTable};
 use release::version;
-use serve_reports::{AnswerTally, Noted, Troubles, Workers};
+use serve_reports::{AnswerTally, Noted, Outstanding, Troubles, Workers};
 use std::alloc::{AllocError, Global};
 
 /// The text of the metrics in the text format of Prometheus, version 0.0.4: of the state in a
@@ -32,8 +33,10 @@ pub fn metrics_text(
     push_decisions(&mut text, &report.counters)?;
     push_outcomes(&mut text, &report.counters)?;
     push_answers(&mut text, &noted.answers)?;
+    push_empty(&mut text, &noted.answers)?;
     push_troubles(&mut text, &noted.troubles)?;
     push_workers(&mut text, &noted.workers)?;
+    push_oldest(&mut text, &noted.outstanding)?;
     push_program(&mut text, noted.seconds)?;
     Ok(text)
 }
@@ -165,8 +168,20 @@ fn push_answers(text: &mut String, answers: &AnswerTally) -> Result<(), AllocErr
         ("500", answers.out_of_memory),
         ("501", answers.not_taken),
         ("502", answers.bad_gateway),
+        ("504", answers.timed_out),
     ];
     push_samples(text, name, "status", &samples)
+}
+
+/// Adds how many clients sent nothing at all.
+fn push_empty(text: &mut String, answers: &AnswerTally) -> Result<(), AllocError>
+    ensures { OnOk result (string_bytes text.new
+        ≡ string_bytes text.old ++ empty_text answers.now) }
+{
+    let name = "admission_empty_connections_total";
+    let help = "Connections that their client closed before it sent anything.";
+    push_head(text, name, "counter", help)?;
+    push_number(text, name, answers.empty)
 }
 
 /// Adds how often each trouble came.
@@ -180,6 +195,7 @@ fn push_troubles(text: &mut String, troubles: &Troubles) -> Result<(), AllocErro
     let samples = [
         ("unreached", troubles.unreached),
         ("broken", troubles.broken),
+        ("backend-timeout", troubles.late),
         ("without-descriptor", troubles.without_descriptor),
         ("all-taken", troubles.all_taken),
     ];
@@ -195,6 +211,20 @@ fn push_workers(text: &mut String, workers: &Workers) -> Result<(), AllocError>
     push_gauge(text, "admission_workers", help, workers.count as u64)?;
     let help = "Workers that serve a client.";
     push_gauge(text, "admission_busy_workers", help, workers.busy as u64)
+}
+
+/// Adds for how long the oldest permit has been out, in seconds.
+fn push_oldest(text: &mut String, outstanding: &Outstanding) -> Result<(), AllocError>
+    ensures { OnOk result (string_bytes text.new
+        ≡ string_bytes text.old ++ oldest_text outstanding.now) }
+{
+    let help = "Whole seconds since the oldest permit was got that hasn't ended.";
+    push_gauge(
+        text,
+        "admission_oldest_permit_seconds",
+        help,
+        outstanding.oldest_seconds,
+    )
 }
 
 /// Adds for how long it has served, in seconds, and which version it is.

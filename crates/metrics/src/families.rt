@@ -35,7 +35,7 @@ pub(crate) fn push_head(
 
 /// Adds a sample without labels.
 #[tactic(auto, unfolding(crate::specs::Families::number_text))]
-fn push_number(text: &mut String, name: &str, value: u64) -> Result<(), AllocError>
+pub(crate) fn push_number(text: &mut String, name: &str, value: u64) -> Result<(), AllocError>
     ensures { OnOk result (string_bytes text.new
         ≡ string_bytes text.old ++ number_text name.now value) }
 {

@@ -1,5 +1,6 @@
 -- What an operator asks by a request.
-use Rattle.std.specs.Prelude.{ℕ, Bool, true, false, not, ◌&&◌, ◌^◌, nat_lt, List, codes, bytes_eq, Option, None, Some, Result, Ok, Err, if◌then◌else◌}
+use Rattle.std.specs.Prelude.{⊤, ℕ, Bool, true, false, ◌&&◌, ◌||◌, ◌==◌, ◌^◌, nat_le, nat_lt, List, length, take, drop, codes, bytes_eq, Option, None, Some, Result, Ok, Err, if◌then◌else◌}
+use Rattle.std.specs.List.{after_first, position_or_len}
 use Rattle.std.specs.Option.{option_map_or}
 use Rattle.std.specs.Str.Parse.{digits_value}
 use Rattle.message_parts.specs.Header.{Header}
@@ -7,8 +8,13 @@ use Rattle.message_parts.specs.declared.request.Request.{Request}
 use Rattle.message_fields.specs.Lengths.{is_digits}
 use Rattle.message_fields.specs.Lines.{first_value}
 use Rattle.message_fields.specs.Target.{authority_of}
+use Rattle.operator_calls.specs.declared.audience.Audience.{Audience}
+use Rattle.operator_calls.specs.declared.audience.Audience.TheVariants as audience
 use Rattle.operator_calls.specs.declared.call.Call.{Call}
 use Rattle.operator_calls.specs.declared.call.Call.TheVariants as call
+use Rattle.operator_calls.specs.declared.call.Change.{Change}
+use Rattle.operator_calls.specs.declared.call.Change.TheVariants as change
+use Rattle.operator_calls.specs.declared.call.Look.TheVariants as look
 use Rattle.operator_calls.specs.declared.endpoint.Endpoint.{Endpoint}
 use Rattle.operator_calls.specs.declared.endpoint.Endpoint.TheVariants as endpoint
 use Rattle.operator_calls.specs.declared.endpoint.Verb.{Verb}
@@ -33,9 +39,31 @@ verb_of endpoint.Metrics = verb.Get
 verb_of endpoint.Health = verb.Get
 verb_of _ = verb.Post
 
-abbrev pub verb_name : Verb → List ℕ
-verb_name verb.Get = codes "GET"
-verb_name verb.Post = codes "POST"
+-- HEAD is taken where GET is
+abbrev pub is_taken_by : Verb → List ℕ → Bool
+is_taken_by verb.Get method = bytes_eq method (codes "GET") || bytes_eq method (codes "HEAD")
+is_taken_by verb.Post method = bytes_eq method (codes "POST")
+
+-- the methods that are taken, as they are listed
+abbrev pub allowed_by : Verb → List ℕ
+allowed_by verb.Get = codes "GET, HEAD"
+allowed_by verb.Post = codes "POST"
+
+-- what is there for whoever comes
+abbrev pub is_open : Endpoint → Bool
+is_open endpoint.Metrics = true
+is_open endpoint.Health = true
+is_open _ = false
+
+-- what is left of it for them
+abbrev pub open_alone : Option Endpoint → Option Endpoint
+open_alone None = None
+open_alone (Some endpoint) = if is_open endpoint then Some endpoint else None
+
+-- what lies at a path for an audience
+abbrev pub endpoint_for : Audience → List ℕ → Option Endpoint
+endpoint_for (audience.Operator host) path = endpoint_at path
+endpoint_for audience.Anyone path = open_alone (endpoint_at path)
 
 -- the line of Host is this text
 abbrev pub names_host : List ℕ → List Header → Bool
@@ -65,28 +93,60 @@ told_number None = None
 told_number (Some body) = number_of body
 
 -- a limit is set to a number
-abbrev pub set_to : Option ℕ → Result Call Refusal
+abbrev pub set_to : Option ℕ → Result Change Refusal
 set_to None = Err refusal.NoNumber
-set_to (Some n) = Ok (call.SetLimit n)
+set_to (Some n) = Ok (change.SetLimit n)
+
+-- what stands behind the first `?` of a target, where there is one
+abbrev pub query_of : List ℕ → Option (List ℕ)
+query_of target =
+    if nat_lt (position_or_len (λ byte. byte == 63) target) (length target)
+    then Some (after_first (λ byte. byte == 63) target) else None
+
+-- a delay in milliseconds: up to an hour
+abbrev pub within_an_hour : Option ℕ → Option ℕ
+within_an_hour None = None
+within_an_hour (Some n) = if nat_le 1 n && nat_le n 3600000 then Some n else None
+
+-- the delay that a query `after-ms=N` tells
+abbrev pub delay_of : List ℕ → Option ℕ
+delay_of query =
+    if bytes_eq (take 9 query) (codes "after-ms=")
+    then within_an_hour (number_of (drop 9 query)) else None
+
+-- a drain after a delay
+abbrev pub drain_after : Option ℕ → Result Change Refusal
+drain_after None = Err refusal.OtherQuery
+drain_after (Some n) = Ok (change.DrainAfter n)
+
+-- THE DRAIN THAT A QUERY ASKS FOR: at once where there is none
+abbrev pub drain_by : Option (List ℕ) → Result Change Refusal
+drain_by None = Ok change.Drain
+drain_by (Some query) = drain_after (delay_of query)
+
+-- the call of a change, where one is asked for
+abbrev pub changing : Result Change Refusal → Result Call Refusal
+changing (Ok it) = Ok (call.Change it)
+changing (Err why) = Err why
 
 -- the call of what lies at a path
-abbrev pub call_at : Endpoint → Option (List ℕ) → Result Call Refusal
-call_at endpoint.Page body = Ok call.Page
-call_at endpoint.Metrics body = Ok call.Metrics
-call_at endpoint.Health body = Ok call.Health
-call_at endpoint.Limit body = set_to (told_number body)
-call_at endpoint.Reset body = Ok call.Reset
-call_at endpoint.Drain body = Ok call.Drain
+abbrev pub call_at : Endpoint → Request → Result Call Refusal
+call_at endpoint.Page r = Ok (call.Look look.Page)
+call_at endpoint.Metrics r = Ok (call.Look look.Metrics)
+call_at endpoint.Health r = Ok (call.Look look.Health)
+call_at endpoint.Limit r = changing (set_to (told_number r.body))
+call_at endpoint.Reset r = Ok (call.Change change.Reset)
+call_at endpoint.Drain r = changing (drain_by (query_of r.target))
 
 -- the call of a request by its method: a POST needs its mark
 abbrev pub by_verb : Verb → Endpoint → Request → Result Call Refusal
-by_verb verb.Get endpoint r = call_at endpoint r.body
+by_verb verb.Get endpoint r = call_at endpoint r
 by_verb verb.Post endpoint r =
-    if is_marked r.headers then call_at endpoint r.body else Err refusal.WithoutMark
+    if is_marked r.headers then call_at endpoint r else Err refusal.WithoutMark
 
 abbrev pub asked_at : Endpoint → Request → Result Call Refusal
 asked_at endpoint r =
-    if bytes_eq r.method (verb_name (verb_of endpoint)) then by_verb (verb_of endpoint) endpoint r
+    if is_taken_by (verb_of endpoint) r.method then by_verb (verb_of endpoint) endpoint r
     else Err (refusal.OtherMethod (verb_of endpoint))
 
 -- the call of a request, where something lies at its path
@@ -94,12 +154,27 @@ abbrev pub asked : Option Endpoint → Request → Result Call Refusal
 asked None r = Err refusal.UnknownPath
 asked (Some endpoint) r = asked_at endpoint r
 
--- THE CALL OF A REQUEST to the address whose host is this text: whatever it asks, it names that
--- host alone
-abbrev pub call_of : List ℕ → Request → Result Call Refusal
-call_of host r =
-    if names_host host r.headers && names_authority host r.target
-    then asked (endpoint_at r.path) r else Err refusal.ForeignHost
+-- a request names the address as its audience has to: an operator by its host alone
+abbrev pub is_named : Audience → Request → Bool
+is_named (audience.Operator host) r =
+    names_host host.now r.headers && names_authority host.now r.target
+is_named audience.Anyone r = true
+
+-- THE CALL OF A REQUEST to an address for this audience
+abbrev pub call_of : Audience → Request → Result Call Refusal
+call_of audience r =
+    if is_named audience r then asked (endpoint_for audience r.path) r
+    else Err refusal.ForeignHost
+
+-- a call that changes nothing
+abbrev pub IsLook : Call → Type 0
+IsLook (call.Look it) = ⊤
+IsLook (call.Change it) = ⊥
+
+-- WHAT IS HEARD of whoever may have left: who has asks for no change
+abbrev pub heard : Bool → Result Call Refusal → Result Call Refusal
+heard true (Ok (call.Change it)) = Err refusal.CallerLeft
+heard _ call = call
 
 -- the status that tells a refusal
 abbrev pub refusal_status : Refusal → ℕ
@@ -108,3 +183,5 @@ refusal_status refusal.UnknownPath = 404
 refusal_status (refusal.OtherMethod verb) = 405
 refusal_status refusal.WithoutMark = 403
 refusal_status refusal.NoNumber = 400
+refusal_status refusal.OtherQuery = 400
+refusal_status refusal.CallerLeft = 400

@@ -1,27 +1,56 @@
 // The call of a request.
-ghost use Rattle.std.specs.Prelude.{◌≡◌, codes};
-ghost use Rattle.operator_calls.specs.Calls.{asked_at, call_at, call_of, is_marked};
-ghost use Rattle.operator_calls.specs.Calls.{names_authority, names_host, told_number};
+ghost use Rattle.std.specs.Prelude.{◌≡◌, codes, IfOk};
+ghost use Rattle.operator_calls.specs.Calls.{asked_at, call_at, call_of, changing, endpoint_for};
+ghost use Rattle.operator_calls.specs.Calls.{IsLook, is_marked, is_named, names_authority};
+ghost use Rattle.operator_calls.specs.Calls.{names_host, set_to, told_number};
+ghost use Rattle.operator_calls.specs.declared.audience.Audience.TheVariants.{Anyone};
 
-use crate::call::Call;
+use crate::audience::Audience;
+use crate::call::{Call, Change, Look};
 use crate::endpoint::{Endpoint, Verb};
 use crate::number::number_in;
+use crate::query::drain_by;
 use crate::refusal::Refusal;
 use message_fields::{authority, first_value};
 use message_parts::{Header, Request};
 
-/// The call of a request to the address whose host is this text, such as `127.0.0.1:9901`; or why
-/// it is none. It takes no memory.
-pub fn read_call(request: &Request, host: &str) -> Result<Call, Refusal>
-    ensures { result ≡ call_of host.now request.now }
+/// The call of a request to an address for this audience; or why it is none. For anyone it only
+/// looks. It takes no memory.
+pub fn read_call(request: &Request, audience: Audience<'_>) -> Result<Call, Refusal>
+    ensures value { result ≡ call_of audience.entry request.now }
+    ensures looks { audience.entry ≡ Anyone → IfOk result IsLook }
 {
-    let (lines, host) = (request.headers.as_slice(), host.as_bytes());
-    if !names_host(lines, host) || !names_authority(request.target.as_bytes(), host) {
+    if !is_named(request, audience) {
         return Err(Refusal::ForeignHost);
     }
-    match Endpoint::at(request.path.as_str()) {
+    match endpoint_for(request.path.as_str(), audience) {
         Some(endpoint) => asked_at(endpoint, request),
         None => Err(Refusal::UnknownPath),
+    }
+}
+
+/// Whether the request names the address as its audience has to.
+fn is_named(request: &Request, audience: Audience<'_>) -> bool
+    ensures { result ≡ is_named audience.entry request.now }
+{
+    match audience {
+        Audience::Operator(host) => {
+            let host = host.as_bytes();
+            names_host(request.headers.as_slice(), host)
+                && names_authority(request.target.as_bytes(), host)
+        }
+        Audience::Anyone => true,
+    }
+}
+
+/// What lies at a path for this audience.
+fn endpoint_for(path: &str, audience: Audience<'_>) -> Option<Endpoint>
+    ensures { result ≡ endpoint_for audience.entry path.now }
+{
+    let endpoint = Endpoint::at(path)?;
+    match audience {
+        Audience::Anyone if !endpoint.is_open() => None,
+        _ => Some(endpoint),
     }
 }
 
@@ -60,7 +89,7 @@ fn asked_at(endpoint: Endpoint, request: &Request) -> Result<Call, Refusal>
     ensures { result ≡ asked_at endpoint request.now }
 {
     let verb = endpoint.verb();
-    if request.method.as_slice() != verb.name().as_bytes() {
+    if !verb.takes(request.method.as_slice()) {
         return Err(Refusal::OtherMethod(verb));
     }
     match verb {
@@ -69,20 +98,37 @@ fn asked_at(endpoint: Endpoint, request: &Request) -> Result<Call, Refusal>
     }
 }
 
-/// The call that is made by what lies at a path, with the number that a body tells.
+/// The call that is made by what lies at a path, with what its request tells.
 fn call_at(endpoint: Endpoint, request: &Request) -> Result<Call, Refusal>
-    ensures { result ≡ call_at endpoint request.now.body }
+    ensures { result ≡ call_at endpoint request.now }
 {
     match endpoint {
-        Endpoint::Page => Ok(Call::Page),
-        Endpoint::Metrics => Ok(Call::Metrics),
-        Endpoint::Health => Ok(Call::Health),
-        Endpoint::Reset => Ok(Call::Reset),
-        Endpoint::Drain => Ok(Call::Drain),
-        Endpoint::Limit => match told_number(request) {
-            Some(n) => Ok(Call::SetLimit(n)),
-            None => Err(Refusal::NoNumber),
-        },
+        Endpoint::Page => Ok(Call::Look(Look::Page)),
+        Endpoint::Metrics => Ok(Call::Look(Look::Metrics)),
+        Endpoint::Health => Ok(Call::Look(Look::Health)),
+        Endpoint::Limit => changing(limit_by(request)),
+        Endpoint::Reset => Ok(Call::Change(Change::Reset)),
+        Endpoint::Drain => changing(drain_by(request.target.as_str())),
+    }
+}
+
+/// The call of a change, where one is asked for.
+fn changing(change: Result<Change, Refusal>) -> Result<Call, Refusal>
+    ensures { result ≡ changing change }
+{
+    match change {
+        Ok(change) => Ok(Call::Change(change)),
+        Err(refusal) => Err(refusal),
+    }
+}
+
+/// The limit that a request asks for.
+fn limit_by(request: &Request) -> Result<Change, Refusal>
+    ensures { result ≡ set_to (told_number request.now.body) }
+{
+    match told_number(request) {
+        Some(n) => Ok(Change::SetLimit(n)),
+        None => Err(Refusal::NoNumber),
     }
 }
 

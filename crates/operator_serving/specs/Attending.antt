@@ -1,5 +1,5 @@
 -- What an exchange with an operator is.
-use Rattle.std.specs.Prelude.{◌≡◌, ◌⊎◌, ℕ, Bool, true, false, List, Option, Some, Result, Ok, Err}
+use Rattle.std.specs.Prelude.{◌≡◌, ◌⊎◌, ⊤, ℕ, Bool, true, false, List, codes, length, bytes_eq, Option, None, Some, Result, Ok, Err, if◌then◌else◌}
 use Rattle.counted_io.specs.declared.counted.Counted.{Counted}
 use Rattle.counted_io.specs.Effects.{Wrote}
 use Rattle.partitions.specs.Table.{Row}
@@ -9,9 +9,11 @@ use Rattle.message_parts.specs.declared.request.Request.{Request}
 use Rattle.wire.specs.declared.fault.WireFault.{WireFault}
 use Rattle.proxy.specs.Exchanges.{Bytes, IsRead, known}
 use Rattle.proxy.specs.Table.{fault_status, local_or_nothing}
+use Rattle.operator_calls.specs.declared.audience.Audience.{Audience}
 use Rattle.operator_calls.specs.declared.call.Call.{Call}
+use Rattle.operator_calls.specs.declared.call.Call.TheVariants as call
 use Rattle.operator_calls.specs.declared.refusal.Refusal.{Refusal}
-use Rattle.operator_calls.specs.Calls.{call_of}
+use Rattle.operator_calls.specs.Calls.{call_of, heard}
 use Rattle.operator_serving.specs.declared.attending.Attended.{Attended}
 use Rattle.operator_serving.specs.Desk.{Deed, Sight}
 use Rattle.operator_serving.specs.Telling.{Tells, lines_of}
@@ -26,9 +28,29 @@ told_text_by method lines told = answer_text (record {
   body = Some told.text;
 })
 
+-- the length of a text that isn't written, since it was asked for by HEAD
+abbrev pub told_length : List ℕ → Words → Option ℕ
+told_length method told = if bytes_eq method (codes "HEAD") then Some (length told.text) else None
+
+-- a line of its own tells that where nothing was to be changed
+abbrev pub length_for : List ℕ → Result Call Refusal → Words → Option ℕ
+length_for method (Ok (call.Change it)) told = None
+length_for method (Ok (call.Look it)) told = told_length method told
+length_for method (Err why) told = told_length method told
+
 -- the answer to a call by this method, of what is told of it
 abbrev pub told_text : List ℕ → Result Call Refusal → Words → List ℕ
-told_text method call told = told_text_by method (lines_of call) told
+told_text method call told =
+    told_text_by method (lines_of call (length_for method call told)) told
+
+-- TOLD of what changes nothing, to this method: the whole text is written, or its lines alone to
+-- HEAD; or that there was no memory
+abbrev pub IsTold : {W : Type 0} → (W → Option (List ℕ)) → Result Call Refusal → List ℕ → Words
+    → Counted W → Counted W → ℕ → Bool → Type 0
+IsTold contents call method told writer writer' status is_written =
+    ((status ≡ told.status) × (is_written ≡ true → Wrote contents writer writer'
+    (told_text_by method (lines_of call (told_length method told)) told)))
+    ⊎ ((status ≡ 500) × (is_written ≡ true → Wrote contents writer writer' (local_text 500)))
 
 module _ {D : Type 0} (rows : D → List Row) (shows : D → Sight → Type 0)
     (does : D → D → Deed → Type 0) where
@@ -42,36 +64,38 @@ module _ {D : Type 0} (rows : D → List Row) (shows : D → Sight → Type 0)
       ⊎ ((new ≡ old) × (status ≡ 500)
       × (is_written ≡ true → Wrote contents writer writer' (local_text 500)))
 
-  -- after a fault of reading nothing reaches the desk; else the call of what was read is answered
-  abbrev pub Deals : List ℕ → List ℕ → D → D → Counted Bytes → Counted Bytes
+  -- after a fault of reading nothing reaches the desk; else the call of what was read is answered,
+  -- by whether its caller had left
+  abbrev pub Deals : (Bool → Type 0) → Audience → List ℕ → D → D → Counted Bytes → Counted Bytes
       → Result Request WireFault → Attended → Type 0
-  Deals host page old new asked writer (Err f) x =
+  Deals tells audience page old new asked writer (Err f) x =
       (x.is_read ≡ false) × (new ≡ old) × (x.answer ≡ fault_status f)
       × (x.is_written ≡ true → Wrote known asked writer (local_or_nothing (fault_status f)))
-  Deals host page old new asked writer (Ok request) x =
+  Deals tells audience page old new asked writer (Ok request) x =
       (x.is_read ≡ true) × (status : ℕ) × (x.answer ≡ Some status)
-      × IsAnswered known page (call_of host request) request.method old new asked writer status
-      x.is_written
+      × (left : Bool) × tells left
+      × IsAnswered known page (heard left (call_of audience request)) request.method old new asked
+      writer status x.is_written
 
   -- AN EXCHANGE WITH AN OPERATOR: something is read, and dealt with
-  pub record IsAttended (host page : List ℕ) (old new : D)
+  pub record IsAttended (tells : Bool → Type 0) (audience : Audience) (page : List ℕ) (old new : D)
       (reader reader' writer writer' : Counted Bytes) (x : Attended) : Type 0 where
     pub read : Result Request WireFault
     pub asked : Counted Bytes
     pub reading : IsRead reader reader' writer asked read
-    pub deals : Deals host page old new asked writer' read x
+    pub deals : Deals tells audience page old new asked writer' read x
 
   -- SERVED: there was one, over the two ends of a connection
-  pub record IsServed (host page : List ℕ) (old new : D) : Type 0 where
+  pub record IsServed (audience : Audience) (page : List ℕ) (old new : D) : Type 0 where
     pub reader : Counted Bytes
     pub reader' : Counted Bytes
     pub writer : Counted Bytes
     pub writer' : Counted Bytes
     pub told : Attended
-    pub attended : IsAttended host page old new reader reader' writer writer' told
+    pub attended : IsAttended (λ _. ⊤) audience page old new reader reader' writer writer' told
 
   -- ONE AFTER THE OTHER: whatever changed at the desk, an exchange with an operator changed it
-  pub data AreServed (host page : List ℕ) : D → D → Type 0 where
-    nobody : (desk : D) → AreServed host page desk desk
-    one_more : (old mid new : D) → AreServed host page old mid → IsServed host page mid new
-        → AreServed host page old new
+  pub data AreServed (audience : Audience) (page : List ℕ) : D → D → Type 0 where
+    nobody : (desk : D) → AreServed audience page desk desk
+    one_more : (old mid new : D) → AreServed audience page old mid
+        → IsServed audience page mid new → AreServed audience page old new

@@ -11,8 +11,9 @@ pub data Sight : Type 0 where
   Accepts : Bool → Sight
 
 -- what is done: the limit was to be set to a number, and what came of it; it was to begin anew; no
--- further client comes
+-- further client comes; none comes after so many milliseconds
 pub data Deed : Type 0 where
   SetTo : ℕ → Result (Unit {0}) ChangeFault → Deed
   Begun : Result (Unit {0}) ChangeFault → Deed
   Drained : Deed
+  DrainedAfter : ℕ → Deed

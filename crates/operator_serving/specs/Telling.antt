@@ -1,21 +1,26 @@
 -- What is told of a call.
-use Rattle.std.specs.Prelude.{◌≡◌, ℕ, Bool, true, List, [], ◌∷◌, codes, Result, Ok, Err, if◌then◌else◌}
+use Rattle.std.specs.Prelude.{◌≡◌, ℕ, Bool, true, nat_lt, List, [], ◌∷◌, ◌++◌, codes, decimal, Option, None, Some, Result, Ok, Err, if◌then◌else◌}
 use Rattle.partitions.specs.Table.{Row}
 use Rattle.gate_port.specs.declared.report.Report.{Report}
 use Rattle.serve_reports.specs.declared.noted.Noted.{Noted}
+use Rattle.serve_reports.specs.declared.workers.Workers.{Workers}
 use Rattle.metrics.specs.Metrics.{metrics_text}
 use Rattle.message_parts.specs.Header.{Header}
 use Rattle.message_text.specs.Line.{line_of}
 use Rattle.operator_calls.specs.declared.call.Call.{Call}
 use Rattle.operator_calls.specs.declared.call.Call.TheVariants as call
+use Rattle.operator_calls.specs.declared.call.Change.{Change}
+use Rattle.operator_calls.specs.declared.call.Change.TheVariants as change
+use Rattle.operator_calls.specs.declared.call.Look.{Look}
+use Rattle.operator_calls.specs.declared.call.Look.TheVariants as look
 use Rattle.operator_calls.specs.declared.refusal.Refusal.{Refusal}
 use Rattle.operator_calls.specs.declared.refusal.Refusal.TheVariants as refusal
-use Rattle.operator_calls.specs.Calls.{refusal_status, verb_name}
+use Rattle.operator_calls.specs.Calls.{allowed_by, refusal_status}
 use Rattle.operator_serving.specs.declared.desk.ChangeFault.{ChangeFault}
 use Rattle.operator_serving.specs.declared.desk.ChangeFault.TheVariants as fault
 use Rattle.operator_serving.specs.Words.{Words, words}
 use Rattle.operator_serving.specs.Desk.{Deed, Sight}
-use Rattle.operator_serving.specs.Desk.Deed.{SetTo, Begun, Drained}
+use Rattle.operator_serving.specs.Desk.Deed.{SetTo, Begun, Drained, DrainedAfter}
 use Rattle.operator_serving.specs.Desk.Sight.{Stands, Notes, Accepts}
 
 -- what is told of a refusal
@@ -25,10 +30,18 @@ refusal_text refusal.UnknownPath = codes "nothing is here\n"
 refusal_text (refusal.OtherMethod verb) = codes "another method is wanted\n"
 refusal_text refusal.WithoutMark = codes "a POST wants the line X-Admission: yes\n"
 refusal_text refusal.NoNumber = codes "the body isn't a number\n"
+refusal_text refusal.OtherQuery = codes "the query isn't after-ms=N with N from 1 to 3600000\n"
+refusal_text refusal.CallerLeft = codes "the caller has left: nothing was changed\n"
 
--- whether clients are accepted
-abbrev pub health : Bool → Words
-health accepts = if accepts then words 200 (codes "ok\n") else words 503 (codes "draining\n")
+-- a refusal, as it is told
+abbrev pub refused : Refusal → Words
+refused why = words (refusal_status why) (refusal_text why)
+
+-- whether clients are accepted, and a worker is free for them: a drain is told first
+abbrev pub health : Bool → Workers → Words
+health accepts workers =
+    if accepts then (if nat_lt workers.busy workers.count then words 200 (codes "ok\n")
+    else words 503 (codes "busy\n")) else words 503 (codes "draining\n")
 
 -- what came of a change of the limit
 abbrev pub changed : Result (Unit {0}) ChangeFault → Words
@@ -37,41 +50,56 @@ changed (Err fault.NotSettable) = words 409 (codes "the limit isn't of the kind 
 changed (Err fault.OutOfRange) = words 400 (codes "the number is out of the limit's range\n")
 changed (Err fault.Exhausted) = words 503 (codes "the history is exhausted\n")
 
-module _ {D : Type 0} (rows : D → List Row) (shows : D → Sight → Type 0)
-    (does : D → D → Deed → Type 0) where
-  -- WHAT IS TOLD of a call or a refusal, by what the desk shows or does for it: nothing else
-  -- changes the desk
-  abbrev pub Tells : List ℕ → Result Call Refusal → D → D → Words → Type 0
-  Tells page (Err why) old new told =
-      (new ≡ old) × (told ≡ words (refusal_status why) (refusal_text why))
-  Tells page (Ok call.Page) old new told = (new ≡ old) × (told ≡ words 200 page)
-  Tells page (Ok call.Metrics) old new told =
-      (new ≡ old) × (report : Report) × (noted : Noted) × shows old (Stands report)
-      × shows old (Notes noted) × (told ≡ words 200 (metrics_text report (rows old) noted))
-  Tells page (Ok call.Health) old new told =
-      (new ≡ old) × (accepts : Bool) × shows old (Accepts accepts) × (told ≡ health accepts)
-  Tells page (Ok (call.SetLimit n)) old new told =
-      (outcome : Result (Unit {0}) ChangeFault) × does old new (SetTo n outcome)
-      × (told ≡ changed outcome)
-  Tells page (Ok call.Reset) old new told =
-      (outcome : Result (Unit {0}) ChangeFault) × does old new (Begun outcome)
-      × (told ≡ changed outcome)
-  Tells page (Ok call.Drain) old new told =
-      does old new Drained × (told ≡ words 200 (codes "draining\n"))
+-- WHAT A LOOK TELLS, by what the desk shows
+abbrev pub Shows : {D : Type 0} → (D → List Row) → (D → Sight → Type 0) → List ℕ → Look → D
+    → Words → Type 0
+Shows rows shows page look.Page desk told = told ≡ words 200 page
+Shows rows shows page look.Metrics desk told =
+    (report : Report) × (noted : Noted) × shows desk (Stands report) × shows desk (Notes noted)
+    × (told ≡ words 200 (metrics_text report (rows desk) noted))
+Shows rows shows page look.Health desk told =
+    (accepts : Bool) × (noted : Noted) × shows desk (Accepts accepts) × shows desk (Notes noted)
+    × (told ≡ health accepts noted.workers)
+
+-- WHAT A CHANGE TELLS, by what is done at the desk for it
+abbrev pub IsCarriedOut : {D : Type 0} → (D → D → Deed → Type 0) → Change → D → D → Words → Type 0
+IsCarriedOut does (change.SetLimit n) old new told =
+    (outcome : Result (Unit {0}) ChangeFault) × does old new (SetTo n outcome)
+    × (told ≡ changed outcome)
+IsCarriedOut does change.Reset old new told =
+    (outcome : Result (Unit {0}) ChangeFault) × does old new (Begun outcome)
+    × (told ≡ changed outcome)
+IsCarriedOut does change.Drain old new told =
+    does old new Drained × (told ≡ words 200 (codes "draining\n"))
+IsCarriedOut does (change.DrainAfter n) old new told =
+    does old new (DrainedAfter n) × (told ≡ words 200 (codes "draining\n"))
+
+-- WHAT IS TOLD of a call or a refusal: nothing but a change changes the desk
+abbrev pub Tells : {D : Type 0} → (D → List Row) → (D → Sight → Type 0) → (D → D → Deed → Type 0)
+    → List ℕ → Result Call Refusal → D → D → Words → Type 0
+Tells rows shows does page (Err why) old new told = (new ≡ old) × (told ≡ refused why)
+Tells rows shows does page (Ok (call.Look it)) old new told =
+    (new ≡ old) × Shows rows shows page it old told
+Tells rows shows does page (Ok (call.Change it)) old new told = IsCarriedOut does it old new told
 
 -- the type of what is told
 abbrev pub media_of : Result Call Refusal → List ℕ
-media_of (Ok call.Page) = codes "text/html; charset=utf-8"
-media_of (Ok call.Metrics) = codes "text/plain; version=0.0.4; charset=utf-8"
+media_of (Ok (call.Look look.Page)) = codes "text/html; charset=utf-8"
+media_of (Ok (call.Look look.Metrics)) = codes "text/plain; version=0.0.4; charset=utf-8"
 media_of _ = codes "text/plain; charset=utf-8"
 
 -- the method that is wanted, where another one came
 abbrev pub allow_lines : Result Call Refusal → List Header
-allow_lines (Err (refusal.OtherMethod verb)) = line_of (codes "Allow") (verb_name verb) ∷ []
+allow_lines (Err (refusal.OtherMethod verb)) = line_of (codes "Allow") (allowed_by verb) ∷ []
 allow_lines _ = []
 
+-- the length of a text, where a line of its own tells it
+abbrev pub length_lines : Option ℕ → List Header
+length_lines None = []
+length_lines (Some n) = line_of (codes "Content-Length") (decimal n) ∷ []
+
 -- THE HEADER LINES of what is told
-abbrev pub lines_of : Result Call Refusal → List Header
-lines_of call =
+abbrev pub lines_of : Result Call Refusal → Option ℕ → List Header
+lines_of call length =
     line_of (codes "Content-Type") (media_of call)
-    ∷ line_of (codes "Cache-Control") (codes "no-store") ∷ allow_lines call
+    ∷ line_of (codes "Cache-Control") (codes "no-store") ∷ allow_lines call ++ length_lines length

@@ -2,11 +2,11 @@
 ghost use Rattle.std.specs.Prelude.{◌≡◌, ◌≤◌, true};
 ghost use Rattle.counted_io.specs.Effects.{Wrote};
 ghost use Rattle.message_text.specs.Answer.{local_text};
-ghost use Rattle.operator_serving.specs.Attending.{IsAnswered, told_text_by};
+ghost use Rattle.operator_serving.specs.Attending.{IsAnswered, IsTold, told_length, told_text_by};
 
 use crate::desk::Desk;
 use crate::lines::make_lines;
-use crate::telling::tell;
+use crate::telling::{carry_out, refused, tell};
 use crate::told::Told;
 use counted_io::Counted;
 use message_parts::{Headers, Method};
@@ -29,12 +29,49 @@ pub(crate) fn answer<D: Desk, W: Write>(
     ensures { IsAnswered D.rows D.shows D.does W.contents page.now call.now method.now
         desk.old desk.new writer.old writer.new result.0 result.1 }
 {
-    let Ok(lines) = make_lines(alloc, call) else {
-        return (500, write_local(writer, 500));
-    };
-    match tell(alloc, page, desk, call) {
-        Ok(told) => (told.status(), write_told(writer, method, &lines, &told)),
+    match call {
+        Ok(Call::Change(change)) => {
+            let Ok(lines) = make_lines(alloc, call, None) else {
+                return (500, write_local(writer, 500));
+            };
+            let told = carry_out(desk, change);
+            (told.status(), write_told(writer, method, &lines, &told))
+        }
+        Ok(Call::Look(look)) => match tell(alloc, page, desk, look) {
+            Ok(told) => answer_told(alloc, call, method, &told, writer),
+            Err(_) => (500, write_local(writer, 500)),
+        },
+        Err(refusal) => answer_told(alloc, call, method, &refused(refusal), writer),
+    }
+}
+
+/// Answers with what is told of a call that changed nothing, or of a refusal: to HEAD by its lines
+/// alone, which tell the length of the text.
+fn answer_told<W: Write>(
+    alloc: Global,
+    call: &Result<Call, Refusal>,
+    method: &Method,
+    told: &Told<'_>,
+    writer: &mut Counted<W>,
+) -> (u16, bool)
+    ensures { IsTold W.contents call.now method.now told.now writer.old writer.new
+        result.0 result.1 }
+{
+    let length = told_length(method, told);
+    match make_lines(alloc, call, length) {
+        Ok(lines) => (told.status(), write_told(writer, method, &lines, told)),
         Err(_) => (500, write_local(writer, 500)),
+    }
+}
+
+/// The length of a text that isn't written, since it was asked for by HEAD.
+fn told_length(method: &Method, told: &Told<'_>) -> Option<usize>
+    ensures { result ≡ told_length method.now told.now }
+{
+    if method.as_slice() == b"HEAD".as_slice() {
+        Some(told.as_bytes().len())
+    } else {
+        None
     }
 }
 

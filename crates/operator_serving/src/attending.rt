@@ -3,12 +3,14 @@ ghost use Rattle.std.specs.Prelude.{◌≡◌, false, true};
 ghost use Rattle.counted_io.specs.Effects.{Wrote};
 ghost use Rattle.proxy.specs.Exchanges.{told_by};
 ghost use Rattle.proxy.specs.Table.{fault_status, local_or_nothing};
+ghost use Rattle.operator_calls.specs.declared.audience.Audience.TheVariants.{Anyone};
 ghost use Rattle.operator_serving.specs.Attending.{IsAttended};
 
 use crate::answering::{answer, write_local};
+use crate::caller::Caller;
 use crate::desk::Desk;
 use counted_io::Counted;
-use operator_calls::read_call;
+use operator_calls::{Audience, heard, read_call};
 use proxy::fault_status;
 use std::alloc::Global;
 use std::io::{BufRead, Write};
@@ -25,30 +27,33 @@ pub struct Attended {
     pub is_written: bool,
 }
 
-/// Serves one connection of an operator's: reads a request, carries its call out at the desk, and
-/// answers with a status and a text. `host` is how the address is named, such as `127.0.0.1:9901`,
-/// and `page` the page that draws the state.
+/// Serves one connection to an address for this audience: reads a request, carries its call out at
+/// the desk, and answers with a status and a text. `page` is the page that draws the state.
 ///
 /// After a fault of reading, or where the request is no call, the desk isn't changed; the client is
 /// answered with the fault's own status, after a fault of the reader, the writer or too many reads
-/// not at all. Out of memory is answered with 500, and then nothing was changed either.
-pub fn attend<D: Desk, R: BufRead, W: Write>(
+/// not at all. A change whose caller has left once its request was read isn't carried out. Out of
+/// memory is answered with 500, and then nothing was changed either. At an address for anyone the
+/// desk is never changed.
+pub fn attend<D: Desk, K: Caller, R: BufRead, W: Write>(
     alloc: Global,
-    host: &str,
+    audience: Audience<'_>,
     page: &str,
     desk: &mut D,
+    caller: &K,
     reader: &mut Counted<R>,
     writer: &mut Counted<W>,
 ) -> Attended
-    ensures { IsAttended D.rows D.shows D.does host.now page.now desk.old desk.new
-        (told_by R.remaining reader.old) (told_by R.remaining reader.new)
+    ensures attended { IsAttended D.rows D.shows D.does (K.tells caller.now) audience.entry page.now
+        desk.old desk.new (told_by R.remaining reader.old) (told_by R.remaining reader.new)
         (told_by W.contents writer.old) (told_by W.contents writer.new) result }
+    ensures looks { audience.entry ≡ Anyone → desk.new ≡ desk.old }
 {
     let request = match read_request(alloc, reader, writer) {
         Ok(request) => request,
         Err(fault) => return unread(fault, writer),
     };
-    let call = read_call(&request, host);
+    let call = heard(caller.has_left(), read_call(&request, audience));
     let (status, is_written) = answer(alloc, page, desk, &call, &request.method, writer);
     Attended {
         is_read: true,

@@ -1,6 +1,6 @@
 // What an operator looks at and changes.
 ghost use Rattle.std.specs.Prelude.{◌≡◌};
-ghost use Rattle.operator_serving.specs.Desk.Deed.{SetTo, Begun, Drained};
+ghost use Rattle.operator_serving.specs.Desk.Deed.{SetTo, Begun, Drained, DrainedAfter};
 ghost use Rattle.operator_serving.specs.Desk.Sight.{Stands, Notes, Accepts};
 
 use gate_port::Report;
@@ -45,7 +45,7 @@ pub trait Desk {
     fn noted(&self) -> Noted
         ensures { shows self.now (Notes result) };
 
-    /// Whether clients are accepted: nobody drained the gateway.
+    /// Whether clients are accepted for good: nobody has drained the gateway, or is to.
     fn is_accepting(&self) -> bool
         ensures { shows self.now (Accepts result) };
 
@@ -61,4 +61,9 @@ pub trait Desk {
     /// Lets no further client come. Those inside are served.
     fn drain(&mut self)
         ensures { does self.old self.new Drained };
+
+    /// The same after so many milliseconds, or at once where somebody drains the gateway before.
+    /// Until then clients come, though it is told that they aren't accepted any more.
+    fn drain_after(&mut self, delay_ms: u32)
+        ensures { does self.old self.new (DrainedAfter delay_ms) };
 }

@@ -1,11 +1,15 @@
 // Operators, one after the other.
+ghost use Rattle.std.specs.Prelude.{◌≡◌};
+ghost use Rattle.operator_calls.specs.declared.audience.Audience.TheVariants.{Anyone};
 ghost use Rattle.operator_serving.specs.Attending.{AreServed, IsServed};
 
 use crate::attending::{Attended, attend};
+use crate::caller::Peer;
 use crate::desk::Desk;
 use clocks::Clock;
 use counted_io::Counted;
 use lent_io::{BufferedRead, BufferedWrite, ReadBuffer, WriteBuffer};
+use operator_calls::Audience;
 use std::alloc::{AllocError, Global};
 use std::sync::Wait;
 use std::thread;
@@ -28,8 +32,8 @@ pub struct Operating<'a, L, C> {
     pub listener: &'a L,
     /// The clock of deadlines.
     pub clock: &'a C,
-    /// How the address is named by a client, such as `127.0.0.1:9901`.
-    pub host: &'a str,
+    /// Whom the address is for.
+    pub audience: Audience<'a>,
     /// The page that draws the state.
     pub page: &'a str,
     /// How long a client may take to send its request, and again to take its answer, in
@@ -63,8 +67,9 @@ pub fn operate<R: Wait + SystemClock, L: Listener, C: Clock, D: Desk>(
     desk: &mut D,
     buffers: &mut Buffers,
 )
-    ensures { AreServed D.rows D.shows D.does common.now.host.now common.now.page.now
+    ensures served { AreServed D.rows D.shows D.does common.now.audience common.now.page.now
         desk.old desk.new }
+    ensures looks { common.now.audience ≡ Anyone → desk.new ≡ desk.old }
 {
     for _ in rt.forever() {
         match common.listener.accept() {
@@ -93,11 +98,16 @@ where
     O: Outlet<T> + Copy,
     C: Clock,
     D: Desk,
-    ensures { IsServed D.rows D.shows D.does common.now.host.now common.now.page.now
+    ensures served { IsServed D.rows D.shows D.does common.now.audience common.now.page.now
         desk.old desk.new }
+    ensures looks { common.now.audience ≡ Anyone → desk.new ≡ desk.old }
 {
     let (clock, time) = (common.clock, common.timeout_ns);
     let Arrival { stream, from, to } = client;
+    let caller = Peer {
+        stream: &stream,
+        from,
+    };
     let timed = TimedReader::new(Lent::new(&stream, from), clock, time);
     let buffered = BufferedRead::new(Uninterrupted::new(timed), &mut buffers.ahead);
     let mut reader = Counted::new(buffered);
@@ -106,9 +116,10 @@ where
     let mut writer = Counted::new(buffered);
     let attended = attend(
         common.alloc,
-        common.host,
+        common.audience,
         common.page,
         desk,
+        &caller,
         &mut reader,
         &mut writer,
     );

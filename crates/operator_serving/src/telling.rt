@@ -1,50 +1,70 @@
 // What is told of a call.
-ghost use Rattle.std.specs.Prelude.{◌≡◌, [], IfOk, Ok, OnErr};
-ghost use Rattle.operator_serving.specs.Telling.{Tells, changed, health, refusal_text};
+ghost use Rattle.std.specs.Prelude.{◌≡◌, [], IfOk};
+ghost use Rattle.operator_calls.specs.declared.call.Look.TheVariants.{Metrics};
+ghost use Rattle.operator_serving.specs.Telling.{IsCarriedOut, Shows, changed, health};
+ghost use Rattle.operator_serving.specs.Telling.{refusal_text, refused};
 
 use crate::desk::{ChangeFault, Desk};
 use crate::told::Told;
 use metrics::metrics_text;
-use operator_calls::{Call, Refusal};
+use operator_calls::{Change, Look, Refusal};
+use serve_reports::Workers;
 use std::alloc::{AllocError, Global};
 
-/// Carries a call out at a desk, and tells what came of it; or tells a refusal. Where memory for
-/// the text can't be had, nothing was changed.
+/// What a look shows of a desk. It fails only out of memory.
 pub(crate) fn tell<'a, D: Desk>(
     alloc: Global,
     page: &'a str,
-    desk: &mut D,
-    call: &Result<Call, Refusal>,
+    desk: &D,
+    look: &Look,
 ) -> Result<Told<'a>, AllocError>
-    ensures told { IfOk result
-        (Tells D.rows D.shows D.does page.now call.now desk.old desk.new) }
-    ensures untouched { OnErr result (desk.new ≡ desk.old) }
+    ensures { IfOk result (Shows D.rows D.shows page.now look.now desk.now) }
 {
-    match call {
-        Err(refusal) => Ok(Told::new(refusal.status(), refusal_text(refusal))),
-        Ok(Call::Page) => Ok(Told::new(200, page)),
-        Ok(Call::Metrics) => tell_metrics(alloc, desk),
-        Ok(Call::Health) => Ok(health(desk.is_accepting())),
-        Ok(Call::SetLimit(n)) => Ok(changed(desk.set_limit(*n))),
-        Ok(Call::Reset) => Ok(changed(desk.reset())),
-        Ok(Call::Drain) => {
-            desk.drain();
-            Ok(Told::new(200, "draining\n"))
+    match look {
+        Look::Page => Ok(Told::new(200, page)),
+        Look::Metrics => tell_metrics(alloc, desk),
+        Look::Health => {
+            let (is_accepting, noted) = (desk.is_accepting(), desk.noted());
+            Ok(health(is_accepting, &noted.workers))
         }
     }
 }
 
 /// The state at a desk, as a scraper reads it. It fails only out of memory.
 fn tell_metrics<'a, D: Desk>(alloc: Global, desk: &D) -> Result<Told<'a>, AllocError>
-    ensures { IfOk result
-        (Tells D.rows D.shows D.does [] (Ok Call.Metrics) desk.now desk.now) }
+    ensures { IfOk result (Shows D.rows D.shows [] Metrics desk.now) }
 {
     let (report, noted) = (desk.report(), desk.noted());
     let text = metrics_text(alloc, &report, desk.table(), &noted)?;
     Ok(Told::made(text))
 }
 
+/// Carries a change out at a desk, and tells what came of it. It takes no memory.
+pub(crate) fn carry_out<'a, D: Desk>(desk: &mut D, change: &Change) -> Told<'a>
+    ensures { IsCarriedOut D.does change.now desk.old desk.new result }
+{
+    match change {
+        Change::SetLimit(n) => changed(desk.set_limit(*n)),
+        Change::Reset => changed(desk.reset()),
+        Change::Drain => {
+            desk.drain();
+            Told::new(200, "draining\n")
+        }
+        Change::DrainAfter(delay_ms) => {
+            desk.drain_after(*delay_ms);
+            Told::new(200, "draining\n")
+        }
+    }
+}
+
 /// What is told of a refusal.
+pub(crate) fn refused<'a>(refusal: &Refusal) -> Told<'a>
+    ensures { result ≡ refused refusal.now }
+{
+    Told::new(refusal.status(), refusal_text(refusal))
+}
+
+/// The text of a refusal.
 fn refusal_text(refusal: &Refusal) -> &'static str
     ensures { result.now ≡ refusal_text refusal.now }
 {
@@ -54,17 +74,21 @@ fn refusal_text(refusal: &Refusal) -> &'static str
         Refusal::OtherMethod(_) => "another method is wanted\n",
         Refusal::WithoutMark => "a POST wants the line X-Admission: yes\n",
         Refusal::NoNumber => "the body isn't a number\n",
+        Refusal::OtherQuery => "the query isn't after-ms=N with N from 1 to 3600000\n",
+        Refusal::CallerLeft => "the caller has left: nothing was changed\n",
     }
 }
 
-/// What is told of whether clients are accepted.
-fn health<'a>(is_accepting: bool) -> Told<'a>
-    ensures { result ≡ health is_accepting }
+/// What is told of whether clients are accepted, and a worker is free for them.
+fn health<'a>(is_accepting: bool, workers: &Workers) -> Told<'a>
+    ensures { result ≡ health is_accepting workers.now }
 {
-    if is_accepting {
-        Told::new(200, "ok\n")
-    } else {
+    if !is_accepting {
         Told::new(503, "draining\n")
+    } else if workers.count <= workers.busy {
+        Told::new(503, "busy\n")
+    } else {
+        Told::new(200, "ok\n")
     }
 }
 

@@ -17,6 +17,7 @@ use partitions::Part;
 use shared_gate::{GateNaming, Got, Pass, SharedGate, Waited};
 use std::marker::Model;
 use std::sync::Wait;
+use std::sync::atomic::{AtomicU64, Ordering};
 use std::time::Clock as SystemClock;
 
 /// A port over a gate that threads share, with a pass of its own. It shows no entries; what it
@@ -29,6 +30,9 @@ pub struct Port<'a, L: Limit, M: GateNaming, R, C> {
     pass: Pass<M>,
     asked: Asked<M>,
     clock: &'a C,
+    // Where the moment is noted at which its permit was got, in nanoseconds from 1 on; 0 where it
+    // has none.
+    since: Option<&'a AtomicU64>,
 }
 
 impl<'a, L: Limit, M: GateNaming, R, C> Model for Port<'a, L, M, R, C> {
@@ -57,6 +61,30 @@ impl<'a, L: Limit, M: GateNaming, R, C> Port<'a, L, M, R, C> {
             pass,
             asked: Asked::Nothing,
             clock,
+            since: None,
+        }
+    }
+
+    /// The port, which notes in this place when the permit was got that it has out, by its clock in
+    /// nanoseconds and from 1 on, and 0 while it has none. Nothing else is changed by that.
+    pub fn noting(self, since: &'a AtomicU64) -> Port<'a, L, M, R, C>
+        ensures { result ≡ self.entry }
+    {
+        let Port {
+            rt,
+            gate,
+            pass,
+            asked,
+            clock,
+            since: _,
+        } = self;
+        Port {
+            rt,
+            gate,
+            pass,
+            asked,
+            clock,
+            since: Some(since),
         }
     }
 
@@ -77,6 +105,7 @@ impl<'a, L: Limit, M: GateNaming, R, C> Port<'a, L, M, R, C> {
             pass,
             asked: _,
             clock: _,
+            since: _,
         } = self;
         pass
     }
@@ -148,6 +177,48 @@ impl<'a, L: Limit, M: GateNaming, R: Wait + SystemClock, C: Clock> Port<'a, L, M
         self.asked = asked;
         answer
     }
+
+    /// Asks, and with a deadline waits until then.
+    #[inline(always)]
+    fn ask_by(
+        &mut self,
+        part: Part,
+        bypass: bool,
+        deadline: Option<u64>,
+        now: u64,
+    ) -> Admission<Permit<M>>
+        ensures told { IsTold self.old.pass self.new.pass (ask_of part bypass deadline) now
+            result }
+        ensures answered { IsAnswered self.old.pass self.new.pass
+            (ask_of part bypass deadline) now self.new.asked result }
+        ensures log { AdmitsIn part bypass deadline now (Some self.old.pass.log)
+            (Some self.new.pass.log) (λ permit. permit) result }
+        ensures few { self.new.pass.count
+            ≤ self.old.pass.count + (if is_some deadline then 2 else 1) }
+    {
+        match deadline {
+            Some(until) if !bypass => self.ask_and_wait(part, now, until),
+            _ => self.ask(part, bypass, now),
+        }
+    }
+
+    /// Notes that a permit was got, where one was.
+    #[inline(always)]
+    fn note(&self, admission: &Admission<Permit<M>>) {
+        if let Some(since) = self.since {
+            if let Admission::Admitted(_) = admission {
+                since.store(self.clock.now().max(1), Ordering::Relaxed);
+            }
+        }
+    }
+
+    /// Notes that no permit is out.
+    #[inline(always)]
+    fn note_end(&self) {
+        if let Some(since) = self.since {
+            since.store(0, Ordering::Relaxed);
+        }
+    }
 }
 
 impl<'a, L: Limit, M: GateNaming, R: Wait + SystemClock, C: Clock> GatePort
@@ -183,10 +254,9 @@ impl<'a, L: Limit, M: GateNaming, R: Wait + SystemClock, C: Clock> GatePort
         ensures few { self.new.pass.count
             ≤ self.old.pass.count + (if is_some deadline then 2 else 1) }
     {
-        match deadline {
-            Some(until) if !bypass => self.ask_and_wait(part, now, until),
-            _ => self.ask(part, bypass, now),
-        }
+        let admission = self.ask_by(part, bypass, deadline, now);
+        self.note(&admission);
+        admission
     }
 
     /// Ends a permit, in one call by the pass.
@@ -198,6 +268,7 @@ impl<'a, L: Limit, M: GateNaming, R: Wait + SystemClock, C: Clock> GatePort
         ensures asked { self.new.asked ≡ self.old.asked }
         ensures few { self.new.pass.count ≤ self.old.pass.count + 1 }
     {
+        self.note_end();
         self.gate.end(self.rt, &mut self.pass, permit, outcome, now)
     }
 }

@@ -1,7 +1,9 @@
 -- What an exchange is.
-use Rattle.std.specs.Prelude.{◌≡◌, ℕ, List, Option, None, Some, Result, Ok, Err, IsErrOf, OnOk}
+use Rattle.std.specs.Prelude.{◌≡◌, ℕ, Bool, false, nat_eq, List, Option, None, Some, Result, Ok, Err}
+use Rattle.std.specs.Prelude.{IsErrOf, OnOk}
 use Rattle.clocks.specs.Looks.{Looked}
 use Rattle.counted_io.specs.declared.counted.Counted.{Counted}
+use Rattle.counted_io.specs.Count.{raised}
 use Rattle.counted_io.specs.Causes.{HasRead, IsWriteCause}
 use Rattle.counted_io.specs.Counted.{failures_of, inner_of}
 use Rattle.counted_io.specs.Effects.{Wrote}
@@ -77,6 +79,16 @@ Deals s old new (Ok request) answer x =
     × IsSettled s request old.shown new.shown old.known new.known old.looks new.looks
     old.count new.count old.log new.log (class_by s request) x.admission answer
 
+-- the bytes end inside the message, and one read was made: it found their end
+abbrev pub is_empty : WireFault → ℕ → ℕ → Bool
+is_empty fault.Early before reads = nat_eq reads (raised before)
+is_empty other before reads = false
+
+-- whether nothing was sent: what was read ended as it was first read
+abbrev pub is_unsent : Result Request WireFault → ℕ → ℕ → Bool
+is_unsent (Err f) before reads = is_empty f before reads
+is_unsent (Ok request) before reads = false
+
 -- AN EXCHANGE: something is read, and dealt with; what is told of it, and without a fault of
 -- writing what is written to the client, is by the table of answers. A fault of writing as
 -- something was read is reported as such
@@ -88,6 +100,7 @@ pub record IsExchange (s : Settings) (old new : World) (x : Exchange) : Type 0 w
   pub deals : Deals s old new read answer x
   pub status : x.answer ≡ sent_status read answer
   pub own : x.is_own ≡ is_sent_own read answer
+  pub empty : x.is_empty ≡ is_unsent read old.reader.calls new.reader.calls
   pub outcome : x.outcome ≡ outcome_at answer
   pub text : x.written_fault ≡ None → Wrote known asked new.writer (sent_text read answer)
   pub unasked : IsErrOf read fault.Write → x.written_fault ≡ Some fault.Write

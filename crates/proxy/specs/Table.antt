@@ -11,7 +11,7 @@ use Rattle.wire.specs.Response.{ResponseValue}
 use Rattle.wire.specs.Written.{response_text}
 use Rattle.backend.specs.declared.answer.Answer.{Answer}
 use Rattle.backend.specs.declared.answer.Answer.TheVariants.{Answered, NotConnected, Broken}
-use Rattle.backend.specs.declared.answer.Answer.TheVariants.{Memory}
+use Rattle.backend.specs.declared.answer.Answer.TheVariants.{Late, Memory}
 
 -- WHAT A STATUS TELLS THE GATE: a backend that had too much to do, or sent no final response, has
 -- dropped the request; of its load an other fault of the server's says nothing
@@ -26,6 +26,7 @@ abbrev pub outcome_of : Answer → Outcome
 outcome_of (Answered response) = status_outcome response.status
 outcome_of NotConnected = Ignored
 outcome_of (Broken f) = Dropped
+outcome_of Late = Dropped
 outcome_of Memory = Ignored
 
 abbrev pub outcome_at : Option Answer → Option Outcome
@@ -52,6 +53,7 @@ abbrev pub reply_of : Option Answer → Result ResponseValue ℕ
 reply_of (Some (Answered response)) = if nat_lt response.status 200 then Err 502 else Ok response
 reply_of (Some NotConnected) = Err 502
 reply_of (Some (Broken f)) = Err 502
+reply_of (Some Late) = Err 504
 reply_of (Some Memory) = Err 500
 reply_of None = Err 429
 

@@ -4,7 +4,7 @@ ghost use Rattle.counted_io.specs.Causes.{IsWriteCause};
 ghost use Rattle.counted_io.specs.Counted.{failures_of, is_flushed};
 ghost use Rattle.counted_io.specs.Effects.{Wrote};
 ghost use Rattle.proxy.specs.Table.{fault_status, local_or_nothing};
-ghost use Rattle.proxy.specs.Exchanges.{IsExchange, told_by};
+ghost use Rattle.proxy.specs.Exchanges.{IsExchange, is_empty, told_by};
 
 use crate::replying::{fault_status, is_own, reply, reply_status};
 use crate::settling::{outcome_at, settle};
@@ -63,9 +63,13 @@ pub fn exchange<P: GatePort, B: Backend, C: Clock, R: BufRead, W: Write>(
     ensures written { IfSome result.written_fault (λ fault.
         (fault ≡ WireFault.Write) × IsWriteCause writer.old writer.new) }
 {
+    let before = reader.calls();
     let request = match read_request(alloc, reader, writer) {
         Ok(request) => request,
-        Err(fault) => return unread(fault, writer),
+        Err(fault) => {
+            let is_empty = is_empty(fault, before, reader.calls());
+            return unread(fault, is_empty, writer);
+        }
     };
     let settled = settle(port, backend, settings, looks, &request);
     let written_fault = reply(writer, &settled.answer, &request.method);
@@ -74,13 +78,26 @@ pub fn exchange<P: GatePort, B: Backend, C: Clock, R: BufRead, W: Write>(
         admission: settled.admission,
         answer: Some(reply_status(&settled.answer)),
         is_own: is_own(&settled.answer),
+        is_empty: false,
         outcome: outcome_at(&settled.answer),
         written_fault,
     }
 }
 
-/// Answers a request that was not read.
-fn unread<W: Write>(fault: WireFault, writer: &mut Counted<W>) -> Exchange
+/// Whether what a client sent was at its end as it was first read: the fault is that of a cut, and
+/// one read more was made than before.
+fn is_empty(fault: WireFault, before: u64, reads: u64) -> bool
+    ensures { result ≡ is_empty fault before reads }
+{
+    match fault {
+        WireFault::Early => reads == before.saturating_add(1),
+        _ => false,
+    }
+}
+
+/// Answers a request that was not read, of which nothing came at all where it is empty.
+fn unread<W: Write>(fault: WireFault, is_empty: bool, writer: &mut Counted<W>) -> Exchange
+    ensures empty { result.is_empty ≡ is_empty }
     ensures class { result.class ≡ None }
     ensures admission { result.admission ≡ Verdict.NotAsked }
     ensures answer { result.answer ≡ fault_status fault }
@@ -110,6 +127,7 @@ fn unread<W: Write>(fault: WireFault, writer: &mut Counted<W>) -> Exchange
         admission: Verdict::NotAsked,
         answer,
         is_own: answer.is_some(),
+        is_empty,
         outcome: None,
         written_fault,
     }

@@ -30,6 +30,7 @@ fn reply_of(answer: &Option<Answer>) -> Result<&Response, u16>
         }
         Some(Answer::NotConnected) => Err(502),
         Some(Answer::Broken(_)) => Err(502),
+        Some(Answer::Late) => Err(504),
         Some(Answer::Memory) => Err(500),
         None => Err(429),
     }

@@ -41,6 +41,7 @@ fn outcome(answer: &Answer) -> Outcome
         Answer::Answered(response) => status_outcome(response.status()),
         Answer::NotConnected => Outcome::Ignored,
         Answer::Broken(_) => Outcome::Dropped,
+        Answer::Late => Outcome::Dropped,
         Answer::Memory => Outcome::Ignored,
     }
 }

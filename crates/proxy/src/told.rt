@@ -28,6 +28,9 @@ pub struct Exchange {
     pub answer: Option<u16>,
     /// Whether that text is an answer of the gateway's own, and not the backend's response.
     pub is_own: bool,
+    /// Whether the client ended what it sends before a byte of a request, as who only looks whether
+    /// the gateway is there does.
+    pub is_empty: bool,
     /// What the backend's answer told the gate, where the request was forwarded.
     pub outcome: Option<Outcome>,
     /// `Write` where the writer failed.

@@ -12,6 +12,9 @@ pub trait Watch {
     /// That worker's exchange has ended, and it is free for another client.
     fn ended(&self, exchange: &Exchange);
 
+    /// Whether a worker is free for another client at this moment.
+    fn has_free_worker(&self) -> bool;
+
     /// A connection couldn't be accepted, for this cause.
     fn unaccepted(&self, error: &Error);
 

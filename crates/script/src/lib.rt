@@ -34,6 +34,7 @@ pub use fault_kind::FaultKind;
 pub use line::{Line, read_line};
 pub use line_fault::LineFault;
 pub use lines::next_line;
+pub use numbers::read_number;
 pub use opening::{Opening, read_settings};
 pub use request::Request;
 pub use setting::Setting;

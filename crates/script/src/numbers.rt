@@ -27,7 +27,7 @@ fn parse_digits(text: &str) -> Option<u64>
 
 /// The number that a word spells in 1 to 20 digits, where it fits a `u64`; leading zeros are
 /// allowed.
-pub(crate) fn read_number(word: &[u8]) -> Option<u64>
+pub fn read_number(word: &[u8]) -> Option<u64>
     ensures { result ≡ number_of word.now }
 {
     if word.len() > 20 || !all_digits(word) {

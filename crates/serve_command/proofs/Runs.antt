@@ -21,10 +21,10 @@ use Rattle.serving.specs.Turns.{IsRun}
 use Rattle.serving.specs.Workers.{HasRun, ended_in}
 use Rattle.serve_command.specs.Runs.{HasRunTo, stood_at}
 
-module _ {L C S W : Type 0} (R V M : Type 0) (gives : S → Settings → Type 0)
+module _ {L C S W : Type 0} (R T V M : Type 0) (gives : S → Settings → Type 0)
     (common : WorkerSettings L C S W) where
   abbrev End : Type 0
-  End = Ended (Door L W) (Shared M) (TcpBackend R V)
+  End = Ended (Door L W) (Shared M) (TcpBackend R T V C)
 
   abbrev Ran : Shared M → End → Type 0
   Ran = HasRun gives (λ port. None) (λ port. Some port.pass.log) common

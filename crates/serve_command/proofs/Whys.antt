@@ -15,7 +15,8 @@ use Rattle.gate_config.specs.declared.settings.Settings.{Settings}
 use Rattle.serving.specs.declared.fault.ServeFault.{ServeFault}
 use Rattle.serving.specs.declared.fault.ServeFault.TheVariants as Serve
 use Rattle.serve_command.specs.ServiceFault.{of_workers}
-use Rattle.serve_command.specs.Command.{AreOfFile, IsBound, IsOfAdmin, IsOfServing, IsWhyOfService}
+use Rattle.serve_command.specs.Command.{AreOfFile, IsBound, IsBoundToo, IsOfAdmin, IsOfServing}
+use Rattle.serve_command.specs.Command.{IsUnboundToo, IsWhyOfService}
 
 -- a fault that isn't one of the configuration or of the counters
 abbrev IsServing : ServiceFault → Type 0
@@ -27,13 +28,13 @@ IsServing Service.Write = ⊥
 
 -- as is each that serving has a cause of
 pub serving_is : {L : Type 0} (Bound : List ℕ → L → Type 0) (Unbound : List ℕ → Type 0)
-    (listen : List ℕ) (admin : Option SocketAddrV4) (before after : ℕ) (f : ServiceFault)
-    → IsOfServing Bound Unbound listen admin before after f → IsServing f
-serving_is Bound Unbound listen admin before after (Service.Config fault) of = absurd of
-serving_is Bound Unbound listen admin before after Service.Listen of = tt
-serving_is Bound Unbound listen admin before after Service.Memory of = tt
-serving_is Bound Unbound listen admin before after Service.Thread of = tt
-serving_is Bound Unbound listen admin before after Service.Write of = absurd of
+    (listen : List ℕ) (admin status : Option SocketAddrV4) (before after : ℕ) (f : ServiceFault)
+    → IsOfServing Bound Unbound listen admin status before after f → IsServing f
+serving_is Bound Unbound listen admin status before after (Service.Config fault) of = absurd of
+serving_is Bound Unbound listen admin status before after Service.Listen of = tt
+serving_is Bound Unbound listen admin status before after Service.Memory of = tt
+serving_is Bound Unbound listen admin status before after Service.Thread of = tt
+serving_is Bound Unbound listen admin status before after Service.Write of = absurd of
 
 module _ {F W X : Type 0} (Unopened : Type 0) (Opened : F → Type 0)
     (remaining : F → Option (List ℕ)) (OfServing : Settings → ServiceFault → Type 0)
@@ -98,10 +99,10 @@ bound_at Bound text listen listener same bound =
 
 -- why serving failed, by what was missing
 module _ {L X : Type 0} (Bound : List ℕ → L → Type 0) (Unbound : List ℕ → Type 0)
-    (listen : List ℕ) (admin : Option SocketAddrV4) (before after : ℕ)
+    (listen : List ℕ) (admin status : Option SocketAddrV4) (before after : ℕ)
     (r : Result X ServiceFault) where
   abbrev Of : ServiceFault → Type 0
-  Of = IsOfServing Bound Unbound listen admin before after
+  Of = IsOfServing Bound Unbound listen admin status before after
 
   of : (fault : ServiceFault) → r ≡ Err fault → Of fault → IfErr r Of
   of fault is = subst (λ (x : Result X ServiceFault). IfErr x Of) (sym is)
@@ -119,10 +120,22 @@ module _ {L X : Type 0} (Bound : List ℕ → L → Type 0) (Unbound : List ℕ 
     where
       go : (f : ServiceFault) → IsOfAdmin Unbound admin f → Of f
       go (Service.Config fault) why = absurd why
-      go Service.Listen why = inr (bound, why)
+      go Service.Listen why = inr (inl (bound, why))
       go Service.Memory why = bound
       go Service.Thread why = absurd why
       go Service.Write why = absurd why
+
+  -- that of whoever looks
+  pub lacks_status : (fault : ServiceFault) → r ≡ Err fault → IsBound Bound listen
+      → IsBoundToo Bound admin → (fault ≡ Service.Listen) × IsUnboundToo Unbound status
+      → IfErr r Of
+  lacks_status fault is bound too none =
+      of fault is (subst Of (sym none.0) (inr (inr (bound, too, none.1))))
+
+  -- memory alone
+  pub lacks_memory : (fault : ServiceFault) → r ≡ Err fault → IsBound Bound listen
+      → fault ≡ Service.Memory → IfErr r Of
+  lacks_memory fault is bound memory = of fault is (subst Of (sym memory) bound)
 
   -- memory, or a thread
   pub lacks_workers : {Y : Type 0} (served : Result Y ServeFault) (fault : ServeFault)

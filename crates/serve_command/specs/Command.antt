@@ -43,12 +43,12 @@ abbrev pub IsUnboundToo : (List ℕ → Type 0) → Option SocketAddrV4 → Type
 IsUnboundToo Unbound None = ⊥
 IsUnboundToo Unbound (Some address) = Unbound (socket_v4_text address)
 
--- SERVED: by settings of the file, at their address and the operator's, by so many workers, of
--- which each took its turns; and the line of the counters of these runs is written and flushed, and
--- no write failed
+-- SERVED: by settings of the file, at their address, the operator's and that of whoever looks, by
+-- so many workers, of which each took its turns; and the line of the counters of these runs is
+-- written and flushed, and no write failed
 pub record HasServed {F L W : Type 0} (Opened : F → Type 0) (remaining : F → Option (List ℕ))
-    (Bound : List ℕ → L → Type 0) (contents : W → Option (List ℕ)) (admin : Option SocketAddrV4)
-    (workers most : ℕ) (old new : Counted W) : Type 0 where
+    (Bound : List ℕ → L → Type 0) (contents : W → Option (List ℕ))
+    (admin status : Option SocketAddrV4) (workers most : ℕ) (old new : Counted W) : Type 0 where
   pub settings : Settings
   pub file : Counted F
   pub bytes : List ℕ
@@ -57,6 +57,7 @@ pub record HasServed {F L W : Type 0} (Opened : F → Type 0) (remaining : F →
   pub says : Says bytes (Ok settings)
   pub front : IsBound Bound settings.listen
   pub operator : IsBoundToo Bound admin
+  pub lookers : IsBoundToo Bound status
   pub counters : Counters
   pub counted : AreCountersOfRuns any_rules (making_of settings) (λ own. Says bytes (Ok own))
       workers most counters
@@ -65,17 +66,18 @@ pub record HasServed {F L W : Type 0} (Opened : F → Type 0) (remaining : F →
   pub flushed : is_flushed new ≡ true
 
 -- A FAULT OF SERVING ITSELF, by the addresses and by how many threads were refused before and
--- after: an address couldn't be bound; or that of clients was, and memory was lacking, or the
--- system refused a thread
+-- after: an address couldn't be bound, of clients, of the operator or of whoever looks; or that of
+-- clients was, and memory was lacking, or the system refused a thread
 abbrev pub IsOfServing : {L : Type 0} → (List ℕ → L → Type 0) → (List ℕ → Type 0)
-    → List ℕ → Option SocketAddrV4 → ℕ → ℕ → ServiceFault → Type 0
-IsOfServing Bound Unbound listen admin before after (Service.Config fault) = ⊥
-IsOfServing Bound Unbound listen admin before after Service.Listen =
+    → List ℕ → Option SocketAddrV4 → Option SocketAddrV4 → ℕ → ℕ → ServiceFault → Type 0
+IsOfServing Bound Unbound listen admin status before after (Service.Config fault) = ⊥
+IsOfServing Bound Unbound listen admin status before after Service.Listen =
     Unbound listen ⊎ (IsBound Bound listen × IsUnboundToo Unbound admin)
-IsOfServing Bound Unbound listen admin before after Service.Memory = IsBound Bound listen
-IsOfServing Bound Unbound listen admin before after Service.Thread =
+    ⊎ (IsBound Bound listen × IsBoundToo Bound admin × IsUnboundToo Unbound status)
+IsOfServing Bound Unbound listen admin status before after Service.Memory = IsBound Bound listen
+IsOfServing Bound Unbound listen admin status before after Service.Thread =
     IsBound Bound listen × (after ≡ raised before)
-IsOfServing Bound Unbound listen admin before after Service.Write = ⊥
+IsOfServing Bound Unbound listen admin status before after Service.Write = ⊥
 
 -- why an operator's address isn't had
 abbrev pub IsOfAdmin : (List ℕ → Type 0) → Option SocketAddrV4 → ServiceFault → Type 0

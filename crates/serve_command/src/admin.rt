@@ -1,7 +1,18 @@
-// The address of a gateway's operator.
+// The addresses beside that of clients: a gateway's operator's, and that of whoever looks.
+ghost use Rattle.std.specs.Prelude.{◌≡◌, ◌≤◌};
+
+use gate_desk::LameDuck;
 use metrics::PAGE;
+use operator_calls::Audience;
 use operator_serving::Operating;
 use std::alloc::Global;
+
+/// How many are served at once at each of these addresses, each on a thread of its own.
+pub(crate) const AT_ONCE: usize = 4;
+
+/// How long a client there may take to send its request, and again to take its answer: a second,
+/// in nanoseconds. So nobody waits for long behind clients that are silent.
+const TIMEOUT_NS: u64 = 1_000_000_000;
 
 /// An operator's address that is bound.
 #[derive(Drop)]
@@ -12,28 +23,92 @@ pub(crate) struct AdminAddress<L> {
     pub(crate) host: String,
 }
 
-/// Where operators come from, where they have an address.
-pub(crate) fn listener_of<L>(admin: &Option<AdminAddress<L>>) -> Option<&L> {
-    match admin {
-        Some(admin) => Some(&admin.listener),
-        None => None,
+/// What serves at the addresses beside that of clients.
+#[derive(Drop)]
+pub(crate) struct Beside<'a, L, C> {
+    /// When the gateway is to be drained, which their desks share.
+    pub(crate) lame_duck: &'a LameDuck,
+    /// At the operator's, where there is one.
+    pub(crate) admin: Option<Operating<'a, L, C>>,
+    /// At that of whoever looks, where there is one.
+    pub(crate) status: Option<Operating<'a, L, C>>,
+}
+
+impl<'a, L, C> Beside<'a, L, C> {
+    /// What serves at the addresses that there are.
+    pub(crate) fn new(
+        alloc: Global,
+        admin: &'a Option<AdminAddress<L>>,
+        status: &'a Option<L>,
+        clock: &'a C,
+        lame_duck: &'a LameDuck,
+    ) -> Beside<'a, L, C> {
+        Beside {
+            lame_duck,
+            admin: operating_at(alloc, admin, clock),
+            status: looking_at(alloc, status, clock),
+        }
+    }
+
+    /// How many serve at them together.
+    pub(crate) fn count(&self) -> usize
+        ensures { result ≤ 8 }
+    {
+        count_at(&self.admin) + count_at(&self.status)
     }
 }
 
-/// What serves operators at an address, by the time limits of clients.
-pub(crate) fn operating_at<'a, L, C>(
+/// How many serve at an address, where there is one.
+fn count_at<L, C>(operating: &Option<Operating<'_, L, C>>) -> usize
+    ensures { result ≤ 4 }
+{
+    if operating.is_some() { AT_ONCE } else { 0 }
+}
+
+/// The listener that the end of the last worker closes: the operator's, where there is one. Whoever
+/// serves there then closes that of whoever looks.
+pub(crate) fn listener_of<'a, L>(
+    admin: &'a Option<AdminAddress<L>>,
+    status: &'a Option<L>,
+) -> Option<&'a L> {
+    match admin {
+        Some(admin) => Some(&admin.listener),
+        None => status.as_ref(),
+    }
+}
+
+/// What serves operators at their address.
+fn operating_at<'a, L, C>(
     alloc: Global,
     admin: &'a Option<AdminAddress<L>>,
     clock: &'a C,
-    timeout_ns: u64,
 ) -> Option<Operating<'a, L, C>> {
     match admin {
         Some(admin) => Some(Operating {
             listener: &admin.listener,
             clock,
-            host: admin.host.as_str(),
+            audience: Audience::Operator(admin.host.as_str()),
             page: PAGE,
-            timeout_ns,
+            timeout_ns: TIMEOUT_NS,
+            alloc,
+        }),
+        None => None,
+    }
+}
+
+/// What serves whoever looks at their address.
+fn looking_at<'a, L, C>(
+    alloc: Global,
+    status: &'a Option<L>,
+    clock: &'a C,
+) -> Option<Operating<'a, L, C>> {
+    match status {
+        Some(listener) => Some(Operating {
+            listener,
+            clock,
+            audience: Audience::Anyone,
+            page: "",
+            timeout_ns: TIMEOUT_NS,
             alloc,
         }),
         None => None,

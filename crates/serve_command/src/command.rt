@@ -1,13 +1,16 @@
 // The gateway of a configuration, from its file to its counters.
 ghost use Rattle.std.specs.Prelude.{◌≡◌, ◌≤◌, ◌⊎◌, IfErr, IfOk, Ok, OnOk};
 ghost use Rattle.std.specs.Net.Text.{socket_v4_text};
+ghost use Rattle.counted_io.specs.declared.counted.Counted.{Counted as CountedValue};
+ghost use Rattle.counted_io.specs.Counted.{failures_of, inner_of};
 ghost use Rattle.tasks.specs.Refused.{refused_of};
 ghost use Rattle.limit_kinds.specs.AnyKinds.{any_rules};
 ghost use Rattle.gate_config.specs.Settings.{AreSound};
 ghost use Rattle.fault_lines.specs.FaultLine.{IsTold, fault_line};
-ghost use Rattle.config_file.specs.Reading.{Says};
-ghost use Rattle.serve_command.specs.declared.fault.ServiceFault.TheVariants.{Listen};
+ghost use Rattle.config_file.specs.Reading.{Held, IsUnreadFile, Says};
+ghost use Rattle.serve_command.specs.declared.fault.ServiceFault.TheVariants.{Listen, Memory};
 ghost use Rattle.serve_command.specs.Command.{HasServed, IsBound, IsBoundToo, IsOfAdmin};
+ghost use Rattle.serve_command.specs.Command.{IsUnboundToo};
 ghost use Rattle.serve_command.specs.Command.{IsOfServing, IsWhyOfService};
 ghost use Rattle.gate_opening.specs.Opening.{making_of};
 ghost use Rattle.serve_command.specs.Runs.{AreCountersOfRuns};
@@ -16,14 +19,15 @@ ghost use Rattle.serve_command.specs.ServiceFault.{service_fault_text};
 use crate::admin::AdminAddress;
 use crate::config_text::ConfigText;
 use crate::fault::{ServiceFault, tell_service_fault};
-use crate::logging::{log_admin, log_listening, log_unbound};
+use crate::logging::{log_admin, log_listening, log_status, log_unbound, log_unread};
 use crate::standing::{Standing, serve_standing};
 use clocks::ProgramClock;
-use config_file::{read_bytes, read_file_text};
+use config_file::{FileFault, read_bytes, read_file_text};
 use counted_io::Counted;
 use fault_lines::{DONE, FAULT};
 use file_opening::Opener;
 use gate_config::Settings;
+use gate_desk::LameDuck;
 use limiter_core::Counters;
 use log::Log;
 use operator_calls::host_name;
@@ -49,12 +53,18 @@ pub struct Service<'a> {
     /// How long a client may take to send its request, and again to take its answer, in
     /// milliseconds: 1 to 3,600,000.
     pub client_timeout_ms: u32,
+    /// How long a call of the backend may take, from its connect to the end of its answer, in
+    /// milliseconds: 1 to 3,600,000; as long as the backend takes without it.
+    pub backend_timeout_ms: Option<u32>,
     /// How many seconds there are from one line of the report to the next, 1 to 3,600; there is
     /// none without it.
     pub report_seconds: Option<u32>,
     /// A loopback address at which an operator looks at the gateway and changes it; there is none
     /// without it.
     pub admin: Option<SocketAddrV4>,
+    /// Any address of this machine at which whoever comes looks at the gateway's state, and changes
+    /// nothing; there is none without it.
+    pub status: Option<SocketAddrV4>,
 }
 
 /// Serves clients by the configuration in the file that is opened at the path, and at the end of
@@ -91,8 +101,8 @@ where
 
     // The line of counters is written, and nothing else.
     ensures served { result ≡ 0 → HasServed (F.opened service.now.path.now) F.File.remaining
-        B.bound W.contents service.now.admin service.now.workers service.now.per_worker
-        writer.old writer.new }
+        B.bound W.contents service.now.admin service.now.status service.now.workers
+        service.now.per_worker writer.old writer.new }
     ensures quiet { result ≡ 0 → errors.new ≡ errors.old }
 
     // The first fault is reported.
@@ -100,7 +110,7 @@ where
         × IsTold E.contents errors.old errors.new (fault_line (service_fault_text fault))
         × IsWhyOfService (F.unopened service.now.path.now)
         (F.opened service.now.path.now) F.File.remaining
-        (λ s. IsOfServing B.bound B.unbound s.listen service.now.admin
+        (λ s. IsOfServing B.bound B.unbound s.listen service.now.admin service.now.status
         (refused_of spawner.old) (refused_of spawner.new)) writer.old writer.new fault }
 {
     match serve_and_count(rt, spawner, files, addresses, alloc, service, writer) {
@@ -133,14 +143,14 @@ where
     requires some { 1 ≤ service.now.workers }
     requires few { service.now.workers ≤ 64 }
     ensures served { OnOk result (HasServed (F.opened service.now.path.now) F.File.remaining
-        B.bound W.contents service.now.admin service.now.workers service.now.per_worker
-        writer.old writer.new) }
+        B.bound W.contents service.now.admin service.now.status service.now.workers
+        service.now.per_worker writer.old writer.new) }
     ensures refused { IfErr result (IsWhyOfService (F.unopened service.now.path.now)
         (F.opened service.now.path.now) F.File.remaining
-        (λ s. IsOfServing B.bound B.unbound s.listen service.now.admin
+        (λ s. IsOfServing B.bound B.unbound s.listen service.now.admin service.now.status
         (refused_of spawner.old) (refused_of spawner.new)) writer.old writer.new) }
 {
-    let text = read_file_text(files, alloc, service.path)?;
+    let text = read_config(rt, files, alloc, service.path)?;
     let settings = read_bytes(alloc, &text)?;
     let text = ConfigText::new(text);
     let counters = serve_settings(
@@ -148,6 +158,28 @@ where
     )?;
     write_counters(writer, &counters)?;
     Ok(())
+}
+
+/// The text of the configuration in the file that is opened at a path. Where that can't be read,
+/// the log has the path and the system's reason.
+fn read_config<R: Log, F: Opener>(
+    rt: &R,
+    files: &F,
+    alloc: Global,
+    path: &str,
+) -> Result<Vec<u8>, FileFault>
+    ensures text { IfOk result (λ text. (before : CountedValue F.File)
+        × (after : CountedValue F.File) × F.opened path.now (inner_of before)
+        × Held F.File.remaining before text.items
+        × (failures_of after ≡ failures_of before)) }
+    ensures refused { IfErr result
+        (IsUnreadFile (F.unopened path.now) (F.opened path.now) F.File.remaining) }
+{
+    let text = read_file_text(files, alloc, path);
+    if let Err(FileFault::Read) = &text {
+        log_unread(rt, files, alloc, path);
+    }
+    text
 }
 
 /// Serves by these settings, which are those of the text.
@@ -177,25 +209,45 @@ where
     requires few { service.now.workers ≤ 64 }
     ensures front { OnOk result (IsBound B.bound settings.now.listen) }
     ensures operator { OnOk result (IsBoundToo B.bound service.now.admin) }
+    ensures status { OnOk result (IsBoundToo B.bound service.now.status) }
     ensures counted { IfOk result (AreCountersOfRuns any_rules (making_of settings.now)
         (λ own. Says text.now.bytes.items (Ok own)) service.now.workers service.now.per_worker) }
     ensures refused { IfErr result (IsOfServing B.bound B.unbound settings.now.listen
-        service.now.admin (refused_of spawner.old) (refused_of spawner.new)) }
+        service.now.admin service.now.status
+        (refused_of spawner.old) (refused_of spawner.new)) }
 {
     let front = bind(rt, addresses, settings.listen.socket())?;
     let admin = bind_admin(rt, addresses, alloc, service.admin)?;
+    let status = bind_status(rt, addresses, service.status)?;
     log_listening(rt, files, alloc, settings, service.workers);
     let clock = ProgramClock::start(rt);
-    let watch = Watcher::new(rt, alloc, service.workers);
+    let watch = make_watch(rt, alloc, &clock, service)?;
     let standing = Standing {
         front: &front,
         admin: &admin,
+        status: &status,
         text,
         clock: &clock,
+        lame_duck: &LameDuck::new(),
         watch: &watch,
         alloc,
     };
     Ok(serve_standing(rt, spawner, &standing, settings, service)?)
+}
+
+/// What notes and logs what happens. It fails only out of memory.
+fn make_watch<'a, R: SystemClock>(
+    rt: &'a R,
+    alloc: Global,
+    clock: &'a ProgramClock<&'a R>,
+    service: &Service<'_>,
+) -> Result<Watcher<'a, R>, ServiceFault>
+    ensures lacking { IfErr result (λ fault. fault ≡ Memory) }
+{
+    match Watcher::new(rt, alloc, clock, service.workers, service.report_seconds) {
+        Ok(watch) => Ok(watch),
+        Err(_) => Err(ServiceFault::Memory),
+    }
 }
 
 /// What listens at an address; where it can't be bound, the log has the system's reason.
@@ -236,6 +288,23 @@ fn bind_admin<R: Log, B: Binder>(
     let listener = bind(rt, addresses, address)?;
     log_admin(rt, address);
     Ok(Some(AdminAddress { listener, host }))
+}
+
+/// What listens at the address of whoever looks at the state, where there is one; the log says so.
+fn bind_status<R: Log, B: Binder>(
+    rt: &R,
+    addresses: &B,
+    address: Option<SocketAddrV4>,
+) -> Result<Option<B::Bound>, ServiceFault>
+    ensures bound { OnOk result (IsBoundToo B.bound address) }
+    ensures unbound { IfErr result (λ fault. (fault ≡ Listen) × IsUnboundToo B.unbound address) }
+{
+    let Some(address) = address else {
+        return Ok(None);
+    };
+    let listener = bind(rt, addresses, address)?;
+    log_status(rt, address);
+    Ok(Some(listener))
 }
 
 /// Tells a fault, and answers the status after it.

@@ -29,4 +29,9 @@ impl<R: SystemClock + Log + Wait> DeskWatch for DeskLog<'_, R> {
     fn draining(&self) {
         warn!(self.rt; target: "admission", "the operator drains the gateway");
     }
+
+    fn draining_after(&self, delay_ms: u32) {
+        warn!(self.rt; target: "admission", after_ms = delay_ms;
+            "the operator drains the gateway");
+    }
 }

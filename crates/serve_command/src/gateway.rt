@@ -1,6 +1,6 @@
 // The gate of a configuration, and its workers.
 ghost use Rattle.std.specs.Prelude.{◌≡◌, ◌≤◌, ◌+◌, [], ◌∷◌, map, replicate, vec_len};
-ghost use Rattle.std.specs.Prelude.{All, IfOk, IsErrOf, if◌then◌else◌, option_to_list};
+ghost use Rattle.std.specs.Prelude.{All, IfOk, IsErrOf, OnOk, option_to_list};
 ghost use Rattle.counted_io.specs.Count.{raised};
 ghost use Rattle.tasks.specs.Refused.{refused_of};
 ghost use Rattle.limit_kinds.specs.AnyKinds.{any_rules};
@@ -14,16 +14,15 @@ ghost use Rattle.ports.specs.Asked.{port_in};
 ghost use Rattle.serving.specs.Workers.{ended_in};
 ghost use Rattle.serve_command.specs.Runs.{AreCountersOfRuns};
 
-use crate::desk_log::DeskLog;
+use crate::admin::Beside;
+use crate::operators::make_operators;
 use clocks::Clock;
 use gate_config::Settings;
-use gate_desk::{GateDesk, Operator};
 use gate_history::Blanks;
 use gate_opening::open_gate;
 use limit_laws::Limit;
 use limiter_core::Counters;
 use log::Log;
-use operator_serving::Operating;
 use ports::{Port, View};
 use serve_reports::Watcher;
 use serving::{Left, ServeFault, Source, WorkerSettings, serve};
@@ -33,7 +32,7 @@ use std::marker::Brand;
 use std::net::Net;
 use std::sync::Wait;
 use std::thread::Threads;
-use std::time::{Clock as SystemClock, Duration};
+use std::time::Clock as SystemClock;
 use tasks::Spawner;
 use timed_io::Listener;
 
@@ -45,7 +44,7 @@ pub(crate) fn serve_gateway<R, L, C, S>(
     common: &WorkerSettings<'_, L, C, S, Watcher<'_, R>>,
     settings: &Settings,
     workers: usize,
-    operating: Option<&Operating<'_, L, C>>,
+    beside: &Beside<'_, L, C>,
 ) -> Result<Counters, ServeFault>
 where
     R: Net + Threads + Wait + SystemClock + Log + Sync,
@@ -67,9 +66,7 @@ where
 {
     let word = Word::new(common.alloc)?;
     let blanks = Blanks::new();
-    serve_named::<Brand, R, L, C, S>(
-        rt, spawner, common, settings, workers, operating, blanks, word,
-    )
+    serve_named::<Brand, R, L, C, S>(rt, spawner, common, settings, workers, beside, blanks, word)
 }
 
 /// Serves clients through the gate of the settings, which has these names.
@@ -79,7 +76,7 @@ fn serve_named<M, R, L, C, S>(
     common: &WorkerSettings<'_, L, C, S, Watcher<'_, R>>,
     settings: &Settings,
     workers: usize,
-    operating: Option<&Operating<'_, L, C>>,
+    beside: &Beside<'_, L, C>,
     blanks: Blanks,
     word: Word,
 ) -> Result<Counters, ServeFault>
@@ -106,24 +103,29 @@ where
     ensures thread { IsErrOf result ServeFault.Thread →
         refused_of spawner.new ≡ raised (refused_of spawner.old) }
 {
-    let has_operator = operating.is_some();
-    let count = if has_operator { workers + 1 } else { workers };
-    let (gate, mut passes) = open_gate::<M>(common.alloc, settings, blanks, word, count)?;
-    let own = take_own(&mut passes, has_operator, workers);
-    serve_through(rt, spawner, common, settings, operating, &gate, passes, own)
+    let others = beside.count();
+    let (gate, mut passes) = open_gate::<M>(
+        common.alloc,
+        settings,
+        blanks,
+        word,
+        workers + others,
+    )?;
+    let own = take_own(&mut passes, workers, others)?;
+    serve_through(rt, spawner, common, settings, beside, &gate, passes, own)
 }
 
-/// Serves clients through a gate, by one worker for each pass, and operators by a pass of their
-/// own. Which limit the gate has isn't told apart here.
+/// Serves clients through a gate, by one worker for each pass, and those at the addresses beside
+/// theirs by passes of their own. Which limit the gate has isn't told apart here.
 fn serve_through<M, R, G, L, C, S>(
     rt: &R,
     spawner: &mut Spawner<'_, R>,
     common: &WorkerSettings<'_, L, C, S, Watcher<'_, R>>,
     settings: &Settings,
-    operating: Option<&Operating<'_, L, C>>,
+    beside: &Beside<'_, L, C>,
     gate: &SharedGate<G, M>,
     passes: Vec<Pass<M>>,
-    own: Option<Pass<M>>,
+    own: Vec<Pass<M>>,
 ) -> Result<Counters, ServeFault>
 where
     M: GateNaming + Send + Sync,
@@ -143,58 +145,26 @@ where
     ensures thread { IsErrOf result ServeFault.Thread →
         refused_of spawner.new ≡ raised (refused_of spawner.old) }
 {
-    let operator = make_operator(rt, common, settings, operating, gate, own)?;
+    let operators = make_operators(rt, common, settings, gate, beside, own)?;
     let kept = Vec::with_capacity(common.alloc, passes.len())?;
-    let ports = make_ports(rt, common.alloc, gate, common.clock, passes)?;
+    let ports = make_ports(rt, common.alloc, gate, common.clock, common.watch, passes)?;
     let view = View::new(rt, gate);
-    let lefts = serve(rt, spawner, common, settings, &view, ports, operator)?;
+    let lefts = serve(rt, spawner, common, settings, &view, ports, operators)?;
     let passes = passes_of(kept, lefts)?;
     Ok(gate.counters_behind(rt, passes))
 }
 
-/// The pass of an operator, where there is one: the last of so many and it.
+/// The passes behind the first ones, so many of them. It fails only out of memory.
 fn take_own<M: GateNaming>(
     passes: &mut Vec<Pass<M>>,
-    is_wanted: bool,
+    first: usize,
     others: usize,
-) -> Option<Pass<M>>
-    requires { passes.old.items ≡ replicate (if is_wanted then others + 1 else others) (pass_of 0) }
-    ensures all { vec_len passes.new ≡ others }
-    ensures unused { All (λ pass. pass.log ≡ []) passes.new.items }
+) -> Result<Vec<Pass<M>>, AllocError>
+    requires { passes.old.items ≡ replicate (first + others) (pass_of 0) }
+    ensures all { OnOk result (vec_len passes.new ≡ first) }
+    ensures unused { OnOk result (All (λ pass. pass.log ≡ []) passes.new.items) }
 {
-    if is_wanted { passes.pop() } else { None }
-}
-
-/// Who serves operators by a pass of its own, where they have an address.
-fn make_operator<'a, M: GateNaming, R: SystemClock, G: Limit, L, C, S>(
-    rt: &'a R,
-    common: &WorkerSettings<'a, L, C, S, Watcher<'a, R>>,
-    settings: &Settings,
-    operating: Option<&'a Operating<'a, L, C>>,
-    gate: &'a SharedGate<G, M>,
-    own: Option<Pass<M>>,
-) -> Result<Option<Operator<'a, G, M, R, L, C, DeskLog<'a, R>>>, AllocError> {
-    let (Some(operating), Some(pass)) = (operating, own) else {
-        return Ok(None);
-    };
-    let Ok(table) = settings.table.copy() else {
-        return Err(AllocError);
-    };
-    let watch = DeskLog {
-        rt,
-        watch: common.watch,
-    };
-    let desk = GateDesk {
-        rt,
-        gate,
-        pass,
-        watch,
-        front: common.listener,
-        clock: common.clock,
-        table,
-        most: Duration::from_nanos(common.client_timeout_ns),
-    };
-    Ok(Some(Operator::new(operating, desk)?))
+    passes.split_off(first)
 }
 
 /// A port for each pass.
@@ -203,16 +173,34 @@ fn make_ports<'a, M: GateNaming, R, G: Limit, C>(
     alloc: Global,
     gate: &'a SharedGate<G, M>,
     clock: &'a C,
+    watch: &'a Watcher<'a, R>,
     passes: Vec<Pass<M>>,
 ) -> Result<Vec<Port<'a, G, M, R, C>>, AllocError>
+where
+    R: SystemClock,
     ensures { IfOk result (λ ports.
         ports.items ≡ map (λ pass. port_in pass Nothing) passes.items) }
 {
     let mut ports = Vec::new(alloc);
     for pass in passes {
-        ports.push(Port::new(rt, gate, pass, clock))?;
+        let port = Port::new(rt, gate, pass, clock);
+        ports.push(noting(port, watch, ports.len()))?;
     }
     Ok(ports)
+}
+
+/// The port of the worker of this number, which notes for the watch when its permit was got.
+fn noting<'a, M: GateNaming, R: SystemClock, G: Limit, C>(
+    port: Port<'a, G, M, R, C>,
+    watch: &'a Watcher<'a, R>,
+    number: usize,
+) -> Port<'a, G, M, R, C>
+    ensures { result ≡ port.entry }
+{
+    match watch.moment(number) {
+        Some(since) => port.noting(since),
+        None => port,
+    }
 }
 
 /// The passes of the workers that served, in their order, into a list that is empty.

@@ -13,6 +13,7 @@ mod desk_log;
 mod fault;
 mod gateway;
 mod logging;
+mod operators;
 mod standing;
 
 pub use command::{Service, serve_file};

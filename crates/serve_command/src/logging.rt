@@ -4,6 +4,7 @@ ghost use Rattle.gate_config.specs.Settings.{AreSound};
 ghost use Rattle.serve_command.specs.Command.{most_inside};
 
 use crate::descriptors::most_descriptors;
+use config_file::why_unread;
 use file_opening::Opener;
 use gate_config::Settings;
 use limit_laws::Limit;
@@ -47,9 +48,22 @@ pub(crate) fn log_listening<R: Log, F: Opener>(
     info!(rt; target: "admission", address:%, workers, limit; "listening");
 }
 
+/// Logs why the file of the configuration can't be read, unless it is out of memory for the words.
+pub(crate) fn log_unread<R: Log, F: Opener>(rt: &R, files: &F, alloc: Global, path: &str) {
+    if let Ok(reason) = why_unread(files, alloc, path) {
+        let error = reason.as_str();
+        error!(rt; target: "admission", path:%, error:%; "the configuration can't be read");
+    }
+}
+
 /// Logs where an operator is listened for.
 pub(crate) fn log_admin<R: Log>(rt: &R, address: SocketAddrV4) {
     info!(rt; target: "admission", address:%; "listening for the operator");
+}
+
+/// Logs where whoever looks at the state is listened for.
+pub(crate) fn log_status<R: Log>(rt: &R, address: SocketAddrV4) {
+    info!(rt; target: "admission", address:%; "listening for looks at the state");
 }
 
 /// Logs why an address can't be bound.

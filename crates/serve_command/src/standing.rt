@@ -8,12 +8,13 @@ ghost use Rattle.config_file.specs.Reading.{Says};
 ghost use Rattle.gate_opening.specs.Opening.{making_of};
 ghost use Rattle.serve_command.specs.Runs.{AreCountersOfRuns};
 
-use crate::admin::{AdminAddress, listener_of, operating_at};
+use crate::admin::{AdminAddress, Beside, listener_of};
 use crate::command::Service;
 use crate::config_text::ConfigText;
 use crate::gateway::serve_gateway;
 use clocks::ProgramClock;
 use gate_config::Settings;
+use gate_desk::LameDuck;
 use limiter_core::Counters;
 use log::Log;
 use serve_reports::Watcher;
@@ -29,9 +30,6 @@ use timed_io::Listener;
 /// The nanoseconds of a millisecond.
 const MILLI: u64 = 1_000_000;
 
-/// The nanoseconds of a second.
-const SECOND: u64 = 1_000_000_000;
-
 /// What is had before a gate is opened, and outlasts it.
 #[derive(Drop)]
 pub(crate) struct Standing<'a, R: SystemClock, L> {
@@ -39,10 +37,14 @@ pub(crate) struct Standing<'a, R: SystemClock, L> {
     pub(crate) front: &'a L,
     /// Where an operator comes from, where there is an address for one.
     pub(crate) admin: &'a Option<AdminAddress<L>>,
+    /// Where whoever looks comes from, where there is an address for that.
+    pub(crate) status: &'a Option<L>,
     /// The text of the configuration.
     pub(crate) text: &'a ConfigText,
     /// The clock of the gate's moments and of deadlines.
     pub(crate) clock: &'a ProgramClock<&'a R>,
+    /// When the gateway is to be drained.
+    pub(crate) lame_duck: &'a LameDuck,
     /// What notes and logs what happens.
     pub(crate) watch: &'a Watcher<'a, R>,
     pub(crate) alloc: Global,
@@ -75,27 +77,28 @@ where
 {
     let client_timeout_ns = u64::from(service.client_timeout_ms) * MILLI;
     let (alloc, clock) = (standing.alloc, standing.clock);
-    let operating = operating_at(alloc, standing.admin, clock, client_timeout_ns);
+    let (admin, status) = (standing.admin, standing.status);
+    let beside = Beside::new(alloc, admin, status, clock, standing.lame_duck);
     let common = WorkerSettings {
         listener: standing.front,
-        beside: listener_of(standing.admin),
+        beside: listener_of(admin, status),
         source: standing.text,
         clock,
         per_worker: u64::from(service.per_worker),
         client_timeout_ns,
-        report_every_ns: report_time(service.report_seconds),
+        backend_timeout_ns: call_time(service.backend_timeout_ms),
+        report_every_ns: Some(standing.watch.pace().look_ns),
         watch: standing.watch,
         alloc,
     };
     let workers = service.workers as usize;
-    let operating = operating.as_ref();
-    serve_gateway(rt, spawner, &common, settings, workers, operating)
+    serve_gateway(rt, spawner, &common, settings, workers, &beside)
 }
 
-/// So many seconds in nanoseconds.
-fn report_time(seconds: Option<u32>) -> Option<u64> {
-    match seconds {
-        Some(seconds) => Some(u64::from(seconds) * SECOND),
+/// So many milliseconds in nanoseconds.
+fn call_time(millis: Option<u32>) -> Option<u64> {
+    match millis {
+        Some(millis) => Some(u64::from(millis) * MILLI),
         None => None,
     }
 }

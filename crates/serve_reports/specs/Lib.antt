@@ -1,4 +1,6 @@
 pub mod CountersLine
+pub mod Outstanding
+pub mod Pace
 pub mod Report
 pub mod Spells
 pub mod Tally

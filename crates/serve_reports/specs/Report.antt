@@ -61,7 +61,7 @@ answers_text t = concat (
     codes " 400=" ∷ decimal t.bad_request ∷ codes " 413=" ∷ decimal t.too_large
     ∷ codes " 429=" ∷ decimal t.refused ∷ codes " 431=" ∷ decimal t.head_too_large
     ∷ codes " 500=" ∷ decimal t.out_of_memory ∷ codes " 501=" ∷ decimal t.not_taken
-    ∷ codes " 502=" ∷ decimal t.bad_gateway ∷ [])
+    ∷ codes " 502=" ∷ decimal t.bad_gateway ∷ codes " 504=" ∷ decimal t.timed_out ∷ [])
 
 -- THE TEXT OF A REPORT
 abbrev pub report_text : Report → Workers → List Row → AnswerTally → List ℕ

@@ -11,6 +11,11 @@ abbrev pub is_due : Option ℕ → ℕ → Bool
 is_due None now = true
 is_due (Some last) now = nat_le spell_length (now - last)
 
+-- a minute is over since something was told, or it never was
+abbrev pub is_minute_over : Option ℕ → ℕ → Bool
+is_minute_over None now = true
+is_minute_over (Some last) now = nat_le 60000000000 (now - last)
+
 -- one more, up to the greatest count
 abbrev pub once_more : ℕ → ℕ
 once_more count = min (count + 1) (2 ^ 64 - 1)

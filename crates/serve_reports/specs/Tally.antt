@@ -13,12 +13,16 @@ counted_at status t =
     if nat_eq status 431 then record t { head_too_large = raised t.head_too_large } else (
     if nat_eq status 500 then record t { out_of_memory = raised t.out_of_memory } else (
     if nat_eq status 501 then record t { not_taken = raised t.not_taken } else (
-    if nat_eq status 502 then record t { bad_gateway = raised t.bad_gateway } else t))))))
+    if nat_eq status 502 then record t { bad_gateway = raised t.bad_gateway } else (
+    if nat_eq status 504 then record t { timed_out = raised t.timed_out } else t)))))))
 
 abbrev pub counted_answer : Option ℕ → AnswerTally → AnswerTally
 counted_answer None t = t
 counted_answer (Some status) t = counted_at status t
 
--- A TALLY AFTER AN EXCHANGE: one more of its status, where the answer is the gateway's own
+-- A TALLY AFTER AN EXCHANGE: one more who sent nothing, and no answer; or one more of its status,
+-- where the answer is the gateway's own
 abbrev pub counted : Exchange → AnswerTally → AnswerTally
-counted x t = if x.is_own then counted_answer x.answer t else t
+counted x t =
+    if x.is_empty then record t { empty = raised t.empty }
+    else (if x.is_own then counted_answer x.answer t else t)

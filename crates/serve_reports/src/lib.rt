@@ -2,13 +2,16 @@
 //!
 //! A [`Watcher`] hears of each exchange and trouble, and logs what is to be logged. A [`Spell`]
 //! tells what happens often once in ten seconds, with how often it happened. An [`AnswerTally`]
-//! counts the gateway's own answers. [`report_text`] makes the text of a report, as the log has it
-//! every so often, and [`write_counters`] writes the line of a gate's counters at the end, without
-//! memory. `specs/` has both texts.
+//! counts the gateway's own answers, and [`Moments`] know since when permits are out.
+//! [`report_text`] makes the text of a report, as the log has it every so often, and
+//! [`write_counters`] writes the line of a gate's counters at the end, without memory. `specs/` has
+//! both texts.
 #![tactic(auto)]
 
 mod counters_line;
 mod noted;
+mod outstanding;
+mod pace;
 mod report_line;
 mod spell;
 mod tally;
@@ -17,6 +20,8 @@ mod workers;
 
 pub use counters_line::write_counters;
 pub use noted::{Noted, Troubles};
+pub use outstanding::{Moments, Outstanding};
+pub use pace::Pace;
 pub use report_line::report_text;
 pub use spell::Spell;
 pub use tally::AnswerTally;

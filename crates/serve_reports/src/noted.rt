@@ -1,4 +1,5 @@
 // What was noted while serving.
+use crate::outstanding::Outstanding;
 use crate::tally::AnswerTally;
 use crate::workers::Workers;
 
@@ -9,6 +10,8 @@ pub struct Troubles {
     pub unreached: u64,
     /// The backend's answer couldn't be passed on.
     pub broken: u64,
+    /// The backend's answer wasn't there in time.
+    pub late: u64,
     /// No descriptor was free for a connection.
     pub without_descriptor: u64,
     /// The last free worker was taken.
@@ -24,6 +27,8 @@ pub struct Noted {
     pub troubles: Troubles,
     /// How many workers serve a client at this moment.
     pub workers: Workers,
+    /// How old the permits are that haven't ended.
+    pub outstanding: Outstanding,
     /// For how many whole seconds it has served.
     pub seconds: u64,
 }

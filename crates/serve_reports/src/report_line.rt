@@ -148,9 +148,9 @@ fn push_answers(text: &mut String, answers: &AnswerTally) -> Result<(), AllocErr
     let (bad, large, refused) = (answers.bad_request, answers.too_large, answers.refused);
     write!(text, " 400={bad} 413={large} 429={refused}")?;
     let (head, memory) = (answers.head_too_large, answers.out_of_memory);
-    let (not_taken, gateway) = (answers.not_taken, answers.bad_gateway);
+    let (not_taken, gateway, late) = (answers.not_taken, answers.bad_gateway, answers.timed_out);
     write!(
         text,
-        " 431={head} 500={memory} 501={not_taken} 502={gateway}"
+        " 431={head} 500={memory} 501={not_taken} 502={gateway} 504={late}"
     )
 }

@@ -23,14 +23,21 @@ pub struct AnswerTally {
     pub not_taken: u64,
     /// 502: the backend can't be reached, or its answer can't be passed on.
     pub bad_gateway: u64,
+    /// 504: the backend's answer wasn't there in time.
+    pub timed_out: u64,
+    /// No answer is counted: a client ended what it sends before a byte of a request, and 400 was
+    /// written to nobody.
+    pub empty: u64,
 }
 
 impl AnswerTally {
-    /// Counts an exchange, where its answer is the gateway's own.
+    /// Counts an exchange, where its answer is the gateway's own, or its client sent nothing.
     pub fn count(&mut self, exchange: &Exchange)
         ensures { self.new ≡ counted exchange.now self.old }
     {
-        if exchange.is_own {
+        if exchange.is_empty {
+            raise(&mut self.empty);
+        } else if exchange.is_own {
             if let Some(status) = exchange.answer {
                 self.count_at(status);
             }
@@ -49,6 +56,7 @@ impl AnswerTally {
             500 => raise(&mut self.out_of_memory),
             501 => raise(&mut self.not_taken),
             502 => raise(&mut self.bad_gateway),
+            504 => raise(&mut self.timed_out),
             _ => {}
         }
     }

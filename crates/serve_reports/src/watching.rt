@@ -1,5 +1,10 @@
 // What the log says while a gateway serves.
+ghost use Rattle.std.specs.Prelude.{◌≡◌};
+ghost use Rattle.serve_reports.specs.Spells.{is_minute_over};
+
 use crate::noted::{Noted, Troubles};
+use crate::outstanding::{Moments, Outstanding};
+use crate::pace::Pace;
 use crate::report_line::report_text;
 use crate::spell::Spell;
 use crate::tally::AnswerTally;
@@ -9,9 +14,9 @@ use gate_port::Report;
 use log::{Log, info, warn};
 use partitions::PartitionTable;
 use proxy::{Exchange, Watch};
-use std::alloc::Global;
+use std::alloc::{AllocError, Global};
 use std::io::Error;
-use std::sync::atomic::{AtomicU32, Ordering};
+use std::sync::atomic::{AtomicU32, AtomicU64, Ordering};
 use std::sync::{Mutex, Wait};
 use std::time::Clock as SystemClock;
 use tcp_backend::BackendWatch;
@@ -19,6 +24,9 @@ use wire::WireFault;
 
 /// The nanoseconds of a second.
 const SECOND: u64 = 1_000_000_000;
+
+/// Those of a minute.
+const MINUTE: u64 = 60 * SECOND;
 
 /// The system's numbers of the faults that say that no descriptor was free: of the whole system,
 /// and of this program.
@@ -32,8 +40,11 @@ struct Notes {
     answers: AnswerTally,
     unreached: Spell,
     broken: Spell,
+    late: Spell,
     without_descriptor: Spell,
     all_taken: Spell,
+    // When the log last told of old permits, by the watcher's clock in nanoseconds.
+    old_told: Option<u64>,
 }
 
 impl Notes {
@@ -42,6 +53,7 @@ impl Notes {
         Troubles {
             unreached: self.unreached.total(),
             broken: self.broken.total(),
+            late: self.late.total(),
             without_descriptor: self.without_descriptor.total(),
             all_taken: self.all_taken.total(),
         }
@@ -49,35 +61,63 @@ impl Notes {
 }
 
 /// Logs what workers and their backends meet: a trouble at most once in ten seconds, with how often
-/// it came since it was last told, and the state as often as it is asked to.
+/// it came since it was last told, permits that are out for a minute once a minute, and the state
+/// as often as it is asked to.
 #[derive(Drop)]
 pub struct Watcher<'a, R: SystemClock> {
     rt: &'a R,
     alloc: Global,
-    clock: ProgramClock<&'a R>,
+    // That of the gate's moments too.
+    clock: &'a ProgramClock<&'a R>,
     notes: Mutex<Notes>,
     workers: u32,
     busy: AtomicU32,
+    moments: Moments,
+    pace: Pace,
+    looks: AtomicU64,
 }
 
 impl<'a, R: SystemClock> Watcher<'a, R> {
-    /// Nothing has been noted, and so many workers are free.
-    pub fn new(rt: &'a R, alloc: Global, workers: u32) -> Watcher<'a, R> {
+    /// Nothing has been noted, and so many workers are free. The state is logged every so many
+    /// seconds, or never without them. It fails only out of memory.
+    pub fn new(
+        rt: &'a R,
+        alloc: Global,
+        clock: &'a ProgramClock<&'a R>,
+        workers: u32,
+        report_seconds: Option<u32>,
+    ) -> Result<Watcher<'a, R>, AllocError> {
         let notes = Notes {
             answers: AnswerTally::default(),
             unreached: Spell::new(),
             broken: Spell::new(),
+            late: Spell::new(),
             without_descriptor: Spell::new(),
             all_taken: Spell::new(),
+            old_told: None,
         };
-        Watcher {
+        Ok(Watcher {
             rt,
             alloc,
-            clock: ProgramClock::start(rt),
+            clock,
             notes: Mutex::new(notes),
             workers,
             busy: AtomicU32::new(0),
-        }
+            moments: Moments::new(alloc, workers)?,
+            pace: Pace::new(report_seconds),
+            looks: AtomicU64::new(0),
+        })
+    }
+
+    /// Where the worker of this number, from 0 on, notes since when it has a permit, by the clock
+    /// of the gate's moments.
+    pub fn moment(&self, number: usize) -> Option<&AtomicU64> {
+        self.moments.place(number)
+    }
+
+    /// How often it is to be told of the state.
+    pub fn pace(&self) -> &Pace {
+        &self.pace
     }
 
     /// How many workers serve a client, and of how many.
@@ -93,11 +133,13 @@ impl<R: SystemClock + Log + Wait> Watcher<'_, R> {
     /// What was noted so far.
     pub fn noted(&self) -> Noted {
         let notes = *self.notes.lock(self.rt);
+        let now = self.clock.now();
         Noted {
             answers: notes.answers,
             troubles: notes.troubles(),
             workers: self.workers(),
-            seconds: self.clock.now() / SECOND,
+            outstanding: self.moments.outstanding(now),
+            seconds: now / SECOND,
         }
     }
 
@@ -121,6 +163,41 @@ impl<R: SystemClock + Log + Wait> Watcher<'_, R> {
     }
 }
 
+impl<R: SystemClock + Log + Wait> Watcher<'_, R> {
+    /// Tells the log of permits that are old, where there are some and it wasn't told for a minute.
+    fn tell_old(&self) {
+        let now = self.clock.now();
+        let Outstanding {
+            oldest_seconds,
+            old,
+        } = self.moments.outstanding(now);
+        if old > 0 && self.may_tell_old(now) {
+            warn!(self.rt; target: "admission", count = old, oldest_seconds;
+                "permits are older than a minute");
+        }
+    }
+
+    /// Whether the log wasn't told of old permits for a minute; it is now.
+    fn may_tell_old(&self, now: u64) -> bool {
+        let mut notes = self.notes.lock(self.rt);
+        let is_due = is_minute_over(notes.old_told, now);
+        if is_due {
+            notes.old_told = Some(now);
+        }
+        is_due
+    }
+}
+
+/// Whether a minute is over since something was told, or it never was.
+fn is_minute_over(told: Option<u64>, now: u64) -> bool
+    ensures { result ≡ is_minute_over told now }
+{
+    match told {
+        Some(told) => MINUTE <= now.saturating_sub(told),
+        None => true,
+    }
+}
+
 impl<R: SystemClock + Log + Wait> Watch for Watcher<'_, R> {
     fn accepted(&self) {
         let others = self.busy.fetch_add(1, Ordering::SeqCst);
@@ -136,6 +213,10 @@ impl<R: SystemClock + Log + Wait> Watch for Watcher<'_, R> {
         }
     }
 
+    fn has_free_worker(&self) -> bool {
+        self.busy.load(Ordering::SeqCst) < self.workers
+    }
+
     fn unaccepted(&self, error: &Error) {
         if lacks_descriptor(error) {
             self.lack_descriptor(error);
@@ -143,6 +224,11 @@ impl<R: SystemClock + Log + Wait> Watch for Watcher<'_, R> {
     }
 
     fn report(&self, table: &PartitionTable, report: &Report) {
+        self.tell_old();
+        let look = self.looks.fetch_add(1, Ordering::SeqCst).saturating_add(1);
+        if !self.pace.is_due(look) {
+            return;
+        }
         let answers = self.notes.lock(self.rt).answers;
         let workers = self.workers();
         if let Ok(text) = report_text(self.alloc, report, &workers, table, &answers) {
@@ -169,6 +255,14 @@ impl<R: SystemClock + Log + Wait> BackendWatch for Watcher<'_, R> {
         if let Some(count) = told {
             let cause = cause_of(fault);
             warn!(self.rt; target: "admission", count, cause; "the backend broke an answer");
+        }
+    }
+
+    fn late(&self) {
+        let now = self.clock.now();
+        let told = self.notes.lock(self.rt).late.note(now);
+        if let Some(count) = told {
+            warn!(self.rt; target: "admission", count; "the backend didn't answer in time");
         }
     }
 }

@@ -1,8 +1,9 @@
 -- Many workers.
 use Rattle.std.proofs.Common.{◌≡◌, ℕ, Bool, true, false, List, [], ◌∷◌, ◌++◌}
-use Rattle.std.proofs.Common.{Option, None, Some, IfSome, Result, Ok, Err, IfOk, ap, sym, subst, arith}
-use Rattle.std.proofs.Common.{option_to_list, true≢false}
+use Rattle.std.proofs.Common.{All, Option, None, Some, Result, Ok, Err, IfOk, ap, sym, subst, arith}
+use Rattle.std.proofs.Common.{true≢false}
 use Rattle.std.specs.List.{AllZip, list_all}
+use Rattle.std.proofs.lemmas.List.Elements.{All-cons, All-nil}
 use Rattle.gate_config.specs.declared.settings.Settings.{Settings}
 use Rattle.limiter_core.specs.declared.event.Entry.{Entry}
 use Rattle.gate_port.specs.Shown.{Shown}
@@ -51,6 +52,24 @@ no_task {A} {P} {B} {T} (job.Beside task ∷ jobs) h none =
     ap (λ (ts : List T). task ∷ ts) (no_task jobs h none)
 no_task (job.Worker context worker ∷ jobs) h none = no_task jobs h none
 
+-- one more task beside them
+pub one_task : {A P B T X : Type 0} (jobs : List (Job A P B T X)) (h : Job A P B T X) (t : T)
+    → tasks_in (h ∷ []) ≡ t ∷ [] → tasks_in (jobs ++ h ∷ []) ≡ tasks_in jobs ++ t ∷ []
+one_task [] h t same = same
+one_task (job.Reporter context every ∷ jobs) h t same = one_task jobs h t same
+one_task {A} {P} {B} {T} (job.Beside task ∷ jobs) h t same =
+    ap (λ (ts : List T). task ∷ ts) (one_task jobs h t same)
+one_task (job.Worker context worker ∷ jobs) h t same = one_task jobs h t same
+
+-- the workers among them are the same
+pub no_worker : {A P B T X : Type 0} (jobs : List (Job A P B T X)) (h : Job A P B T X)
+    → workers_in (h ∷ []) ≡ [] → workers_in (jobs ++ h ∷ []) ≡ workers_in jobs
+no_worker [] h none = none
+no_worker (job.Reporter context every ∷ jobs) h none = no_worker jobs h none
+no_worker (job.Beside task ∷ jobs) h none = no_worker jobs h none
+no_worker {A} {P} {B} (job.Worker context worker ∷ jobs) h none =
+    ap (λ (ws : List (Worker A P B)). worker ∷ ws) (no_worker jobs h none)
+
 pub one_within : {A P B T X : Type 0} (x : X) (jobs : List (Job A P B T X))
     (h : Job A P B T X)
     → AreWithin x jobs → AreWithin x (h ∷ []) → AreWithin x (jobs ++ h ∷ [])
@@ -66,16 +85,6 @@ pub on_ok : {T E : Type 0} (r : Result T E) (P Q : T → Type 0) → IfOk r P
 on_ok (Ok v) P Q p f = f v p
 on_ok (Err e) P Q p f = tt
 
--- each of them has it
-abbrev Each : {T : Type 0} → (T → Type 0) → List T → Type 0
-Each P [] = Unit {0}
-Each P (t ∷ ts) = P t × Each P ts
-
-the_one : {T : Type 0} (P : T → Type 0) (task : Option T) → Each P (option_to_list task)
-    → IfSome task P
-the_one P None each = tt
-the_one P (Some task) each = each.0
-
 module _ {A P B T S R G L C W : Type 0} (given failed : A → ℕ) (closed : A → Bool)
     (visits : A → Option Visits) (shown : P → Option Shown) (known : P → Option (List Entry))
     (forwarded : B → ℕ) (log : B → Option (List Forwarded))
@@ -84,23 +93,24 @@ module _ {A P B T S R G L C W : Type 0} (given failed : A → ℕ) (closed : A �
   Made = Makes given failed closed visits shown known forwarded log gives lacks made
 
   made_in : (jobs : List (Job A P B T (Context R G L C S W))) (lefts : List (Left A P B))
-      → AllZip Made jobs lefts → Each made (tasks_in jobs)
-  made_in [] [] all = tt
+      → AllZip Made jobs lefts → All made (tasks_in jobs)
+  made_in [] [] all = All-nil made
   made_in [] (l ∷ ls) all = absurd all
   made_in (h ∷ hs) [] all = absurd all
   made_in (job.Reporter context every ∷ hs) (l ∷ ls) all = made_in hs ls all.1
   made_in (job.Beside task ∷ hs) (left.Unbegun ∷ ls) all = absurd all.0
   made_in (job.Beside task ∷ hs) (left.Reported ∷ ls) all = absurd all.0
-  made_in (job.Beside task ∷ hs) (left.Beside ∷ ls) all = (all.0, made_in hs ls all.1)
+  made_in (job.Beside task ∷ hs) (left.Beside ∷ ls) all =
+      All-cons made task (tasks_in hs) all.0 (made_in hs ls all.1)
   made_in (job.Beside task ∷ hs) (left.Worked ended ∷ ls) all = absurd all.0
   made_in (job.Worker context worker ∷ hs) (l ∷ ls) all = made_in hs ls all.1
 
-  -- what the task beside them made, where there is one
-  pub all_made : (task : Option T) (jobs : List (Job A P B T (Context R G L C S W)))
-      (lefts : List (Left A P B)) → tasks_in jobs ≡ option_to_list task → AllZip Made jobs lefts
-      → IfSome task made
-  all_made task jobs lefts same all =
-      the_one made task (subst (λ (ts : List T). Each made ts) same (made_in jobs lefts all))
+  -- what the tasks beside them made
+  pub all_made : (tasks : List T) (jobs : List (Job A P B T (Context R G L C S W)))
+      (lefts : List (Left A P B)) → tasks_in jobs ≡ tasks → AllZip Made jobs lefts
+      → All made tasks
+  all_made tasks jobs lefts same all =
+      subst (λ (ts : List T). All made ts) same (made_in jobs lefts all)
 
 module _ {A P B T S R G L C W : Type 0} (given failed : A → ℕ) (closed : A → Bool)
     (visits : A → Option Visits) (shown : P → Option Shown) (known : P → Option (List Entry))
@@ -111,11 +121,11 @@ module _ {A P B T S R G L C W : Type 0} (given failed : A → ℕ) (closed : A �
   Worked = HasWorked given failed closed visits shown known forwarded log gives lacks
       x.common.now.source.now x.common.now.per_worker
 
-  abbrev All : List (Job A P B T (Context R G L C S W)) → List (Left A P B) → Type 0
-  All = AllZip (Made given failed closed visits shown known forwarded log gives lacks made)
+  abbrev AllDone : List (Job A P B T (Context R G L C S W)) → List (Left A P B) → Type 0
+  AllDone = AllZip (Made given failed closed visits shown known forwarded log gives lacks made)
 
   worked_in : (jobs : List (Job A P B T (Context R G L C S W))) (lefts : List (Left A P B))
-      → All jobs lefts → AreWithin x jobs → list_all has_begun lefts ≡ true
+      → AllDone jobs lefts → AreWithin x jobs → list_all has_begun lefts ≡ true
       → AllZip Worked (workers_in jobs) (ended_in lefts)
   worked_in [] [] all within begun = tt
   worked_in [] (l ∷ ls) all within begun = absurd all
@@ -149,7 +159,7 @@ module _ {A P B T S R G L C W : Type 0} (given failed : A → ℕ) (closed : A �
   -- what the workers leave, where all jobs began in the same context
   pub all_worked : (workers : List (Worker A P B))
       (jobs : List (Job A P B T (Context R G L C S W))) (lefts : List (Left A P B))
-      → workers_in jobs ≡ workers → All jobs lefts → AreWithin x jobs
+      → workers_in jobs ≡ workers → AllDone jobs lefts → AreWithin x jobs
       → list_all has_begun lefts ≡ true → AllZip Worked workers (ended_in lefts)
   all_worked workers jobs lefts same all within begun =
       subst (λ (ws : List (Worker A P B)). AllZip Worked ws (ended_in lefts)) same
@@ -166,16 +176,18 @@ from shown known given failed closed port count = record {
   back = record { shown = shown port; known = known port; count = count; log = None };
 }
 
-module _ {R L C S W V P : Type 0} (gives : S → Settings → Type 0) (lacks : S → Type 0)
+module _ {R T L C S W V P : Type 0} (gives : S → Settings → Type 0) (lacks : S → Type 0)
     (shown : P → Option Shown) (known : P → Option (List Entry))
     (common : WorkerSettings L C S W) where
-  abbrev Did : Worker (Door L W) P (TcpBackend R V) → Ended (Door L W) P (TcpBackend R V) → Type 0
+  abbrev Did : Worker (Door L W) P (TcpBackend R T V C)
+      → Ended (Door L W) P (TcpBackend R T V C) → Type 0
   Did = HasWorked given_of failed_of is_closed (λ _. None) shown known count_of (λ _. None) gives
       lacks common.source.now common.per_worker
 
-  ran : (port : P) (worker : Worker (Door L W) P (TcpBackend R V))
-      (ended : Ended (Door L W) P (TcpBackend R V))
-      → Begins port worker → Did worker ended → HasRun gives shown known common port ended
+  ran : (port : P) (worker : Worker (Door L W) P (TcpBackend R T V C))
+      (ended : Ended (Door L W) P (TcpBackend R T V C))
+      → Begins common.backend_timeout_ns port worker → Did worker ended
+      → HasRun gives shown known common port ended
   ran port worker ended begins did =
       let s = did.settings in
       let most = common.per_worker in
@@ -214,8 +226,9 @@ module _ {R L C S W V P : Type 0} (gives : S → Settings → Type 0) (lacks : S
         whole = did.whole;
       }
 
-  pub all_ran : (ports : List P) (workers : List (Worker (Door L W) P (TcpBackend R V)))
-      (ended : List (Ended (Door L W) P (TcpBackend R V))) → AllZip Begins ports workers
+  pub all_ran : (ports : List P) (workers : List (Worker (Door L W) P (TcpBackend R T V C)))
+      (ended : List (Ended (Door L W) P (TcpBackend R T V C)))
+      → AllZip (Begins common.backend_timeout_ns) ports workers
       → AllZip Did workers ended → AllZip (HasRun gives shown known common) ports ended
   all_ran [] [] [] p q = tt
   all_ran [] [] (e ∷ es) p q = absurd q

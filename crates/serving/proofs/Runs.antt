@@ -256,9 +256,23 @@ run_of s count most old new tally took few whole = record {
   whole = λ open_yet. took.many ∙ whole open_yet;
 }
 
+-- a port, and a backend that was left with this count and log
+abbrev back_with : {P : Type 0} → (P → Option Shown) → (P → Option (List Entry)) → P → ℕ
+    → Option (List Forwarded) → Back
+back_with shown known port count log = record {
+  shown = shown port;
+  known = known port;
+  count = count;
+  log = log;
+}
+
+-- what stands behind a worker whose backend is left is as before
 pub same_back : {P B : Type 0} (shown : P → Option Shown) (known : P → Option (List Entry))
-    (forwarded : B → ℕ) (log : B → Option (List Forwarded)) (p p' : P) (b b' : B) → p ≡ p'
-    → b ≡ b' → back_of shown known forwarded log p b ≡ back_of shown known forwarded log p' b'
-same_back {P} {B} shown known forwarded log p p' b b' ports backends =
+    (forwarded : B → ℕ) (log : B → Option (List Forwarded)) (p p' : P) (b b' left : B) → p ≡ p'
+    → b ≡ left → forwarded left ≡ forwarded b' → log left ≡ log b'
+    → back_of shown known forwarded log p b ≡ back_of shown known forwarded log p' b'
+same_back {P} {B} shown known forwarded log p p' b b' left ports backends counts logs =
     ap (λ (x : P). back_of shown known forwarded log x b) ports
     ∙ ap (λ (x : B). back_of shown known forwarded log p' x) backends
+    ∙ ap (λ (n : ℕ). back_with shown known p' n (log left)) counts
+    ∙ ap (λ (l : Option (List Forwarded)). back_with shown known p' (forwarded b') l) logs

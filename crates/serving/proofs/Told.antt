@@ -80,6 +80,7 @@ ended_with s old reader writer looks new x written true e all = record {
       e.deals;
   status = e.status;
   own = e.own;
+  empty = e.empty;
   outcome = e.outcome;
   text = λ none.
       subst (λ (b : Bytes). Appends (inner_of e.asked) b (sent_text e.read e.answer)) (all refl)
@@ -95,6 +96,7 @@ ended_with s old reader writer looks new x written false e all = record {
       (told_where false x) refl refl e.deals;
   status = e.status;
   own = e.own;
+  empty = e.empty;
   outcome = e.outcome;
   text = λ none. absurd (true≢false (ap is_some none));
   unasked = λ same. refl;

@@ -55,6 +55,7 @@ told_where false x = record {
   admission = x.admission;
   answer = x.answer;
   is_own = x.is_own;
+  is_empty = x.is_empty;
   outcome = x.outcome;
   written_fault = Some fault.Write;
 }

@@ -161,6 +161,7 @@ where
     B: Backend + Drop,
     C: Clock,
     S: Source,
+    W: Watch,
     ensures { Leaves A.given A.failed A.closed A.visits P.shown P.known B.forwarded B.shown
         S.gives S.lacks context.now.common.now.source.now context.now.common.now.per_worker worker
         result }

@@ -1,5 +1,5 @@
 // Workers that serve through one gate.
-ghost use Rattle.std.specs.Prelude.{◌≡◌, [], IfOk, IfSome, IsErrOf, OnErr, option_to_list};
+ghost use Rattle.std.specs.Prelude.{◌≡◌, [], All, IfOk, IsErrOf, OnErr};
 ghost use Rattle.std.specs.List.{AllZip, list_all};
 ghost use Rattle.counted_io.specs.Count.{raised};
 ghost use Rattle.tasks.specs.Refused.{refused_of};
@@ -20,16 +20,21 @@ use std::alloc::{AllocError, Global};
 use std::net::Net;
 use std::sync::Wait;
 use std::thread::Threads;
-use std::time::Clock as SystemClock;
+use std::time::{Clock as SystemClock, Duration};
 use tasks::{Spawner, Task, run_tasks};
 use tcp_backend::{BackendWatch, TcpBackend};
 use timed_io::Listener;
 
+/// For how long a client takes nothing of its answer, in nanoseconds, before the system ends its
+/// connection, at least: five seconds. It isn't less than the client's time.
+const UNTAKEN_NS: u64 = 5_000_000_000;
+
 /// Serves clients by one worker for each port, each on a thread of its own with a door, and with a
 /// connection of its own to the backend of the settings, until all have ended; and tells what they
-/// left, in the order of the ports. A task beside them has one more thread, and where reports are
-/// wanted one has them of the gate: these are started last, once all workers were, and tell what
-/// they left first. The task is to end once the last worker has closed its listener.
+/// left, in the order of the ports. Each task beside them has one more thread, and where reports
+/// are wanted one has them of the gate: these are started last, once all workers were, the last
+/// task first, and tell what they left first. The tasks are to end once the last worker has closed
+/// their listener.
 ///
 /// The settings are those that the workers' source gives. `Memory` comes before any worker is
 /// started, or where one had none for its settings, once all have ended; `Thread` once those that
@@ -41,8 +46,8 @@ pub fn serve<'l, R, G, P, T, L, C, S, W>(
     settings: &Settings,
     gate: &G,
     ports: Vec<P>,
-    beside: Option<T>,
-) -> Result<Vec<Left<Door<'l, L, W>, P, TcpBackend<&'l R, &'l W>>>, ServeFault>
+    beside: Vec<T>,
+) -> Result<Vec<Left<Door<'l, L, W>, P, TcpBackend<'l, &'l R, R::Stream, &'l W, C>>>, ServeFault>
 where
     R: Net + Threads + Wait + SystemClock + Sync,
     G: GateView + Sync,
@@ -61,7 +66,7 @@ where
     R::Listener: Send + Sync,
     ensures ran { IfOk result (λ lefts.
         AllZip (HasRun S.gives P.shown P.known common.now) ports.items (ended_in lefts.items)) }
-    ensures beside { IfOk result (λ _. IfSome beside (λ task. T.makes task tt)) }
+    ensures beside { IfOk result (λ _. All (λ task. T.makes task tt) beside.items) }
 
     // A thread is lacking only where the system refused one.
     ensures thread { IsErrOf result ServeFault.Thread →
@@ -70,6 +75,10 @@ where
         refused_of spawner.new ≡ refused_of spawner.old }
 {
     let workers = make_workers(rt, common, settings, ports)?;
+    let untaken_ns = common.client_timeout_ns.max(UNTAKEN_NS);
+    common
+        .listener
+        .end_untaken(Duration::from_nanos(untaken_ns));
     serve_by(rt, spawner, common, gate, workers, beside)
 }
 
@@ -79,18 +88,20 @@ fn make_workers<'l, R: Net, P: Drop, L, C, S, W>(
     common: &WorkerSettings<'l, L, C, S, W>,
     settings: &Settings,
     ports: Vec<P>,
-) -> Result<Vec<Worker<Door<'l, L, W>, P, TcpBackend<&'l R, &'l W>>>, ServeFault>
-    ensures workers { IfOk result (λ workers. AllZip Begins ports.items workers.items) }
+) -> Result<Vec<Worker<Door<'l, L, W>, P, TcpBackend<'l, &'l R, R::Stream, &'l W, C>>>, ServeFault>
+    ensures workers { IfOk result (λ workers.
+        AllZip (Begins common.now.backend_timeout_ns) ports.items workers.items) }
     ensures lacking { OnErr result (IsErrOf result ServeFault.Memory) }
 {
     let (alloc, watch) = (common.alloc, common.watch);
+    let (clock, most_ns) = (common.clock, common.backend_timeout_ns);
     let address = settings.backend.socket();
     let mut workers = Vec::with_capacity(alloc, ports.len())?;
     for port in ports {
         let worker = Worker {
             door: Door::new(common.listener, watch),
             port,
-            backend: TcpBackend::new(rt, alloc, address, watch)?,
+            backend: TcpBackend::new(rt, alloc, address, watch, clock, most_ns)?,
             buffers: Buffers::new(alloc)?,
         };
         workers.push_reserved(worker);
@@ -98,7 +109,7 @@ fn make_workers<'l, R: Net, P: Drop, L, C, S, W>(
     Ok(workers)
 }
 
-/// Serves clients by these workers, with a task beside them. Which doors and backends they have
+/// Serves clients by these workers, with tasks beside them. Which doors and backends they have
 /// isn't told apart here.
 fn serve_by<R, G, A, P, B, T, L, C, S, W>(
     rt: &R,
@@ -106,7 +117,7 @@ fn serve_by<R, G, A, P, B, T, L, C, S, W>(
     common: &WorkerSettings<'_, L, C, S, W>,
     gate: &G,
     workers: Vec<Worker<A, P, B>>,
-    beside: Option<T>,
+    beside: Vec<T>,
 ) -> Result<Vec<Left<A, P, B>>, ServeFault>
 where
     R: Threads + Wait + SystemClock + Sync,
@@ -131,7 +142,7 @@ where
         P.shown P.known B.forwarded B.shown S.gives S.lacks
         common.now.source.now common.now.per_worker)
         workers.items (ended_in lefts.items)) }
-    ensures beside { IfOk result (λ _. IfSome beside (λ task. T.makes task tt)) }
+    ensures beside { IfOk result (λ _. All (λ task. T.makes task tt) beside.items) }
     ensures thread { IsErrOf result ServeFault.Thread →
         refused_of spawner.new ≡ raised (refused_of spawner.old) }
     ensures started { ¬ IsErrOf result ServeFault.Thread →
@@ -157,17 +168,17 @@ where
     Ok(lefts)
 }
 
-/// Whoever reports every so many nanoseconds, where that is wanted, a task beside the workers, and
-/// the workers.
+/// Whoever reports every so many nanoseconds, where that is wanted, the tasks beside the workers,
+/// and the workers.
 fn make_jobs<'a, A: Drop, P: Drop, B: Drop, T: Drop, X>(
     alloc: Global,
     context: &'a X,
     every_ns: Option<u64>,
-    beside: Option<T>,
+    beside: Vec<T>,
     workers: Vec<Worker<A, P, B>>,
 ) -> Result<Vec<Job<'a, A, P, B, T, X>>, AllocError>
     ensures all { IfOk result (λ jobs. workers_in jobs.items ≡ workers.items) }
-    ensures beside { IfOk result (λ jobs. tasks_in jobs.items ≡ option_to_list beside) }
+    ensures beside { IfOk result (λ jobs. tasks_in jobs.items ≡ beside.items) }
     ensures within { IfOk result (λ jobs. AreWithin context.now jobs.items) }
 {
     let mut jobs = make_others(alloc, context, every_ns, beside)?;
@@ -178,22 +189,23 @@ fn make_jobs<'a, A: Drop, P: Drop, B: Drop, T: Drop, X>(
     Ok(jobs)
 }
 
-/// Who isn't a worker: whoever reports, where that is wanted, and a task beside the workers.
+/// Who isn't a worker: whoever reports, where that is wanted, and the tasks beside the workers.
 fn make_others<'a, A: Drop, P: Drop, B: Drop, T: Drop, X>(
     alloc: Global,
     context: &'a X,
     every_ns: Option<u64>,
-    beside: Option<T>,
+    beside: Vec<T>,
 ) -> Result<Vec<Job<'a, A, P, B, T, X>>, AllocError>
     ensures none { IfOk result (λ jobs. workers_in jobs.items ≡ []) }
-    ensures beside { IfOk result (λ jobs. tasks_in jobs.items ≡ option_to_list beside) }
+    ensures beside { IfOk result (λ jobs. tasks_in jobs.items ≡ beside.items) }
     ensures within { IfOk result (λ jobs. AreWithin context.now jobs.items) }
 {
-    let mut jobs = Vec::with_capacity(alloc, 2)?;
+    let mut jobs = Vec::with_capacity(alloc, 1)?;
     if let Some(every_ns) = every_ns {
         jobs.push_reserved(Job::Reporter(context, every_ns));
     }
-    if let Some(task) = beside {
+    jobs.reserve(beside.len())?;
+    for task in beside {
         jobs.push_reserved(Job::Beside(task));
     }
     Ok(jobs)

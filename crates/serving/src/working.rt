@@ -12,12 +12,13 @@ use counted_io::{Counted, PIECE};
 use gate_config::Settings;
 use gate_port::GatePort;
 use lent_io::{BufferedRead, BufferedWrite, ReadBuffer, WriteBuffer};
-use proxy::{Exchange, exchange};
+use proxy::{Exchange, Watch, exchange};
 use std::alloc::{AllocError, Global};
 use std::thread;
 use std::time::{Clock as SystemClock, Duration};
 use timed_io::{
-    Arrival, Connection, Inlet, Lent, Outlet, TimedReader, TimedWriter, Uninterrupted, linger,
+    Arrival, Connection, FirstByte, Inlet, Lent, Outlet, Patience, TimedReader, TimedWriter,
+    Uninterrupted, linger,
 };
 use wire::WireFault;
 
@@ -62,7 +63,7 @@ pub trait Source {
 pub struct WorkerSettings<'a, L, C, S, W> {
     /// Where clients come from.
     pub listener: &'a L,
-    /// Where those come from whom a task beside the workers serves: the last worker that ends
+    /// Where those come from whom the tasks beside the workers serve: the last worker that ends
     /// closes it.
     pub beside: Option<&'a L>,
     /// Where a worker has its settings from.
@@ -73,6 +74,9 @@ pub struct WorkerSettings<'a, L, C, S, W> {
     pub per_worker: u64,
     /// How long a client may take to send its request, and again to take its answer.
     pub client_timeout_ns: u64,
+    /// How long a call of the backend may take, from its connect to the end of its answer; as long
+    /// as the backend takes without it.
+    pub backend_timeout_ns: Option<u64>,
     /// From one report to the next; none is made without it.
     pub report_every_ns: Option<u64>,
     /// What hears of what workers do.
@@ -93,6 +97,7 @@ pub struct Tally {
 /// Takes `per_worker` turns, or fewer where the door is found closed. In each a client is accepted,
 /// served by one exchange and let go; or none was to be had, and then nothing is forwarded, and the
 /// next turn comes a while later: what was missing, such as a free descriptor, isn't there at once.
+/// What the backend's answer left is waited for once the client's connection is closed.
 /// The settings are some that the workers' source gives.
 pub fn work<R, A, P, B, C, L, S, W>(
     rt: &R,
@@ -110,6 +115,7 @@ where
     B: Backend,
     C: Clock,
     S: Source,
+    W: Watch,
     requires settings { S.gives common.now.source.now settings.now }
     ensures run { IsRun settings.now common.now.per_worker
         (record {
@@ -158,6 +164,7 @@ where
                     common, settings, client, port, backend, buffers,
                 );
                 door.close(client, &served);
+                backend.leave();
                 tally.accepted += 1;
             }
             Err(_) => {
@@ -173,9 +180,10 @@ where
 }
 
 /// Serves one client by one exchange over the two ends of its connection, which last as long as it
-/// may take. Where it is answered before its whole request was read, or has sent more than that,
-/// what it still sends is dropped, so that it gets to read the answer. A signal that cuts a read or
-/// a write short changes nothing.
+/// may take; one that sends nothing is let go after a second where no worker is free. Where it is
+/// answered before its whole request was read, or has sent more than that, what it still sends is
+/// dropped, so that it gets to read the answer. A signal that cuts a read or a write short changes
+/// nothing.
 fn serve_client<T, I, O, P, B, C, L, S, W>(
     common: &WorkerSettings<'_, L, C, S, W>,
     settings: &Settings,
@@ -191,6 +199,7 @@ where
     P: GatePort,
     B: Backend,
     C: Clock,
+    W: Watch,
     ensures { IsServed settings.now (I.remaining client.from) (O.contents client.to)
         (O.contents result.0.to)
         (record {
@@ -208,8 +217,12 @@ where
         result.1 }
 {
     let (clock, time) = (common.clock, common.client_timeout_ns);
+    let patience = FreeWorkers {
+        watch: common.watch,
+    };
     let Arrival { stream, from, to } = client;
-    let timed = TimedReader::new(Lent::new(&stream, from), clock, time);
+    let first = FirstByte::new(Lent::new(&stream, from), &patience);
+    let timed = TimedReader::new(first, clock, time);
     let buffered = BufferedRead::new(Uninterrupted::new(timed), &mut buffers.ahead);
     let mut reader = Counted::new(buffered);
     let timed = TimedWriter::new(Lent::new(&stream, to), clock, time);
@@ -225,13 +238,25 @@ where
         &mut reader,
         &mut writer,
     );
-    let from = reader.inner().inner().inner().inner().end();
+    let from = reader.inner().inner().inner().inner().inner().end();
     let is_sent = writer.inner().is_sent();
     let to = writer.inner().inner().inner().inner().end();
     let sent = writer.inner().inner().inner().inner().sent();
     let served = told_where(is_sent, served);
     linger_behind(&served, &buffers.ahead, &stream, from, clock, time, sent);
     (Arrival { stream, from, to }, served)
+}
+
+/// The workers that are free for others than who sends nothing.
+#[derive(Drop)]
+struct FreeWorkers<'a, W> {
+    watch: &'a W,
+}
+
+impl<W: Watch> Patience for FreeWorkers<'_, W> {
+    fn may_wait(&self) -> bool {
+        self.watch.has_free_worker()
+    }
 }
 
 /// Where a client was answered: sees that it gets to read the answer, for so many nanoseconds at

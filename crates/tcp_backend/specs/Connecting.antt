@@ -1,5 +1,5 @@
 -- What a clause reads of a backend over TCP.
-use Rattle.std.specs.Prelude.{ℕ, List}
+use Rattle.std.specs.Prelude.{ℕ, List, Option}
 use Rattle.tcp_backend.specs.declared.connecting.TcpBackend.{TcpBackend}
 use Rattle.tcp_backend.specs.declared.dialing.Dialer.{Dialer}
 
@@ -8,9 +8,14 @@ abbrev pub dialed_of : {R : Type 0} → Dialer R → ℕ
 dialed_of dialer = dialer.connects
 
 -- how many requests it was given: it connects once for each
-abbrev pub count_of : {R W : Type 0} → TcpBackend R W → ℕ
+abbrev pub count_of : {R S W C : Type 0} → TcpBackend R S W C → ℕ
 count_of backend = dialed_of backend.dialer
 
 -- the host of a request that names none
-abbrev pub host_of : {R W : Type 0} → TcpBackend R W → List ℕ
+abbrev pub host_of : {R S W C : Type 0} → TcpBackend R S W C → List ℕ
 host_of backend = backend.line.host.bytes
+
+-- how many nanoseconds a call may take, from its connect to the end of its answer, where that is
+-- limited
+abbrev pub limit_of : {R S W C : Type 0} → TcpBackend R S W C → Option ℕ
+limit_of backend = backend.limit.most_ns

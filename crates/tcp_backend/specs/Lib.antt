@@ -1,3 +1,5 @@
 pub mod Answers
+pub mod CallTime
 pub mod Connecting
+pub mod Reading
 pub mod Sent

@@ -5,10 +5,13 @@ ghost use Rattle.wire.specs.Written.{request_text};
 ghost use Rattle.tcp_backend.specs.Answers.{answer_of};
 ghost use Rattle.tcp_backend.specs.Sent.{IsCut};
 
+use crate::answer_read::AnswerRead;
+use crate::call_time::CallTime;
 use crate::early::EarlyRead;
 use crate::ends::Outlet;
 use crate::unanswered::UnansweredWrite;
 use backend::Answer;
+use clocks::Clock;
 use counted_io::Counted;
 use lent_io::{BufferedRead, BufferedWrite, ReadBuffer, WriteBuffer};
 use message_parts::Request;
@@ -17,7 +20,7 @@ use std::io::Read;
 use std::net::OpenStream;
 use std::os::fd::AsRawFd;
 use std::time::Duration;
-use timed_io::read_ready;
+use timed_io::{Countdown, read_ready};
 use wire::{Response, WireFault, read_response, write_request};
 
 /// How many reads the end of a connection may take, behind an answer that was read whole.
@@ -26,20 +29,23 @@ const LAST_READS: u32 = 16;
 /// How long each of them may take, in milliseconds.
 const LAST_MILLIS: u64 = 20;
 
-/// What came of a request over a connection, whether it was written whole, and the connection's end
-/// then.
+/// What came of a request over a connection, whether it was written whole, what the clock told when
+/// the answer was last read for, and the connection's end then.
 #[derive(Drop)]
 pub(crate) struct Asked<E> {
     pub(crate) answer: Result<Response, WireFault>,
     pub(crate) is_sent: bool,
+    pub(crate) looked: u64,
     pub(crate) end: E,
 }
 
 // Writes the request and reads its answer. A backend may answer before it has read the whole
 // request, and close or read no further (RFC 9112, section 9.5), so the answer is looked for behind
-// a write that failed or stands still, too; nothing more is written then.
-pub(crate) fn ask<S: Read + OpenStream, E: Outlet<S> + Copy>(
+// a write that failed or stands still, too; nothing more is written then. Both end with the time of
+// the call.
+pub(crate) fn ask<S, E, C>(
     alloc: Global,
+    call: &CallTime<'_, C>,
     stream: &mut S,
     end: E,
     ahead: &mut ReadBuffer,
@@ -47,32 +53,41 @@ pub(crate) fn ask<S: Read + OpenStream, E: Outlet<S> + Copy>(
     request: &Request,
     host: &str,
 ) -> Asked<E>
+where
+    S: Read + OpenStream + AsRawFd,
+    E: Outlet<S> + Copy,
+    C: Clock,
     ensures sent { result.is_sent ≡ true → Appends (E.contents end) (E.contents result.end)
         (request_text host.now request.now) }
     ensures cut { result.is_sent ≡ false → IfErr result.answer IsCut }
 {
-    let (end, is_sent) = send(&mut *stream, end, behind, request, host);
+    let (end, is_sent) = send(&mut *stream, end, call.countdown(), behind, request, host);
+    let reader = AnswerRead::new(&mut *stream, call.countdown());
     if !is_sent {
-        let answer = read_early(alloc, stream, ahead, request);
+        let (answer, looked) = read_early(alloc, reader, ahead, request);
         return Asked {
             answer,
             is_sent,
+            looked,
             end,
         };
     }
-    let mut reader = Counted::new(BufferedRead::new(&mut *stream, ahead));
+    let mut reader = Counted::new(BufferedRead::new(reader, ahead));
     let answer = read_response(alloc, &mut reader, &request.method);
+    let looked = reader.inner().inner().looked();
     Asked {
         answer,
         is_sent,
+        looked,
         end,
     }
 }
 
 // Writes the request, and tells whether it was written whole.
-fn send<S: OpenStream, E: Outlet<S> + Copy>(
+fn send<S: OpenStream, E: Outlet<S> + Copy, C: Clock>(
     stream: &mut S,
     end: E,
+    time: Option<Countdown<'_, C>>,
     behind: &mut WriteBuffer,
     request: &Request,
     host: &str,
@@ -80,7 +95,7 @@ fn send<S: OpenStream, E: Outlet<S> + Copy>(
     ensures { result.1 ≡ true → Appends (E.contents end) (E.contents result.0)
         (request_text host.now request.now) }
 {
-    let unanswered = UnansweredWrite::new(stream, end);
+    let unanswered = UnansweredWrite::new(stream, end, time);
     let mut writer = Counted::new(BufferedWrite::new(unanswered, behind));
     let written = write_request(&mut writer, request, host);
     let is_sent = written.is_ok() && writer.inner().is_sent();
@@ -89,22 +104,23 @@ fn send<S: OpenStream, E: Outlet<S> + Copy>(
 }
 
 // The answer that came before the request was written. It has to say its own length: its end may be
-// a cut. Where there is none, the fault is that of the write.
-fn read_early<S: Read + OpenStream>(
+// a cut. Where there is none, the fault is that of the write. What the clock told when it was last
+// read for comes with it.
+fn read_early<S: Read + OpenStream + AsRawFd, C: Clock>(
     alloc: Global,
-    stream: &mut S,
+    reader: AnswerRead<'_, '_, S, C>,
     ahead: &mut ReadBuffer,
     request: &Request,
-) -> Result<Response, WireFault>
-    ensures { IfErr result IsCut }
+) -> (Result<Response, WireFault>, u64)
+    ensures { IfErr result.0 IsCut }
 {
-    let early = EarlyRead::new(&mut *stream);
-    let mut reader = Counted::new(BufferedRead::new(early, ahead));
-    match read_response(alloc, &mut reader, &request.method) {
+    let mut reader = Counted::new(BufferedRead::new(EarlyRead::new(reader), ahead));
+    let answer = match read_response(alloc, &mut reader, &request.method) {
         Ok(response) => Ok(response),
         Err(WireFault::Memory) => Err(WireFault::Memory),
         Err(_) => Err(WireFault::Write),
-    }
+    };
+    (answer, reader.inner().inner().inner().looked())
 }
 
 // Reads and drops what follows an answer, so that a backend which closes its connection does so
@@ -127,13 +143,15 @@ pub(crate) fn read_on<S: Read + OpenStream + AsRawFd>(stream: &mut S) {
     }
 }
 
-// What becomes of a request that was sent over a connection.
-pub(crate) fn answer_of(asked: Result<Response, WireFault>) -> Answer
-    ensures { result ≡ answer_of asked }
+// What becomes of a request that was sent over a connection, and whether the last look found the
+// call's time to be over.
+pub(crate) fn answer_of(asked: Result<Response, WireFault>, is_over: bool) -> Answer
+    ensures { result ≡ answer_of asked is_over }
 {
     match asked {
         Ok(response) => Answer::Answered(response),
         Err(WireFault::Memory) => Answer::Memory,
+        Err(WireFault::Read | WireFault::Write) if is_over => Answer::Late,
         Err(fault) => Answer::Broken(fault),
     }
 }

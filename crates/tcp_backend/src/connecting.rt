@@ -1,19 +1,24 @@
 // A backend at an address.
-ghost use Rattle.std.specs.Prelude.{◌≡◌, IfOk};
+ghost use Rattle.std.specs.Prelude.{◌≡◌, ◌⊎◌, IfOk, None};
 ghost use Rattle.std.specs.Net.Text.{socket_v4_text};
 ghost use Rattle.counted_io.specs.Count.{raised};
-ghost use Rattle.tcp_backend.specs.Connecting.{count_of, host_of};
+ghost use Rattle.backend.specs.declared.answer.Answer.TheVariants.{Late, NotConnected};
+ghost use Rattle.tcp_backend.specs.CallTime.{call_deadline};
+ghost use Rattle.tcp_backend.specs.Connecting.{count_of, host_of, limit_of};
 
 use crate::asking::{Asked, answer_of, ask, read_on};
+use crate::call_time::{CallTime, connect_time};
 use crate::dialing::{Connector, Dialer};
 use crate::watch::BackendWatch;
 use arrayvec::ArrayString;
 use backend::{Answer, Backend};
+use clocks::Clock;
 use counted_io::PIECE;
 use itoa::Buffer;
 use lent_io::{ReadBuffer, WriteBuffer};
 use message_parts::Request;
 use std::alloc::{AllocError, Global};
+use std::io::Error;
 use std::net::{Net, SocketAddrV4};
 
 /// Why a backend was not made.
@@ -31,49 +36,66 @@ impl From<AllocError> for BackendFault {
 
 /// A backend at an address, with one connection for each request, and what hears of its troubles.
 #[derive(Drop)]
-pub struct TcpBackend<R, W> {
+pub struct TcpBackend<'c, R, S, W, C> {
     dialer: Dialer<R>,
     watch: W,
-    line: Line,
+    line: Line<S>,
+    limit: Limit<'c, C>,
 }
 
-/// What serves one connection after another.
+/// What serves one connection after another, and the one whose answer was read last, until it is
+/// left.
 #[derive(Drop)]
-struct Line {
+struct Line<S> {
     alloc: Global,
     host: ArrayString<21>,
     ahead: ReadBuffer,
     behind: WriteBuffer,
+    answered: Option<S>,
 }
 
-impl<R: Net + Drop, W: Drop> TcpBackend<R, W> {
+/// How long a call may take, in nanoseconds of a clock, where that is limited.
+#[derive(Drop)]
+struct Limit<'c, C> {
+    clock: &'c C,
+    most_ns: Option<u64>,
+}
+
+impl<'c, R: Net + Drop, W: Drop, C> TcpBackend<'c, R, R::Stream, W, C> {
     /// The backend at this address. A request that names no host is sent with the address as its
-    /// host. Nothing is connected yet, and it fails only out of memory for the buffers.
+    /// host. A call may take so many nanoseconds of the clock, from its connect to the end of its
+    /// answer, and without a limit as long as the backend takes. Nothing is connected yet, and it
+    /// fails only out of memory for the buffers.
     pub fn new(
         rt: R,
         alloc: Global,
         address: SocketAddrV4,
         watch: W,
-    ) -> Result<TcpBackend<R, W>, BackendFault>
+        clock: &'c C,
+        most_ns: Option<u64>,
+    ) -> Result<TcpBackend<'c, R, R::Stream, W, C>, BackendFault>
         ensures host { IfOk result (λ backend. host_of backend ≡ socket_v4_text address) }
         ensures unused { IfOk result (λ backend. count_of backend ≡ 0) }
+        ensures limit { IfOk result (λ backend. limit_of backend ≡ most_ns) }
     {
         let line = Line {
             alloc,
             host: host_text(address),
             ahead: ReadBuffer::new(alloc, PIECE)?,
             behind: WriteBuffer::new(alloc, PIECE)?,
+            answered: None,
         };
         let dialer = Dialer::new(rt, address);
         Ok(TcpBackend {
             dialer,
             watch,
             line,
+            limit: Limit { clock, most_ns },
         })
     }
 }
 
-impl<R: Net, W: BackendWatch> Backend for TcpBackend<R, &W> {
+impl<'c, R: Net, W: BackendWatch, C: Clock> Backend for TcpBackend<'c, R, R::Stream, &W, C> {
     ghost use Rattle.std.specs.Prelude.{None};
     ghost use Rattle.tcp_backend.specs.Connecting.{count_of};
 
@@ -82,12 +104,33 @@ impl<R: Net, W: BackendWatch> Backend for TcpBackend<R, &W> {
     ghost shown = { λ _. None };
 
     /// Connects once, writes the request and reads one response. Where there is no connection, that
-    /// is `NotConnected`; each later fault is `Broken`, but out of memory is `Memory`. A
-    /// response that says its own length is read behind a write that failed or stands still, too:
-    /// the backend may have answered before it read the whole request. `NotConnected` and `Broken`
-    /// are told.
-    fn forward(&mut self, request: &Request) -> Answer {
-        forward_over(&mut self.dialer, &mut self.line, self.watch, request)
+    /// is `NotConnected`; each later fault is `Broken`, but out of memory is `Memory`; and where
+    /// the time of the call is over before, all that is `Late`. A response that says its own length
+    /// is read behind a write that failed or stands still, too: the backend may have answered
+    /// before it read the whole request. `NotConnected`, `Broken` and `Late` are told.
+    fn forward(&mut self, request: &Request) -> Answer
+        ensures count { count_of self.new ≡ raised (count_of self.old) }
+        ensures limit { limit_of self.new ≡ limit_of self.old }
+        ensures unlimited { limit_of self.old ≡ None → ¬ (result ≡ Late) }
+    {
+        forward_over(
+            &mut self.dialer,
+            &mut self.line,
+            &self.limit,
+            self.watch,
+            request,
+        )
+    }
+
+    /// Reads the connection of the last answer to its end, and closes it, so that a backend which
+    /// closes it does so first. One that keeps it open isn't waited for.
+    fn leave(&mut self)
+        ensures count { count_of self.new ≡ count_of self.old }
+        ensures limit { limit_of self.new ≡ limit_of self.old }
+    {
+        if let Some(mut stream) = self.line.answered.take() {
+            read_on(&mut stream);
+        }
     }
 
     fn forwards(&self) -> u64 {
@@ -96,23 +139,29 @@ impl<R: Net, W: BackendWatch> Backend for TcpBackend<R, &W> {
 }
 
 // Forwards a request over one connection: whatever fails, there is no second one.
-fn forward_over<C: Connector, W: BackendWatch>(
-    connector: &mut C,
-    line: &mut Line,
+fn forward_over<K: Connector, W: BackendWatch, C: Clock>(
+    connector: &mut K,
+    line: &mut Line<K::Stream>,
+    limit: &Limit<'_, C>,
     watch: &W,
     request: &Request,
 ) -> Answer
-    ensures once { C.connects connector.new ≡ raised (C.connects connector.old) }
+    ensures once { K.connects connector.new ≡ raised (K.connects connector.old) }
+    ensures unlimited { limit.now.most_ns ≡ None → ¬ (result ≡ Late) }
 {
-    let (mut stream, end) = match connector.connect() {
+    line.answered = None;
+    let call = CallTime::begin(limit.clock, limit.most_ns);
+    let (mut stream, end) = match connector.connect(connect_time(limit.most_ns)) {
         Ok(made) => made,
-        Err(error) => {
-            watch.unreached(&error);
-            return Answer::NotConnected;
-        }
+        Err(error) => return unconnected(&call, watch, &error),
     };
-    let Asked { answer: asked, .. } = ask(
+    let Asked {
+        answer: asked,
+        looked,
+        ..
+    } = ask(
         line.alloc,
+        &call,
         &mut stream,
         end,
         &mut line.ahead,
@@ -120,14 +169,32 @@ fn forward_over<C: Connector, W: BackendWatch>(
         request,
         line.host.as_str(),
     );
-    if asked.is_ok() {
-        read_on(&mut stream);
-    }
-    let answer = answer_of(asked);
-    if let Answer::Broken(fault) = &answer {
-        watch.broken(*fault);
+    let answer = answer_of(asked, call.is_over(looked));
+    match &answer {
+        Answer::Answered(_) => line.answered = Some(stream),
+        Answer::Broken(fault) => watch.broken(*fault),
+        Answer::Late => watch.late(),
+        Answer::NotConnected | Answer::Memory => {}
     }
     answer
+}
+
+// What becomes of a request where no connection was to be had, for this cause.
+fn unconnected<W: BackendWatch, C: Clock>(
+    call: &CallTime<'_, C>,
+    watch: &W,
+    error: &Error,
+) -> Answer
+    ensures either { (result ≡ NotConnected) ⊎ (result ≡ Late) }
+    ensures unlimited { call_deadline call.now ≡ None → result ≡ NotConnected }
+{
+    if call.is_over_now() {
+        watch.late();
+        Answer::Late
+    } else {
+        watch.unreached(error);
+        Answer::NotConnected
+    }
 }
 
 // The address as it is printed.

@@ -5,8 +5,14 @@ ghost use Rattle.tcp_backend.specs.Connecting.{dialed_of};
 
 use crate::ends::{Outlet, Untold};
 use std::io::{Read, Result, Write};
-use std::net::{Net, OpenStream, SocketAddrV4, TcpStream};
+use std::net::{Net, OpenStream, SocketAddr, SocketAddrV4, TcpStream};
 use std::os::fd::AsRawFd;
+use std::time::Duration;
+use timed_io::{ask_after, end_untaken};
+
+/// For how long a backend may take nothing of its request, in milliseconds, before the system ends
+/// the connection.
+const UNTAKEN_MS: u64 = 5_000;
 
 /// What makes connections, and counts how often it was asked to.
 pub(crate) trait Connector {
@@ -20,8 +26,8 @@ pub(crate) trait Connector {
     // How often it was asked to connect.
     ghost connects: { Self → ℕ };
 
-    // A new connection, or why none can be had.
-    fn connect(&mut self) -> Result<(Self::Stream, Self::End)>
+    // A new connection, or why none can be had within this time.
+    fn connect(&mut self, most: Duration) -> Result<(Self::Stream, Self::End)>
         ensures { connects self.new ≡ raised (connects self.old) };
 }
 
@@ -62,9 +68,13 @@ impl<R: Net> Connector for Dialer<R> {
 
     ghost connects = { dialed_of };
 
-    fn connect(&mut self) -> Result<(R::Stream, Untold)> {
+    // The system asks after a backend that is silent, and ends a connection whose backend is gone,
+    // or takes nothing of its request.
+    fn connect(&mut self, most: Duration) -> Result<(R::Stream, Untold)> {
         self.connects = self.connects.saturating_add(1);
-        let stream = TcpStream::connect(&self.rt, self.address)?;
+        let stream = TcpStream::connect_timeout(&self.rt, &SocketAddr::V4(self.address), most)?;
+        ask_after(&stream);
+        end_untaken(&stream, Duration::from_millis(UNTAKEN_MS));
         Ok((stream, Untold {}))
     }
 }

@@ -1,53 +1,64 @@
 // What a connection has whose request wasn't written whole.
+use crate::answer_read::AnswerRead;
+use clocks::Clock;
 use std::io::{Error, ErrorKind, Read, Result};
-use std::net::{OpenStream, Shutdown};
+use std::net::OpenStream;
+use std::os::fd::AsRawFd;
 use std::time::Duration;
 
 /// How long nothing may come before the backend is told that the request ends, in milliseconds.
 const SILENCE_MILLIS: u64 = 2_000;
 
-/// How often one read may be interrupted.
-const MOST_TURNS: u32 = 1 << 24;
-
 /// A connection to which no more of a request is written. What comes is read as ever, but its end
 /// is a fault: nobody knows whether more was to come. A backend that stops in its answer, to wait
 /// for what it won't get, is told after a while that nothing more is written.
 #[derive(Drop)]
-pub(crate) struct EarlyRead<'s, S> {
-    stream: &'s mut S,
+pub(crate) struct EarlyRead<'s, 'c, S, C> {
+    reader: AnswerRead<'s, 'c, S, C>,
     is_told: bool,
 }
 
-impl<'s, S: Read + OpenStream> EarlyRead<'s, S> {
+impl<'s, 'c, S: Read + OpenStream + AsRawFd, C: Clock> EarlyRead<'s, 'c, S, C> {
     // A connection whose reads can't be given a limit is read as ever.
-    pub(crate) fn new(stream: &'s mut S) -> EarlyRead<'s, S> {
-        let _ = stream.set_read_timeout(Some(Duration::from_millis(SILENCE_MILLIS)));
+    pub(crate) fn new(mut reader: AnswerRead<'s, 'c, S, C>) -> EarlyRead<'s, 'c, S, C> {
+        let _ = reader.pause_after(Some(Duration::from_millis(SILENCE_MILLIS)));
         EarlyRead {
-            stream,
+            reader,
             is_told: false,
         }
     }
 
-    // Ends the request, and from now on waits for as long as the backend takes.
+    // The reader inside.
+    pub(crate) fn inner(&self) -> &AnswerRead<'s, 'c, S, C> {
+        &self.reader
+    }
+
+    // Ends the request, and from now on waits for as long as the backend takes, and the call may.
     fn tell(&mut self) -> Result<()> {
         self.is_told = true;
-        self.stream.set_read_timeout(None)?;
-        self.stream.shutdown(Shutdown::Write)
+        self.reader.pause_after(None)?;
+        self.reader.end_request()
     }
 }
 
-impl<'s, S: Read + OpenStream> Read for EarlyRead<'s, S> {
+impl<'s, 'c, S: Read + OpenStream + AsRawFd, C: Clock> Read for EarlyRead<'s, 'c, S, C> {
     fn read(&mut self, buf: &mut [u8]) -> Result<usize> {
-        for _ in 0..MOST_TURNS {
-            match self.stream.read(buf) {
-                Ok(0) => break,
-                Err(fault) if fault.kind() == ErrorKind::Interrupted => {}
-                Err(fault) if fault.kind() == ErrorKind::WouldBlock && !self.is_told => {
-                    self.tell()?;
-                }
-                outcome => return outcome,
-            }
+        let mut outcome = self.reader.read(buf);
+        if !self.is_told && is_pause(&outcome) {
+            self.tell()?;
+            outcome = self.reader.read(buf);
         }
-        Err(Error::new(ErrorKind::ConnectionReset, "the connection broke"))
+        match outcome {
+            Ok(0) => Err(Error::new(ErrorKind::ConnectionReset, "the connection broke")),
+            outcome => outcome,
+        }
+    }
+}
+
+// Whether nothing came for a while.
+fn is_pause(outcome: &Result<usize>) -> bool {
+    match outcome {
+        Ok(_) => false,
+        Err(fault) => fault.kind() == ErrorKind::WouldBlock,
     }
 }

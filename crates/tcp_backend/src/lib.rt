@@ -8,7 +8,9 @@
 //! there, the answer is read. Buffers are made once and serve all connections.
 #![tactic(auto)]
 
+mod answer_read;
 mod asking;
+mod call_time;
 mod connecting;
 mod dialing;
 mod early;

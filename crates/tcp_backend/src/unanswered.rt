@@ -1,13 +1,16 @@
 // Writing a request as long as it isn't answered.
-ghost use Rattle.std.specs.Prelude.{◌≡◌};
+ghost use Rattle.std.specs.Prelude.{◌≡◌, IsErr};
 ghost use Rattle.std.specs.Io.{WritesAtMost};
 ghost use Rattle.std.specs.Io.KnownBytes.{Keeps, WriteAppends};
-ghost use Rattle.tcp_backend.specs.Sent.{end_of};
+ghost use Rattle.tcp_backend.specs.CallTime.{IsLate, Stands, countdown_to};
+ghost use Rattle.tcp_backend.specs.Sent.{end_of, writer_time};
 
 use crate::ends::Outlet;
+use clocks::Clock;
 use std::io::{Error, ErrorKind, Result, Write};
 use std::net::OpenStream;
 use std::time::Duration;
+use timed_io::Countdown;
 
 /// How long a write waits that makes no progress, in milliseconds.
 const STALL_MILLIS: u64 = 250;
@@ -24,45 +27,62 @@ const STATUS_PLACE: usize = 9;
 /// A connection to which a request is written. A write that makes no progress twice in a row while
 /// an answer lies there fails: a backend may answer before it has read the whole request, and would
 /// wait for its answer to be read while the gateway waits for the request to be. One without an
-/// answer goes on for as long as the backend takes.
+/// answer goes on for as long as the backend takes, up to the deadline of the call where that has
+/// one: a write that finds it reached fails.
 #[derive(Drop)]
-pub(crate) struct UnansweredWrite<'s, S, E> {
+pub(crate) struct UnansweredWrite<'s, 'c, S, E, C> {
     stream: &'s mut S,
     end: E,
+    time: Option<Countdown<'c, C>>,
     // What is left of the first room, until a write may have to wait.
     room: Option<usize>,
 }
 
-impl<'s, S: OpenStream, E> UnansweredWrite<'s, S, E> {
-    // A new connection.
-    pub(crate) fn new(stream: &'s mut S, end: E) -> UnansweredWrite<'s, S, E>
-        ensures { end_of result ≡ end }
+impl<'s, 'c, S: OpenStream, E, C: Clock> UnansweredWrite<'s, 'c, S, E, C> {
+    // A new connection, and the time that is left for the call.
+    pub(crate) fn new(
+        stream: &'s mut S,
+        end: E,
+        time: Option<Countdown<'c, C>>,
+    ) -> UnansweredWrite<'s, 'c, S, E, C>
+        ensures end { end_of result ≡ end }
+        ensures time { writer_time result ≡ time.entry }
     {
         UnansweredWrite {
             stream,
             end,
+            time,
             room: Some(FIRST_ROOM),
         }
     }
 
     // Before a write of so many bytes: the first that may have to wait gives all from then on their
-    // limit. A connection whose writes can't be given one is written to as ever.
-    fn limit(&mut self, count: usize)
-        ensures { end_of self.new ≡ end_of self.old }
+    // limit, which ends with the call's time. A connection whose writes can't be given one is
+    // written to as ever. It fails where a look at the clock finds the time over.
+    fn limit(&mut self, count: usize) -> Result<()>
+        ensures end { end_of self.new ≡ end_of self.old }
+        ensures deadline { Stands (countdown_to (writer_time self.old))
+            (countdown_to (writer_time self.new)) }
+        ensures late { IsLate (writer_time self.new) → IsErr result }
     {
+        let stall = Duration::from_millis(STALL_MILLIS);
+        let most = match &mut self.time {
+            Some(time) => time.left()?.min(stall),
+            None => stall,
+        };
         match self.room {
             Some(room) if count <= room => self.room = Some(room - count),
-            Some(_) => {
+            None if most == stall => {}
+            Some(_) | None => {
                 self.room = None;
-                let most = Duration::from_millis(STALL_MILLIS);
                 let _ = self.stream.set_write_timeout(Some(most));
             }
-            None => {}
         }
+        Ok(())
     }
 }
 
-impl<'s, S, E: Copy> UnansweredWrite<'s, S, E> {
+impl<'s, 'c, S, E: Copy, C> UnansweredWrite<'s, 'c, S, E, C> {
     // The end, as it is now.
     pub(crate) fn end(&self) -> E
         ensures { result ≡ end_of self.now }
@@ -71,7 +91,7 @@ impl<'s, S, E: Copy> UnansweredWrite<'s, S, E> {
     }
 }
 
-impl<'s, S: OpenStream, E: Outlet<S>> Write for UnansweredWrite<'s, S, E> {
+impl<'s, 'c, S: OpenStream, E: Outlet<S>, C: Clock> Write for UnansweredWrite<'s, 'c, S, E, C> {
     ghost contents = { λ writer. E.contents (end_of writer) };
 
     #[tactic(auto, using(crate::proofs::Known::anew))]
@@ -79,10 +99,13 @@ impl<'s, S: OpenStream, E: Outlet<S>> Write for UnansweredWrite<'s, S, E> {
         ensures bound { WritesAtMost result buf.now }
         ensures bytes { WriteAppends (E.contents (end_of self.old)) (E.contents (end_of self.new))
             result buf.now }
+        ensures deadline { Stands (countdown_to (writer_time self.old))
+            (countdown_to (writer_time self.new)) }
+        ensures late { IsLate (writer_time self.new) → IsErr result }
     {
-        self.limit(buf.len());
         let mut has_stalled = false;
         for _ in 0..MOST_TURNS {
+            self.limit(buf.len())?;
             match self.end.send(&mut *self.stream, buf) {
                 Ok(count) => return Ok(count),
                 Err(fault) if fault.kind() == ErrorKind::Interrupted => {}

@@ -9,4 +9,7 @@ pub trait BackendWatch {
 
     /// A response wasn't read, or the request wasn't written, for this cause.
     fn broken(&self, fault: WireFault);
+
+    /// The time for a call was over before its response was read whole.
+    fn late(&self);
 }

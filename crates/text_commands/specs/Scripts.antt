@@ -5,11 +5,14 @@ use Rattle.counted_io.specs.Causes.{IsReadCause, IsWriteCause}
 use Rattle.counted_io.specs.Counted.{failures_of, is_flushed}
 use Rattle.counted_io.specs.Effects.{IfLeft, Wrote}
 use Rattle.load_driver.specs.declared.driver.DriverFault.{DriverFault}
-use Rattle.load_driver.specs.declared.driver.DriverFault.TheVariants.{Memory, Read, TooLarge, Write}
+use Rattle.load_driver.specs.declared.driver.DriverFault.TheVariants.{Memory, Read, TooLarge, Line, Write}
 use Rattle.load_driver.specs.Driver.{IfLine, IsAnswer, IsOutOfMemory}
 use Rattle.load_driver.specs.Limits.{most_reads, most_script}
 use Rattle.script.specs.declared.line_fault.LineFault.{LineFault}
 use Rattle.virtual_time.specs.Simulation.{IsSimulated}
+use Rattle.line_explain.specs.declared.forms.TextKind.{TextKind}
+use Rattle.line_explain.specs.declared.forms.TextKind.TheVariants.{Script, Trace}
+use Rattle.line_explain.specs.Told.{IsSaid}
 use Rattle.commands.specs.declared.command_line.TextTask.{TextTask}
 use Rattle.commands.specs.declared.command_line.TextTask.TheVariants.{Replay, Simulate}
 
@@ -18,6 +21,18 @@ use Rattle.commands.specs.declared.command_line.TextTask.TheVariants.{Replay, Si
 abbrev pub IsAnswerOf : TextTask → List ℕ → Option LineFault → (List ℕ → Type 0) → Type 0
 IsAnswerOf (Replay limit) = IsAnswer limit
 IsAnswerOf (Simulate limit) = IsSimulated limit
+
+-- what a command reads
+abbrev pub kind_of : TextTask → TextKind
+kind_of (Replay limit) = Script
+kind_of (Simulate limit) = Trace
+
+-- what is written behind the line of a fault, where an explanation is asked for: that of the line
+-- at fault, by what was kept of this kind of text, and of any other fault nothing
+abbrev pub IsMore : {E : Type 0} → TextKind → Option (List ℕ) → (E → Option (List ℕ)) → DriverFault
+    → Counted E → Counted E → Type 0
+IsMore kind kept contents (Line at) old new = IsSaid kind kept contents at old new
+IsMore kind kept contents _ old new = new ≡ old
 
 -- why a command over a text stops: a line at fault is the text's, and what was told before it is
 -- written and flushed; each other fault has its cause, and no other call failed; and nothing is

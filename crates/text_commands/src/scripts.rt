@@ -1,19 +1,22 @@
 // A command over a text.
 ghost use Rattle.std.specs.Prelude.{◌≡◌, ◌≤◌, ◌+◌, ◌⊎◌, true, None, OnOk, IfErr};
 ghost use Rattle.counted_io.specs.Causes.{HasRead};
-ghost use Rattle.counted_io.specs.Counted.{calls_of, failures_of, is_flushed};
+ghost use Rattle.counted_io.specs.Counted.{calls_of, failures_of, inner_of, is_flushed};
 ghost use Rattle.counted_io.specs.Effects.{IfLeft, Wrote};
 ghost use Rattle.limit_laws.specs.Algorithm.{greatest_limit};
 ghost use Rattle.load_driver.specs.Driver.{fault_text};
 ghost use Rattle.load_driver.specs.Limits.{most_reads};
 ghost use Rattle.commands.specs.CommandLine.{limit_of};
 ghost use Rattle.fault_lines.specs.FaultLine.{IsTold, fault_line};
-ghost use Rattle.text_commands.specs.Scripts.{IsAnswerOf, IsStop};
+ghost use Rattle.line_explain.specs.Kept.{kept_of, remaining_of};
+ghost use Rattle.line_explain.specs.Told.{IsToldAnd};
+ghost use Rattle.text_commands.specs.Scripts.{IsAnswerOf, IsMore, IsStop, kind_of};
 
 use commands::TextTask;
 use counted_io::Counted;
 use fault_lines::{DONE, FAULT, tell_fault};
 use itoa::Buffer;
+use line_explain::{Kept, TextKind, tell_explained};
 use load_driver::{DriverFault, LineFault, replay};
 use std::alloc::Global;
 use std::io::{Read, Write};
@@ -22,11 +25,14 @@ use virtual_time::simulate;
 /// Carries out a command over a text, tells its fault on `errors`, and answers the exit status.
 ///
 /// The line of the fault comes after all output, is flushed and takes no memory; where it can't be
-/// written itself, it is dropped.
+/// written itself, it is dropped. Behind it, where an explanation is asked for and a line is at
+/// fault, it is said which of its words is wrong and what is wanted there, by the text that the
+/// reader kept; out of memory for that, nothing is.
 pub fn run_text<R: Read, W: Write, E: Write>(
     alloc: Global,
     task: TextTask,
-    reader: &mut Counted<R>,
+    explain: bool,
+    reader: &mut Counted<Kept<R>>,
     writer: &mut Counted<W>,
     errors: &mut Counted<E>,
 ) -> u8
@@ -35,18 +41,19 @@ pub fn run_text<R: Read, W: Write, E: Write>(
     ensures status { (result ≡ 0) ⊎ (result ≡ 1) }
 
     // The whole text is written and flushed.
-    ensures done { result ≡ 0 → IfLeft R.remaining reader.old (λ text.
+    ensures done { result ≡ 0 → IfLeft (remaining_of R.remaining) reader.old (λ text.
         IsAnswerOf task text None (Wrote W.contents writer.old writer.new)) }
     ensures flushed { result ≡ 0 → is_flushed writer.new ≡ true }
     ensures read { result ≡ 0 → failures_of reader.new ≡ failures_of reader.old }
     ensures unfailing { result ≡ 0 → failures_of writer.new ≡ failures_of writer.old }
     ensures quiet { result ≡ 0 → errors.new ≡ errors.old }
 
-    // The fault is reported.
+    // The fault is reported, and behind it nothing but an explanation.
     ensures stopped { result ≡ 1 → (fault : DriverFault)
-        × IsStop R.remaining W.contents task
+        × IsStop (remaining_of R.remaining) W.contents task
         reader.old reader.new writer.old writer.new fault
-        × IsTold E.contents errors.old errors.new (fault_line (fault_text fault)) }
+        × IsToldAnd explain E.contents errors.old errors.new (fault_line (fault_text fault))
+        (IsMore (kind_of task) (kept_of (inner_of reader.new)) E.contents fault) }
 
     // Whatever it answers.
     ensures few { calls_of reader.new ≤ calls_of reader.old + most_reads }
@@ -55,9 +62,53 @@ pub fn run_text<R: Read, W: Write, E: Write>(
     match carry_out(alloc, task, reader, writer) {
         Ok(()) => DONE,
         Err(fault) => {
-            tell_driver_fault(errors, fault);
+            tell(alloc, task, explain, reader.inner(), fault, errors);
             FAULT
         }
+    }
+}
+
+/// Tells why a driver stopped, and says more of it if that is asked for.
+fn tell<R, E: Write>(
+    alloc: Global,
+    task: TextTask,
+    explain: bool,
+    reader: &Kept<R>,
+    fault: DriverFault,
+    errors: &mut Counted<E>,
+)
+    ensures { IsToldAnd explain E.contents errors.old errors.new (fault_line (fault_text fault))
+        (IsMore (kind_of task) (kept_of reader.now) E.contents fault) }
+{
+    tell_driver_fault(errors, fault);
+    if !explain {
+        return;
+    }
+    explain_fault(alloc, task, reader, fault, errors);
+}
+
+/// Says more of a fault, where a line has it.
+fn explain_fault<R, E: Write>(
+    alloc: Global,
+    task: TextTask,
+    reader: &Kept<R>,
+    fault: DriverFault,
+    errors: &mut Counted<E>,
+)
+    ensures { IsMore (kind_of task) (kept_of reader.now) E.contents fault errors.old errors.new }
+{
+    if let DriverFault::Line(at) = fault {
+        tell_explained(alloc, kind_of(task), reader, at, errors);
+    }
+}
+
+/// What a command reads.
+fn kind_of(task: TextTask) -> TextKind
+    ensures { result ≡ kind_of task }
+{
+    match task {
+        TextTask::Replay { .. } => TextKind::Script,
+        TextTask::Simulate { .. } => TextKind::Trace,
     }
 }
 

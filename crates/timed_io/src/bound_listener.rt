@@ -1,5 +1,6 @@
 // Clients over TCP.
 use crate::ends::Untold;
+use crate::keeping::{ask_after, end_untaken};
 use crate::listener::{Arrival, Listener};
 use libc::net::{POLLIN, SHUT_RD, listen, poll, shutdown};
 use libc::types::pollfd;
@@ -27,11 +28,13 @@ pub struct BoundListener {
 impl BoundListener {
     /// Binds the address; the fault is the system's, mostly that another program has it. As many
     /// clients may wait to be accepted as the system allows, 4,096 by default; std's own number is
-    /// 128, and a client that finds the queue full tries again a second later.
+    /// 128, and a client that finds the queue full tries again a second later. The system asks
+    /// after clients that are silent, and ends the connections of those who are gone.
     pub fn bind<R: Net>(rt: &R, address: SocketAddr) -> Result<BoundListener> {
         let queue = mio::net::TcpListener::bind(rt, address)?;
         let listener = TcpListener::from(queue.as_fd().try_clone_to_owned()?);
         listener.set_nonblocking(false)?;
+        ask_after(&listener);
         Ok(BoundListener {
             listener,
             open: AtomicBool::new(true),
@@ -53,6 +56,10 @@ impl Listener for BoundListener {
             from: Untold {},
             to: Untold {},
         })
+    }
+
+    fn end_untaken(&self, most: Duration) {
+        end_untaken(&self.listener, most);
     }
 
     fn is_open(&self) -> bool {

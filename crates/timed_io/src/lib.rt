@@ -11,7 +11,7 @@
 //! the first of them; past that a read or a write fails and touches nothing below. One that has to
 //! wait does so under the connection's own limit, which is set to the time that is left; what has
 //! come, and what there is room for, takes no limit, so a short exchange takes two calls of the
-//! system less.
+//! system less. A [`FirstByte`] lets somebody go who sends nothing, where a [`Patience`] says so.
 //! An [`Uninterrupted`] reader or writer begins a call anew that a signal cut short. [`linger`]
 //! sees that a client gets to read its answer. `specs/` has the words. Nothing is promised of what
 //! a clock tells, or of how long a call takes.
@@ -22,6 +22,8 @@ mod bound_listener;
 mod connection;
 mod countdown;
 mod ends;
+mod first_byte;
+mod keeping;
 mod lingering;
 mod listener;
 mod reading;
@@ -33,6 +35,8 @@ pub use bound_listener::BoundListener;
 pub use connection::{Connection, Lent};
 pub use countdown::Countdown;
 pub use ends::{Inlet, Outlet, Untold, read_ready};
+pub use first_byte::{FirstByte, Patience};
+pub use keeping::{ask_after, end_untaken};
 pub use lingering::linger;
 pub use listener::{Arrival, Listener};
 pub use reading::{LimitedRead, TimedReader};

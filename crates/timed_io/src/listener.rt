@@ -34,6 +34,10 @@ pub trait Listener {
         ensures unwritten { IfOk result (λ client.
             IfSome (Self.To.contents client.to) (λ written. written ≡ [])) };
 
+    /// From now on the system ends the connections of those who come, where for so long nothing is
+    /// taken of what was sent to them.
+    fn end_untaken(&self, most: Duration);
+
     /// Whether connections may still come: it hasn't been closed. Where it has been, one that waits
     /// may still be had.
     fn is_open(&self) -> bool;

@@ -16,6 +16,7 @@ runs may end differently.
 
   --limit N      the fixed limit of a trace without a limit line, permits, 1 to 10000; default 20
   --workers W    threads that make the calls, 1 to 64; default 4
+  --explain      says more after a line's fault
 
 At the end all that the workers were told is compared with the gate's history: each call stands in
 it once, in its worker's order, and each ending ends a permit that was handed out. Then two lines
@@ -59,4 +60,6 @@ closes:
   admission: audit: passes missing, strange, order, uncovered, unmatched
                              the gate contradicts what it told: a bug of this program, please report
                              the trace
-  admission: write           standard output can't be written: a full disk, a closed pipe";
+  admission: write           standard output can't be written: a full disk, a closed pipe
+
+With --explain a line more follows that of a line at fault, as `simulate` has it.";

@@ -84,4 +84,9 @@ one line on standard error, which comes after the answers to the lines before it
   admission: read            standard input can't be read, such as a folder, or doesn't end
   admission: too large       the script has more than 16 MiB
   admission: memory          out of memory: lower the memory that other programs take
-  admission: write           standard output can't be written: a full disk, a closed pipe";
+  admission: write           standard output can't be written: a full disk, a closed pipe
+
+With --explain a line more follows that of a line at fault, for a person: which of its words is
+wrong, counted from 1, and what is wanted there. Of `limit fixed 0` it is
+
+  word 3, \"0\": N, permits, 1 to 10000";

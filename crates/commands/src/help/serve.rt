@@ -18,11 +18,20 @@ way.
   --client-timeout-ms T   milliseconds that a client may take, 1 to 3600000; default 10000: for its
                           whole request, and again to take its whole answer. A slower client is cut
                           off, and its permit is ended
+  --backend-timeout-ms T  milliseconds that the backend may take from the connect to the end of its
+                          answer, 1 to 3600000; without it there is no limit. Past it the client is
+                          answered 504
   --report-seconds N      seconds between two lines of the report in the log, 1 to 3600; without it
                           there are none
   --admin ADDRESS         a loopback address of IPv4 with a port, such as 127.0.0.1:9901, at which
                           the operator of this machine sees the state and changes it; without it
                           there is none
+  --status ADDRESS        an address of IPv4 with a port, such as 0.0.0.0:9902, at which GET /health
+                          and GET /metrics are answered, and nothing changes; without it there is
+                          none
+  --log-lines FORM        how each line of the log begins; default plain: with its level. With time
+                          it begins with the time in UTC, and with journal with the priority that
+                          systemd reads
 
 For example, with this file as gate.toml
 
@@ -53,6 +62,7 @@ limit learns from it:
   the backend answered another status from 500 to 999           that answer       ignored
   the backend's answer is unreadable, cut off or above 8 MiB    502               dropped
   the backend can't be reached                                  502               ignored
+  the backend took longer than --backend-timeout-ms             504               dropped
   out of memory                                                 500               ignored
   the request is malformed, cut off, or has two lengths         400               nothing
   the request's body is above 8 MiB                             413               nothing
@@ -60,8 +70,7 @@ limit learns from it:
   the method is CONNECT or TRACE, or the coding isn't chunked   501               nothing
   the client left or was too slow with its request              no answer         nothing
 
-An ignored ending gives the permit back and changes no limit. The backend has no time limit: one
-that never answers holds its permit and its worker until it closes the connection.
+An ignored ending gives the permit back and changes no limit.
 
 The log on standard error says `listening`, with the address, the number of workers and the kind of
 limit, once the address is bound. Three warnings may come before it: the limit, or its max, with its
@@ -70,27 +79,31 @@ system's accept queue and are never refused; the workers may need more descripto
 gives; or the backend is this gateway itself.
 
 While it serves the log says, at most once in ten seconds each and with the count since the last
-time, that the backend can't be reached or broke an answer, or that no descriptor was free. With
---report-seconds N one line every N seconds tells the state: the limit, the requests in flight and
-those that wait, each class as in flight/share, the counters since the start, and how many exchanges
-ended in each status of the gateway's own, so that a stop loses N seconds of counters at most:
+time, that the backend can't be reached, broke an answer or took too long, or that no descriptor was
+free. With --report-seconds N one line every N seconds tells the state: the limit, the requests in
+flight and those that wait, each class as in flight/share, the counters since the start, and how
+many exchanges ended in each status of the gateway's own, so that a stop loses N seconds of counters
+at most:
 `report limit=L inflight=I waiters=V granted=G class.NAME=C/S class.unknown=C admitted=A ..
-dropped=D 400=N 413=N 429=N 431=N 500=N 501=N 502=N`.
+dropped=D 400=N 413=N 429=N 431=N 500=N 501=N 502=N 504=N`.
 
 With --admin each connection to ADDRESS carries one call. Its Host has to be the address itself, and
 a POST needs the line `X-Admission: yes`, so that no page in a browser can send one:
 
   GET /         a page that draws the last minutes in a browser
   GET /metrics  the state, in the text format of Prometheus
-  GET /health   200 while clients are accepted, 503 once the gateway drains
+  GET /health   200 while clients are accepted; 503 while all workers are held, and once the gateway
+                drains
   POST /limit   sets the limit to the number in the body, if its kind is settable
   POST /reset   begins the algorithm of the limit anew
   POST /drain   accepts nobody any more; the program ends once those inside, or waiting to be
-                accepted, are served
+                accepted, are served. With ?after-ms=N /health says so at once, and clients are
+                accepted for N milliseconds more
 
 At its end `serve` writes its counters to standard output, in one line:
 `admitted A bypassed B full F backlog G waiting W promoted P timed-out T success S ignored I
-dropped D`. SIGTERM, SIGINT, SIGHUP and SIGUSR1 end it at once, without counters.
+dropped D`. SIGTERM, SIGINT, SIGHUP and SIGUSR1 end it at once, without counters; `admission-run`
+starts it so that these drain it.
 
 Exits with status 0 once all workers have ended, with 2 for a wrong command line, and otherwise with
 1 and one line on standard error:

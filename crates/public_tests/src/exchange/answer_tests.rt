@@ -8,10 +8,11 @@ use wire::WireFault;
 
 const GET: &[u8] = b"GET /a HTTP/1.1\r\nHost: h\r\n\r\n";
 
-/// A backend that isn't there, one without memory, and each class of a status: what the client
-/// gets, and what the gate learns.
-const ANSWERS: [(Says, &[u8; KEPT], u16, Outcome); 20] = [
+/// A backend that isn't there, one that is late, one without memory, and each class of a status:
+/// what the client gets, and what the gate learns.
+const ANSWERS: [(Says, &[u8; KEPT], u16, Outcome); 21] = [
     (Says::NotConnected, b"HTTP/1.1 502", 502, Outcome::Ignored),
+    (Says::Late, b"HTTP/1.1 504", 504, Outcome::Dropped),
     (Says::Memory, b"HTTP/1.1 500", 500, Outcome::Ignored),
     (Says::Status(100), b"HTTP/1.1 502", 502, Outcome::Dropped),
     (Says::Status(199), b"HTTP/1.1 502", 502, Outcome::Dropped),

@@ -165,6 +165,7 @@ pub(crate) enum Says {
     Status(u16),
     NotConnected,
     Broken(WireFault),
+    Late,
     Memory,
 }
 
@@ -194,9 +195,12 @@ impl Backend for Told {
             }
             Says::NotConnected => Answer::NotConnected,
             Says::Broken(fault) => Answer::Broken(fault),
+            Says::Late => Answer::Late,
             Says::Memory => Answer::Memory,
         }
     }
+
+    fn leave(&mut self) {}
 
     fn forwards(&self) -> u64
         ensures { result ≡ self.now.count }

@@ -1,6 +1,6 @@
 use Rattle.std.specs.Prelude.{codes}
 use Rattle.clap.specs.Words.{new_app, with_rule}
-use Rattle.commands.specs.CommandLine.{config_rule, explain_rule}
+use Rattle.commands.specs.Rules.{config_rule, explain_rule}
 use Rattle.commands.proofs.interface.check_command.Goals as goal
 
 -- the arguments are added one by one

@@ -1,4 +1,8 @@
-use Rattle.std.proofs.Common.{rules}
+use Rattle.std.proofs.Common.{rules, subst}
+use Rattle.fault_lines.specs.FaultLine.{fault_line}
+use Rattle.line_explain.specs.Kept.{kept_of}
+use Rattle.line_explain.specs.Told.{IsToldAnd}
+use Rattle.load_command.specs.Command.{IsMore, load_fault_text}
 use Rattle.load_command.proofs.command.run_load.Goals as goal
 
 pub returns-in-Ok-clause-status : goal.returns-in-Ok-clause-status
@@ -40,8 +44,16 @@ returns-in-Err-clause-unfailing g c = search rules
 pub returns-in-Err-clause-quiet : goal.returns-in-Err-clause-quiet
 returns-in-Err-clause-quiet g c = search rules
 
+-- what the reader inside kept is what is told by
 pub returns-in-Err-clause-stopped : goal.returns-in-Err-clause-stopped
-returns-in-Err-clause-stopped g c = search rules
+returns-in-Err-clause-stopped g c is = (
+  c.in-Err.fault,
+  c.in-Err.ensures.stopped,
+  subst (λ reader. IsToldAnd c.args.explain g.E.Write.contents c.args.errors.now
+      c.tell.new.errors (fault_line (load_fault_text c.in-Err.fault))
+      (IsMore (kept_of reader) g.E.Write.contents c.in-Err.fault))
+      c.inner.ensures c.tell.ensures,
+)
 
 pub returns-in-Ok-clause-few_reads : goal.returns-in-Ok-clause-few_reads
 returns-in-Ok-clause-few_reads g c = search rules

@@ -1,13 +1,15 @@
+use Rattle.std.proofs.Common.{refl, ◌∙◌}
 use Rattle.operator_serving.specs.Attending.AreServed.{nobody, one_more}
 use Rattle.operator_serving.proofs.operating.operate.Goals as goal
 
 pub loop-init : goal.loop-init
-loop-init g c = (tt, tt, nobody c.args.desk.now)
+loop-init g c = (tt, tt, nobody c.args.desk.now, λ anyone. refl)
 
 pub loop-preserved-in-Ok : goal.loop-preserved-in-Ok
 loop-preserved-in-Ok g c = (
   tt,
   tt,
   one_more c.args.desk.now c.loop.desk c.serve_operator.new.desk c.loop.invariant.2
-      c.serve_operator.ensures,
+      c.serve_operator.ensures.served,
+  λ anyone. c.serve_operator.ensures.looks anyone ∙ c.loop.invariant.3 anyone,
 )

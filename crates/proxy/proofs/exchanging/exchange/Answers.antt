@@ -1,4 +1,4 @@
-use Rattle.std.proofs.Common.{◌≡◌, ◌∙◌, ℕ, ◌<◌, ◌⊎◌, IfSome, None, Some, Result, Ok, Err, ap, is_ok}
+use Rattle.std.proofs.Common.{rules, ◌≡◌, ◌∙◌, ℕ, ◌<◌, ◌⊎◌, IfSome, None, Some, Result, Ok, Err, ap, is_ok}
 use Rattle.std.proofs.Common.{is_some, refl, subst, sym, true≢false}
 use Rattle.counted_io.specs.Count.{count_end}
 use Rattle.counted_io.specs.Counted.{failures_of}
@@ -30,6 +30,7 @@ returns-in-Err-clause-exchanged g c = record {
   deals = (c.unread.ensures.class, c.unread.ensures.admission, refl, refl, refl, refl, refl, refl);
   status = c.unread.ensures.answer;
   own = c.unread.ensures.own;
+  empty = search rules;
   outcome = c.unread.ensures.outcome;
   text = c.unread.ensures.text;
   unasked = λ same. c.unread.ensures.told (ap fault_in same);
@@ -68,6 +69,7 @@ returns-clause-exchanged g c = record {
   );
   status = ap Some c.reply_status.ensures;
   own = c.is_own.ensures;
+  empty = refl;
   outcome = c.outcome_at.ensures;
   text = c.reply-written_fault.ensures.all;
   unasked = λ same. absurd (true≢false (ap is_ok same));

@@ -12,3 +12,6 @@ returns-in-Broken c = search rules
 
 pub returns-in-Memory : goal.returns-in-Memory
 returns-in-Memory c = search rules
+
+pub returns-in-Late : goal.returns-in-Late
+returns-in-Late c = search rules

@@ -6,7 +6,8 @@ use Rattle.gate_opening.specs.Opening.{making_of}
 use Rattle.serve_command.specs.Command.{IsOfServing}
 use Rattle.serve_command.specs.Runs.{AreCountersOfRuns}
 use Rattle.serve_command.specs.declared.fault.ServiceFault.TheVariants as Service
-use Rattle.serve_command.proofs.Whys.{serving_is, why_unread, why_unserved, why_unset, why_unwritten}
+use Rattle.serve_command.proofs.Whys.{serving_is, why_unread, why_unserved, why_unset}
+use Rattle.serve_command.proofs.Whys.{why_unwritten}
 use Rattle.serve_command.proofs.command.serve_and_count.Goals as goal
 
 pub returns-in_err-text-clause-refused :
@@ -17,7 +18,7 @@ returns-in_err-text-clause-refused g c =
     let path = c.args.service.now.path.now in
     why_unread (g.F.Opener.unopened path) (g.F.Opener.opened path) g.F.File.Read.remaining
     (λ s. IsOfServing g.B.Binder.bound g.B.Binder.unbound s.listen c.args.service.now.admin
-    (refused_of c.args.spawner.now) (refused_of c.args.spawner.now))
+    c.args.service.now.status (refused_of c.args.spawner.now) (refused_of c.args.spawner.now))
     c.args.writer.now c.from_residual.result fault is c.in_err-text.ensures.refused
 
 pub returns-in_err-settings-clause-refused : goal.returns-in_err-settings-clause-refused
@@ -29,7 +30,7 @@ returns-in_err-settings-clause-refused g c =
     let path = c.args.service.now.path.now in
     why_unset (g.F.Opener.unopened path) (g.F.Opener.opened path) g.F.File.Read.remaining
     (λ s. IsOfServing g.B.Binder.bound g.B.Binder.unbound s.listen c.args.service.now.admin
-    (refused_of c.args.spawner.now) (refused_of c.args.spawner.now))
+    c.args.service.now.status (refused_of c.args.spawner.now) (refused_of c.args.spawner.now))
     c.args.writer.now c.from_residual-in_err-settings.result fault is bytes
     c.in_ok-text.ensures.text
     (subst (λ (xs : List ℕ). IsFaultOf xs fault) same c.in_err-settings.ensures.refused)
@@ -46,11 +47,13 @@ returns-in_err-counters-clause-refused g c =
     let of = c.in_err-counters.ensures.refused in
     why_unserved (g.F.Opener.unopened path) (g.F.Opener.opened path) g.F.File.Read.remaining
     (λ s. IsOfServing g.B.Binder.bound g.B.Binder.unbound s.listen c.args.service.now.admin
-    (refused_of c.args.spawner.now) (refused_of c.serve_settings.new.spawner))
+    c.args.service.now.status (refused_of c.args.spawner.now)
+    (refused_of c.serve_settings.new.spawner))
     c.args.writer.now c.from_residual-in_err-counters.result fault is
     s (had.0, bytes, had.2, had.3, says) of
     (serving_is g.B.Binder.bound g.B.Binder.unbound s.listen c.args.service.now.admin
-    (refused_of c.args.spawner.now) (refused_of c.serve_settings.new.spawner) fault of)
+    c.args.service.now.status (refused_of c.args.spawner.now)
+    (refused_of c.serve_settings.new.spawner) fault of)
 
 pub returns-in_err-write_counters-clause-refused :
     goal.returns-in_err-write_counters-clause-refused
@@ -63,7 +66,8 @@ returns-in_err-write_counters-clause-refused g c =
     let path = c.args.service.now.path.now in
     why_unwritten (g.F.Opener.unopened path) (g.F.Opener.opened path) g.F.File.Read.remaining
     (λ s. IsOfServing g.B.Binder.bound g.B.Binder.unbound s.listen c.args.service.now.admin
-    (refused_of c.args.spawner.now) (refused_of c.serve_settings.new.spawner))
+    c.args.service.now.status (refused_of c.args.spawner.now)
+    (refused_of c.serve_settings.new.spawner))
     c.args.writer.now c.write_counters.new.writer c.from_residual-in_err-write_counters.result is
     c.in_err-write_counters.ensures.failed
     s (had.0, bytes, had.2, had.3, says)
@@ -84,6 +88,7 @@ returns-clause-served g c =
       says = says;
       front = c.in_ok-counters.ensures.front;
       operator = c.in_ok-counters.ensures.operator;
+      lookers = c.in_ok-counters.ensures.status;
       counters = c.in_ok-counters.counters;
       counted =
           subst (λ (xs : List ℕ). AreCountersOfRuns any_rules (making_of s)

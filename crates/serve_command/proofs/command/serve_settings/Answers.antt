@@ -2,7 +2,8 @@ use Rattle.std.proofs.Common.{rules, ◌≡◌, Err}
 use Rattle.std.specs.Net.Text.{socket_v4_text}
 use Rattle.tasks.specs.Refused.{refused_of}
 use Rattle.serve_command.specs.ServiceFault.{of_workers}
-use Rattle.serve_command.proofs.Whys.{bound_at, lacks_admin, lacks_front, lacks_workers}
+use Rattle.serve_command.proofs.Whys.{bound_at, lacks_admin, lacks_front, lacks_status}
+use Rattle.serve_command.proofs.Whys.{lacks_memory, lacks_workers}
 use Rattle.serve_command.proofs.command.serve_settings.Goals as goal
 
 pub returns-in_err-front-clause-refused : goal.returns-in_err-front-clause-refused
@@ -12,7 +13,7 @@ returns-in_err-front-clause-refused g c =
     let is : c.from_residual.result ≡ Err fault = search rules in
     let same : socket_v4_text c.socket.result ≡ c.args.settings.now.listen = search rules in
     lacks_front g.B.Binder.bound g.B.Binder.unbound c.args.settings.now.listen
-    c.args.service.now.admin before before c.from_residual.result fault is
+    c.args.service.now.admin c.args.service.now.status before before c.from_residual.result fault is
     (socket_v4_text c.socket.result) same c.in_err-front.ensures.unbound
 
 pub returns-in_err-admin-clause-refused : goal.returns-in_err-admin-clause-refused
@@ -22,9 +23,35 @@ returns-in_err-admin-clause-refused g c =
     let is : c.from_residual-in_err-admin.result ≡ Err fault = search rules in
     let same : socket_v4_text c.socket.result ≡ c.args.settings.now.listen = search rules in
     lacks_admin g.B.Binder.bound g.B.Binder.unbound c.args.settings.now.listen
-    c.args.service.now.admin before before c.from_residual-in_err-admin.result fault is
+    c.args.service.now.admin c.args.service.now.status before before
+    c.from_residual-in_err-admin.result fault is
     (bound_at g.B.Binder.bound (socket_v4_text c.socket.result) c.args.settings.now.listen
     c.in_ok-front.front same c.in_ok-front.ensures.bound) c.in_err-admin.ensures.unbound
+
+pub returns-in_err-status-clause-refused : goal.returns-in_err-status-clause-refused
+returns-in_err-status-clause-refused g c =
+    let before = refused_of c.args.spawner.now in
+    let fault = c.in_err-status.field-0.0 in
+    let is : c.from_residual-in_err-status.result ≡ Err fault = search rules in
+    let same : socket_v4_text c.socket.result ≡ c.args.settings.now.listen = search rules in
+    lacks_status g.B.Binder.bound g.B.Binder.unbound c.args.settings.now.listen
+    c.args.service.now.admin c.args.service.now.status before before
+    c.from_residual-in_err-status.result fault is
+    (bound_at g.B.Binder.bound (socket_v4_text c.socket.result) c.args.settings.now.listen
+    c.in_ok-front.front same c.in_ok-front.ensures.bound) c.in_ok-admin.ensures.bound
+    c.in_err-status.ensures.unbound
+
+pub returns-in_err-watch-clause-refused : goal.returns-in_err-watch-clause-refused
+returns-in_err-watch-clause-refused g c =
+    let before = refused_of c.args.spawner.now in
+    let fault = c.in_err-watch.field-0.0 in
+    let is : c.from_residual-in_err-watch.result ≡ Err fault = search rules in
+    let same : socket_v4_text c.socket.result ≡ c.args.settings.now.listen = search rules in
+    lacks_memory g.B.Binder.bound g.B.Binder.unbound c.args.settings.now.listen
+    c.args.service.now.admin c.args.service.now.status before before
+    c.from_residual-in_err-watch.result fault is
+    (bound_at g.B.Binder.bound (socket_v4_text c.socket.result) c.args.settings.now.listen
+    c.in_ok-front.front same c.in_ok-front.ensures.bound) c.in_err-watch.ensures.lacking
 
 pub returns-in_err-serve_standing-clause-refused :
     goal.returns-in_err-serve_standing-clause-refused
@@ -35,7 +62,7 @@ returns-in_err-serve_standing-clause-refused g c =
     search rules in
     let same : socket_v4_text c.socket.result ≡ c.args.settings.now.listen = search rules in
     lacks_workers g.B.Binder.bound g.B.Binder.unbound c.args.settings.now.listen
-    c.args.service.now.admin (refused_of c.args.spawner.now)
+    c.args.service.now.admin c.args.service.now.status (refused_of c.args.spawner.now)
     (refused_of c.serve_standing.new.spawner) c.from_residual-in_err-serve_standing.result
     c.serve_standing.result fault was is
     (bound_at g.B.Binder.bound (socket_v4_text c.socket.result) c.args.settings.now.listen

@@ -14,7 +14,7 @@ returns-clause-counted g c =
     let common = c.args.common.now in
     let gives = g.S.Source.gives in
     let ends = ended_in c.in_ok-lefts.lefts.items in
-    let both = all_ran_to _ _ _ gives common c.args.passes.items ends c.requires.unused
+    let both = all_ran_to _ _ _ _ gives common c.args.passes.items ends c.requires.unused
     (subst (λ ports. AllZip
     (HasRun gives (λ port. None) (λ port. Some port.pass.log) common) ports ends)
     c.in_ok-ports.ensures c.in_ok-lefts.ensures.ran) in

@@ -15,5 +15,5 @@ returns-clause-beside g c =
     all_made g.A.Accepts.given g.A.Accepts.failed g.A.Accepts.closed g.A.Accepts.visits
     g.P.GatePort.shown g.P.GatePort.known g.B.Backend.forwarded g.B.Backend.shown
     g.S.Source.gives g.S.Source.lacks (λ task. g.T.Task.makes task tt)
-    c.args.beside c.in_ok-jobs.jobs.items c.in_ok-lefts.lefts.items
+    c.args.beside.items c.in_ok-jobs.jobs.items c.in_ok-lefts.lefts.items
     c.in_ok-jobs.ensures.beside c.in_ok-lefts.ensures.made

@@ -8,8 +8,8 @@ use Rattle.serving.proofs.working.serve_client.Goals as goal
 
 pub returns : goal.returns
 returns g c =
-    let end = c.end-to.ensures ∙ ap end_of (c.inner-9.ensures ∙ ap writer_in (c.inner-8.ensures
-    ∙ ap uninterrupted_in (c.inner-7.ensures ∙ ap writer_below c.inner-6.ensures))) in
+    let end = c.end-to.ensures ∙ ap end_of (c.inner-10.ensures ∙ ap writer_in (c.inner-9.ensures
+    ∙ ap uninterrupted_in (c.inner-8.ensures ∙ ap writer_below c.inner-7.ensures))) in
     served _ _ _ _ _ _ _ _ _ c.exchange-served.result _ _ _ _ c.is_sent-is_sent.result
     c.exchange-served.ensures.exchanged c.told_where-served.ensures
     (is_fresh _ _ (search rules) (search rules) (search rules) (search rules) (search rules))

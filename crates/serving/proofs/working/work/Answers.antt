@@ -22,7 +22,8 @@ loop-preserved g c = elim c.match-accept.branch [
           w.in-Ok.ensures.unwritten,
           w.serve_client-client.ensures,
           same_back g.P.GatePort.shown g.P.GatePort.known g.B.Backend.forwarded g.B.Backend.shown
-              _ _ _ _ w.port-is w.backend-is,
+              _ _ _ _ w.leave.new.self w.port-is w.backend-is
+              w.leave.ensures.count w.leave.ensures.log,
         )
         (serving_shown _ (g.A.Accepts.visits c.accept.new.self) _ _ _ _ w.in-Ok.ensures.arrived
         (search rules));

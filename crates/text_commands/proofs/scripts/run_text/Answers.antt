@@ -1,8 +1,21 @@
-use Rattle.std.proofs.Common.{rules}
+use Rattle.std.proofs.Common.{rules, subst}
+use Rattle.fault_lines.specs.FaultLine.{fault_line}
+use Rattle.load_driver.specs.Driver.{fault_text}
+use Rattle.line_explain.specs.Kept.{kept_of}
+use Rattle.line_explain.specs.Told.{IsToldAnd}
+use Rattle.text_commands.specs.Scripts.{IsMore, kind_of}
 use Rattle.text_commands.proofs.scripts.run_text.Goals as goal
 
+-- what the reader inside kept is what is told by
 pub returns-in-Err-clause-stopped : goal.returns-in-Err-clause-stopped
-returns-in-Err-clause-stopped c = search rules
+returns-in-Err-clause-stopped g c is = (
+  c.in-Err.fault,
+  c.in-Err.ensures.stopped,
+  subst (λ reader. IsToldAnd c.args.explain g.E.Write.contents c.args.errors.now
+      c.tell.new.errors (fault_line (fault_text c.in-Err.fault))
+      (IsMore (kind_of c.args.task) (kept_of reader) g.E.Write.contents c.in-Err.fault))
+      c.inner.ensures c.tell.ensures,
+)
 
 pub returns-in-Ok-clause-done : goal.returns-in-Ok-clause-done
 returns-in-Ok-clause-done c = search rules

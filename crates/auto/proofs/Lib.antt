@@ -1,0 +1,4 @@
+pub mod Roots
+pub mod Steps
+pub mod Drops
+pub mod Windows

@@ -1,0 +1,44 @@
+-- What the words give for an option.
+use Rattle.std.specs.Prelude.{◌≡◌, ◌≤◌, ℕ, List, Option, Some, None, Bool, false, codes}
+use Rattle.std.specs.Option.{option_map_or}
+use Rattle.std.specs.Str.{bytes_eq}
+use Rattle.std.specs.Net.Addr.{IsLoopbackV4}
+use Rattle.std.specs.Net.Grammar.{IsSocketV4Text}
+use Rattle.std.specs.Net.Socket.{v4_ip, v4_port}
+use Rattle.std.specs.declared.net.socket_addr.SocketAddrV4.{SocketAddrV4}
+use Rattle.std.specs.Str.Parse.{IsNumeral, digits_value, without_leading_plus}
+use Rattle.clap.specs.Words.{Row, Text, first_of, one_of}
+
+-- the number that the rows have for an option lies in the range
+abbrev pub HasNumber : List Row → Text → ℕ → ℕ → ℕ → Type 0
+HasNumber rows id low high n = (text : Text) × (one_of id rows ≡ Some text)
+    × IsNumeral 10 (without_leading_plus text)
+    × (digits_value 10 (without_leading_plus text) ≡ n) × (low ≤ n) × (n ≤ high)
+
+-- the rows have no text for an option, or the number in the range
+abbrev pub HasOptional : List Row → Text → ℕ → ℕ → Option ℕ → Type 0
+HasOptional rows id low high None = first_of id rows ≡ None
+HasOptional rows id low high (Some n) = HasNumber rows id low high n
+
+-- the text that the rows have for an option is that of an address with a port from 1 up
+abbrev pub HasAddress : List Row → Text → SocketAddrV4 → Type 0
+HasAddress rows id a = (text : Text) × (one_of id rows ≡ Some text) × IsSocketV4Text text a
+    × (1 ≤ v4_port a)
+
+-- the same of a loopback address
+abbrev pub HasLoopback : List Row → Text → SocketAddrV4 → Type 0
+HasLoopback rows id a = HasAddress rows id a × IsLoopbackV4 (v4_ip a)
+
+-- the rows have no text for an option, or that of an address
+abbrev pub MayHaveAddress : List Row → Text → Option SocketAddrV4 → Type 0
+MayHaveAddress rows id None = first_of id rows ≡ None
+MayHaveAddress rows id (Some a) = HasAddress rows id a
+
+-- or that of a loopback address
+abbrev pub MayHaveLoopback : List Row → Text → Option SocketAddrV4 → Type 0
+MayHaveLoopback rows id None = first_of id rows ≡ None
+MayHaveLoopback rows id (Some a) = HasLoopback rows id a
+
+-- the rows have a flag
+abbrev pub is_set : Text → List Row → Bool
+is_set id rows = option_map_or (λ text. bytes_eq text (codes "true")) (first_of id rows) false

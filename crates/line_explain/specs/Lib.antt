@@ -1,0 +1,6 @@
+pub mod Forms
+pub mod Astray
+pub mod Outside
+pub mod Named
+pub mod Kept
+pub mod Told

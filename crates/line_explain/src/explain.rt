@@ -1,0 +1,149 @@
+// What is said of a line at fault.
+ghost use Rattle.std.specs.Prelude.{◌≡◌, ◌++◌, IfOk, OnOk, string_bytes};
+ghost use Rattle.script.specs.Words.{words};
+ghost use Rattle.line_explain.specs.Named.{IsExplained, IsNamed, NamesWord, word_line};
+
+use crate::astray::{astray, word_at};
+use crate::choices::push_choices;
+use crate::classes::{place_of, push_names, push_refusal, refusal_of};
+use crate::forms::TextKind;
+use crate::lines_before::line_at;
+use crate::shown::shown;
+use crate::value::{form_had, outside, push_wanted};
+use script::{FaultKind, LineFault, next_line, read_settings};
+use std::alloc::{AllocError, Global};
+
+/// A line at fault of a text.
+#[derive(Clone, Copy)]
+struct Faulty<'a> {
+    kind: TextKind,
+    why: FaultKind,
+    text: &'a [u8],
+    line: &'a [u8],
+}
+
+/// What is said of a line at fault, in a line: which of its words is wrong, and what is wanted
+/// there. Nothing where the text has no such line. `AllocError` where memory runs out.
+pub fn explanation(
+    alloc: Global,
+    kind: TextKind,
+    text: &[u8],
+    fault: LineFault,
+) -> Result<String, AllocError>
+    ensures { IfOk result (λ said. IsExplained kind text.now fault (string_bytes said)) }
+{
+    let why = fault.why;
+    match line_at(text, fault.line) {
+        Some(line) => explained(
+            alloc,
+            Faulty {
+                kind,
+                why,
+                text,
+                line,
+            },
+        ),
+        None => Ok(String::new(alloc)),
+    }
+}
+
+/// What is said of a line.
+fn explained(alloc: Global, faulty: Faulty<'_>) -> Result<String, AllocError>
+    ensures { IfOk result (λ said. NamesWord faulty.entry.kind faulty.entry.why
+        (words faulty.entry.line.now) (string_bytes said)) }
+{
+    let mut wanted = String::new(alloc);
+    let place = named(&mut wanted, faulty)?;
+    let word = shown(alloc, word_at(faulty.line, place))?;
+    let mut said = String::new(alloc);
+    push_line(&mut said, place.saturating_add(1), &word, &wanted)?;
+    Ok(said)
+}
+
+/// Says the line of its parts.
+fn push_line(out: &mut String, number: usize, word: &str, wanted: &str) -> Result<(), AllocError>
+    ensures { OnOk result
+        (string_bytes out.new ≡ string_bytes out.old ++ word_line number word.now wanted.now) }
+{
+    write!(out, "word {number}{word}: {wanted}\n")
+}
+
+/// The place of the word that is named, and what is wanted there.
+fn named(wanted: &mut String, faulty: Faulty<'_>) -> Result<usize, AllocError>
+    ensures { IfOk result
+        (IsNamed faulty.entry.kind faulty.entry.why (words faulty.entry.line.now)) }
+{
+    match faulty.why {
+        FaultKind::Words => {
+            let place = astray(faulty.kind, faulty.line);
+            push_choices(wanted, faulty.kind, faulty.line, place)?;
+            Ok(place)
+        }
+        FaultKind::Late => {
+            push_late(wanted, faulty.text)?;
+            Ok(0)
+        }
+        FaultKind::Twice => {
+            push_twice(wanted, faulty.text, faulty.line)?;
+            Ok(0)
+        }
+        FaultKind::Value => named_value(wanted, faulty),
+        FaultKind::Class => {
+            push_known(wanted, faulty.text)?;
+            Ok(1)
+        }
+    }
+}
+
+/// The place of a number or a name that isn't in its range, and what is.
+fn named_value(wanted: &mut String, faulty: Faulty<'_>) -> Result<usize, AllocError>
+    ensures { IfOk result
+        (IsNamed faulty.entry.kind FaultKind.Value (words faulty.entry.line.now)) }
+{
+    let line = faulty.line;
+    let form = form_had(faulty.kind, line).unwrap_or(&[]);
+    let place = outside(line, form);
+    if place < form.len() {
+        push_wanted(wanted, line, form, place)?;
+        return Ok(place);
+    }
+    let opening = read_settings(*wanted.allocator(), faulty.text)?;
+    let refusal = refusal_of(opening.settings.table(), line);
+    push_refusal(wanted, form, refusal)?;
+    Ok(place_of(refusal))
+}
+
+/// Says that a setting comes too late, and behind which line.
+fn push_late(wanted: &mut String, text: &[u8]) -> Result<(), AllocError> {
+    let ending = read_settings(*wanted.allocator(), text)?.line;
+    write!(
+        wanted,
+        "settings stand before all other lines, and line {ending} is another"
+    )
+}
+
+/// Says that a setting comes twice, and in which line it came first.
+fn push_twice(wanted: &mut String, text: &[u8], line: &[u8]) -> Result<(), AllocError> {
+    let first = first_with(text, word_at(line, 0));
+    write!(wanted, "this setting stands once, and line {first} has it")
+}
+
+/// Says which classes the text has.
+fn push_known(wanted: &mut String, text: &[u8]) -> Result<(), AllocError> {
+    let opening = read_settings(*wanted.allocator(), text)?;
+    push_names(wanted, opening.settings.table())
+}
+
+/// The number of the first line with this first word.
+fn first_with(text: &[u8], word: Option<&[u8]>) -> u64 {
+    let mut rest = text;
+    let mut number = 1u64;
+    while let Some((line, after)) = next_line(rest) {
+        if word_at(line, 0) == word {
+            return number;
+        }
+        rest = after;
+        number = number.saturating_add(1);
+    }
+    number
+}

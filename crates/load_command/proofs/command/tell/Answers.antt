@@ -1,0 +1,14 @@
+use Rattle.std.proofs.Common.{rules, ◌≡◌, true}
+use Rattle.fault_lines.specs.FaultLine.{fault_line}
+use Rattle.line_explain.specs.Kept.{kept_of}
+use Rattle.load_command.specs.Command.{IsMore, load_fault_text}
+use Rattle.load_command.proofs.Told.{told_and_more}
+use Rattle.load_command.proofs.command.tell.Goals as goal
+
+pub returns : goal.returns
+returns g c =
+    let asked : c.args.explain ≡ true = search rules in
+    told_and_more c.args.explain g.E.Write.contents c.args.errors.now c.tell_load_fault.new.errors
+    c.explain_fault.new.errors (fault_line (load_fault_text c.args.fault))
+    (IsMore (kept_of c.args.reader.now) g.E.Write.contents c.args.fault) asked
+    c.tell_load_fault.ensures c.explain_fault.ensures

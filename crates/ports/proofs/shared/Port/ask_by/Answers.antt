@@ -1,0 +1,40 @@
+use Rattle.std.proofs.Common.{rules, sym, subst}
+use Rattle.gate_port.specs.Asking.{ask_of}
+use Rattle.gate_port.specs.Log.{IsAskedIn}
+use Rattle.ports.specs.Asked.{IsAnswered}
+use Rattle.ports.proofs.InLog.{asked_in, same_told}
+use Rattle.ports.proofs.shared.Port.ask_by.Goals as goal
+
+pub returns-in-Some-clause-told : goal.returns-in-Some-clause-told
+returns-in-Some-clause-told g c = search rules
+
+pub returns-in-Some-clause-answered : goal.returns-in-Some-clause-answered
+returns-in-Some-clause-answered g c = search rules
+
+pub returns-in-Some-clause-few : goal.returns-in-Some-clause-few
+returns-in-Some-clause-few g c = search rules
+
+pub returns-in_default-clause-told : goal.returns-in_default-clause-told
+returns-in_default-clause-told g c = search rules
+
+pub returns-in_default-clause-answered : goal.returns-in_default-clause-answered
+returns-in_default-clause-answered g c = search rules
+
+pub returns-in_default-clause-few : goal.returns-in_default-clause-few
+returns-in_default-clause-few g c = search rules
+
+pub returns-in-Some-clause-log : goal.returns-in-Some-clause-log
+returns-in-Some-clause-log g c =
+    let asks = ask_of c.args.part c.args.bypass c.args.deadline in
+    let is : IsAnswered c.args.self.now.pass c.ask_and_wait.new.self.pass asks c.args.now
+    c.ask_and_wait.new.self.asked c.ask_and_wait.result = search rules in
+    subst (IsAskedIn asks c.args.self.now.pass.log c.args.now c.ask_and_wait.new.self.pass.log)
+    (sym (same_told c.ask_and_wait.result)) (asked_in _ _ asks c.args.now _ _ is)
+
+pub returns-in_default-clause-log : goal.returns-in_default-clause-log
+returns-in_default-clause-log g c =
+    let asks = ask_of c.args.part c.args.bypass c.args.deadline in
+    let is : IsAnswered c.args.self.now.pass c.ask.new.self.pass asks c.args.now
+    c.ask.new.self.asked c.ask.result = search rules in
+    subst (IsAskedIn asks c.args.self.now.pass.log c.args.now c.ask.new.self.pass.log)
+    (sym (same_told c.ask.result)) (asked_in _ _ asks c.args.now _ _ is)
