@@ -1,6 +1,6 @@
 // Refuses the allocation whose number is in REFUSED, the thread whose number is in THREAD_REFUSED, and the socket whose
 // number is in SOCKET_REFUSED, as a system does that has no descriptor free; with COUNTED set, prints the number of
-// allocations.
+// allocations. Where REFUSED_FROM names a file, allocations are counted once that file is there.
 #define _GNU_SOURCE
 #include <dlfcn.h>
 #include <errno.h>
@@ -10,6 +10,7 @@
 #include <unistd.h>
 
 static long count, refused;
+static const char *from;
 static void *(*inner_malloc)(size_t);
 static void *(*inner_realloc)(void *, size_t);
 
@@ -18,9 +19,12 @@ static int is_refused(void)
     if (!inner_malloc) {
         const char *number = getenv("REFUSED");
         refused = number ? atol(number) : 0;
+        from = getenv("REFUSED_FROM");
         inner_realloc = dlsym(RTLD_NEXT, "realloc");
         inner_malloc = dlsym(RTLD_NEXT, "malloc");
     }
+    if (from && access(from, F_OK) != 0)
+        return 0;
     return ++count == refused;
 }
 

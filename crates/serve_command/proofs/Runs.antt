@@ -81,7 +81,6 @@ ended_more : {A P B : Type 0} (lefts : List (Left A P B)) (l : Left A P B)
     → ended_in (lefts ++ l ∷ []) ≡ ended_in lefts ++ ended_in (l ∷ [])
 ended_more [] l = refl
 ended_more (left.Unbegun ∷ lefts) l = ended_more lefts l
-ended_more (left.Reported ∷ lefts) l = ended_more lefts l
 ended_more (left.Beside ∷ lefts) l = ended_more lefts l
 ended_more {A} {P} {B} (left.Worked ended ∷ lefts) l =
     ap (λ (es : List (Ended A P B)). ended ∷ es) (ended_more lefts l)

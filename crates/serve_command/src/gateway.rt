@@ -228,6 +228,6 @@ fn pass_in<M: GateNaming, R, G: Limit, C, A: Drop, B: Drop>(
 {
     match left {
         Left::Worked(ended) => Some(ended.port.into_pass()),
-        Left::Unbegun | Left::Reported | Left::Beside => None,
+        Left::Unbegun | Left::Beside => None,
     }
 }

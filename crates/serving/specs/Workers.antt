@@ -23,21 +23,18 @@ use Rattle.serving.specs.Visits.{Visits}
 -- the workers among some jobs, in order
 abbrev pub workers_in : {A P B T X : Type 0} → List (Job A P B T X) → List (Worker A P B)
 workers_in [] = []
-workers_in (job.Reporter context every ∷ jobs) = workers_in jobs
 workers_in (job.Beside task ∷ jobs) = workers_in jobs
 workers_in (job.Worker context worker ∷ jobs) = worker ∷ workers_in jobs
 
 -- the tasks beside them
 abbrev pub tasks_in : {A P B T X : Type 0} → List (Job A P B T X) → List T
 tasks_in [] = []
-tasks_in (job.Reporter context every ∷ jobs) = tasks_in jobs
 tasks_in (job.Beside task ∷ jobs) = task ∷ tasks_in jobs
 tasks_in (job.Worker context worker ∷ jobs) = tasks_in jobs
 
 -- all jobs that are in a context are in this one
 abbrev pub AreWithin : {A P B T X : Type 0} → X → List (Job A P B T X) → Type 0
 AreWithin x [] = ⊤
-AreWithin x (job.Reporter context every ∷ jobs) = (context.now ≡ x) × AreWithin x jobs
 AreWithin x (job.Beside task ∷ jobs) = AreWithin x jobs
 AreWithin x (job.Worker context worker ∷ jobs) = (context.now ≡ x) × AreWithin x jobs
 
@@ -45,14 +42,12 @@ AreWithin x (job.Worker context worker ∷ jobs) = (context.now ≡ x) × AreWit
 abbrev pub ended_in : {A P B : Type 0} → List (Left A P B) → List (Ended A P B)
 ended_in [] = []
 ended_in (left.Unbegun ∷ lefts) = ended_in lefts
-ended_in (left.Reported ∷ lefts) = ended_in lefts
 ended_in (left.Beside ∷ lefts) = ended_in lefts
 ended_in (left.Worked ended ∷ lefts) = ended ∷ ended_in lefts
 
 -- whether it had the memory to begin
 abbrev pub has_begun : {A P B : Type 0} → Left A P B → Bool
 has_begun left.Unbegun = false
-has_begun left.Reported = true
 has_begun left.Beside = true
 has_begun (left.Worked ended) = true
 
@@ -97,28 +92,18 @@ module _ {A P B S : Type 0} (given failed : A → ℕ) (closed : A → Bool)
   -- what a worker leaves; who didn't begin had no settings
   abbrev pub Leaves : S → ℕ → Worker A P B → Left A P B → Type 0
   Leaves source most worker left.Unbegun = lacks source
-  Leaves source most worker left.Reported = ⊥
   Leaves source most worker left.Beside = ⊥
   Leaves source most worker (left.Worked ended) = HasWorked source most worker ended
-
-  -- what whoever reports leaves
-  abbrev pub Reports : S → Left A P B → Type 0
-  Reports source left.Unbegun = lacks source
-  Reports source left.Reported = ⊤
-  Reports source left.Beside = ⊥
-  Reports source (left.Worked ended) = ⊥
 
   -- what a task beside the workers leaves, which is to make this
   abbrev pub IsMade : Type 0 → Left A P B → Type 0
   IsMade made left.Unbegun = ⊥
-  IsMade made left.Reported = ⊥
   IsMade made left.Beside = made
   IsMade made (left.Worked ended) = ⊥
 
   -- what each job leaves
-  abbrev pub Makes : {T R G L C W : Type 0} → (T → Type 0)
-      → Job A P B T (Context R G L C S W) → Left A P B → Type 0
-  Makes made (job.Reporter context every) left = Reports context.now.common.now.source.now left
+  abbrev pub Makes : {T R L C W : Type 0} → (T → Type 0)
+      → Job A P B T (Context R L C S W) → Left A P B → Type 0
   Makes made (job.Beside task) left = IsMade (made task) left
   Makes made (job.Worker context worker) left =
       Leaves context.now.common.now.source.now context.now.common.now.per_worker worker left

@@ -1,13 +1,13 @@
 // Who has a thread, and what each leaves.
 ghost use Rattle.std.specs.Prelude.{◌≡◌, ◌≤◌, ◌+◌, false};
-ghost use Rattle.serving.specs.Workers.{Leaves, Makes, Reports};
+ghost use Rattle.serving.specs.Workers.{Leaves, Makes};
 
 use crate::doors::Accepts;
-use crate::reporting::{Present, report_all};
+use crate::reporting::Present;
 use crate::working::{Buffers, Source, Tally, WorkerSettings, work};
 use backend::Backend;
 use clocks::Clock;
-use gate_port::{GatePort, GateView};
+use gate_port::GatePort;
 use proxy::Watch;
 use std::sync::Wait;
 use std::time::{Clock as SystemClock, Duration};
@@ -36,20 +36,17 @@ pub struct Ended<A, P, B> {
     pub tally: Tally,
 }
 
-/// The gate, as its workers find it.
+/// What all workers have in common.
 #[derive(Drop)]
-pub(crate) struct Context<'a, R, G, L, C, S, W> {
+pub(crate) struct Context<'a, R, L, C, S, W> {
     pub(crate) rt: &'a R,
     pub(crate) common: &'a WorkerSettings<'a, L, C, S, W>,
-    pub(crate) gate: &'a G,
-    pub(crate) present: Present,
+    pub(crate) present: &'a Present,
 }
 
-/// What a thread does: reports in a context every so many nanoseconds, runs a task beside the
-/// workers, or is a worker in a context.
+/// What a thread does: runs a task beside the workers, or is a worker in a context.
 #[derive(Drop)]
 pub(crate) enum Job<'a, A, P, B, T, X> {
-    Reporter(&'a X, u64),
     Beside(T),
     Worker(&'a X, Worker<A, P, B>),
 }
@@ -59,18 +56,15 @@ pub(crate) enum Job<'a, A, P, B, T, X> {
 pub enum Left<A, P, B> {
     /// It had no memory to begin.
     Unbegun,
-    /// It reported.
-    Reported,
     /// It was the task beside the workers.
     Beside,
     /// It served.
     Worked(Ended<A, P, B>),
 }
 
-impl<'a, R, G, A, P, B, T, L, C, S, W> Task for Job<'a, A, P, B, T, Context<'a, R, G, L, C, S, W>>
+impl<'a, R, A, P, B, T, L, C, S, W> Task for Job<'a, A, P, B, T, Context<'a, R, L, C, S, W>>
 where
     R: Wait + SystemClock + Sync,
-    G: GateView + Sync,
     A: Accepts + Send + Drop,
     P: GatePort + Send + Drop,
     B: Backend + Send + Drop,
@@ -89,7 +83,6 @@ where
 
     fn run(self) -> Left<A, P, B> {
         match self {
-            Job::Reporter(context, every_ns) => run_reports(context, every_ns),
             Job::Beside(task) => {
                 task.run();
                 Left::Beside
@@ -104,7 +97,7 @@ where
 }
 
 /// One worker ends. The last one closes the listener of the task beside the workers.
-fn leave<R, G, L, C, S, W>(context: &Context<'_, R, G, L, C, S, W>)
+fn leave<R, L, C, S, W>(context: &Context<'_, R, L, C, S, W>)
 where
     R: Wait + SystemClock,
     L: Listener,
@@ -116,42 +109,9 @@ where
     }
 }
 
-/// The reports, with the names of settings of its own.
-fn run_reports<R, G, A, P, B, L, C, S, W>(
-    context: &Context<'_, R, G, L, C, S, W>,
-    every_ns: u64,
-) -> Left<A, P, B>
-where
-    R: Wait + SystemClock,
-    G: GateView,
-    A: Accepts,
-    P: GatePort,
-    B: Backend,
-    C: Clock,
-    S: Source,
-    W: Watch,
-    ensures { Reports A.given A.failed A.closed A.visits P.shown P.known B.forwarded B.shown
-        S.gives S.lacks context.now.common.now.source.now result }
-{
-    let common = context.common;
-    let Ok(settings) = common.source.settings(common.alloc) else {
-        return Left::Unbegun;
-    };
-    report_all(
-        context.rt,
-        &context.present,
-        context.gate,
-        &settings.table,
-        common.clock,
-        common.watch,
-        every_ns,
-    );
-    Left::Reported
-}
-
 /// One worker's whole run, over settings of its own.
-fn run_one<R, G, A, P, B, L, C, S, W>(
-    context: &Context<'_, R, G, L, C, S, W>,
+fn run_one<R, A, P, B, L, C, S, W>(
+    context: &Context<'_, R, L, C, S, W>,
     worker: Worker<A, P, B>,
 ) -> Left<A, P, B>
 where

@@ -9,6 +9,7 @@ use partitions::PartitionTable;
 use proxy::Watch;
 use std::sync::{Condvar, Mutex, Wait};
 use std::time::{Clock as SystemClock, Duration};
+use tasks::Task;
 
 /// The most nanoseconds from one look at the clock to the next: a second, since the clock that is
 /// looked at need not go as the system's does.
@@ -70,29 +71,51 @@ impl Present {
     }
 }
 
-/// Reports the state of the gate every so many nanoseconds, until all workers have ended.
-pub(crate) fn report_all<R, G, C, W>(
-    rt: &R,
-    present: &Present,
-    gate: &G,
-    table: &PartitionTable,
-    clock: &C,
-    watch: &W,
-    every_ns: u64,
-)
+/// Whoever looks at the gate while its workers serve, every so many nanoseconds where that is
+/// wanted, until all workers have ended.
+#[derive(Drop)]
+pub(crate) struct Reporter<'a, R, G, C, W> {
+    pub(crate) rt: &'a R,
+    pub(crate) present: &'a Present,
+    pub(crate) gate: &'a G,
+    pub(crate) table: &'a PartitionTable,
+    pub(crate) clock: &'a C,
+    pub(crate) watch: &'a W,
+    pub(crate) every_ns: Option<u64>,
+}
+
+impl<'a, R, G, C, W> Task for Reporter<'a, R, G, C, W>
 where
     R: Wait + SystemClock,
     G: GateView,
     C: Clock,
     W: Watch,
 {
-    let mut next = clock.now().saturating_add(every_ns);
-    for _ in rt.forever() {
-        if !present.rest(rt, clock, next) {
-            return;
+    type Done = ();
+
+    fn run(self) {
+        if let Some(every_ns) = self.every_ns {
+            self.report_every(every_ns);
         }
-        watch.report(table, &gate.report());
-        next = after(next, every_ns, clock.now());
+    }
+}
+
+impl<'a, R, G, C, W> Reporter<'a, R, G, C, W>
+where
+    R: Wait + SystemClock,
+    G: GateView,
+    C: Clock,
+    W: Watch,
+{
+    fn report_every(&self, every_ns: u64) {
+        let mut next = self.clock.now().saturating_add(every_ns);
+        for _ in self.rt.forever() {
+            if !self.present.rest(self.rt, self.clock, next) {
+                return;
+            }
+            self.watch.report(self.table, &self.gate.report());
+            next = after(next, every_ns, self.clock.now());
+        }
     }
 }
 

@@ -9,7 +9,7 @@ ghost use Rattle.serving.specs.Workers.{ended_in, has_begun, tasks_in, workers_i
 use crate::doors::{Accepts, Door};
 use crate::fault::ServeFault;
 use crate::jobs::{Context, Job, Left, Worker};
-use crate::reporting::Present;
+use crate::reporting::{Present, Reporter};
 use crate::working::{Buffers, Source, WorkerSettings};
 use backend::Backend;
 use clocks::Clock;
@@ -21,7 +21,7 @@ use std::net::Net;
 use std::sync::Wait;
 use std::thread::Threads;
 use std::time::{Clock as SystemClock, Duration};
-use tasks::{Spawner, Task, run_tasks};
+use tasks::{Spawner, Task, run_tasks_beside};
 use tcp_backend::{BackendWatch, TcpBackend};
 use timed_io::Listener;
 
@@ -31,10 +31,10 @@ const UNTAKEN_NS: u64 = 5_000_000_000;
 
 /// Serves clients by one worker for each port, each on a thread of its own with a door, and with a
 /// connection of its own to the backend of the settings, until all have ended; and tells what they
-/// left, in the order of the ports. Each task beside them has one more thread, and where reports
-/// are wanted one has them of the gate: these are started last, once all workers were, the last
-/// task first, and tell what they left first. The tasks are to end once the last worker has closed
-/// their listener.
+/// left, in the order of the ports. Each task beside them has one more thread: these are started
+/// last, once all workers were, the last task first, and tell what they left first. They are to
+/// end once the last worker has closed their listener. Where reports are wanted, the thread of the
+/// caller makes them once all others were started.
 ///
 /// The settings are those that the workers' source gives. `Memory` comes before any worker is
 /// started, or where one had none for its settings, once all have ended; `Thread` once those that
@@ -79,7 +79,17 @@ where
     common
         .listener
         .end_untaken(Duration::from_nanos(untaken_ns));
-    serve_by(rt, spawner, common, gate, workers, beside)
+    let present = Present::new(workers.len());
+    let reporter = Reporter {
+        rt,
+        present: &present,
+        gate,
+        table: &settings.table,
+        clock: common.clock,
+        watch: common.watch,
+        every_ns: common.report_every_ns,
+    };
+    serve_by(rt, spawner, common, &present, reporter, workers, beside)
 }
 
 /// A worker for each port, with a door, and with a backend at the address of the settings.
@@ -109,19 +119,20 @@ fn make_workers<'l, R: Net, P: Drop, L, C, S, W>(
     Ok(workers)
 }
 
-/// Serves clients by these workers, with tasks beside them. Which doors and backends they have
-/// isn't told apart here.
-fn serve_by<R, G, A, P, B, T, L, C, S, W>(
+/// Serves clients by these workers, with tasks beside them and a reporter on this thread. Which
+/// doors and backends they have isn't told apart here.
+fn serve_by<R, O, A, P, B, T, L, C, S, W>(
     rt: &R,
     spawner: &mut Spawner<'_, R>,
     common: &WorkerSettings<'_, L, C, S, W>,
-    gate: &G,
+    present: &Present,
+    reporter: O,
     workers: Vec<Worker<A, P, B>>,
     beside: Vec<T>,
 ) -> Result<Vec<Left<A, P, B>>, ServeFault>
 where
     R: Threads + Wait + SystemClock + Sync,
-    G: GateView + Sync,
+    O: Task<Done = ()> + Drop,
     A: Accepts + Send + Drop,
     P: GatePort + Send + Drop,
     B: Backend + Send + Drop,
@@ -151,29 +162,20 @@ where
     let context = Context {
         rt,
         common,
-        gate,
-        present: Present::new(workers.len()),
+        present,
     };
-    let jobs = make_jobs(
-        common.alloc,
-        &context,
-        common.report_every_ns,
-        beside,
-        workers,
-    )?;
-    let lefts = run_tasks(spawner, common.alloc, jobs)?;
+    let jobs = make_jobs(common.alloc, &context, beside, workers)?;
+    let lefts = run_tasks_beside(spawner, common.alloc, reporter, jobs)?;
     if !have_begun(&lefts) {
         return Err(ServeFault::Memory);
     }
     Ok(lefts)
 }
 
-/// Whoever reports every so many nanoseconds, where that is wanted, the tasks beside the workers,
-/// and the workers.
+/// The tasks beside the workers, and the workers.
 fn make_jobs<'a, A: Drop, P: Drop, B: Drop, T: Drop, X>(
     alloc: Global,
     context: &'a X,
-    every_ns: Option<u64>,
     beside: Vec<T>,
     workers: Vec<Worker<A, P, B>>,
 ) -> Result<Vec<Job<'a, A, P, B, T, X>>, AllocError>
@@ -181,7 +183,7 @@ fn make_jobs<'a, A: Drop, P: Drop, B: Drop, T: Drop, X>(
     ensures beside { IfOk result (λ jobs. tasks_in jobs.items ≡ beside.items) }
     ensures within { IfOk result (λ jobs. AreWithin context.now jobs.items) }
 {
-    let mut jobs = make_others(alloc, context, every_ns, beside)?;
+    let mut jobs = make_others(alloc, beside)?;
     jobs.reserve(workers.len())?;
     for worker in workers {
         jobs.push_reserved(Job::Worker(context, worker));
@@ -189,22 +191,15 @@ fn make_jobs<'a, A: Drop, P: Drop, B: Drop, T: Drop, X>(
     Ok(jobs)
 }
 
-/// Who isn't a worker: whoever reports, where that is wanted, and the tasks beside the workers.
+/// The tasks beside the workers.
 fn make_others<'a, A: Drop, P: Drop, B: Drop, T: Drop, X>(
     alloc: Global,
-    context: &'a X,
-    every_ns: Option<u64>,
     beside: Vec<T>,
 ) -> Result<Vec<Job<'a, A, P, B, T, X>>, AllocError>
     ensures none { IfOk result (λ jobs. workers_in jobs.items ≡ []) }
     ensures beside { IfOk result (λ jobs. tasks_in jobs.items ≡ beside.items) }
-    ensures within { IfOk result (λ jobs. AreWithin context.now jobs.items) }
 {
-    let mut jobs = Vec::with_capacity(alloc, 1)?;
-    if let Some(every_ns) = every_ns {
-        jobs.push_reserved(Job::Reporter(context, every_ns));
-    }
-    jobs.reserve(beside.len())?;
+    let mut jobs = Vec::with_capacity(alloc, beside.len())?;
     for task in beside {
         jobs.push_reserved(Job::Beside(task));
     }
@@ -224,6 +219,6 @@ fn has_begun<A, P, B>(left: &Left<A, P, B>) -> bool
 {
     match left {
         Left::Unbegun => false,
-        Left::Reported | Left::Beside | Left::Worked(_) => true,
+        Left::Beside | Left::Worked(_) => true,
     }
 }

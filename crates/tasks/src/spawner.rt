@@ -2,9 +2,10 @@
 ghost use Rattle.std.specs.Prelude.{◌≡◌};
 ghost use Rattle.tasks.specs.Refused.{refused_of};
 
-/// What starts threads, and counts how many the system refused. Only [`run_tasks`] raises that.
+/// What starts threads, and counts how many the system refused. Only [`run_tasks_beside`] raises
+/// that.
 ///
-/// [`run_tasks`]: crate::run_tasks
+/// [`run_tasks_beside`]: crate::run_tasks_beside
 #[derive(Drop)]
 pub struct Spawner<'a, R> {
     pub(crate) rt: &'a R,

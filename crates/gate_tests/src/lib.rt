@@ -1,0 +1,36 @@
+//! Tests of a gate by its public calls: its book, calls through the lock by worked rows and by four
+//! threads at random, what a pass has seen, when who waits is woken, how it is closed, loads of it
+//! over devices that fail, and the windows of its limit. What clients, backends and operators see,
+//! the scripts of `tests/` try by the program.
+#![tactic(auto)]
+
+#[cfg(test)]
+mod book_tests;
+#[cfg(test)]
+mod callers;
+#[cfg(test)]
+mod closing;
+#[cfg(test)]
+mod gates;
+#[cfg(test)]
+mod load;
+#[cfg(test)]
+mod raised_limit_tests;
+#[cfg(test)]
+mod random;
+#[cfg(test)]
+mod rolling_tests;
+#[cfg(test)]
+mod seen_tests;
+#[cfg(test)]
+mod shared_gate_tests;
+#[cfg(test)]
+mod threaded;
+#[cfg(test)]
+mod threads;
+#[cfg(test)]
+mod waiting_tests;
+#[cfg(test)]
+mod waking_tests;
+#[cfg(test)]
+mod window_tests;

@@ -1,0 +1,93 @@
+// A limit that is raised while somebody waits, at a gate that promotes all who have room: by hand,
+// and by a reset. Who waits is woken at once, and doesn't find its permit as it looks by itself.
+use crate::gates::{Making, next_of, settable};
+use crate::shared_gate_tests::{admitted, until_one_waits, waits};
+use crate::threaded::{Threaded, try_by_threads};
+use crate::waking_tests::{SOON, real};
+use limit_kinds::AnyLimit;
+use limiter_core::{Outcome, Promote};
+use partitions::Part;
+use shared_gate::{GateNaming, Pass, SharedGate};
+use std::alloc::Global;
+use std::process::Abort;
+use std::sync::Wait;
+use std::thread::{Threads, join, sleep};
+use std::time::{Clock as SystemClock, Duration};
+
+#[test]
+fn a_setting_wakes_whoever_it_promotes(rt: HostRuntime) {
+    wakes(&rt, rt.alloc(), false);
+}
+
+#[test]
+fn a_reset_wakes_whoever_it_promotes(rt: HostRuntime) {
+    wakes(&rt, rt.alloc(), true);
+}
+
+fn wakes<R: Threads + Wait + SystemClock + Abort + Sync>(rt: &R, alloc: Global, is_reset: bool) {
+    let making = Making::plain(settable(rt, 1, 2, 10), Promote::All, 1_000_000, false, 2);
+    try_by_threads(rt, alloc, making, Threaded::Raise { is_reset });
+}
+
+/// One waits until another one raises the limit.
+pub(crate) fn raises_the_limit<
+    M: GateNaming + Send + Sync,
+    R: Threads + Wait + SystemClock + Abort + Sync,
+>(rt: &R, gate: &SharedGate<AnyLimit, M>, mut passes: Vec<Pass<M>>, is_reset: bool) {
+    let two = next_of(rt, &mut passes);
+    let one = next_of(rt, &mut passes);
+    let (one, two) = join(
+        rt,
+        || raises(rt, gate, one, is_reset),
+        || waits(rt, gate, two),
+    );
+    assert!(rt; one.count() >= 4 && two.count() == 3);
+}
+
+/// Holds the only permit, and once somebody waits, and a moment longer, makes the limit 2: who
+/// waits gets the other permit then, and ends it soon.
+fn raises<M: GateNaming, R: Wait + SystemClock + Abort>(
+    rt: &R,
+    gate: &SharedGate<AnyLimit, M>,
+    mut pass: Pass<M>,
+    is_reset: bool,
+) -> Pass<M> {
+    let set = gate.set_limit(rt, &mut pass, 1, 0).is_ok();
+    assert!(rt; set);
+    let permit = admitted(
+        rt,
+        gate.acquire(rt, &mut pass, Part::Unknown, false, false, 0),
+    );
+    until_one_waits(rt, gate, &mut pass);
+    sleep(rt, Duration::from_millis(5));
+    let began = real(rt);
+    let raised = makes_it_two(rt, gate, &mut pass, is_reset);
+    assert!(rt; raised);
+    until_one_succeeds(rt, gate);
+    assert!(rt; real(rt).saturating_sub(began) < SOON);
+    let _receipt = gate.end(rt, &mut pass, permit, Outcome::Ignored, 3);
+    pass
+}
+
+/// A limit of 2, by a reset or by hand, and whether that was answered.
+fn makes_it_two<M: GateNaming, R: Wait>(
+    rt: &R,
+    gate: &SharedGate<AnyLimit, M>,
+    pass: &mut Pass<M>,
+    is_reset: bool,
+) -> bool {
+    if is_reset {
+        gate.reset(rt, pass, 1).is_ok()
+    } else {
+        gate.set_limit(rt, pass, 2, 1).is_ok()
+    }
+}
+
+/// Goes on once a permit was ended in success.
+fn until_one_succeeds<M: GateNaming, R: Wait>(rt: &R, gate: &SharedGate<AnyLimit, M>) {
+    for _ in rt.forever() {
+        if gate.counters(rt).success == 1 {
+            break;
+        }
+    }
+}

@@ -1,0 +1,301 @@
+// Waiting at a shared gate by clocks of several kinds, and a gate whose history is exhausted.
+use crate::gates::{Trial, fixed, next_of, try_at};
+use crate::shared_gate_tests::{Still, admitted, queued, times_out};
+use gate_history::{Naming, Receipt, Spent, Ticket};
+use limit_kinds::AnyLimit;
+use limiter_core::{Counters, Event, Outcome, Reply};
+use partitions::Part;
+use shared_gate::{Claimed, Clock, GateNaming, Got, Pass, SharedGate, Waited};
+use std::alloc::Global;
+use std::process::Abort;
+use std::sync::Wait;
+use std::sync::atomic::{AtomicU64, Ordering};
+use std::time::Clock as SystemClock;
+
+const UNKNOWN: Part = Part::Unknown;
+
+/// A clock that goes on by a step at each look.
+#[derive(Drop)]
+struct GoesOn {
+    nanos: AtomicU64,
+    step: u64,
+}
+
+impl Clock for GoesOn {
+    fn now(&self) -> u64 {
+        self.nanos.fetch_add(self.step, Ordering::SeqCst)
+    }
+}
+
+/// A clock that tells more than the last moment, which is 2^62.
+struct Late {}
+
+impl Clock for Late {
+    fn now(&self) -> u64 {
+        u64::MAX
+    }
+}
+
+/// What a clock tells after a wait in vain, that told `first` before and goes on by `step`.
+fn told_after<R: Wait + SystemClock + Abort>(
+    rt: &R,
+    alloc: Global,
+    first: u64,
+    step: u64,
+    deadline: u64,
+) -> u64 {
+    let clock = GoesOn {
+        nanos: AtomicU64::new(first),
+        step,
+    };
+    waits(rt, alloc, 0, &clock, deadline);
+    clock.now()
+}
+
+const SECOND: u64 = 1_000_000_000;
+
+#[test]
+fn who_waits_gives_up_at_the_deadline(rt: HostRuntime) {
+    let told = told_after(&rt, rt.alloc(), 0, SECOND, 3 * SECOND);
+    assert_eq!(rt; told, 4 * SECOND);
+}
+
+#[test]
+fn after_the_deadline_one_look_at_the_clock_is_enough(rt: HostRuntime) {
+    let told = told_after(&rt, rt.alloc(), 9 * SECOND, SECOND, 3 * SECOND);
+    assert_eq!(rt; told, 10 * SECOND);
+}
+
+// Whoever slept until the deadline would sleep for an hour, and a test has a minute.
+#[test]
+fn a_far_deadline_is_looked_for_meanwhile(rt: HostRuntime) {
+    let told = told_after(&rt, rt.alloc(), 0, 1_000 * SECOND, 3_000 * SECOND);
+    assert_eq!(rt; told, 4_000 * SECOND);
+}
+
+// A thousand pauses of 100 ms would take 100 seconds, and a test has a minute.
+#[test]
+fn a_near_deadline_is_waited_for_in_short_pauses(rt: HostRuntime) {
+    let told = told_after(&rt, rt.alloc(), 0, 1_000, 1_000_000);
+    assert_eq!(rt; told, 1_001_000);
+}
+
+#[test]
+fn a_clock_may_stand_still_at_the_deadline_or_tell_more_than_the_last_moment(rt: HostRuntime) {
+    waits(&rt, rt.alloc(), 0, &Still {}, 0);
+    waits(&rt, rt.alloc(), u64::MAX, &Late {}, u64::MAX);
+}
+
+/// A caller holds the only permit and waits for another, until its clock has reached the deadline.
+pub(crate) fn waits<R: Wait + SystemClock + Abort, C: Clock>(
+    rt: &R,
+    alloc: Global,
+    now: u64,
+    clock: &C,
+    deadline: u64,
+) {
+    let trial = Vain {
+        now,
+        clock,
+        deadline,
+    };
+    try_at(rt, alloc, fixed(rt, 1, 1_000, false, 1), trial);
+}
+
+/// A wait in vain.
+#[derive(Drop)]
+struct Vain<'c, C> {
+    now: u64,
+    clock: &'c C,
+    deadline: u64,
+}
+
+impl<'c, C: Clock, R: Wait + SystemClock + Abort> Trial<R> for Vain<'c, C> {
+    fn run<M: GateNaming>(
+        self,
+        rt: &R,
+        _alloc: Global,
+        gate: SharedGate<AnyLimit, M>,
+        mut passes: Vec<Pass<M>>,
+    ) {
+        let pass = next_of(rt, &mut passes);
+        waits_in_vain(rt, &gate, pass, self.now, self.clock, self.deadline);
+    }
+}
+
+fn waits_in_vain<M: GateNaming, R: Wait + SystemClock + Abort, C: Clock>(
+    rt: &R,
+    gate: &SharedGate<AnyLimit, M>,
+    mut pass: Pass<M>,
+    now: u64,
+    clock: &C,
+    deadline: u64,
+) {
+    let permit = admitted(rt, gate.acquire(rt, &mut pass, UNKNOWN, false, false, now));
+    assert!(rt; permit.facts().start == now.min(1 << 62));
+    let waited = gate.acquire_wait(rt, &mut pass, UNKNOWN, now, clock, deadline);
+    is_timed_out(rt, waited);
+    let ended = gate.end(rt, &mut pass, permit, Outcome::Success, now);
+    assert!(rt; ended.reply() == Reply::Ended { promoted: 0 });
+    assert!(rt; (ended.number(), pass.count()) == (3, 4));
+}
+
+/// A wait of number 1 that number 2 gave up.
+fn is_timed_out<M: Naming, R: Abort>(rt: &R, waited: Waited<M>) {
+    match waited {
+        Waited::TimedOut(first, second) => {
+            assert!(rt; (first.number(), second.number()) == (1, 2));
+        }
+        Waited::Admitted(_receipt, _permit) => rt.abort(),
+        Waited::Promoted(_first, _second, _permit) => rt.abort(),
+        Waited::BacklogFull(_receipt) => rt.abort(),
+        Waited::Lost(_first, _second) => rt.abort(),
+        Waited::Exhausted(_spent) => rt.abort(),
+    }
+}
+
+#[test]
+fn an_exhausted_gate_answers_what_is_owed(rt: HostRuntime) {
+    try_at(&rt, rt.alloc(), fixed(&rt, 1, 2, false, 1), Owed {});
+}
+
+/// What an exhausted gate still answers.
+#[derive(Drop)]
+struct Owed {}
+
+impl<R: Wait + SystemClock + Abort> Trial<R> for Owed {
+    fn run<M: GateNaming>(
+        self,
+        rt: &R,
+        _alloc: Global,
+        gate: SharedGate<AnyLimit, M>,
+        mut passes: Vec<Pass<M>>,
+    ) {
+        answers_what_is_owed(rt, &gate, next_of(rt, &mut passes));
+    }
+}
+
+/// One is admitted and one waits; then nothing but a giving up and an ending is answered.
+fn answers_what_is_owed<M: GateNaming, R: Wait + SystemClock + Abort>(
+    rt: &R,
+    gate: &SharedGate<AnyLimit, M>,
+    mut pass: Pass<M>,
+) {
+    let permit = admitted(rt, gate.acquire(rt, &mut pass, UNKNOWN, false, false, 0));
+    let ticket = queued(rt, gate.acquire(rt, &mut pass, UNKNOWN, false, true, 1));
+    let ticket = refuses_the_rest(rt, gate, &mut pass, ticket);
+    let timed_out = times_out(rt, gate, &mut pass, ticket);
+    assert!(rt; timed_out == 2);
+    let ended = gate.end(rt, &mut pass, permit, Outcome::Success, 3);
+    assert!(rt; (ended.number(), pass.count()) == (3, 4));
+}
+
+/// No acquire, no change and no claim is answered, and the claim's ticket comes back.
+fn refuses_the_rest<M: GateNaming, R: Wait + SystemClock + Abort>(
+    rt: &R,
+    gate: &SharedGate<AnyLimit, M>,
+    pass: &mut Pass<M>,
+    ticket: Ticket<M>,
+) -> Ticket<M> {
+    refuses_acquires(rt, gate, pass);
+    refuses_changes(rt, gate, pass);
+    let ticket = handed_back(rt, gate, pass, ticket);
+    is_as_before(rt, gate, pass);
+    ticket
+}
+
+/// No acquire is answered.
+fn refuses_acquires<M: GateNaming, R: Wait + SystemClock + Abort>(
+    rt: &R,
+    gate: &SharedGate<AnyLimit, M>,
+    pass: &mut Pass<M>,
+) {
+    match gate.acquire(rt, pass, UNKNOWN, true, false, 2) {
+        Got::Exhausted(spent) => assert!(rt; is_spent(&spent, acquire(true, false, 2))),
+        Got::Admitted(_receipt, _permit) => rt.abort(),
+        Got::Bypassed(_receipt) => rt.abort(),
+        Got::Full(_receipt) => rt.abort(),
+        Got::BacklogFull(_receipt) => rt.abort(),
+        Got::Waiting(_receipt, _ticket) => rt.abort(),
+    }
+    match gate.acquire_wait(rt, pass, UNKNOWN, 3, &Late {}, 0) {
+        Waited::Exhausted(spent) => assert!(rt; is_spent(&spent, acquire(false, true, 3))),
+        Waited::Admitted(_receipt, _permit) => rt.abort(),
+        Waited::Promoted(_first, _second, _permit) => rt.abort(),
+        Waited::TimedOut(_first, _second) => rt.abort(),
+        Waited::BacklogFull(_receipt) => rt.abort(),
+        Waited::Lost(_first, _second) => rt.abort(),
+    }
+}
+
+const fn acquire(bypass: bool, wait: bool, now: u64) -> Event {
+    Event::Acquire {
+        part: UNKNOWN,
+        bypass,
+        wait,
+        now,
+    }
+}
+
+/// Neither settings nor a look are answered.
+fn refuses_changes<M: GateNaming, R: Wait + Abort>(
+    rt: &R,
+    gate: &SharedGate<AnyLimit, M>,
+    pass: &mut Pass<M>,
+) {
+    let set = gate.set_limit(rt, pass, 7, 4);
+    is_refused(rt, set, Event::SetLimit { n: 7, now: 4 });
+    let reset = gate.reset(rt, pass, 5);
+    is_refused(rt, reset, Event::Reset { now: 5 });
+    let seen = gate.look(rt, pass, UNKNOWN);
+    is_refused(rt, seen, Event::Look { part: UNKNOWN });
+}
+
+/// A claim isn't answered, and its ticket comes back.
+fn handed_back<M: GateNaming, R: Wait + Abort>(
+    rt: &R,
+    gate: &SharedGate<AnyLimit, M>,
+    pass: &mut Pass<M>,
+    ticket: Ticket<M>,
+) -> Ticket<M> {
+    match gate.claim(rt, pass, ticket) {
+        Claimed::Exhausted(spent, ticket) => {
+            assert!(rt; is_spent(&spent, Event::Claim { number: 1 }));
+            ticket
+        }
+        Claimed::Granted(_receipt, _permit) => rt.abort(),
+        Claimed::StillWaiting(_receipt, _ticket) => rt.abort(),
+        Claimed::Lost(_receipt) => rt.abort(),
+    }
+}
+
+/// The call of this event isn't answered.
+fn is_refused<M: Naming, R: Abort>(rt: &R, told: Result<Receipt<M>, Spent<M>>, event: Event) {
+    let spent = told.err().expect(rt, "no answer");
+    assert!(rt; is_spent(&spent, event));
+}
+
+/// It tells this event, that two entries are held of two that are kept, and that the next number
+/// is 2.
+fn is_spent<M: Naming>(spent: &Spent<M>, event: Event) -> bool {
+    spent.event() == event
+        && spent.held() == 2
+        && spent.kept() == 2
+        && spent.next() == 2
+        && !spent.is_rolling()
+}
+
+/// One was admitted and one waits, and the pass counts these two calls.
+fn is_as_before<M: GateNaming, R: Wait + Abort>(
+    rt: &R,
+    gate: &SharedGate<AnyLimit, M>,
+    pass: &Pass<M>,
+) {
+    let two = Counters {
+        admitted: 1,
+        waiting: 1,
+        ..Counters::default()
+    };
+    assert!(rt; gate.counters(rt) == two);
+    assert!(rt; pass.count() == 2);
+}
