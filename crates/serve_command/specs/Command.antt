@@ -1,6 +1,5 @@
 -- What `serve` does.
-use Rattle.std.specs.Prelude.{◌≡◌, ◌⊎◌, ◌+◌, ℕ, true, List, Option, None, Some, IfSome, Ok}
-use Rattle.std.specs.Prelude.{if◌then◌else◌}
+use Rattle.std.specs.Prelude.{◌≡◌, ◌⊎◌, ℕ, true, List, Option, None, Some, IfSome, Ok}
 use Rattle.std.specs.declared.net.socket_addr.SocketAddrV4.{SocketAddrV4}
 use Rattle.std.specs.Net.Text.{socket_v4_text}
 use Rattle.counted_io.specs.Count.{raised}
@@ -8,8 +7,7 @@ use Rattle.counted_io.specs.declared.counted.Counted.{Counted}
 use Rattle.counted_io.specs.Causes.{IsWriteCause}
 use Rattle.counted_io.specs.Counted.{failures_of, inner_of, is_flushed}
 use Rattle.counted_io.specs.Effects.{Wrote}
-use Rattle.limit_kinds.specs.AnyKinds.{any_hi, any_rules}
-use Rattle.partitions.specs.Table.{bound}
+use Rattle.limit_kinds.specs.AnyKinds.{any_rules}
 use Rattle.limiter_core.specs.declared.counters.Counters.{Counters}
 use Rattle.gate_config.specs.declared.settings.Settings.{Settings}
 use Rattle.gate_opening.specs.Opening.{making_of}
@@ -19,11 +17,6 @@ use Rattle.serve_reports.specs.CountersLine.{counters_line}
 use Rattle.serve_command.specs.declared.fault.ServiceFault.{ServiceFault}
 use Rattle.serve_command.specs.declared.fault.ServiceFault.TheVariants as Service
 use Rattle.serve_command.specs.Runs.{AreCountersOfRuns}
-
--- how many callers can be in flight at the greatest limit, with each class's share of it, or wait
--- where callers wait
-abbrev pub most_inside : Settings → ℕ
-most_inside s = bound s.table (any_hi s.limit) + (if s.wait then s.backlog else 0)
 
 -- THE SETTINGS of a file that was opened as it says: its text was read whole, and holds them
 abbrev pub AreOfFile : {F : Type 0} → (F → Type 0) → (F → Option (List ℕ)) → Settings → Type 0

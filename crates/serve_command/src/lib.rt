@@ -8,11 +8,9 @@
 mod admin;
 mod command;
 mod config_text;
-mod descriptors;
 mod desk_log;
 mod fault;
 mod gateway;
-mod logging;
 mod operators;
 mod standing;
 

@@ -1,6 +1,6 @@
 -- Many workers.
 use Rattle.std.proofs.Common.{◌≡◌, ℕ, Bool, true, false, List, [], ◌∷◌, ◌++◌}
-use Rattle.std.proofs.Common.{All, Option, None, Some, Result, Ok, Err, IfOk, ap, sym, subst, arith}
+use Rattle.std.proofs.Common.{All, Option, None, Result, Ok, Err, IfOk, ap, sym, subst, arith}
 use Rattle.std.proofs.Common.{length, true≢false}
 use Rattle.std.specs.List.{AllZip, list_all}
 use Rattle.std.proofs.lemmas.List.Elements.{All-cons, All-nil}

@@ -1,7 +1,15 @@
 use Rattle.std.proofs.Common.{rules, ◌∙◌, ◌++◌, ◌∷◌, [], ap, refl, subst, sym}
 use Rattle.serving.specs.Workers.{AreWithin, tasks_in, workers_in}
-use Rattle.serving.proofs.All.{no_task, one_within, one_worker}
+use Rattle.serving.proofs.All.{no_task, none_within, one_within, one_worker}
 use Rattle.serving.proofs.workers.make_jobs.Goals as goal
+
+pub loop-worker-init : goal.loop-worker-init
+loop-worker-init g c = record {
+  all = search rules;
+  beside = search rules;
+  within = none_within _ c.reserve.new.self.items (search rules);
+  room = search rules;
+}
 
 pub loop-worker-preserved : goal.loop-worker-preserved
 loop-worker-preserved g c = record {

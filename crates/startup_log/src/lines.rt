@@ -1,7 +1,7 @@
 // What the log says as a gateway begins to serve.
 ghost use Rattle.std.specs.Prelude.{◌≡◌};
 ghost use Rattle.gate_config.specs.Settings.{AreSound};
-ghost use Rattle.serve_command.specs.Command.{most_inside};
+ghost use Rattle.startup_log.specs.Inside.{most_inside};
 
 use crate::descriptors::most_descriptors;
 use config_file::why_unread;
@@ -16,13 +16,14 @@ use std::net::SocketAddrV4;
 /// The most workers.
 const MOST_WORKERS: u64 = 64;
 
-/// Logs a warning where as many as may be in flight or wait exceed the workers, with how many are
-/// wanted, since who comes while all workers are taken waits unseen in the system's accept queue,
-/// and isn't refused; one
-/// where the workers may want more descriptors than the system gives; one where the backend is this
-/// gateway itself, since each request would then take one worker after the other; and at last where
-/// clients are listened for, by how many workers, and the kind of limit.
-pub(crate) fn log_listening<R: Log, F: Opener>(
+/// Logs where clients are listened for, by how many workers, 1 to 64, and the kind of limit.
+///
+/// Three warnings may stand before it: where as many as may be in flight or wait exceed the
+/// workers, with how many are wanted, since who comes while all workers are taken waits unseen in
+/// the system's accept queue and isn't refused; where the workers may want more descriptors than
+/// the system gives; and where the backend is this gateway itself, since each request would then
+/// take one worker after the other.
+pub fn log_listening<R: Log, F: Opener>(
     rt: &R,
     files: &F,
     alloc: Global,
@@ -49,7 +50,7 @@ pub(crate) fn log_listening<R: Log, F: Opener>(
 }
 
 /// Logs why the file of the configuration can't be read, unless it is out of memory for the words.
-pub(crate) fn log_unread<R: Log, F: Opener>(rt: &R, files: &F, alloc: Global, path: &str) {
+pub fn log_unread<R: Log, F: Opener>(rt: &R, files: &F, alloc: Global, path: &str) {
     if let Ok(reason) = why_unread(files, alloc, path) {
         let error = reason.as_str();
         error!(rt; target: "admission", path:%, error:%; "the configuration can't be read");
@@ -57,17 +58,17 @@ pub(crate) fn log_unread<R: Log, F: Opener>(rt: &R, files: &F, alloc: Global, pa
 }
 
 /// Logs where an operator is listened for.
-pub(crate) fn log_admin<R: Log>(rt: &R, address: SocketAddrV4) {
+pub fn log_admin<R: Log>(rt: &R, address: SocketAddrV4) {
     info!(rt; target: "admission", address:%; "listening for the operator");
 }
 
 /// Logs where whoever looks at the state is listened for.
-pub(crate) fn log_status<R: Log>(rt: &R, address: SocketAddrV4) {
+pub fn log_status<R: Log>(rt: &R, address: SocketAddrV4) {
     info!(rt; target: "admission", address:%; "listening for looks at the state");
 }
 
 /// Logs why an address can't be bound.
-pub(crate) fn log_unbound<R: Log>(rt: &R, address: SocketAddrV4, error: &Error) {
+pub fn log_unbound<R: Log>(rt: &R, address: SocketAddrV4, error: &Error) {
     error!(rt; target: "admission", address:%, error:%; "the address can't be bound");
 }
 
@@ -86,7 +87,7 @@ fn log_descriptors<R: Log, F: Opener>(rt: &R, files: &F, alloc: Global, workers:
 
 /// How many callers the gate lets be in flight at the greatest limit, by it or by their shares, or
 /// wait.
-pub(crate) fn most_inside(settings: &Settings) -> u64
+fn most_inside(settings: &Settings) -> u64
     requires { AreSound settings.now }
     ensures { result ≡ most_inside settings.now }
 {
