@@ -1,7 +1,7 @@
 //! Tests of a gate by its public calls: its book, calls through the lock by worked rows and by four
-//! threads at random, what a pass has seen, when who waits is woken, how it is closed, loads of it
-//! over devices that fail, and the windows of its limit. What clients, backends and operators see,
-//! the scripts of `tests/` try by the program.
+//! threads at random, what a pass has seen, when who waits is woken, how it is closed, and the
+//! windows of its limit. What clients, backends and operators see, the scripts of `tests/` try by
+//! the program.
 #![tactic(auto)]
 
 #[cfg(test)]
@@ -12,8 +12,6 @@ mod callers;
 mod closing;
 #[cfg(test)]
 mod gates;
-#[cfg(test)]
-mod load;
 #[cfg(test)]
 mod raised_limit_tests;
 #[cfg(test)]
