@@ -97,6 +97,21 @@ class Restarting(Operating):
         self.judge("the drain behind them", told(DRAINED), drain.result())
         self.judge("counters of the queue", {"admitted": QUEUED + 1, "success": QUEUED + 1}, gate.ending())
 
+    def waits_no_longer_for_its_queue(self, backend: Backend) -> None:
+        """For a queue that stays a drain waits as long as a client may take: five seconds by the clock."""
+        gate = self.operated(backend, workers=1, words=("--client-timeout-ms", "5000"))
+        backend.release.clear()
+        held = Later(gate.ask, HELD)
+        self.judge("one is at the backend", True, backend.held.acquire(timeout=PATIENCE))
+        with gate.connect() as queued:
+            queued.sendall(PLAIN)
+            begun = time.monotonic()
+            self.judge("a drain before a queue that stays", told(DRAINED), gate.call("POST /drain"))
+            self.judge("it waited for five seconds", True, 5 <= time.monotonic() - begun < 5.9)
+            backend.release.set()
+            self.judge("who was inside then", passed_on(BODY), held.result())
+        self.judge("counters behind that", {"admitted": 1, "success": 1}, gate.ending())
+
     def takes_who_comes_at_once(self, backend: Backend) -> None:
         """Within the half second that the queue is left alone whoever comes is served; who comes later is refused."""
         found = [self.answer_of_a_late_client(backend) for _ in range(TRIES)]

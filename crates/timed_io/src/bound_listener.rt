@@ -72,26 +72,39 @@ impl Listener for BoundListener {
     fn close<R: Clock>(&self, rt: &R, most: Duration) {
         if self.open.swap(false, Ordering::SeqCst) {
             let file = self.listener.as_raw_fd();
+            let began = rt.monotonic().ok();
             let first = most.min(Duration::from_millis(OPEN_TO_ALL_MS));
-            if !await_empty(rt, file, first) {
+            if !await_empty(rt, file, began, first) {
                 listen(file, 0);
-                await_empty(rt, file, most);
+                await_empty(rt, file, began, most);
             }
             shutdown(file, SHUT_RD);
         }
     }
 }
 
-/// Waits until no connection waits to be accepted, for so long at most, and tells whether none
-/// does.
-fn await_empty<R: Clock>(rt: &R, file: RawFd, most: Duration) -> bool {
+/// Waits until no connection waits to be accepted, until so long behind a moment at most, and tells
+/// whether none does. Many short sleeps take longer than they are told to, so the clock is looked
+/// at; where it fails, their number bounds the wait.
+fn await_empty<R: Clock>(rt: &R, file: RawFd, began: Option<Duration>, most: Duration) -> bool {
     for _ in 0..most.as_millis() / u128::from(TURN_MS) {
         if !has_waiting(file) {
             return true;
         }
+        if has_passed(rt, began, most) {
+            return false;
+        }
         thread::sleep(rt, Duration::from_millis(TURN_MS));
     }
     false
+}
+
+/// Whether so long has gone by since a moment, as far as the clock tells.
+fn has_passed<R: Clock>(rt: &R, began: Option<Duration>, most: Duration) -> bool {
+    match (began, rt.monotonic()) {
+        (Some(began), Ok(now)) => most <= now.saturating_sub(began),
+        _ => false,
+    }
 }
 
 /// Whether a connection waits to be accepted.
