@@ -3,7 +3,6 @@
 ghost use Rattle.std.specs.Prelude.{◌≡◌};
 ghost use Rattle.counted_io.specs.Count.{raised};
 
-use backend::{Answer, Backend};
 use clocks::Clock;
 use gate_port::{Admission, GatePort, Why};
 use limiter_core::{Outcome, PermitFacts};
@@ -12,7 +11,7 @@ use partitions::Part;
 use std::alloc::Global;
 use std::cell::Cell;
 use std::io::{BufRead, Error, ErrorKind, Read, Result, Write};
-use wire::{Response, WireFault};
+use wire::{Answer, Backend, Response, WireFault};
 
 /// Gives its bytes, or shows them, at most `most` in a call. One call alone fails.
 #[derive(Drop)]

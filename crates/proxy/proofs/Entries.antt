@@ -14,7 +14,7 @@ use Rattle.gate_port.specs.Asking.{Admits, Ask, IsAsked, ask_of, told}
 use Rattle.gate_port.specs.Ending.{Ends, IsEnding}
 use Rattle.gate_port.specs.Log.{AdmitsIn, EndsIn, Grows, IsAskedIn, IsEndedIn}
 use Rattle.gate_port.specs.Shown.{Adds, Shown}
-use Rattle.backend.specs.declared.answer.Answer.{Answer}
+use Rattle.wire.specs.declared.answer.Answer.{Answer}
 use Rattle.proxy.specs.declared.told.Verdict.TheVariants as verdict
 use Rattle.proxy.specs.Settling.{Serves, ServesIn, asked_for}
 use Rattle.proxy.specs.Table.{outcome_of}

@@ -16,8 +16,8 @@ use Rattle.wire.specs.Fault.{IsUsedUp, Reads}
 use Rattle.wire.specs.Messages.{IsRequest, Said}
 use Rattle.gate_config.specs.declared.settings.Settings.{Settings}
 use Rattle.gate_port.specs.Shown.{Shown}
-use Rattle.backend.specs.declared.answer.Answer.{Answer}
-use Rattle.backend.specs.Forwards.{Forwarded}
+use Rattle.wire.specs.declared.answer.Answer.{Answer}
+use Rattle.wire.specs.Forwards.{Forwarded}
 use Rattle.proxy.specs.declared.told.Exchange.{Exchange}
 use Rattle.proxy.specs.declared.told.Verdict.TheVariants as verdict
 use Rattle.proxy.specs.Settling.{IsSettled, class_by}

@@ -15,8 +15,8 @@ use Rattle.gate_port.specs.Asking.{Ask, IsAsked}
 use Rattle.gate_port.specs.Ending.{IsEnding}
 use Rattle.gate_port.specs.Log.{Grows, IsAskedIn, IsEndedIn}
 use Rattle.gate_port.specs.Shown.{Adds, Shown}
-use Rattle.backend.specs.declared.answer.Answer.{Answer}
-use Rattle.backend.specs.Forwards.{Forwarded, Logs}
+use Rattle.wire.specs.declared.answer.Answer.{Answer}
+use Rattle.wire.specs.Forwards.{Forwarded, Logs}
 use Rattle.proxy.specs.declared.told.Verdict.{Verdict}
 use Rattle.proxy.specs.declared.told.Verdict.TheVariants as verdict
 use Rattle.proxy.specs.Table.{outcome_of}

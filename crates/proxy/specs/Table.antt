@@ -9,9 +9,9 @@ use Rattle.wire.specs.declared.fault.WireFault.TheVariants as fault
 use Rattle.message_parts.specs.declared.request.Request.{Request}
 use Rattle.wire.specs.Response.{ResponseValue}
 use Rattle.wire.specs.Written.{response_text}
-use Rattle.backend.specs.declared.answer.Answer.{Answer}
-use Rattle.backend.specs.declared.answer.Answer.TheVariants.{Answered, NotConnected, Broken}
-use Rattle.backend.specs.declared.answer.Answer.TheVariants.{Late, Memory}
+use Rattle.wire.specs.declared.answer.Answer.{Answer}
+use Rattle.wire.specs.declared.answer.Answer.TheVariants.{Answered, NotConnected, Broken}
+use Rattle.wire.specs.declared.answer.Answer.TheVariants.{Late, Memory}
 
 -- WHAT A STATUS TELLS THE GATE: a backend that had too much to do, or sent no final response, has
 -- dropped the request; of its load an other fault of the server's says nothing

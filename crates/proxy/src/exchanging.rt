@@ -9,7 +9,6 @@ ghost use Rattle.proxy.specs.Exchanges.{IsExchange, is_empty, told_by};
 use crate::replying::{fault_status, is_own, reply, reply_status};
 use crate::settling::{outcome_at, settle};
 use crate::told::{Exchange, Verdict};
-use backend::{Answer, Backend};
 use clocks::{Clock, Looks};
 use counted_io::Counted;
 use gate_config::Settings;
@@ -17,7 +16,7 @@ use gate_port::GatePort;
 use message_text::write_local_answer;
 use std::alloc::Global;
 use std::io::{BufRead, Write};
-use wire::{WireFault, read_request};
+use wire::{Answer, Backend, WireFault, read_request};
 
 /// Serves one connection: reads a request, asks the gate for it, forwards it once where it is let
 /// through, ends its permit, and answers the client.

@@ -13,10 +13,10 @@ mod settling;
 mod told;
 mod watch;
 
-pub use backend::{Answer, Backend};
 pub use classifier::Class;
 pub use exchanging::exchange;
 pub use gate_port::{GatePort, Why};
 pub use replying::fault_status;
 pub use told::{Exchange, Verdict};
 pub use watch::Watch;
+pub use wire::{Answer, Backend};

@@ -5,12 +5,11 @@ ghost use Rattle.counted_io.specs.Counted.{failures_of, is_flushed};
 ghost use Rattle.counted_io.specs.Effects.{Wrote};
 ghost use Rattle.proxy.specs.Table.{fault_status, is_own, reply_of, reply_status, reply_text};
 
-use backend::Answer;
 use counted_io::{Counted, WriteFault};
 use message_parts::Method;
 use message_text::write_local_answer;
 use std::io::Write;
-use wire::{Response, WireFault, write_response};
+use wire::{Answer, Response, WireFault, write_response};
 
 /// What the client gets of a backend that answered so or wasn't asked: the response, where it is
 /// passed on, or else the status of the gateway's own answer. A status below 200 is of no final

@@ -4,7 +4,6 @@ ghost use Rattle.proxy.specs.Table.{outcome_at, outcome_of, status_outcome};
 ghost use Rattle.proxy.specs.Settling.{IsSettled};
 
 use crate::told::Verdict;
-use backend::{Answer, Backend};
 use classifier::{Class, classify};
 use clocks::{Clock, Looks};
 use gate_config::Settings;
@@ -12,6 +11,7 @@ use gate_port::{Admission, GatePort};
 use limit_laws::LAST_MOMENT;
 use limiter_core::Outcome;
 use message_parts::Request;
+use wire::{Answer, Backend};
 
 /// What became of a request before its answer is written. No permit is out any more.
 #[derive(Drop)]

@@ -7,7 +7,7 @@ use Rattle.std.proofs.lemmas.List.Elements.{All-cons, All-nil}
 use Rattle.gate_config.specs.declared.settings.Settings.{Settings}
 use Rattle.limiter_core.specs.declared.event.Entry.{Entry}
 use Rattle.gate_port.specs.Shown.{Shown}
-use Rattle.backend.specs.Forwards.{Forwarded}
+use Rattle.wire.specs.Forwards.{Forwarded}
 use Rattle.tcp_backend.specs.declared.connecting.TcpBackend.{TcpBackend}
 use Rattle.tcp_backend.specs.Connecting.{count_of}
 use Rattle.serving.specs.declared.doors.Door.{Door}

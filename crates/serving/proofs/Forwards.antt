@@ -4,7 +4,7 @@ use Rattle.counted_io.specs.Count.{raised}
 use Rattle.wire.specs.declared.fault.WireFault.{WireFault}
 use Rattle.message_parts.specs.declared.request.Request.{Request}
 use Rattle.gate_config.specs.declared.settings.Settings.{Settings}
-use Rattle.backend.specs.declared.answer.Answer.{Answer}
+use Rattle.wire.specs.declared.answer.Answer.{Answer}
 use Rattle.proxy.specs.declared.told.Exchange.{Exchange}
 use Rattle.proxy.specs.Exchanges.{Deals, IsExchange, World}
 use Rattle.proxy.specs.Settling.{is_through}

@@ -6,7 +6,7 @@ use Rattle.counted_io.specs.Count.{count_end, raised}
 use Rattle.limiter_core.specs.declared.event.Entry.{Entry}
 use Rattle.gate_config.specs.declared.settings.Settings.{Settings}
 use Rattle.gate_port.specs.Shown.{Shown}
-use Rattle.backend.specs.Forwards.{Forwarded}
+use Rattle.wire.specs.Forwards.{Forwarded}
 use Rattle.proxy.specs.declared.told.Exchange.{Exchange}
 use Rattle.proxy.specs.Exchanges.{Bytes}
 use Rattle.proxy.specs.Settling.{is_through}

@@ -9,7 +9,7 @@ use Rattle.counted_io.specs.Counted.{calls_of, failures_of, flushes_of, inner_of
 use Rattle.message_parts.specs.declared.request.Request.{Request}
 use Rattle.wire.specs.declared.fault.WireFault.{WireFault}
 use Rattle.gate_config.specs.declared.settings.Settings.{Settings}
-use Rattle.backend.specs.declared.answer.Answer.{Answer}
+use Rattle.wire.specs.declared.answer.Answer.{Answer}
 use Rattle.proxy.specs.declared.told.Exchange.{Exchange}
 use Rattle.proxy.specs.declared.told.Verdict.{Verdict}
 use Rattle.proxy.specs.Exchanges.{Bytes, Deals, IsExchange, World}

@@ -6,8 +6,8 @@ use Rattle.limiter_core.specs.declared.event.Entry.{Entry}
 use Rattle.gate_config.specs.declared.settings.Settings.{Settings}
 use Rattle.gate_port.specs.Shown.{Shown}
 use Rattle.wire.specs.declared.fault.WireFault.TheVariants as fault
-use Rattle.backend.specs.declared.answer.Answer.{Answer}
-use Rattle.backend.specs.Forwards.{Forwarded}
+use Rattle.wire.specs.declared.answer.Answer.{Answer}
+use Rattle.wire.specs.Forwards.{Forwarded}
 use Rattle.proxy.specs.declared.told.Exchange.{Exchange}
 use Rattle.proxy.specs.Exchanges.{Bytes, IsExchange, World}
 

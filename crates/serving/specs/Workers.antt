@@ -4,7 +4,7 @@ use Rattle.counted_io.specs.Count.{count_end}
 use Rattle.limiter_core.specs.declared.event.Entry.{Entry}
 use Rattle.gate_config.specs.declared.settings.Settings.{Settings}
 use Rattle.gate_port.specs.Shown.{Shown}
-use Rattle.backend.specs.Forwards.{Forwarded}
+use Rattle.wire.specs.Forwards.{Forwarded}
 use Rattle.tcp_backend.specs.declared.connecting.TcpBackend.{TcpBackend}
 use Rattle.tcp_backend.specs.Connecting.{count_of, limit_of}
 use Rattle.serving.specs.declared.doors.Door.{Door}

@@ -5,7 +5,6 @@ ghost use Rattle.serving.specs.Workers.{Leaves, Makes};
 use crate::doors::Accepts;
 use crate::reporting::Present;
 use crate::working::{Buffers, Source, Tally, WorkerSettings, work};
-use backend::Backend;
 use clocks::Clock;
 use gate_port::GatePort;
 use proxy::Watch;
@@ -13,6 +12,7 @@ use std::sync::Wait;
 use std::time::{Clock as SystemClock, Duration};
 use tasks::Task;
 use timed_io::Listener;
+use wire::Backend;
 
 /// What a worker owns.
 #[derive(Drop)]

@@ -11,7 +11,6 @@ use crate::fault::ServeFault;
 use crate::jobs::{Context, Job, Left, Worker};
 use crate::reporting::{Present, Reporter};
 use crate::working::{Buffers, Source, WorkerSettings};
-use backend::Backend;
 use clocks::Clock;
 use gate_config::Settings;
 use gate_port::{GatePort, GateView};
@@ -24,6 +23,7 @@ use std::time::{Clock as SystemClock, Duration};
 use tasks::{Spawner, Task, run_tasks_beside};
 use tcp_backend::{BackendWatch, TcpBackend};
 use timed_io::Listener;
+use wire::Backend;
 
 /// For how long a client takes nothing of its answer, in nanoseconds, before the system ends its
 /// connection, at least: five seconds. It isn't less than the client's time.

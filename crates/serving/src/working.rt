@@ -6,7 +6,6 @@ ghost use Rattle.serving.specs.Served.{IsServed, told_where};
 ghost use Rattle.serving.specs.Turns.{IsRun};
 
 use crate::doors::Accepts;
-use backend::Backend;
 use clocks::{Clock, Looks};
 use counted_io::{Counted, PIECE};
 use gate_config::Settings;
@@ -20,7 +19,7 @@ use timed_io::{
     Arrival, Connection, FirstByte, Inlet, Lent, Outlet, Patience, TimedReader, TimedWriter,
     Uninterrupted, linger,
 };
-use wire::WireFault;
+use wire::{Backend, WireFault};
 
 /// How long a worker rests that could have no connection, in milliseconds.
 const WITHOUT_A_CLIENT_MS: u64 = 10;

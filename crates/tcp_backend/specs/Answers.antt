@@ -1,7 +1,7 @@
 -- What becomes of a request that was sent over a connection.
 use Rattle.std.specs.Prelude.{Bool, true, Result, Ok, Err}
-use Rattle.backend.specs.declared.answer.Answer.{Answer}
-use Rattle.backend.specs.declared.answer.Answer.TheVariants as answer
+use Rattle.wire.specs.declared.answer.Answer.{Answer}
+use Rattle.wire.specs.declared.answer.Answer.TheVariants as answer
 use Rattle.wire.specs.Response.{ResponseValue}
 use Rattle.wire.specs.declared.fault.WireFault.{WireFault}
 use Rattle.wire.specs.declared.fault.WireFault.TheVariants as fault

@@ -10,7 +10,6 @@ use crate::call_time::CallTime;
 use crate::early::EarlyRead;
 use crate::ends::Outlet;
 use crate::unanswered::UnansweredWrite;
-use backend::Answer;
 use clocks::Clock;
 use counted_io::Counted;
 use lent_io::{BufferedRead, BufferedWrite, ReadBuffer, WriteBuffer};
@@ -21,7 +20,7 @@ use std::net::OpenStream;
 use std::os::fd::AsRawFd;
 use std::time::Duration;
 use timed_io::{Countdown, read_ready};
-use wire::{Response, WireFault, read_response, write_request};
+use wire::{Answer, Response, WireFault, read_response, write_request};
 
 /// How many reads the end of a connection may take, behind an answer that was read whole.
 const LAST_READS: u32 = 16;

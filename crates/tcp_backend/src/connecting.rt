@@ -2,7 +2,7 @@
 ghost use Rattle.std.specs.Prelude.{◌≡◌, ◌⊎◌, IfOk, None};
 ghost use Rattle.std.specs.Net.Text.{socket_v4_text};
 ghost use Rattle.counted_io.specs.Count.{raised};
-ghost use Rattle.backend.specs.declared.answer.Answer.TheVariants.{Late, NotConnected};
+ghost use Rattle.wire.specs.declared.answer.Answer.TheVariants.{Late, NotConnected};
 ghost use Rattle.tcp_backend.specs.CallTime.{call_deadline};
 ghost use Rattle.tcp_backend.specs.Connecting.{count_of, host_of, limit_of};
 
@@ -11,7 +11,6 @@ use crate::call_time::{CallTime, connect_time};
 use crate::dialing::{Connector, Dialer};
 use crate::watch::BackendWatch;
 use arrayvec::ArrayString;
-use backend::{Answer, Backend};
 use clocks::Clock;
 use counted_io::PIECE;
 use itoa::Buffer;
@@ -20,6 +19,7 @@ use message_parts::Request;
 use std::alloc::{AllocError, Global};
 use std::io::Error;
 use std::net::{Net, SocketAddrV4};
+use wire::{Answer, Backend};
 
 /// Why a backend was not made.
 #[derive(Clone, Copy, Drop)]

@@ -1,4 +1,5 @@
 pub mod Fault
+pub mod Forwards
 pub mod Laws
 pub mod Messages
 pub mod Response

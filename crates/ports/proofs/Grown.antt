@@ -7,7 +7,7 @@ use Rattle.limiter_core.specs.declared.event.Entry.{Entry}
 use Rattle.gate_journal.specs.Journal.{Journal, answered}
 use Rattle.gate_journal.specs.Rolling.{continued, ready, rolls, standing}
 use Rattle.gate_port.specs.Shown.{Adds, Shown, next_of}
-use Rattle.solo_port.specs.Solo.{shown_of}
+use Rattle.ports.specs.Solo.{shown_of}
 
 and_right : (a b : Bool) → (a && b) ≡ true → b ≡ true
 and_right true b is = is

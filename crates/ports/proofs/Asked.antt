@@ -13,7 +13,7 @@ use Rattle.gate_port.specs.declared.port.Admission.TheVariants.{Refused}
 use Rattle.gate_port.specs.declared.port.Why.TheVariants.{Exhausted}
 use Rattle.gate_port.specs.Asking.{Ask, IsAsked, acquire, answered, gave_up, says, spent}
 use Rattle.gate_port.specs.Shown.{Adds, Shown, is_exhausted, next_of}
-use Rattle.solo_port.specs.Solo.{Records}
+use Rattle.ports.specs.Solo.{Records}
 
 module _ (ask : Ask) (now : ℕ) where
   -- the acquire, with what the code found of whether it waits

@@ -1,5 +1,5 @@
 use Rattle.std.proofs.Common.{rules}
-use Rattle.solo_port.proofs.solo.SoloPort.new.Goals as goal
+use Rattle.ports.proofs.solo.SoloPort.new.Goals as goal
 
 pub returns : goal.returns
 returns g c = search rules

@@ -1,7 +1,7 @@
 use Rattle.std.proofs.Common.{sym, subst}
-use Rattle.solo_port.specs.Solo.{Gets}
-use Rattle.solo_port.proofs.Getting.{gets}
-use Rattle.solo_port.proofs.solo.SoloPort.acquire.Goals as goal
+use Rattle.ports.specs.Solo.{Gets}
+use Rattle.ports.proofs.Getting.{gets}
+use Rattle.ports.proofs.solo.SoloPort.acquire.Goals as goal
 
 pub into_got-requires : goal.into_got-requires
 into_got-requires g c =

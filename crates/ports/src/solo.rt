@@ -2,7 +2,7 @@
 ghost use Rattle.std.specs.Prelude.{◌≡◌};
 ghost use Rattle.gate_history.specs.Steps.{event_of};
 ghost use Rattle.gate_port.specs.Asking.{would_wait};
-ghost use Rattle.solo_port.specs.Solo.{Gets, GivesUp, IsOfPort, Makes};
+ghost use Rattle.ports.specs.Solo.{Gets, GivesUp, IsOfPort, Makes};
 
 use gate_history::{Book, Call, GaveUp, Got, Naming, Pass, Permit, Receipt, Step, Ticket};
 use gate_port::{Admission, GatePort, Why};
@@ -20,7 +20,7 @@ pub struct SoloPort<L: Limit, N: Naming> {
 }
 
 impl<L: Limit, N: Naming> Model for SoloPort<L, N> {
-    ghost use Rattle.solo_port.specs.Solo.{Solo};
+    ghost use Rattle.ports.specs.Solo.{Solo};
 
     ghost Value = { Solo L };
 
@@ -97,7 +97,7 @@ impl<L: Limit, N: Naming> GatePort for SoloPort<L, N> {
     type Receipt = Receipt<N>;
 
     ghost use Rattle.std.specs.Prelude.{None, Some};
-    ghost use Rattle.solo_port.specs.Solo.{shown_of};
+    ghost use Rattle.ports.specs.Solo.{shown_of};
 
     ghost shown = { λ p. Some (shown_of p.book.journal) };
 

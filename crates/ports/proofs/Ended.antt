@@ -7,7 +7,7 @@ use Rattle.limiter_core.specs.declared.event.Entry.TheVariants.{Call}
 use Rattle.limiter_core.specs.declared.event.PermitFacts.{PermitFacts}
 use Rattle.gate_port.specs.Ending.{Ends}
 use Rattle.gate_port.specs.Shown.{Adds, Shown, next_of}
-use Rattle.solo_port.specs.Solo.{Records}
+use Rattle.ports.specs.Solo.{Records}
 
 pub ends : (permit : PermitFacts) (outcome : Outcome) (now number : ℕ) (old new : Shown) (r : Reply)
     → Adds (Some old) (Some new)

@@ -4,9 +4,9 @@ use Rattle.gate_journal.specs.Journal.{Journal, answered}
 use Rattle.gate_journal.specs.Rolling.{ready}
 use Rattle.gate_history.specs.Handing.{given_by, told_of}
 use Rattle.gate_history.specs.Steps.{event_of}
-use Rattle.solo_port.specs.Solo.{Makes, Solo}
-use Rattle.solo_port.proofs.Made.{makes}
-use Rattle.solo_port.proofs.solo.SoloPort.step.Goals as goal
+use Rattle.ports.specs.Solo.{Makes, Solo}
+use Rattle.ports.proofs.Made.{makes}
+use Rattle.ports.proofs.solo.SoloPort.step.Goals as goal
 
 pub returns : goal.returns
 returns g c =

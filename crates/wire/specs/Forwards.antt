@@ -1,7 +1,7 @@
 -- What a backend was given, and what it answered.
 use Rattle.std.specs.Prelude.{◌≡◌, List, [], ◌∷◌, ◌++◌, Option, Some, None, ⊤}
 use Rattle.message_parts.specs.declared.request.Request.{Request}
-use Rattle.backend.specs.declared.answer.Answer.{Answer}
+use Rattle.wire.specs.declared.answer.Answer.{Answer}
 
 -- one request and its answer
 pub record Forwarded : Type 0 where

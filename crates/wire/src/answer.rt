@@ -1,5 +1,6 @@
 // What a backend answers.
-use wire::{Response, WireFault};
+use crate::fault::WireFault;
+use crate::response::Response;
 
 /// What became of a request that was forwarded.
 #[derive(Drop)]

@@ -1,7 +1,7 @@
 use Rattle.std.proofs.Common.{sym, subst}
-use Rattle.solo_port.specs.Solo.{GivesUp}
-use Rattle.solo_port.proofs.Getting.{gives_up}
-use Rattle.solo_port.proofs.solo.SoloPort.give_up.Goals as goal
+use Rattle.ports.specs.Solo.{GivesUp}
+use Rattle.ports.proofs.Getting.{gives_up}
+use Rattle.ports.proofs.solo.SoloPort.give_up.Goals as goal
 
 pub into_gave_up-requires : goal.into_gave_up-requires
 into_gave_up-requires g c = (gives_up g.L.Limit.rules _ _ c.args.ticket _ c.step.ensures).0

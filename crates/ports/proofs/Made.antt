@@ -29,10 +29,10 @@ use Rattle.gate_history.specs.Refusal.{Refusal}
 use Rattle.gate_history.specs.Steps.{StepsTo}
 use Rattle.gate_port.specs.Ending.{IsPromotion}
 use Rattle.gate_port.specs.Shown.{Shown, next_of}
-use Rattle.solo_port.specs.Solo.{IsOfPort, MakesOf, MayExhaust, Queues, Records}
-use Rattle.solo_port.specs.Solo.{Waits, shown_of}
-use Rattle.solo_port.proofs.Grown.{adds_map, grows, next_ready}
-use Rattle.solo_port.proofs.LastWaiter.{last_waits}
+use Rattle.ports.specs.Solo.{IsOfPort, MakesOf, MayExhaust, Queues, Records}
+use Rattle.ports.specs.Solo.{Waits, shown_of}
+use Rattle.ports.proofs.Grown.{adds_map, grows, next_ready}
+use Rattle.ports.proofs.LastWaiter.{last_waits}
 
 -- all promotions are some
 module _ {S : Type 0} (g : Gate S) where

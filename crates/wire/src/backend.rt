@@ -1,7 +1,7 @@
 // A backend.
 ghost use Rattle.std.specs.Prelude.{◌≡◌, ℕ};
 ghost use Rattle.counted_io.specs.Count.{raised};
-ghost use Rattle.backend.specs.Forwards.{Logs};
+ghost use Rattle.wire.specs.Forwards.{Logs};
 
 use crate::answer::Answer;
 use message_parts::Request;
@@ -9,7 +9,7 @@ use message_parts::Request;
 /// A server behind the gateway. It counts the requests that it was given.
 pub trait Backend {
     ghost use Rattle.std.specs.Prelude.{Option, List};
-    ghost use Rattle.backend.specs.Forwards.{Forwarded};
+    ghost use Rattle.wire.specs.Forwards.{Forwarded};
 
     // How many requests it was given.
     ghost forwarded: { Self → ℕ };

@@ -17,7 +17,7 @@ use Rattle.gate_history.specs.Answers.{GivesGaveUp, GivesGot, GivesNothing, Turn
 use Rattle.gate_history.specs.Answers.{gave_up_of, got_of, let_go, turned_away}
 use Rattle.gate_history.specs.Handing.{told_of}
 use Rattle.gate_history.specs.Replies.{IsGivenUp, IsTurnedAway}
-use Rattle.solo_port.specs.Solo.{Ends, Gets, GivesUp, IsDone, Makes, Queues}
+use Rattle.ports.specs.Solo.{Ends, Gets, GivesUp, IsDone, Makes, Queues}
 
 -- an acquire that gets neither a permit nor a ticket
 module _ (N : Type 0) {S : Type 0} (rules : Algorithm S) (old new : Journal S) (part : Part)
