@@ -9,14 +9,13 @@ use counted_io::Counted;
 use fault_lines::tell_unread_words;
 use file_opening::SystemFiles;
 use line_explain::Kept;
-use load_command::run_load;
 use log_lines::{LineStart, LogLines};
 use serve_command::{Service, serve_file};
 use std::env;
 use std::io::Error;
 use std::process::ExitCode;
 use tasks::Spawner;
-use text_commands::run_text;
+use text_commands::{run_load, run_text};
 use timed_io::SystemAddresses;
 
 fn main(rt: HostRuntime) -> ExitCode {

@@ -1,2 +1,3 @@
-mod Stops
-mod Told
+pub mod LoadStops
+pub mod Stops
+pub mod Told

@@ -12,12 +12,12 @@ ghost use Rattle.line_explain.specs.Kept.{kept_of, remaining_of};
 ghost use Rattle.line_explain.specs.Told.{IsToldAnd};
 ghost use Rattle.text_commands.specs.Scripts.{IsAnswerOf, IsMore, IsStop, kind_of};
 
+use crate::line_fault::tell_line_fault;
 use commands::TextTask;
 use counted_io::Counted;
 use fault_lines::{DONE, FAULT, tell_fault};
-use itoa::Buffer;
 use line_explain::{Kept, TextKind, tell_explained};
-use load_driver::{DriverFault, LineFault, replay};
+use load_driver::{DriverFault, replay};
 use std::alloc::Global;
 use std::io::{Read, Write};
 use virtual_time::simulate;
@@ -148,14 +148,4 @@ fn tell_driver_fault<E: Write>(errors: &mut Counted<E>, fault: DriverFault)
         DriverFault::Line(fault) => tell_line_fault(errors, fault),
         DriverFault::Write => tell_fault(errors, &["write"]),
     }
-}
-
-/// Tells which line is at fault, and why.
-fn tell_line_fault<E: Write>(errors: &mut Counted<E>, fault: LineFault)
-    ensures { IsTold E.contents errors.old errors.new
-        (fault_line (fault_text (DriverFault.Line fault))) }
-{
-    let mut number = Buffer::new();
-    let pieces = ["line ", number.format(fault.line), ": ", fault.why.text()];
-    tell_fault(errors, &pieces);
 }

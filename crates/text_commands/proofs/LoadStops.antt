@@ -10,7 +10,7 @@ use Rattle.load_driver.specs.Limits.{most_reads, most_script}
 use Rattle.load_run.specs.declared.fault.LoadFault.{LoadFault}
 use Rattle.load_run.specs.declared.fault.LoadFault.TheVariants as load
 use Rattle.load_run.specs.Driver.{IfAudit, IfLine, IsAtFault, IsRefused, LacksThread}
-use Rattle.load_command.specs.Command.{IsLoadStop}
+use Rattle.text_commands.specs.Loads.{IsLoadStop}
 
 -- a result and its fault, one from the other
 abbrev failed : LoadFault → Result (Unit {0}) LoadFault

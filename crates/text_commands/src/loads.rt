@@ -6,20 +6,18 @@ ghost use Rattle.counted_io.specs.Effects.{IfLeft, Wrote};
 ghost use Rattle.tasks.specs.Refused.{refused_of};
 ghost use Rattle.limit_laws.specs.Algorithm.{greatest_limit};
 ghost use Rattle.audit.specs.Text.{cause_text};
-ghost use Rattle.script.specs.Faults.{line_fault_text};
 ghost use Rattle.load_driver.specs.Limits.{most_reads};
 ghost use Rattle.fault_lines.specs.FaultLine.{IsTold, fault_line};
 ghost use Rattle.line_explain.specs.Kept.{kept_of, remaining_of};
 ghost use Rattle.line_explain.specs.Told.{IsToldAnd};
 ghost use Rattle.load_run.specs.Driver.{IsLoaded};
-ghost use Rattle.load_command.specs.Command.{IsLoadStop, IsMore, load_fault_text};
+ghost use Rattle.text_commands.specs.Loads.{IsLoadStop, IsMore, load_fault_text};
 
+use crate::line_fault::tell_line_fault;
 use counted_io::Counted;
 use fault_lines::{DONE, FAULT, tell_fault};
-use itoa::Buffer;
 use line_explain::{Kept, TextKind, tell_explained};
 use load_run::{LoadFault, load};
-use script::LineFault;
 use shared_gate::Cause;
 use std::alloc::Global;
 use std::io::{Read, Write};
@@ -158,15 +156,6 @@ fn tell_load_fault<E: Write>(errors: &mut Counted<E>, fault: LoadFault)
         LoadFault::Thread => tell_fault(errors, &["thread"]),
         LoadFault::Audit(cause) => tell_cause(errors, cause),
     }
-}
-
-/// Tells which line is at fault, and why.
-fn tell_line_fault<E: Write>(errors: &mut Counted<E>, fault: LineFault)
-    ensures { IsTold E.contents errors.old errors.new (fault_line (line_fault_text fault)) }
-{
-    let mut number = Buffer::new();
-    let pieces = ["line ", number.format(fault.line), ": ", fault.why.text()];
-    tell_fault(errors, &pieces);
 }
 
 /// Tells why an audit fails.

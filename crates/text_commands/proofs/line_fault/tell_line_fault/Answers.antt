@@ -1,7 +1,7 @@
 use Rattle.std.proofs.Common.{subst, List, ℕ, [], ◌∷◌, codes, decimal}
 use Rattle.std.specs.List.{concat}
 use Rattle.fault_lines.specs.FaultLine.{IsTold, fault_line}
-use Rattle.load_command.proofs.command.tell_line_fault.Goals as goal
+use Rattle.text_commands.proofs.line_fault.tell_line_fault.Goals as goal
 
 -- the text of a line at fault, of its number and its word
 text_of : List ℕ → List ℕ → List ℕ

@@ -1,6 +1,6 @@
 use Rattle.tasks.specs.Refused.{refused_of}
-use Rattle.load_command.proofs.Stops.{load_stops}
-use Rattle.load_command.proofs.command.carry_out.Goals as goal
+use Rattle.text_commands.proofs.LoadStops.{load_stops}
+use Rattle.text_commands.proofs.loads.carry_out.Goals as goal
 
 pub returns-clause-stopped : goal.returns-clause-stopped
 returns-clause-stopped g c =

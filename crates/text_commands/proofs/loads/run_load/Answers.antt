@@ -2,8 +2,8 @@ use Rattle.std.proofs.Common.{rules, subst}
 use Rattle.fault_lines.specs.FaultLine.{fault_line}
 use Rattle.line_explain.specs.Kept.{kept_of}
 use Rattle.line_explain.specs.Told.{IsToldAnd}
-use Rattle.load_command.specs.Command.{IsMore, load_fault_text}
-use Rattle.load_command.proofs.command.run_load.Goals as goal
+use Rattle.text_commands.specs.Loads.{IsMore, load_fault_text}
+use Rattle.text_commands.proofs.loads.run_load.Goals as goal
 
 pub returns-in-Ok-clause-status : goal.returns-in-Ok-clause-status
 returns-in-Ok-clause-status g c = search rules

@@ -1,7 +1,7 @@
 use Rattle.std.proofs.Common.{subst, List, ℕ, [], ◌∷◌, codes}
 use Rattle.std.specs.List.{concat}
 use Rattle.fault_lines.specs.FaultLine.{IsTold, fault_line}
-use Rattle.load_command.proofs.command.tell_cause.Goals as goal
+use Rattle.text_commands.proofs.loads.tell_cause.Goals as goal
 
 -- the text of an audit's cause, of its word
 text_of : List ℕ → List ℕ

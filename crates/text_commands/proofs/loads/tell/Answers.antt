@@ -1,9 +1,9 @@
 use Rattle.std.proofs.Common.{rules, ◌≡◌, true}
 use Rattle.fault_lines.specs.FaultLine.{fault_line}
 use Rattle.line_explain.specs.Kept.{kept_of}
-use Rattle.load_command.specs.Command.{IsMore, load_fault_text}
-use Rattle.load_command.proofs.Told.{told_and_more}
-use Rattle.load_command.proofs.command.tell.Goals as goal
+use Rattle.text_commands.specs.Loads.{IsMore, load_fault_text}
+use Rattle.text_commands.proofs.Told.{told_and_more}
+use Rattle.text_commands.proofs.loads.tell.Goals as goal
 
 pub returns : goal.returns
 returns g c =

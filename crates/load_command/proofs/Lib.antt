@@ -1,2 +1,0 @@
-pub mod Stops
-mod Told
