@@ -8,7 +8,7 @@ ghost use Rattle.config_file.specs.Reading.{Held};
 ghost use Rattle.fault_lines.specs.FaultLine.{IsTold, fault_line};
 
 use super::accepted::write_accepted;
-use super::check_fault::{CheckFault, tell_check_fault};
+use super::check_fault::{CheckFault, report_check_fault};
 use super::explained::{write_explanation, write_why_unread};
 use config_file::{read_bytes, read_file_text};
 use counted_io::Counted;
@@ -139,6 +139,6 @@ fn report<E: Write>(errors: &mut Counted<E>, fault: CheckFault) -> u8
     ensures status { result ≡ 1 }
     ensures told { IsTold E.contents errors.old errors.new (fault_line (check_fault_text fault)) }
 {
-    tell_check_fault(errors, &fault);
+    report_check_fault(errors, &fault);
     FAULT
 }

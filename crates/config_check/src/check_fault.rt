@@ -2,9 +2,9 @@
 ghost use Rattle.config_check.specs.CheckFault.{check_fault_text};
 ghost use Rattle.fault_lines.specs.FaultLine.{IsTold, fault_line};
 
-use config_file::{FileFault, tell_file_fault};
+use config_file::{FileFault, report_file_fault};
 use counted_io::{Counted, WriteFault};
-use fault_lines::tell_fault;
+use fault_lines::report_fault;
 use std::io::Write;
 
 /// Why a configuration isn't accepted.
@@ -40,11 +40,11 @@ impl From<WriteFault> for CheckFault {
 
 /// Tells why a configuration isn't accepted, in one line that is flushed. Where it can't be
 /// written, it is dropped. It takes no memory.
-pub(crate) fn tell_check_fault<E: Write>(errors: &mut Counted<E>, fault: &CheckFault)
+pub(crate) fn report_check_fault<E: Write>(errors: &mut Counted<E>, fault: &CheckFault)
     ensures { IsTold E.contents errors.old errors.new (fault_line (check_fault_text fault.now)) }
 {
     match fault {
-        CheckFault::File(fault) => tell_file_fault(errors, fault),
-        CheckFault::Write => tell_fault(errors, &["write"]),
+        CheckFault::File(fault) => report_file_fault(errors, fault),
+        CheckFault::Write => report_fault(errors, &["write"]),
     }
 }

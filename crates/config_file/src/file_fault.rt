@@ -3,7 +3,7 @@ ghost use Rattle.config_file.specs.FileFault.{config_fault_text, file_fault_text
 ghost use Rattle.fault_lines.specs.FaultLine.{IsTold, fault_line};
 
 use counted_io::{Counted, ReadFault};
-use fault_lines::tell_fault;
+use fault_lines::report_fault;
 use gate_config::ConfigFault;
 use std::io::Write;
 
@@ -43,19 +43,19 @@ impl From<ConfigFault> for FileFault {
 
 /// Tells why a file gives no settings, in one line that is flushed. Where it can't be written, it
 /// is dropped. It takes no memory.
-pub fn tell_file_fault<E: Write>(errors: &mut Counted<E>, fault: &FileFault)
+pub fn report_file_fault<E: Write>(errors: &mut Counted<E>, fault: &FileFault)
     ensures { IsTold E.contents errors.old errors.new (fault_line (file_fault_text fault.now)) }
 {
     match fault {
-        FileFault::Read => tell_fault(errors, &["config: read"]),
-        FileFault::Config(fault) => tell_config_fault(errors, fault),
+        FileFault::Read => report_fault(errors, &["config: read"]),
+        FileFault::Config(fault) => report_config_fault(errors, fault),
     }
 }
 
 /// Tells the fault of a configuration's bytes.
-fn tell_config_fault<E: Write>(errors: &mut Counted<E>, fault: &ConfigFault)
+fn report_config_fault<E: Write>(errors: &mut Counted<E>, fault: &ConfigFault)
     ensures { IsTold E.contents errors.old errors.new (fault_line (config_fault_text fault.now)) }
 {
     let (cause, section, name) = fault.pieces();
-    tell_fault(errors, &["config: ", cause, section, name]);
+    report_fault(errors, &["config: ", cause, section, name]);
 }

@@ -1,7 +1,7 @@
 //! A configuration's file, read.
 //!
 //! [`read_file_text`] and [`read_text`] give the text of a file or a reader, and [`read_bytes`] the
-//! settings that it holds. [`tell_file_fault`] tells why there are none, and [`why_unread`] what
+//! settings that it holds. [`report_file_fault`] tells why there are none, and [`why_unread`] what
 //! the system says of a file that can't be read, of which no contract speaks.
 #![tactic(auto)]
 
@@ -9,6 +9,6 @@ mod file_fault;
 mod reading;
 mod unread;
 
-pub use file_fault::{FileFault, tell_file_fault};
+pub use file_fault::{FileFault, report_file_fault};
 pub use reading::{read_bytes, read_file_text, read_text};
 pub use unread::why_unread;

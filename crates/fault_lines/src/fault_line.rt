@@ -36,7 +36,7 @@ pub fn write_line<W: Write>(writer: &mut Counted<W>, pieces: &[&str]) -> Result<
 
 /// Tells a fault: writes its line, which begins with `admission: `, and flushes. Where the line
 /// can't be written, it is dropped. It takes no memory.
-pub fn tell_fault<E: Write>(errors: &mut Counted<E>, pieces: &[&str])
+pub fn report_fault<E: Write>(errors: &mut Counted<E>, pieces: &[&str])
     ensures { IsTold E.contents errors.old errors.new
         (fault_line (concat (map (λ piece. piece.now) pieces.now))) }
 {

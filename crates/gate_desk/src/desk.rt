@@ -11,7 +11,7 @@ use limit_laws::{Limit, SetFault};
 use limiter_core::Reply;
 use operator_serving::{ChangeFault, Desk};
 use partitions::PartitionTable;
-use serve_reports::Noted;
+use serve_reports::GatewayStats;
 use shared_gate::{GateNaming, Pass, SharedGate};
 use std::sync::Wait;
 use std::time::{Clock as SystemClock, Duration};
@@ -70,7 +70,7 @@ where
         self.gate.report(self.rt)
     }
 
-    fn noted(&self) -> Noted {
+    fn noted(&self) -> GatewayStats {
         self.watch.noted()
     }
 

@@ -1,11 +1,11 @@
 // What a desk asks and tells of.
-use serve_reports::Noted;
+use serve_reports::GatewayStats;
 
 /// Shows what was noted of exchanges and troubles, and hears of what an operator changes. So a desk
 /// knows nothing of the log.
 pub trait DeskWatch {
     /// What was noted so far.
-    fn noted(&self) -> Noted;
+    fn noted(&self) -> GatewayStats;
 
     /// The limit was set to so many permits.
     fn limit_set(&self, n: u32);

@@ -16,7 +16,7 @@ ghost use Rattle.load_run.specs.Load.{IsRun};
 ghost use Rattle.load_run.specs.Summary.{summary_text};
 
 use crate::fault::LoadFault;
-use crate::run::{Crew, run_named};
+use crate::run::{RunSize, run_named};
 use crate::summary::Summary;
 use counted_io::{Counted, read_all, write_and_flush};
 use gate_history::Blanks;
@@ -36,22 +36,22 @@ fn run_trace<T, C>(
     rt: &T,
     spawner: &mut Spawner<'_, T>,
     alloc: Global,
-    crew: Crew,
+    size: RunSize,
     text: &[u8],
     clock: &C,
 ) -> Result<Summary, LoadFault>
 where
     T: Threads + Wait + SystemClock + Sync,
     C: Clock + Sync,
-    requires least { 1 ≤ crew.limit }
-    requires most { crew.limit ≤ greatest_limit }
-    requires some { 1 ≤ crew.workers }
-    requires few { crew.workers ≤ 64 }
+    requires least { 1 ≤ size.limit }
+    requires most { size.limit ≤ greatest_limit }
+    requires some { 1 ≤ size.workers }
+    requires few { size.workers ≤ 64 }
     requires short { length text.now ≤ most_script }
     ensures whole { OnOk result ((trace_of text.now).calls.fault ≡ None) }
-    ensures run { IfOk result (IsRun crew.workers crew.limit
+    ensures run { IfOk result (IsRun size.workers size.limit
         (trace_of text.now).settings (trace_of text.now).calls.arrivals) }
-    ensures stops { IfErr result (StopsTrace crew.workers crew.limit (trace_of text.now)) }
+    ensures stops { IfErr result (StopsTrace size.workers size.limit (trace_of text.now)) }
     ensures thread { IsErrOf result LoadFault.Thread → (trace_of text.now).calls.fault ≡ None }
     ensures lacking { IsErrOf result LoadFault.Thread →
         refused_of spawner.new ≡ raised (refused_of spawner.old) }
@@ -73,7 +73,7 @@ where
         word,
         settings,
         arrivals,
-        crew,
+        size,
         clock,
     )
 }
@@ -148,8 +148,8 @@ where
         writer.new ≡ writer.old) }
 {
     let text = read_all(alloc, reader, MOST_BYTES, MOST_READS)?;
-    let crew = Crew { limit: n, workers };
-    let summary = run_trace(rt, spawner, alloc, crew, &text, clock)?;
+    let size = RunSize { limit: n, workers };
+    let summary = run_trace(rt, spawner, alloc, size, &text, clock)?;
     let told = text_of(alloc, summary)?;
     write_and_flush(writer, told.as_bytes())?;
     Ok(())

@@ -18,7 +18,7 @@ use crate::fault::LoadFault;
 use crate::fitting::all_fit;
 use crate::making::make_workers;
 use crate::summary::Summary;
-use crate::worker::{Shop, Worker};
+use crate::worker::{RunContext, Worker};
 use crate::workers::{Worked, run_all};
 use gate_history::{Blanks, Book, GateSettings};
 use limit_kinds::AnyLimit;
@@ -36,7 +36,7 @@ use trace::Arrival;
 
 /// How the run is made: the limit where no line gives one, and how many workers there are.
 #[derive(Clone, Copy)]
-pub(crate) struct Crew {
+pub(crate) struct RunSize {
     pub(crate) limit: u32,
     pub(crate) workers: usize,
 }
@@ -50,39 +50,39 @@ pub(crate) fn run_named<M: GateNaming + Send + Sync, R, C>(
     word: Word,
     settings: Settings,
     arrivals: Vec<Arrival>,
-    crew: Crew,
+    size: RunSize,
     clock: &C,
 ) -> Result<Summary, LoadFault>
 where
     R: Threads + Wait + SystemClock + Sync,
     C: Clock + Sync,
-    requires least { 1 ≤ crew.limit }
-    requires most { crew.limit ≤ greatest_limit }
-    requires some { 1 ≤ crew.workers }
-    requires few { crew.workers ≤ 64 }
-    requires making { M.making ≡ making_of crew.limit settings }
+    requires least { 1 ≤ size.limit }
+    requires most { size.limit ≤ greatest_limit }
+    requires some { 1 ≤ size.workers }
+    requires few { size.workers ≤ 64 }
+    requires making { M.making ≡ making_of size.limit settings }
     requires names { AreNamed M.calls M.place blanks }
     requires parts { AreWhole blanks }
     requires word { word ≡ M.word }
-    requires legal { CallsLegal any_rules (journal_of crew.limit kept_entries settings) M.legal }
-    ensures run { IfOk result (IsRun crew.workers crew.limit settings.entry arrivals.items) }
+    requires legal { CallsLegal any_rules (journal_of size.limit kept_entries settings) M.legal }
+    ensures run { IfOk result (IsRun size.workers size.limit settings.entry arrivals.items) }
     ensures stops { IfErr result
-        (StopsRun crew.workers crew.limit settings.entry arrivals.items) }
+        (StopsRun size.workers size.limit settings.entry arrivals.items) }
     ensures thread { IsErrOf result LoadFault.Thread →
         refused_of spawner.new ≡ raised (refused_of spawner.old) }
 {
     let timeout = settings.timeout();
-    let turns = (arrivals.len() / crew.workers).saturating_add(1);
-    let (gate, workers) = open_gate::<M>(alloc, blanks, word, settings, crew, turns)?;
-    let shop = Shop {
+    let turns = (arrivals.len() / size.workers).saturating_add(1);
+    let (gate, workers) = open_gate::<M>(alloc, blanks, word, settings, size, turns)?;
+    let context = RunContext {
         rt,
         gate: &gate,
         arrivals: &arrivals,
         clock,
         timeout,
-        workers: crew.workers,
+        workers: size.workers,
     };
-    let worked = run_all(spawner, alloc, &shop, workers)?;
+    let worked = run_all(spawner, alloc, &context, workers)?;
     Ok(close(alloc, gate, worked)?)
 }
 
@@ -92,20 +92,20 @@ fn open_gate<M: GateNaming>(
     blanks: Blanks,
     word: Word,
     settings: Settings,
-    crew: Crew,
+    size: RunSize,
     turns: usize,
 ) -> Result<(SharedGate<AnyLimit, M>, Vec<Worker<M>>), AllocError>
-    requires least { 1 ≤ crew.limit }
-    requires most { crew.limit ≤ greatest_limit }
-    requires making { M.making ≡ making_of crew.limit settings }
+    requires least { 1 ≤ size.limit }
+    requires most { size.limit ≤ greatest_limit }
+    requires making { M.making ≡ making_of size.limit settings }
     requires names { AreNamed M.calls M.place blanks }
     requires parts { AreWhole blanks }
     requires word { word ≡ M.word }
-    requires legal { CallsLegal any_rules (journal_of crew.limit kept_entries settings) M.legal }
-    ensures { IfOk result (λ opened. vec_len opened.1 ≡ crew.workers) }
+    requires legal { CallsLegal any_rules (journal_of size.limit kept_entries settings) M.legal }
+    ensures { IfOk result (λ opened. vec_len opened.1 ≡ size.workers) }
 {
-    let settings = gate_settings(settings, crew.limit, KEPT);
-    open_over(alloc, blanks, word, settings, crew.workers, turns)
+    let settings = gate_settings(settings, size.limit, KEPT);
+    open_over(alloc, blanks, word, settings, size.workers, turns)
 }
 
 /// The gate of these settings, whichever its limit is, and so many workers, each with room for so

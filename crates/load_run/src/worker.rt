@@ -23,7 +23,7 @@ pub(crate) struct Worker<M: GateNaming> {
 /// The gate and the trace that all workers share, with how long a caller waits, and how many
 /// workers there are.
 #[derive(Drop)]
-pub(crate) struct Shop<'a, L: Limit, M: GateNaming, R, C> {
+pub(crate) struct RunContext<'a, L: Limit, M: GateNaming, R, C> {
     pub(crate) rt: &'a R,
     pub(crate) gate: &'a SharedGate<L, M>,
     pub(crate) arrivals: &'a Vec<Arrival>,
@@ -36,38 +36,45 @@ pub(crate) struct Shop<'a, L: Limit, M: GateNaming, R, C> {
 /// Makes the calls of the arrival at a place, where it falls to the worker of this number, and
 /// keeps their receipts and refusals.
 fn take_turn<L: Limit, M: GateNaming, R: Wait + SystemClock, C: Clock>(
-    shop: &Shop<L, M, R, C>,
+    context: &RunContext<L, M, R, C>,
     number: usize,
     place: usize,
     pass: &mut Pass<M>,
     receipts: &mut Vec<Receipt<M>>,
     refusals: &mut Vec<Spent<M>>,
 ) -> Result<(), AllocError>
-    requires inside { place < length shop.now.arrivals.now.items }
+    requires inside { place < length context.now.arrivals.now.items }
     ensures { OnOk result (
-        IsWork shop.now.workers number
-        (take place shop.now.arrivals.now.items) receipts.old.items refusals.old.items
+        IsWork context.now.workers number
+        (take place context.now.arrivals.now.items) receipts.old.items refusals.old.items
         (seen_by pass.old) →
-        IsWork shop.now.workers number
-        (take (place + 1) shop.now.arrivals.now.items) receipts.new.items refusals.new.items
+        IsWork context.now.workers number
+        (take (place + 1) context.now.arrivals.now.items) receipts.new.items refusals.new.items
         (seen_by pass.new)) }
 {
-    if place % shop.workers != number {
+    if place % context.workers != number {
         return Ok(());
     }
-    let arrival = shop.arrivals[place];
-    let made = make_calls(shop.rt, shop.gate, pass, arrival, shop.clock, shop.timeout);
+    let arrival = context.arrivals[place];
+    let made = make_calls(
+        context.rt,
+        context.gate,
+        pass,
+        arrival,
+        context.clock,
+        context.timeout,
+    );
     made.push_to(receipts, refusals)
 }
 
 /// Makes the calls of the worker of this number, one arrival after the other.
 pub(crate) fn work<L: Limit, M: GateNaming, R: Wait + SystemClock, C: Clock>(
-    shop: &Shop<L, M, R, C>,
+    context: &RunContext<L, M, R, C>,
     number: usize,
     worker: Worker<M>,
 ) -> Result<Worker<M>, AllocError>
     ensures { IfOk result (λ done.
-        IsWork shop.now.workers number shop.now.arrivals.now.items
+        IsWork context.now.workers number context.now.arrivals.now.items
         done.receipts.items done.refusals.items (seen_by done.pass)) }
 {
     let Worker {
@@ -77,8 +84,15 @@ pub(crate) fn work<L: Limit, M: GateNaming, R: Wait + SystemClock, C: Clock>(
     } = worker;
     receipts.clear();
     refusals.clear();
-    for place in 0..shop.arrivals.len() {
-        take_turn(shop, number, place, &mut pass, &mut receipts, &mut refusals)?;
+    for place in 0..context.arrivals.len() {
+        take_turn(
+            context,
+            number,
+            place,
+            &mut pass,
+            &mut receipts,
+            &mut refusals,
+        )?;
     }
     Ok(Worker {
         pass,

@@ -6,7 +6,7 @@ ghost use Rattle.audit.specs.Firsts.{EachHas};
 ghost use Rattle.load_run.specs.Gathered.{IsKeptAt};
 ghost use Rattle.load_run.specs.Workers.{AreWork};
 
-use crate::worker::{Shop, Worker, work};
+use crate::worker::{RunContext, Worker, work};
 use gate_history::{Receipt, Spent};
 use limit_laws::Limit;
 use shared_gate::{Clock, GateNaming, Pass};
@@ -27,12 +27,12 @@ pub(crate) struct Worked<M: GateNaming> {
 /// A worker of a shop, with its number.
 #[derive(Drop)]
 struct Hand<'a, M: GateNaming, X> {
-    shop: &'a X,
+    context: &'a X,
     number: usize,
     worker: Worker<M>,
 }
 
-impl<'a, L, M, R, C> Task for Hand<'a, M, Shop<'a, L, M, R, C>>
+impl<'a, L, M, R, C> Task for Hand<'a, M, RunContext<'a, L, M, R, C>>
 where
     L: Limit + Send,
     M: GateNaming + Send + Sync,
@@ -47,29 +47,29 @@ where
     type Done = Result<Worker<M>, AllocError>;
 
     ghost makes = { λ hand done. IfOk done (λ worker.
-        IsWork hand.shop.now.workers hand.number hand.shop.now.arrivals.now.items
+        IsWork hand.context.now.workers hand.number hand.context.now.arrivals.now.items
         worker.receipts.items worker.refusals.items (seen_by worker.pass)) };
 
     fn run(self) -> Result<Worker<M>, AllocError> {
-        work(self.shop, self.number, self.worker)
+        work(self.context, self.number, self.worker)
     }
 }
 
 /// The workers of a shop, with their numbers.
 fn hands_of<'a, M: GateNaming, X>(
     alloc: Global,
-    shop: &'a X,
+    context: &'a X,
     workers: Vec<Worker<M>>,
 ) -> Result<Vec<Hand<'a, M, X>>, AllocError>
     ensures all { IfOk result (λ hands. vec_len hands ≡ vec_len workers) }
     ensures each { IfOk result (λ hands. EachHas
-        (λ place hand. (hand.number ≡ place) × (hand.shop.now ≡ shop.now)) hands.items) }
+        (λ place hand. (hand.number ≡ place) × (hand.context.now ≡ context.now)) hands.items) }
 {
     let mut hands = Vec::with_capacity(alloc, workers.len())?;
     for worker in workers {
         let number = hands.len();
         hands.push_reserved(Hand {
-            shop,
+            context,
             number,
             worker,
         });
@@ -102,19 +102,19 @@ fn gather<M: GateNaming>(
 pub(crate) fn run_all<L: Limit + Send, M: GateNaming + Send + Sync, R, C>(
     spawner: &mut Spawner<'_, R>,
     alloc: Global,
-    shop: &Shop<L, M, R, C>,
+    context: &RunContext<L, M, R, C>,
     workers: Vec<Worker<M>>,
 ) -> Result<Worked<M>, TasksFault>
 where
     R: Threads + Wait + SystemClock + Sync,
     C: Clock + Sync,
     ensures count { IfOk result (λ worked. vec_len worked.kept ≡ vec_len workers) }
-    ensures work { IfOk result (λ worked. AreWork shop.now.workers
-        shop.now.arrivals.now.items worked.kept.items worked.spent.items) }
+    ensures work { IfOk result (λ worked. AreWork context.now.workers
+        context.now.arrivals.now.items worked.kept.items worked.spent.items) }
     ensures thread { IsErrOf result TasksFault.Thread →
         refused_of spawner.new ≡ raised (refused_of spawner.old) }
 {
-    let Ok(hands) = hands_of(alloc, shop, workers) else {
+    let Ok(hands) = hands_of(alloc, context, workers) else {
         return Err(TasksFault::Memory);
     };
     let done = run_tasks(spawner, alloc, hands)?;

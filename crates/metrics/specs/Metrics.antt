@@ -6,7 +6,7 @@ use Rattle.partitions.specs.Table.{Row, name_of}
 use Rattle.limiter_core.specs.declared.counters.Counters.{Counters}
 use Rattle.gate_port.specs.declared.report.Report.{Report}
 use Rattle.release.specs.Release.{version}
-use Rattle.serve_reports.specs.declared.noted.Noted.{Noted}
+use Rattle.serve_reports.specs.declared.noted.GatewayStats.{GatewayStats}
 use Rattle.serve_reports.specs.declared.noted.Troubles.{Troubles}
 use Rattle.serve_reports.specs.declared.outstanding.Outstanding.{Outstanding}
 use Rattle.serve_reports.specs.declared.tally.AnswerTally.{AnswerTally}
@@ -110,7 +110,7 @@ program_text seconds =
     ++ sample_text (codes "admission_build_info") (codes "version") version 1
 
 -- THE TEXT OF THE METRICS: sixteen families
-abbrev pub metrics_text : Report → List Row → Noted → List ℕ
+abbrev pub metrics_text : Report → List Row → GatewayStats → List ℕ
 metrics_text r rows n =
     standing_text r ++ shares_text r rows ++ decisions_text r.counters
     ++ outcomes_text r.counters ++ answers_text n.answers ++ empty_text n.answers

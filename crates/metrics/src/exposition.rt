@@ -12,7 +12,7 @@ use gate_port::Report;
 use limiter_core::Counters;
 use partitions::{Part, PartitionTable};
 use release::version;
-use serve_reports::{AnswerTally, Noted, Outstanding, Troubles, Workers};
+use serve_reports::{AnswerTally, GatewayStats, Outstanding, Troubles, Workers};
 use std::alloc::{AllocError, Global};
 
 /// The text of the metrics in the text format of Prometheus, version 0.0.4: of the state in a
@@ -22,7 +22,7 @@ pub fn metrics_text(
     alloc: Global,
     report: &Report,
     table: &PartitionTable,
-    noted: &Noted,
+    noted: &GatewayStats,
 ) -> Result<String, AllocError>
     ensures { IfOk result (λ text.
         string_bytes text ≡ metrics_text report.now table.now noted.now) }

@@ -1,5 +1,5 @@
 pub mod Attending
 pub mod Desk
 pub mod Telling
-pub mod Told
+pub mod OperatorResponse
 pub mod Words

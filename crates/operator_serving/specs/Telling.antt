@@ -2,7 +2,7 @@
 use Rattle.std.specs.Prelude.{◌≡◌, ℕ, Bool, true, nat_lt, List, [], ◌∷◌, ◌++◌, codes, decimal, Option, None, Some, Result, Ok, Err, if◌then◌else◌}
 use Rattle.partitions.specs.Table.{Row}
 use Rattle.gate_port.specs.declared.report.Report.{Report}
-use Rattle.serve_reports.specs.declared.noted.Noted.{Noted}
+use Rattle.serve_reports.specs.declared.noted.GatewayStats.{GatewayStats}
 use Rattle.serve_reports.specs.declared.workers.Workers.{Workers}
 use Rattle.metrics.specs.Metrics.{metrics_text}
 use Rattle.message_parts.specs.Header.{Header}
@@ -55,10 +55,12 @@ abbrev pub Shows : {D : Type 0} → (D → List Row) → (D → Sight → Type 0
     → Words → Type 0
 Shows rows shows page look.Page desk told = told ≡ words 200 page
 Shows rows shows page look.Metrics desk told =
-    (report : Report) × (noted : Noted) × shows desk (Stands report) × shows desk (Notes noted)
+    (report : Report) × (noted : GatewayStats)
+    × shows desk (Stands report) × shows desk (Notes noted)
     × (told ≡ words 200 (metrics_text report (rows desk) noted))
 Shows rows shows page look.Health desk told =
-    (accepts : Bool) × (noted : Noted) × shows desk (Accepts accepts) × shows desk (Notes noted)
+    (accepts : Bool) × (noted : GatewayStats)
+    × shows desk (Accepts accepts) × shows desk (Notes noted)
     × (told ≡ health accepts noted.workers)
 
 -- WHAT A CHANGE TELLS, by what is done at the desk for it

@@ -6,8 +6,8 @@ ghost use Rattle.operator_serving.specs.Attending.{IsAnswered, IsTold, told_leng
 
 use crate::desk::Desk;
 use crate::lines::make_lines;
+use crate::response::OperatorResponse;
 use crate::telling::{carry_out, refused, tell};
-use crate::told::Told;
 use counted_io::Counted;
 use message_parts::{Headers, Method};
 use message_text::{Answer, write_local_answer};
@@ -51,7 +51,7 @@ fn answer_told<W: Write>(
     alloc: Global,
     call: &Result<Call, Refusal>,
     method: &Method,
-    told: &Told<'_>,
+    told: &OperatorResponse<'_>,
     writer: &mut Counted<W>,
 ) -> (u16, bool)
     ensures { IsTold W.contents call.now method.now told.now writer.old writer.new
@@ -65,7 +65,7 @@ fn answer_told<W: Write>(
 }
 
 /// The length of a text that isn't written, since it was asked for by HEAD.
-fn told_length(method: &Method, told: &Told<'_>) -> Option<usize>
+fn told_length(method: &Method, told: &OperatorResponse<'_>) -> Option<usize>
     ensures { result ≡ told_length method.now told.now }
 {
     if method.as_slice() == b"HEAD".as_slice() {
@@ -81,7 +81,7 @@ fn write_told<W: Write>(
     writer: &mut Counted<W>,
     method: &Method,
     lines: &Headers,
-    told: &Told<'_>,
+    told: &OperatorResponse<'_>,
 ) -> bool
     ensures { result ≡ true → Wrote W.contents writer.old writer.new
         (told_text_by method.now lines.now told.now) }

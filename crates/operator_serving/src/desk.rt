@@ -5,7 +5,7 @@ ghost use Rattle.operator_serving.specs.Desk.Sight.{Stands, Notes, Accepts};
 
 use gate_port::Report;
 use partitions::PartitionTable;
-use serve_reports::Noted;
+use serve_reports::GatewayStats;
 
 /// Why a limit stays as it is.
 #[derive(Clone, Copy)]
@@ -42,7 +42,7 @@ pub trait Desk {
         ensures { shows self.now (Stands result) };
 
     /// What was noted of exchanges and troubles.
-    fn noted(&self) -> Noted
+    fn noted(&self) -> GatewayStats
         ensures { shows self.now (Notes result) };
 
     /// Whether clients are accepted for good: nobody has drained the gateway, or is to.

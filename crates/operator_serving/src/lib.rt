@@ -14,8 +14,8 @@ mod caller;
 mod desk;
 mod lines;
 mod operating;
+mod response;
 mod telling;
-mod told;
 
 pub use attending::{Attended, attend};
 pub use caller::Caller;

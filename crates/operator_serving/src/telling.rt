@@ -5,7 +5,7 @@ ghost use Rattle.operator_serving.specs.Telling.{IsCarriedOut, Shows, changed, h
 ghost use Rattle.operator_serving.specs.Telling.{refusal_text, refused};
 
 use crate::desk::{ChangeFault, Desk};
-use crate::told::Told;
+use crate::response::OperatorResponse;
 use metrics::metrics_text;
 use operator_calls::{Change, Look, Refusal};
 use serve_reports::Workers;
@@ -17,11 +17,11 @@ pub(crate) fn tell<'a, D: Desk>(
     page: &'a str,
     desk: &D,
     look: &Look,
-) -> Result<Told<'a>, AllocError>
+) -> Result<OperatorResponse<'a>, AllocError>
     ensures { IfOk result (Shows D.rows D.shows page.now look.now desk.now) }
 {
     match look {
-        Look::Page => Ok(Told::new(200, page)),
+        Look::Page => Ok(OperatorResponse::new(200, page)),
         Look::Metrics => tell_metrics(alloc, desk),
         Look::Health => {
             let (is_accepting, noted) = (desk.is_accepting(), desk.noted());
@@ -31,16 +31,16 @@ pub(crate) fn tell<'a, D: Desk>(
 }
 
 /// The state at a desk, as a scraper reads it. It fails only out of memory.
-fn tell_metrics<'a, D: Desk>(alloc: Global, desk: &D) -> Result<Told<'a>, AllocError>
+fn tell_metrics<'a, D: Desk>(alloc: Global, desk: &D) -> Result<OperatorResponse<'a>, AllocError>
     ensures { IfOk result (Shows D.rows D.shows [] Metrics desk.now) }
 {
     let (report, noted) = (desk.report(), desk.noted());
     let text = metrics_text(alloc, &report, desk.table(), &noted)?;
-    Ok(Told::made(text))
+    Ok(OperatorResponse::made(text))
 }
 
 /// Carries a change out at a desk, and tells what came of it. It takes no memory.
-pub(crate) fn carry_out<'a, D: Desk>(desk: &mut D, change: &Change) -> Told<'a>
+pub(crate) fn carry_out<'a, D: Desk>(desk: &mut D, change: &Change) -> OperatorResponse<'a>
     ensures { IsCarriedOut D.does change.now desk.old desk.new result }
 {
     match change {
@@ -48,20 +48,20 @@ pub(crate) fn carry_out<'a, D: Desk>(desk: &mut D, change: &Change) -> Told<'a>
         Change::Reset => changed(desk.reset()),
         Change::Drain => {
             desk.drain();
-            Told::new(200, "draining\n")
+            OperatorResponse::new(200, "draining\n")
         }
         Change::DrainAfter(delay_ms) => {
             desk.drain_after(*delay_ms);
-            Told::new(200, "draining\n")
+            OperatorResponse::new(200, "draining\n")
         }
     }
 }
 
 /// What is told of a refusal.
-pub(crate) fn refused<'a>(refusal: &Refusal) -> Told<'a>
+pub(crate) fn refused<'a>(refusal: &Refusal) -> OperatorResponse<'a>
     ensures { result ≡ refused refusal.now }
 {
-    Told::new(refusal.status(), refusal_text(refusal))
+    OperatorResponse::new(refusal.status(), refusal_text(refusal))
 }
 
 /// The text of a refusal.
@@ -80,30 +80,30 @@ fn refusal_text(refusal: &Refusal) -> &'static str
 }
 
 /// What is told of whether clients are accepted, and a worker is free for them.
-fn health<'a>(is_accepting: bool, workers: &Workers) -> Told<'a>
+fn health<'a>(is_accepting: bool, workers: &Workers) -> OperatorResponse<'a>
     ensures { result ≡ health is_accepting workers.now }
 {
     if !is_accepting {
-        Told::new(503, "draining\n")
+        OperatorResponse::new(503, "draining\n")
     } else if workers.count <= workers.busy {
-        Told::new(503, "busy\n")
+        OperatorResponse::new(503, "busy\n")
     } else {
-        Told::new(200, "ok\n")
+        OperatorResponse::new(200, "ok\n")
     }
 }
 
 /// What is told of a change of the limit.
-fn changed<'a>(outcome: Result<(), ChangeFault>) -> Told<'a>
+fn changed<'a>(outcome: Result<(), ChangeFault>) -> OperatorResponse<'a>
     ensures { result ≡ changed outcome }
 {
     match outcome {
-        Ok(()) => Told::new(200, "ok\n"),
+        Ok(()) => OperatorResponse::new(200, "ok\n"),
         Err(ChangeFault::NotSettable) => {
-            Told::new(409, "the limit isn't of the kind settable\n")
+            OperatorResponse::new(409, "the limit isn't of the kind settable\n")
         }
         Err(ChangeFault::OutOfRange) => {
-            Told::new(400, "the number is out of the limit's range\n")
+            OperatorResponse::new(400, "the number is out of the limit's range\n")
         }
-        Err(ChangeFault::Exhausted) => Told::new(503, "the history is exhausted\n"),
+        Err(ChangeFault::Exhausted) => OperatorResponse::new(503, "the history is exhausted\n"),
     }
 }

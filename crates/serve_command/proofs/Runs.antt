@@ -12,9 +12,9 @@ use Rattle.gate_config.specs.declared.settings.Settings.{Settings}
 use Rattle.tcp_backend.specs.declared.connecting.TcpBackend.{TcpBackend}
 use Rattle.tcp_backend.specs.Connecting.{count_of}
 use Rattle.serving.specs.declared.doors.Door.{Door}
-use Rattle.serving.specs.declared.jobs.Ended.{Ended}
-use Rattle.serving.specs.declared.jobs.Left.{Left}
-use Rattle.serving.specs.declared.jobs.Left.TheVariants as left
+use Rattle.serving.specs.declared.jobs.WorkerExit.{WorkerExit}
+use Rattle.serving.specs.declared.jobs.JobResult.{JobResult}
+use Rattle.serving.specs.declared.jobs.JobResult.TheVariants as left
 use Rattle.serving.specs.declared.working.WorkerSettings.{WorkerSettings}
 use Rattle.serving.specs.Doors.{failed_of, given_of, is_closed}
 use Rattle.serving.specs.Turns.{IsRun}
@@ -24,7 +24,7 @@ use Rattle.serve_command.specs.Runs.{HasRunTo, stood_at}
 module _ {L C S W : Type 0} (R T V M : Type 0) (gives : S → Settings → Type 0)
     (common : WorkerSettings L C S W) where
   abbrev End : Type 0
-  End = Ended (Door L W) (Shared M) (TcpBackend R T V C)
+  End = WorkerExit (Door L W) (Shared M) (TcpBackend R T V C)
 
   abbrev Ran : Shared M → End → Type 0
   Ran = HasRun gives (λ port. None) (λ port. Some port.pass.log) common
@@ -77,24 +77,24 @@ module _ {L C S W : Type 0} (R T V M : Type 0) (gives : S → Settings → Type 
       )
 
 -- who served among some, and one more
-ended_more : {A P B : Type 0} (lefts : List (Left A P B)) (l : Left A P B)
+ended_more : {A P B : Type 0} (lefts : List (JobResult A P B)) (l : JobResult A P B)
     → ended_in (lefts ++ l ∷ []) ≡ ended_in lefts ++ ended_in (l ∷ [])
 ended_more [] l = refl
 ended_more (left.Unbegun ∷ lefts) l = ended_more lefts l
-ended_more (left.Beside ∷ lefts) l = ended_more lefts l
+ended_more (left.SideTask ∷ lefts) l = ended_more lefts l
 ended_more {A} {P} {B} (left.Worked ended ∷ lefts) l =
-    ap (λ (es : List (Ended A P B)). ended ∷ es) (ended_more lefts l)
+    ap (λ (es : List (WorkerExit A P B)). ended ∷ es) (ended_more lefts l)
 
 -- their passes, and that of one more, which served, or didn't
-pub one_pass_more : {A B M : Type 0} (lefts : List (Left A (Shared M) B))
-    (l : Left A (Shared M) B) (pass : Option Pass) (passes more : List Pass)
+pub one_pass_more : {A B M : Type 0} (lefts : List (JobResult A (Shared M) B))
+    (l : JobResult A (Shared M) B) (pass : Option Pass) (passes more : List Pass)
     → passes ≡ map (λ ended. ended.port.pass) (ended_in lefts)
     → option_to_list pass ≡ map (λ ended. ended.port.pass) (ended_in (l ∷ []))
     → more ≡ passes ++ option_to_list pass
     → more ≡ map (λ ended. ended.port.pass) (ended_in (lefts ++ l ∷ []))
 one_pass_more {A} {B} {M} lefts l pass passes more same own is =
-    let pass_of : Ended A (Shared M) B → Pass = λ ended. ended.port.pass in
+    let pass_of : WorkerExit A (Shared M) B → Pass = λ ended. ended.port.pass in
     is ∙ ap (λ (ps : List Pass). ps ++ option_to_list pass) same
     ∙ ap (λ (ps : List Pass). map pass_of (ended_in lefts) ++ ps) own
     ∙ sym (map-append pass_of (ended_in lefts) (ended_in (l ∷ [])))
-    ∙ ap (λ (es : List (Ended A (Shared M) B)). map pass_of es) (sym (ended_more lefts l))
+    ∙ ap (λ (es : List (WorkerExit A (Shared M) B)). map pass_of es) (sym (ended_more lefts l))

@@ -25,7 +25,7 @@ pub(crate) struct AdminAddress<L> {
 
 /// What serves at the addresses beside that of clients.
 #[derive(Drop)]
-pub(crate) struct Beside<'a, L, C> {
+pub(crate) struct SideAddresses<'a, L, C> {
     /// When the gateway is to be drained, which their desks share.
     pub(crate) lame_duck: &'a LameDuck,
     /// At the operator's, where there is one.
@@ -34,7 +34,7 @@ pub(crate) struct Beside<'a, L, C> {
     pub(crate) status: Option<Operating<'a, L, C>>,
 }
 
-impl<'a, L, C> Beside<'a, L, C> {
+impl<'a, L, C> SideAddresses<'a, L, C> {
     /// What serves at the addresses that there are.
     pub(crate) fn new(
         alloc: Global,
@@ -42,8 +42,8 @@ impl<'a, L, C> Beside<'a, L, C> {
         status: &'a Option<L>,
         clock: &'a C,
         lame_duck: &'a LameDuck,
-    ) -> Beside<'a, L, C> {
-        Beside {
+    ) -> SideAddresses<'a, L, C> {
+        SideAddresses {
             lame_duck,
             admin: operating_at(alloc, admin, clock),
             status: looking_at(alloc, status, clock),

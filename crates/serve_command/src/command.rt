@@ -18,8 +18,8 @@ ghost use Rattle.serve_command.specs.ServiceFault.{service_fault_text};
 
 use crate::admin::AdminAddress;
 use crate::config_text::ConfigText;
-use crate::fault::{ServiceFault, tell_service_fault};
-use crate::standing::{Standing, serve_standing};
+use crate::context::{ServeContext, serve_in};
+use crate::fault::{ServiceFault, report_service_fault};
 use clocks::ProgramClock;
 use config_file::{FileFault, read_bytes, read_file_text};
 use counted_io::Counted;
@@ -222,7 +222,7 @@ where
     log_listening(rt, files, alloc, settings, service.workers);
     let clock = ProgramClock::start(rt);
     let watch = make_watch(rt, alloc, &clock, service)?;
-    let standing = Standing {
+    let context = ServeContext {
         front: &front,
         admin: &admin,
         status: &status,
@@ -232,7 +232,7 @@ where
         watch: &watch,
         alloc,
     };
-    Ok(serve_standing(rt, spawner, &standing, settings, service)?)
+    Ok(serve_in(rt, spawner, &context, settings, service)?)
 }
 
 /// What notes and logs what happens. It fails only out of memory.
@@ -313,6 +313,6 @@ fn report<E: Write>(errors: &mut Counted<E>, fault: ServiceFault) -> u8
     ensures told { IsTold E.contents errors.old errors.new
         (fault_line (service_fault_text fault)) }
 {
-    tell_service_fault(errors, &fault);
+    report_service_fault(errors, &fault);
     FAULT
 }

@@ -2,7 +2,7 @@
 
 use gate_desk::DeskWatch;
 use log::{Log, warn};
-use serve_reports::{Noted, Watcher};
+use serve_reports::{GatewayStats, Watcher};
 use std::sync::Wait;
 use std::time::Clock as SystemClock;
 
@@ -14,7 +14,7 @@ pub(crate) struct DeskLog<'a, R: SystemClock> {
 }
 
 impl<R: SystemClock + Log + Wait> DeskWatch for DeskLog<'_, R> {
-    fn noted(&self) -> Noted {
+    fn noted(&self) -> GatewayStats {
         self.watch.noted()
     }
 

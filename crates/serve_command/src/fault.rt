@@ -2,9 +2,9 @@
 ghost use Rattle.fault_lines.specs.FaultLine.{IsTold, fault_line};
 ghost use Rattle.serve_command.specs.ServiceFault.{service_fault_text};
 
-use config_file::{FileFault, tell_file_fault};
+use config_file::{FileFault, report_file_fault};
 use counted_io::{Counted, WriteFault};
-use fault_lines::tell_fault;
+use fault_lines::report_fault;
 use serving::ServeFault;
 use std::io::Write;
 
@@ -61,15 +61,15 @@ impl From<WriteFault> for ServiceFault {
 }
 
 /// Tells a fault.
-pub(crate) fn tell_service_fault<E: Write>(errors: &mut Counted<E>, fault: &ServiceFault)
+pub(crate) fn report_service_fault<E: Write>(errors: &mut Counted<E>, fault: &ServiceFault)
     ensures { IsTold E.contents errors.old errors.new
         (fault_line (service_fault_text fault.now)) }
 {
     match fault {
-        ServiceFault::Config(fault) => tell_file_fault(errors, fault),
-        ServiceFault::Listen => tell_fault(errors, &["listen"]),
-        ServiceFault::Memory => tell_fault(errors, &["memory"]),
-        ServiceFault::Thread => tell_fault(errors, &["thread"]),
-        ServiceFault::Write => tell_fault(errors, &["write"]),
+        ServiceFault::Config(fault) => report_file_fault(errors, fault),
+        ServiceFault::Listen => report_fault(errors, &["listen"]),
+        ServiceFault::Memory => report_fault(errors, &["memory"]),
+        ServiceFault::Thread => report_fault(errors, &["thread"]),
+        ServiceFault::Write => report_fault(errors, &["write"]),
     }
 }

@@ -14,7 +14,7 @@ ghost use Rattle.ports.specs.Asked.{port_in};
 ghost use Rattle.serving.specs.Workers.{ended_in};
 ghost use Rattle.serve_command.specs.Runs.{AreCountersOfRuns};
 
-use crate::admin::Beside;
+use crate::admin::SideAddresses;
 use crate::operators::make_operators;
 use clocks::Clock;
 use gate_config::Settings;
@@ -25,7 +25,7 @@ use limiter_core::Counters;
 use log::Log;
 use ports::{Port, View};
 use serve_reports::Watcher;
-use serving::{Left, ServeFault, Source, WorkerSettings, serve};
+use serving::{JobResult, ServeFault, Source, WorkerSettings, serve};
 use shared_gate::{GateNaming, Pass, SharedGate, Word};
 use std::alloc::{AllocError, Global};
 use std::marker::Brand;
@@ -44,7 +44,7 @@ pub(crate) fn serve_gateway<R, L, C, S>(
     common: &WorkerSettings<'_, L, C, S, Watcher<'_, R>>,
     settings: &Settings,
     workers: usize,
-    beside: &Beside<'_, L, C>,
+    side: &SideAddresses<'_, L, C>,
 ) -> Result<Counters, ServeFault>
 where
     R: Net + Threads + Wait + SystemClock + Log + Sync,
@@ -66,7 +66,7 @@ where
 {
     let word = Word::new(common.alloc)?;
     let blanks = Blanks::new();
-    serve_named::<Brand, R, L, C, S>(rt, spawner, common, settings, workers, beside, blanks, word)
+    serve_named::<Brand, R, L, C, S>(rt, spawner, common, settings, workers, side, blanks, word)
 }
 
 /// Serves clients through the gate of the settings, which has these names.
@@ -76,7 +76,7 @@ fn serve_named<M, R, L, C, S>(
     common: &WorkerSettings<'_, L, C, S, Watcher<'_, R>>,
     settings: &Settings,
     workers: usize,
-    beside: &Beside<'_, L, C>,
+    side: &SideAddresses<'_, L, C>,
     blanks: Blanks,
     word: Word,
 ) -> Result<Counters, ServeFault>
@@ -103,7 +103,7 @@ where
     ensures thread { IsErrOf result ServeFault.Thread →
         refused_of spawner.new ≡ raised (refused_of spawner.old) }
 {
-    let others = beside.count();
+    let others = side.count();
     let (gate, mut passes) = open_gate::<M>(
         common.alloc,
         settings,
@@ -112,7 +112,7 @@ where
         workers + others,
     )?;
     let own = take_own(&mut passes, workers, others)?;
-    serve_through(rt, spawner, common, settings, beside, &gate, passes, own)
+    serve_through(rt, spawner, common, settings, side, &gate, passes, own)
 }
 
 /// Serves clients through a gate, by one worker for each pass, and those at the addresses beside
@@ -122,7 +122,7 @@ fn serve_through<M, R, G, L, C, S>(
     spawner: &mut Spawner<'_, R>,
     common: &WorkerSettings<'_, L, C, S, Watcher<'_, R>>,
     settings: &Settings,
-    beside: &Beside<'_, L, C>,
+    side: &SideAddresses<'_, L, C>,
     gate: &SharedGate<G, M>,
     passes: Vec<Pass<M>>,
     own: Vec<Pass<M>>,
@@ -145,7 +145,7 @@ where
     ensures thread { IsErrOf result ServeFault.Thread →
         refused_of spawner.new ≡ raised (refused_of spawner.old) }
 {
-    let operators = make_operators(rt, common, settings, gate, beside, own)?;
+    let operators = make_operators(rt, common, settings, gate, side, own)?;
     let kept = Vec::with_capacity(common.alloc, passes.len())?;
     let ports = make_ports(rt, common.alloc, gate, common.clock, common.watch, passes)?;
     let view = View::new(rt, gate);
@@ -206,7 +206,7 @@ fn noting<'a, M: GateNaming, R: SystemClock, G: Limit, C>(
 /// The passes of the workers that served, in their order, into a list that is empty.
 fn passes_of<M: GateNaming, R, G: Limit, C, A: Drop, B: Drop>(
     mut passes: Vec<Pass<M>>,
-    lefts: Vec<Left<A, Port<'_, G, M, R, C>, B>>,
+    lefts: Vec<JobResult<A, Port<'_, G, M, R, C>, B>>,
 ) -> Result<Vec<Pass<M>>, AllocError>
     requires { passes.items ≡ [] }
     ensures { IfOk result (λ passes.
@@ -222,12 +222,12 @@ fn passes_of<M: GateNaming, R, G: Limit, C, A: Drop, B: Drop>(
 
 /// The pass of whoever left this, if it served.
 fn pass_in<M: GateNaming, R, G: Limit, C, A: Drop, B: Drop>(
-    left: Left<A, Port<'_, G, M, R, C>, B>,
+    left: JobResult<A, Port<'_, G, M, R, C>, B>,
 ) -> Option<Pass<M>>
     ensures { option_to_list result ≡ map (λ ended. ended.port.pass) (ended_in (left.entry ∷ [])) }
 {
     match left {
-        Left::Worked(ended) => Some(ended.port.into_pass()),
-        Left::Unbegun | Left::Beside => None,
+        JobResult::Worked(ended) => Some(ended.port.into_pass()),
+        JobResult::Unbegun | JobResult::SideTask => None,
     }
 }

@@ -8,11 +8,11 @@
 mod admin;
 mod command;
 mod config_text;
+mod context;
 mod desk_log;
 mod fault;
 mod gateway;
 mod operators;
-mod standing;
 
 pub use command::{Service, serve_file};
 pub use fault::ServiceFault;

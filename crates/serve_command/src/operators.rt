@@ -1,5 +1,5 @@
 // Who serves at the addresses beside that of clients.
-use crate::admin::{AT_ONCE, Beside};
+use crate::admin::{AT_ONCE, SideAddresses};
 use crate::desk_log::DeskLog;
 use gate_config::Settings;
 use gate_desk::{GateDesk, LameDuck, Operator};
@@ -30,7 +30,7 @@ pub(crate) fn make_operators<'a, M: GateNaming, R: SystemClock, G: Limit, L, C, 
     common: &WorkerSettings<'a, L, C, S, Watcher<'a, R>>,
     settings: &Settings,
     gate: &'a SharedGate<G, M>,
-    beside: &'a Beside<'a, L, C>,
+    side: &'a SideAddresses<'a, L, C>,
     passes: Vec<Pass<M>>,
 ) -> Result<Vec<Operator<'a, G, M, R, L, C, DeskLog<'a, R>>>, AllocError> {
     let ground = Ground {
@@ -38,11 +38,11 @@ pub(crate) fn make_operators<'a, M: GateNaming, R: SystemClock, G: Limit, L, C, 
         common,
         settings,
         gate,
-        lame_duck: beside.lame_duck,
+        lame_duck: side.lame_duck,
     };
     let mut operators = Vec::with_capacity(common.alloc, passes.len())?;
     for pass in passes {
-        let (operating, also) = match (&beside.admin, &beside.status) {
+        let (operating, also) = match (&side.admin, &side.status) {
             (_, Some(status)) if operators.len() < AT_ONCE => (status, None),
             (Some(admin), status) => (admin, listener_at(status)),
             (None, Some(status)) => (status, None),

@@ -1,6 +1,6 @@
 -- What happens often, told seldom.
 use Rattle.std.specs.Prelude.{ℕ, ◌+◌, ◌-◌, ◌^◌, min, nat_le, Bool, true, Option, None, Some, if◌then◌else◌}
-use Rattle.serve_reports.specs.declared.spell.Spell.{Spell}
+use Rattle.serve_reports.specs.declared.spell.RateLimitedLog.{RateLimitedLog}
 
 -- the least time from one telling to the next, in nanoseconds
 abbrev pub spell_length : ℕ
@@ -21,11 +21,11 @@ abbrev pub once_more : ℕ → ℕ
 once_more count = min (count + 1) (2 ^ 64 - 1)
 
 -- HOW OFTEN IS TOLD where it happens at this moment, if it is told
-abbrev pub told : Spell → ℕ → Option ℕ
+abbrev pub told : RateLimitedLog → ℕ → Option ℕ
 told spell now = if is_due spell.last now then Some (once_more spell.count) else None
 
 -- what is kept then
-abbrev pub noted : Spell → ℕ → Spell
+abbrev pub noted : RateLimitedLog → ℕ → RateLimitedLog
 noted spell now =
     if is_due spell.last now
     then record { last = Some now; count = 0; total = once_more spell.total }

@@ -1,9 +1,9 @@
 //! What `serve` tells of what it does: in its log, and at its end.
 //!
-//! A [`Watcher`] hears of each exchange and trouble, and logs what is to be logged. A [`Spell`]
-//! tells what happens often once in ten seconds, with how often it happened. An [`AnswerTally`]
-//! counts the gateway's own answers, and [`Moments`] know since when permits are out.
-//! [`report_text`] makes the text of a report, as the log has it every so often, and
+//! A [`Watcher`] hears of each exchange and trouble, and logs what is to be logged. A
+//! [`RateLimitedLog`] tells what happens often once in ten seconds, with how often it happened. An
+//! [`AnswerTally`] counts the gateway's own answers, and [`Moments`] know since when permits are
+//! out. [`report_text`] makes the text of a report, as the log has it every so often, and
 //! [`write_counters`] writes the line of a gate's counters at the end, without memory. `specs/` has
 //! both texts.
 #![tactic(auto)]
@@ -19,11 +19,11 @@ mod watching;
 mod workers;
 
 pub use counters_line::write_counters;
-pub use noted::{Noted, Troubles};
+pub use noted::{GatewayStats, Troubles};
 pub use outstanding::{Moments, Outstanding};
 pub use pace::Pace;
 pub use report_line::report_text;
-pub use spell::Spell;
+pub use spell::RateLimitedLog;
 pub use tally::AnswerTally;
 pub use watching::Watcher;
 pub use workers::Workers;

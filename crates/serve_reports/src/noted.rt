@@ -20,7 +20,7 @@ pub struct Troubles {
 
 /// What was noted of a gateway's exchanges since its start.
 #[derive(Clone, Copy)]
-pub struct Noted {
+pub struct GatewayStats {
     /// How many exchanges ended in each of its own answers.
     pub answers: AnswerTally,
     /// How often each trouble came.

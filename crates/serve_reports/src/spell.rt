@@ -7,20 +7,20 @@ const LENGTH_NS: u64 = 10_000_000_000;
 
 /// How often something happened: since it was last told, and at all.
 #[derive(Clone, Copy)]
-pub struct Spell {
+pub struct RateLimitedLog {
     last: Option<u64>,
     count: u64,
     total: u64,
 }
 
-impl Spell {
+impl RateLimitedLog {
     /// Nothing has happened.
-    pub fn new() -> Spell
+    pub fn new() -> RateLimitedLog
         ensures last { result.last ≡ None }
         ensures count { result.count ≡ 0 }
         ensures total { result.total ≡ 0 }
     {
-        Spell {
+        RateLimitedLog {
             last: None,
             count: 0,
             total: 0,

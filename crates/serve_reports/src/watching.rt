@@ -2,11 +2,11 @@
 ghost use Rattle.std.specs.Prelude.{◌≡◌};
 ghost use Rattle.serve_reports.specs.Spells.{is_minute_over};
 
-use crate::noted::{Noted, Troubles};
+use crate::noted::{GatewayStats, Troubles};
 use crate::outstanding::{Moments, Outstanding};
 use crate::pace::Pace;
 use crate::report_line::report_text;
-use crate::spell::Spell;
+use crate::spell::RateLimitedLog;
 use crate::tally::AnswerTally;
 use crate::workers::Workers;
 use clocks::{Clock, ProgramClock};
@@ -38,11 +38,11 @@ const EMFILE: i32 = 24;
 #[derive(Clone, Copy)]
 struct Notes {
     answers: AnswerTally,
-    unreached: Spell,
-    broken: Spell,
-    late: Spell,
-    without_descriptor: Spell,
-    all_taken: Spell,
+    unreached: RateLimitedLog,
+    broken: RateLimitedLog,
+    late: RateLimitedLog,
+    without_descriptor: RateLimitedLog,
+    all_taken: RateLimitedLog,
     // When the log last told of old permits, by the watcher's clock in nanoseconds.
     old_told: Option<u64>,
 }
@@ -89,11 +89,11 @@ impl<'a, R: SystemClock> Watcher<'a, R> {
     ) -> Result<Watcher<'a, R>, AllocError> {
         let notes = Notes {
             answers: AnswerTally::default(),
-            unreached: Spell::new(),
-            broken: Spell::new(),
-            late: Spell::new(),
-            without_descriptor: Spell::new(),
-            all_taken: Spell::new(),
+            unreached: RateLimitedLog::new(),
+            broken: RateLimitedLog::new(),
+            late: RateLimitedLog::new(),
+            without_descriptor: RateLimitedLog::new(),
+            all_taken: RateLimitedLog::new(),
             old_told: None,
         };
         Ok(Watcher {
@@ -131,10 +131,10 @@ impl<'a, R: SystemClock> Watcher<'a, R> {
 
 impl<R: SystemClock + Log + Wait> Watcher<'_, R> {
     /// What was noted so far.
-    pub fn noted(&self) -> Noted {
+    pub fn noted(&self) -> GatewayStats {
         let notes = *self.notes.lock(self.rt);
         let now = self.clock.now();
-        Noted {
+        GatewayStats {
             answers: notes.answers,
             troubles: notes.troubles(),
             workers: self.workers(),

@@ -12,11 +12,11 @@ use Rattle.tcp_backend.specs.declared.connecting.TcpBackend.{TcpBackend}
 use Rattle.tcp_backend.specs.Connecting.{count_of}
 use Rattle.serving.specs.declared.doors.Door.{Door}
 use Rattle.serving.specs.declared.jobs.Context.{Context}
-use Rattle.serving.specs.declared.jobs.Ended.{Ended}
+use Rattle.serving.specs.declared.jobs.WorkerExit.{WorkerExit}
 use Rattle.serving.specs.declared.jobs.Job.{Job}
 use Rattle.serving.specs.declared.jobs.Job.TheVariants as job
-use Rattle.serving.specs.declared.jobs.Left.{Left}
-use Rattle.serving.specs.declared.jobs.Left.TheVariants as left
+use Rattle.serving.specs.declared.jobs.JobResult.{JobResult}
+use Rattle.serving.specs.declared.jobs.JobResult.TheVariants as left
 use Rattle.serving.specs.declared.jobs.Worker.{Worker}
 use Rattle.serving.specs.declared.working.WorkerSettings.{WorkerSettings}
 use Rattle.serving.specs.Doors.{failed_of, given_of, is_closed}
@@ -38,7 +38,7 @@ pub one_worker : {A P B T X : Type 0} (jobs : List (Job A P B T X)) (h : Job A P
     (w : Worker A P B) → workers_in (h ∷ []) ≡ w ∷ []
     → workers_in (jobs ++ h ∷ []) ≡ workers_in jobs ++ w ∷ []
 one_worker [] h w same = same
-one_worker (job.Beside task ∷ jobs) h w same = one_worker jobs h w same
+one_worker (job.SideTask task ∷ jobs) h w same = one_worker jobs h w same
 one_worker {A} {P} {B} (job.Worker context worker ∷ jobs) h w same =
     ap (λ (ws : List (Worker A P B)). worker ∷ ws) (one_worker jobs h w same)
 
@@ -46,7 +46,7 @@ one_worker {A} {P} {B} (job.Worker context worker ∷ jobs) h w same =
 pub no_task : {A P B T X : Type 0} (jobs : List (Job A P B T X)) (h : Job A P B T X)
     → tasks_in (h ∷ []) ≡ [] → tasks_in (jobs ++ h ∷ []) ≡ tasks_in jobs
 no_task [] h none = none
-no_task {A} {P} {B} {T} (job.Beside task ∷ jobs) h none =
+no_task {A} {P} {B} {T} (job.SideTask task ∷ jobs) h none =
     ap (λ (ts : List T). task ∷ ts) (no_task jobs h none)
 no_task (job.Worker context worker ∷ jobs) h none = no_task jobs h none
 
@@ -54,7 +54,7 @@ no_task (job.Worker context worker ∷ jobs) h none = no_task jobs h none
 pub one_task : {A P B T X : Type 0} (jobs : List (Job A P B T X)) (h : Job A P B T X) (t : T)
     → tasks_in (h ∷ []) ≡ t ∷ [] → tasks_in (jobs ++ h ∷ []) ≡ tasks_in jobs ++ t ∷ []
 one_task [] h t same = same
-one_task {A} {P} {B} {T} (job.Beside task ∷ jobs) h t same =
+one_task {A} {P} {B} {T} (job.SideTask task ∷ jobs) h t same =
     ap (λ (ts : List T). task ∷ ts) (one_task jobs h t same)
 one_task (job.Worker context worker ∷ jobs) h t same = one_task jobs h t same
 
@@ -62,7 +62,7 @@ one_task (job.Worker context worker ∷ jobs) h t same = one_task jobs h t same
 pub no_worker : {A P B T X : Type 0} (jobs : List (Job A P B T X)) (h : Job A P B T X)
     → workers_in (h ∷ []) ≡ [] → workers_in (jobs ++ h ∷ []) ≡ workers_in jobs
 no_worker [] h none = none
-no_worker (job.Beside task ∷ jobs) h none = no_worker jobs h none
+no_worker (job.SideTask task ∷ jobs) h none = no_worker jobs h none
 no_worker {A} {P} {B} (job.Worker context worker ∷ jobs) h none =
     ap (λ (ws : List (Worker A P B)). worker ∷ ws) (no_worker jobs h none)
 
@@ -70,14 +70,14 @@ no_worker {A} {P} {B} (job.Worker context worker ∷ jobs) h none =
 pub none_within : {A P B T X : Type 0} (x : X) (jobs : List (Job A P B T X))
     → workers_in jobs ≡ [] → AreWithin x jobs
 none_within x [] none = tt
-none_within x (job.Beside task ∷ jobs) none = none_within x jobs none
+none_within x (job.SideTask task ∷ jobs) none = none_within x jobs none
 none_within x (job.Worker context worker ∷ jobs) none = absurd (omega (arith, ap length none))
 
 pub one_within : {A P B T X : Type 0} (x : X) (jobs : List (Job A P B T X))
     (h : Job A P B T X)
     → AreWithin x jobs → AreWithin x (h ∷ []) → AreWithin x (jobs ++ h ∷ [])
 one_within x [] h all own = own
-one_within x (job.Beside task ∷ jobs) h all own = one_within x jobs h all own
+one_within x (job.SideTask task ∷ jobs) h all own = one_within x jobs h all own
 one_within x (job.Worker context worker ∷ jobs) h all own =
     (all.0, one_within x jobs h all.1 own)
 
@@ -90,23 +90,23 @@ module _ {A P B T S R L C W : Type 0} (given failed : A → ℕ) (closed : A →
     (visits : A → Option Visits) (shown : P → Option Shown) (known : P → Option (List Entry))
     (forwarded : B → ℕ) (log : B → Option (List Forwarded))
     (gives : S → Settings → Type 0) (lacks : S → Type 0) (made : T → Type 0) where
-  abbrev Made : Job A P B T (Context R L C S W) → Left A P B → Type 0
+  abbrev Made : Job A P B T (Context R L C S W) → JobResult A P B → Type 0
   Made = Makes given failed closed visits shown known forwarded log gives lacks made
 
-  made_in : (jobs : List (Job A P B T (Context R L C S W))) (lefts : List (Left A P B))
+  made_in : (jobs : List (Job A P B T (Context R L C S W))) (lefts : List (JobResult A P B))
       → AllZip Made jobs lefts → All made (tasks_in jobs)
   made_in [] [] all = All-nil made
   made_in [] (l ∷ ls) all = absurd all
   made_in (h ∷ hs) [] all = absurd all
-  made_in (job.Beside task ∷ hs) (left.Unbegun ∷ ls) all = absurd all.0
-  made_in (job.Beside task ∷ hs) (left.Beside ∷ ls) all =
+  made_in (job.SideTask task ∷ hs) (left.Unbegun ∷ ls) all = absurd all.0
+  made_in (job.SideTask task ∷ hs) (left.SideTask ∷ ls) all =
       All-cons made task (tasks_in hs) all.0 (made_in hs ls all.1)
-  made_in (job.Beside task ∷ hs) (left.Worked ended ∷ ls) all = absurd all.0
+  made_in (job.SideTask task ∷ hs) (left.Worked ended ∷ ls) all = absurd all.0
   made_in (job.Worker context worker ∷ hs) (l ∷ ls) all = made_in hs ls all.1
 
   -- what the tasks beside them made
   pub all_made : (tasks : List T) (jobs : List (Job A P B T (Context R L C S W)))
-      (lefts : List (Left A P B)) → tasks_in jobs ≡ tasks → AllZip Made jobs lefts
+      (lefts : List (JobResult A P B)) → tasks_in jobs ≡ tasks → AllZip Made jobs lefts
       → All made tasks
   all_made tasks jobs lefts same all =
       subst (λ (ts : List T). All made ts) same (made_in jobs lefts all)
@@ -116,26 +116,26 @@ module _ {A P B T S R L C W : Type 0} (given failed : A → ℕ) (closed : A →
     (forwarded : B → ℕ) (log : B → Option (List Forwarded))
     (gives : S → Settings → Type 0) (lacks : S → Type 0) (made : T → Type 0)
     (x : Context R L C S W) where
-  abbrev Worked : Worker A P B → Ended A P B → Type 0
+  abbrev Worked : Worker A P B → WorkerExit A P B → Type 0
   Worked = HasWorked given failed closed visits shown known forwarded log gives lacks
       x.common.now.source.now x.common.now.per_worker
 
-  abbrev AllDone : List (Job A P B T (Context R L C S W)) → List (Left A P B) → Type 0
+  abbrev AllDone : List (Job A P B T (Context R L C S W)) → List (JobResult A P B) → Type 0
   AllDone = AllZip (Made given failed closed visits shown known forwarded log gives lacks made)
 
-  worked_in : (jobs : List (Job A P B T (Context R L C S W))) (lefts : List (Left A P B))
+  worked_in : (jobs : List (Job A P B T (Context R L C S W))) (lefts : List (JobResult A P B))
       → AllDone jobs lefts → AreWithin x jobs → list_all has_begun lefts ≡ true
       → AllZip Worked (workers_in jobs) (ended_in lefts)
   worked_in [] [] all within begun = tt
   worked_in [] (l ∷ ls) all within begun = absurd all
   worked_in (h ∷ hs) [] all within begun = absurd all
-  worked_in (job.Beside task ∷ hs) (left.Unbegun ∷ ls) all within begun = absurd all.0
-  worked_in (job.Beside task ∷ hs) (left.Beside ∷ ls) all within begun =
+  worked_in (job.SideTask task ∷ hs) (left.Unbegun ∷ ls) all within begun = absurd all.0
+  worked_in (job.SideTask task ∷ hs) (left.SideTask ∷ ls) all within begun =
       worked_in hs ls all.1 within begun
-  worked_in (job.Beside task ∷ hs) (left.Worked ended ∷ ls) all within begun = absurd all.0
+  worked_in (job.SideTask task ∷ hs) (left.Worked ended ∷ ls) all within begun = absurd all.0
   worked_in (job.Worker context worker ∷ hs) (left.Unbegun ∷ ls) all within begun =
       absurd (true≢false (sym begun))
-  worked_in (job.Worker context worker ∷ hs) (left.Beside ∷ ls) all within begun =
+  worked_in (job.Worker context worker ∷ hs) (left.SideTask ∷ ls) all within begun =
       absurd all.0
   worked_in (job.Worker context worker ∷ hs) (left.Worked ended ∷ ls) all within begun = (
     subst (λ (c : Context R L C S W). HasWorked given failed closed visits shown known
@@ -146,7 +146,7 @@ module _ {A P B T S R L C W : Type 0} (given failed : A → ℕ) (closed : A →
 
   -- what the workers leave, where all jobs began in the same context
   pub all_worked : (workers : List (Worker A P B))
-      (jobs : List (Job A P B T (Context R L C S W))) (lefts : List (Left A P B))
+      (jobs : List (Job A P B T (Context R L C S W))) (lefts : List (JobResult A P B))
       → workers_in jobs ≡ workers → AllDone jobs lefts → AreWithin x jobs
       → list_all has_begun lefts ≡ true → AllZip Worked workers (ended_in lefts)
   all_worked workers jobs lefts same all within begun =
@@ -168,12 +168,12 @@ module _ {R T L C S W V P : Type 0} (gives : S → Settings → Type 0) (lacks :
     (shown : P → Option Shown) (known : P → Option (List Entry))
     (common : WorkerSettings L C S W) where
   abbrev Did : Worker (Door L W) P (TcpBackend R T V C)
-      → Ended (Door L W) P (TcpBackend R T V C) → Type 0
+      → WorkerExit (Door L W) P (TcpBackend R T V C) → Type 0
   Did = HasWorked given_of failed_of is_closed (λ _. None) shown known count_of (λ _. None) gives
       lacks common.source.now common.per_worker
 
   ran : (port : P) (worker : Worker (Door L W) P (TcpBackend R T V C))
-      (ended : Ended (Door L W) P (TcpBackend R T V C))
+      (ended : WorkerExit (Door L W) P (TcpBackend R T V C))
       → Begins common.backend_timeout_ns port worker → Did worker ended
       → HasRun gives shown known common port ended
   ran port worker ended begins did =
@@ -215,7 +215,7 @@ module _ {R T L C S W V P : Type 0} (gives : S → Settings → Type 0) (lacks :
       }
 
   pub all_ran : (ports : List P) (workers : List (Worker (Door L W) P (TcpBackend R T V C)))
-      (ended : List (Ended (Door L W) P (TcpBackend R T V C)))
+      (ended : List (WorkerExit (Door L W) P (TcpBackend R T V C)))
       → AllZip (Begins common.backend_timeout_ns) ports workers
       → AllZip Did workers ended → AllZip (HasRun gives shown known common) ports ended
   all_ran [] [] [] p q = tt

@@ -15,7 +15,7 @@ use Rattle.proxy.specs.declared.told.Verdict.{Verdict}
 use Rattle.proxy.specs.Exchanges.{Bytes, Deals, IsExchange, World}
 use Rattle.proxy.specs.Settling.{IsSettled, class_by}
 use Rattle.proxy.specs.Table.{sent_text}
-use Rattle.serving.specs.Served.{Back, IsServed, around, fresh, told_where}
+use Rattle.serving.specs.Served.{Back, IsServed, around, fresh, with_flush_result}
 
 -- where nothing is held, what is written below is all
 pub sent_all : (below : Bytes) (held : List ℕ) → held ≡ [] → append_known below held ≡ below
@@ -69,7 +69,7 @@ ended_with : (s : Settings) (old : World) (reader writer : Counted Bytes)
     (looks : Looked Answer) (new : Back) (x : Exchange) (written : Bytes) (sent : Bool)
     → IsExchange s old (around reader writer looks new) x
     → (sent ≡ true → inner_of writer ≡ written)
-    → IsExchange s old (around reader (over writer written) looks new) (told_where sent x)
+    → IsExchange s old (around reader (over writer written) looks new) (with_flush_result sent x)
 unfolding over counted
 ended_with s old reader writer looks new x written true e all = record {
   read = e.read;
@@ -93,7 +93,7 @@ ended_with s old reader writer looks new x written false e all = record {
   answer = e.answer;
   reading = e.reading;
   deals = dealt s old reader writer (over writer written) looks new e.read e.answer x
-      (told_where false x) refl refl e.deals;
+      (with_flush_result false x) refl refl e.deals;
   status = e.status;
   own = e.own;
   empty = e.empty;
@@ -107,7 +107,7 @@ served_so : (s : Settings) (from from' to to' : Counted Bytes) (looks looks' : L
     → IsExchange s (around from to looks old) (around from' to' looks' new) x
     → from ≡ fresh first → to ≡ fresh unwritten → looks ≡ unlooked
     → (sent ≡ true → inner_of to' ≡ written)
-    → IsServed s first unwritten written old new (told_where sent x)
+    → IsServed s first unwritten written old new (with_flush_result sent x)
 unfolding over counted
 served_so s from from' to to' looks looks' old new x first unwritten written sent e new_from new_to
     new_looks all =
@@ -130,7 +130,7 @@ served_so s from from' to to' looks looks' old new x first unwritten written sen
 pub served : (s : Settings) (from from' to to' : Counted Bytes) (looks looks' : Looked Answer)
     (old new : Back) (x y : Exchange) (first unwritten written : Bytes) (sent : Bool)
     → IsExchange s (around from to looks old) (around from' to' looks' new) x
-    → y ≡ told_where sent x → from ≡ fresh first → to ≡ fresh unwritten → looks ≡ unlooked
+    → y ≡ with_flush_result sent x → from ≡ fresh first → to ≡ fresh unwritten → looks ≡ unlooked
     → (sent ≡ true → inner_of to' ≡ written)
     → IsServed s first unwritten written old new y
 served s from from' to to' looks looks' old new x y first unwritten written sent e same new_from

@@ -48,9 +48,9 @@ pub record IsServed (s : Settings) (sent unwritten written : Bytes) (old new : B
   pub ended : writer.inner ≡ written
 
 -- what is told of an exchange, by whether all that was written was sent
-abbrev pub told_where : Bool → Exchange → Exchange
-told_where true x = x
-told_where false x = record {
+abbrev pub with_flush_result : Bool → Exchange → Exchange
+with_flush_result true x = x
+with_flush_result false x = record {
   class = x.class;
   admission = x.admission;
   answer = x.answer;

@@ -9,11 +9,11 @@ use Rattle.tcp_backend.specs.declared.connecting.TcpBackend.{TcpBackend}
 use Rattle.tcp_backend.specs.Connecting.{count_of, limit_of}
 use Rattle.serving.specs.declared.doors.Door.{Door}
 use Rattle.serving.specs.declared.jobs.Context.{Context}
-use Rattle.serving.specs.declared.jobs.Ended.{Ended}
+use Rattle.serving.specs.declared.jobs.WorkerExit.{WorkerExit}
 use Rattle.serving.specs.declared.jobs.Job.{Job}
 use Rattle.serving.specs.declared.jobs.Job.TheVariants as job
-use Rattle.serving.specs.declared.jobs.Left.{Left}
-use Rattle.serving.specs.declared.jobs.Left.TheVariants as left
+use Rattle.serving.specs.declared.jobs.JobResult.{JobResult}
+use Rattle.serving.specs.declared.jobs.JobResult.TheVariants as left
 use Rattle.serving.specs.declared.jobs.Worker.{Worker}
 use Rattle.serving.specs.declared.working.WorkerSettings.{WorkerSettings}
 use Rattle.serving.specs.Doors.{failed_of, given_of, is_closed}
@@ -23,32 +23,32 @@ use Rattle.serving.specs.Visits.{Visits}
 -- the workers among some jobs, in order
 abbrev pub workers_in : {A P B T X : Type 0} → List (Job A P B T X) → List (Worker A P B)
 workers_in [] = []
-workers_in (job.Beside task ∷ jobs) = workers_in jobs
+workers_in (job.SideTask task ∷ jobs) = workers_in jobs
 workers_in (job.Worker context worker ∷ jobs) = worker ∷ workers_in jobs
 
 -- the tasks beside them
 abbrev pub tasks_in : {A P B T X : Type 0} → List (Job A P B T X) → List T
 tasks_in [] = []
-tasks_in (job.Beside task ∷ jobs) = task ∷ tasks_in jobs
+tasks_in (job.SideTask task ∷ jobs) = task ∷ tasks_in jobs
 tasks_in (job.Worker context worker ∷ jobs) = tasks_in jobs
 
 -- all jobs that are in a context are in this one
 abbrev pub AreWithin : {A P B T X : Type 0} → X → List (Job A P B T X) → Type 0
 AreWithin x [] = ⊤
-AreWithin x (job.Beside task ∷ jobs) = AreWithin x jobs
+AreWithin x (job.SideTask task ∷ jobs) = AreWithin x jobs
 AreWithin x (job.Worker context worker ∷ jobs) = (context.now ≡ x) × AreWithin x jobs
 
 -- what the workers among them left
-abbrev pub ended_in : {A P B : Type 0} → List (Left A P B) → List (Ended A P B)
+abbrev pub ended_in : {A P B : Type 0} → List (JobResult A P B) → List (WorkerExit A P B)
 ended_in [] = []
 ended_in (left.Unbegun ∷ lefts) = ended_in lefts
-ended_in (left.Beside ∷ lefts) = ended_in lefts
+ended_in (left.SideTask ∷ lefts) = ended_in lefts
 ended_in (left.Worked ended ∷ lefts) = ended ∷ ended_in lefts
 
 -- whether it had the memory to begin
-abbrev pub has_begun : {A P B : Type 0} → Left A P B → Bool
+abbrev pub has_begun : {A P B : Type 0} → JobResult A P B → Bool
 has_begun left.Unbegun = false
-has_begun left.Beside = true
+has_begun left.SideTask = true
 has_begun (left.Worked ended) = true
 
 -- what is known of doors, ports and backends, and which settings a source gives or lacks
@@ -73,7 +73,7 @@ module _ {A P B S : Type 0} (given failed : A → ℕ) (closed : A → Bool)
 
   -- WORKED: by settings that the source gives a worker took its turns, each with a client or none,
   -- and forwarded no more than it had clients
-  pub record HasWorked (source : S) (most : ℕ) (worker : Worker A P B) (ended : Ended A P B)
+  pub record HasWorked (source : S) (most : ℕ) (worker : Worker A P B) (ended : WorkerExit A P B)
       : Type 0 where
     pub bounded : most ≤ count_end
     pub settings : Settings
@@ -90,21 +90,21 @@ module _ {A P B S : Type 0} (given failed : A → ℕ) (closed : A → Bool)
         → failed ended.door ≡ failed worker.door + ended.tally.unaccepted
 
   -- what a worker leaves; who didn't begin had no settings
-  abbrev pub Leaves : S → ℕ → Worker A P B → Left A P B → Type 0
+  abbrev pub Leaves : S → ℕ → Worker A P B → JobResult A P B → Type 0
   Leaves source most worker left.Unbegun = lacks source
-  Leaves source most worker left.Beside = ⊥
+  Leaves source most worker left.SideTask = ⊥
   Leaves source most worker (left.Worked ended) = HasWorked source most worker ended
 
   -- what a task beside the workers leaves, which is to make this
-  abbrev pub IsMade : Type 0 → Left A P B → Type 0
+  abbrev pub IsMade : Type 0 → JobResult A P B → Type 0
   IsMade made left.Unbegun = ⊥
-  IsMade made left.Beside = made
+  IsMade made left.SideTask = made
   IsMade made (left.Worked ended) = ⊥
 
   -- what each job leaves
   abbrev pub Makes : {T R L C W : Type 0} → (T → Type 0)
-      → Job A P B T (Context R L C S W) → Left A P B → Type 0
-  Makes made (job.Beside task) left = IsMade (made task) left
+      → Job A P B T (Context R L C S W) → JobResult A P B → Type 0
+  Makes made (job.SideTask task) left = IsMade (made task) left
   Makes made (job.Worker context worker) left =
       Leaves context.now.common.now.source.now context.now.common.now.per_worker worker left
 
@@ -124,7 +124,7 @@ pub record Begins {R T L W V C P : Type 0} (most : Option ℕ) (port : P)
 -- was forwarded than there were clients
 pub record HasRun {R T L C S W V P : Type 0} (gives : S → Settings → Type 0)
     (shown : P → Option Shown) (known : P → Option (List Entry)) (common : WorkerSettings L C S W)
-    (port : P) (ended : Ended (Door L W) P (TcpBackend R T V C)) : Type 0 where
+    (port : P) (ended : WorkerExit (Door L W) P (TcpBackend R T V C)) : Type 0 where
   pub settings : Settings
   pub are_given : gives common.source.now settings
   pub run : IsRun settings common.per_worker

@@ -3,7 +3,7 @@ ghost use Rattle.std.specs.Prelude.{◌≡◌, ◌≤◌, ◌+◌, false};
 ghost use Rattle.serving.specs.Workers.{Leaves, Makes};
 
 use crate::doors::Accepts;
-use crate::reporting::Present;
+use crate::reporting::ActiveWorkers;
 use crate::working::{Buffers, Source, Tally, WorkerSettings, work};
 use clocks::Clock;
 use gate_port::GatePort;
@@ -25,7 +25,7 @@ pub(crate) struct Worker<A, P, B> {
 
 /// What a worker leaves.
 #[derive(Drop)]
-pub struct Ended<A, P, B> {
+pub struct WorkerExit<A, P, B> {
     /// The way that its clients came.
     pub door: A,
     /// Where it asked for permits.
@@ -41,25 +41,25 @@ pub struct Ended<A, P, B> {
 pub(crate) struct Context<'a, R, L, C, S, W> {
     pub(crate) rt: &'a R,
     pub(crate) common: &'a WorkerSettings<'a, L, C, S, W>,
-    pub(crate) present: &'a Present,
+    pub(crate) active: &'a ActiveWorkers,
 }
 
 /// What a thread does: runs a task beside the workers, or is a worker in a context.
 #[derive(Drop)]
 pub(crate) enum Job<'a, A, P, B, T, X> {
-    Beside(T),
+    SideTask(T),
     Worker(&'a X, Worker<A, P, B>),
 }
 
 /// What is left of a job.
 #[derive(Drop)]
-pub enum Left<A, P, B> {
+pub enum JobResult<A, P, B> {
     /// It had no memory to begin.
     Unbegun,
     /// It was the task beside the workers.
-    Beside,
+    SideTask,
     /// It served.
-    Worked(Ended<A, P, B>),
+    Worked(WorkerExit<A, P, B>),
 }
 
 impl<'a, R, A, P, B, T, L, C, S, W> Task for Job<'a, A, P, B, T, Context<'a, R, L, C, S, W>>
@@ -74,18 +74,18 @@ where
     S: Source + Sync,
     W: Watch + Sync,
 {
-    type Done = Left<A, P, B>;
+    type Done = JobResult<A, P, B>;
 
     ghost use Rattle.serving.specs.Workers.{Makes};
 
     ghost makes = { Makes A.given A.failed A.closed A.visits P.shown P.known B.forwarded B.shown
         S.gives S.lacks (λ task. T.makes task tt) };
 
-    fn run(self) -> Left<A, P, B> {
+    fn run(self) -> JobResult<A, P, B> {
         match self {
-            Job::Beside(task) => {
+            Job::SideTask(task) => {
                 task.run();
-                Left::Beside
+                JobResult::SideTask
             }
             Job::Worker(context, worker) => {
                 let left = run_one(context, worker);
@@ -102,8 +102,8 @@ where
     R: Wait + SystemClock,
     L: Listener,
 {
-    if context.present.leave(context.rt) {
-        if let Some(listener) = context.common.beside {
+    if context.active.leave(context.rt) {
+        if let Some(listener) = context.common.side_listener {
             listener.close(context.rt, Duration::from_millis(0));
         }
     }
@@ -113,7 +113,7 @@ where
 fn run_one<R, A, P, B, L, C, S, W>(
     context: &Context<'_, R, L, C, S, W>,
     worker: Worker<A, P, B>,
-) -> Left<A, P, B>
+) -> JobResult<A, P, B>
 where
     R: SystemClock,
     A: Accepts + Drop,
@@ -128,7 +128,7 @@ where
 {
     let common = context.common;
     let Ok(settings) = common.source.settings(common.alloc) else {
-        return Left::Unbegun;
+        return JobResult::Unbegun;
     };
     let Worker {
         mut door,
@@ -145,7 +145,7 @@ where
         &mut backend,
         &mut buffers,
     );
-    Left::Worked(Ended {
+    JobResult::Worked(WorkerExit {
         door,
         port,
         backend,

@@ -21,6 +21,6 @@ mod working;
 
 pub use doors::{Accepts, Door};
 pub use fault::ServeFault;
-pub use jobs::{Ended, Left};
+pub use jobs::{JobResult, WorkerExit};
 pub use workers::serve;
 pub use working::{Buffers, Source, Tally, WorkerSettings, work};

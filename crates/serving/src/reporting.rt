@@ -20,15 +20,15 @@ const SHORTEST_REST_NS: u64 = 1_000_000;
 
 /// How many workers haven't ended.
 #[derive(Drop)]
-pub(crate) struct Present {
+pub(crate) struct ActiveWorkers {
     count: Mutex<usize>,
     left: Condvar,
 }
 
-impl Present {
+impl ActiveWorkers {
     /// So many workers.
-    pub(crate) fn new(count: usize) -> Present {
-        Present {
+    pub(crate) fn new(count: usize) -> ActiveWorkers {
+        ActiveWorkers {
             count: Mutex::new(count),
             left: Condvar::new(),
         }
@@ -76,7 +76,7 @@ impl Present {
 #[derive(Drop)]
 pub(crate) struct Reporter<'a, R, G, C, W> {
     pub(crate) rt: &'a R,
-    pub(crate) present: &'a Present,
+    pub(crate) active: &'a ActiveWorkers,
     pub(crate) gate: &'a G,
     pub(crate) table: &'a PartitionTable,
     pub(crate) clock: &'a C,
@@ -110,7 +110,7 @@ where
     fn report_every(&self, every_ns: u64) {
         let mut next = self.clock.now().saturating_add(every_ns);
         for _ in self.rt.forever() {
-            if !self.present.rest(self.rt, self.clock, next) {
+            if !self.active.rest(self.rt, self.clock, next) {
                 return;
             }
             self.watch.report(self.table, &self.gate.report());

@@ -8,8 +8,8 @@ ghost use Rattle.serving.specs.Workers.{ended_in, has_begun, tasks_in, workers_i
 
 use crate::doors::{Accepts, Door};
 use crate::fault::ServeFault;
-use crate::jobs::{Context, Job, Left, Worker};
-use crate::reporting::{Present, Reporter};
+use crate::jobs::{Context, Job, JobResult, Worker};
+use crate::reporting::{ActiveWorkers, Reporter};
 use crate::working::{Buffers, Source, WorkerSettings};
 use clocks::Clock;
 use gate_config::Settings;
@@ -46,8 +46,11 @@ pub fn serve<'l, R, G, P, T, L, C, S, W>(
     settings: &Settings,
     gate: &G,
     ports: Vec<P>,
-    beside: Vec<T>,
-) -> Result<Vec<Left<Door<'l, L, W>, P, TcpBackend<'l, &'l R, R::Stream, &'l W, C>>>, ServeFault>
+    side_tasks: Vec<T>,
+) -> Result<
+    Vec<JobResult<Door<'l, L, W>, P, TcpBackend<'l, &'l R, R::Stream, &'l W, C>>>,
+    ServeFault,
+>
 where
     R: Net + Threads + Wait + SystemClock + Sync,
     G: GateView + Sync,
@@ -66,7 +69,7 @@ where
     R::Listener: Send + Sync,
     ensures ran { IfOk result (λ lefts.
         AllZip (HasRun S.gives P.shown P.known common.now) ports.items (ended_in lefts.items)) }
-    ensures beside { IfOk result (λ _. All (λ task. T.makes task tt) beside.items) }
+    ensures side_tasks { IfOk result (λ _. All (λ task. T.makes task tt) side_tasks.items) }
 
     // A thread is lacking only where the system refused one.
     ensures thread { IsErrOf result ServeFault.Thread →
@@ -79,17 +82,17 @@ where
     common
         .listener
         .end_untaken(Duration::from_nanos(untaken_ns));
-    let present = Present::new(workers.len());
+    let active = ActiveWorkers::new(workers.len());
     let reporter = Reporter {
         rt,
-        present: &present,
+        active: &active,
         gate,
         table: &settings.table,
         clock: common.clock,
         watch: common.watch,
         every_ns: common.report_every_ns,
     };
-    serve_by(rt, spawner, common, &present, reporter, workers, beside)
+    serve_by(rt, spawner, common, &active, reporter, workers, side_tasks)
 }
 
 /// A worker for each port, with a door, and with a backend at the address of the settings.
@@ -125,11 +128,11 @@ fn serve_by<R, O, A, P, B, T, L, C, S, W>(
     rt: &R,
     spawner: &mut Spawner<'_, R>,
     common: &WorkerSettings<'_, L, C, S, W>,
-    present: &Present,
+    active: &ActiveWorkers,
     reporter: O,
     workers: Vec<Worker<A, P, B>>,
-    beside: Vec<T>,
-) -> Result<Vec<Left<A, P, B>>, ServeFault>
+    side_tasks: Vec<T>,
+) -> Result<Vec<JobResult<A, P, B>>, ServeFault>
 where
     R: Threads + Wait + SystemClock + Sync,
     O: Task<Done = ()> + Drop,
@@ -153,18 +156,14 @@ where
         P.shown P.known B.forwarded B.shown S.gives S.lacks
         common.now.source.now common.now.per_worker)
         workers.items (ended_in lefts.items)) }
-    ensures beside { IfOk result (λ _. All (λ task. T.makes task tt) beside.items) }
+    ensures side_tasks { IfOk result (λ _. All (λ task. T.makes task tt) side_tasks.items) }
     ensures thread { IsErrOf result ServeFault.Thread →
         refused_of spawner.new ≡ raised (refused_of spawner.old) }
     ensures started { ¬ IsErrOf result ServeFault.Thread →
         refused_of spawner.new ≡ refused_of spawner.old }
 {
-    let context = Context {
-        rt,
-        common,
-        present,
-    };
-    let jobs = make_jobs(common.alloc, &context, beside, workers)?;
+    let context = Context { rt, common, active };
+    let jobs = make_jobs(common.alloc, &context, side_tasks, workers)?;
     let lefts = run_tasks_beside(spawner, common.alloc, reporter, jobs)?;
     if !have_begun(&lefts) {
         return Err(ServeFault::Memory);
@@ -176,14 +175,14 @@ where
 fn make_jobs<'a, A: Drop, P: Drop, B: Drop, T: Drop, X>(
     alloc: Global,
     context: &'a X,
-    beside: Vec<T>,
+    side_tasks: Vec<T>,
     workers: Vec<Worker<A, P, B>>,
 ) -> Result<Vec<Job<'a, A, P, B, T, X>>, AllocError>
     ensures all { IfOk result (λ jobs. workers_in jobs.items ≡ workers.items) }
-    ensures beside { IfOk result (λ jobs. tasks_in jobs.items ≡ beside.items) }
+    ensures side_tasks { IfOk result (λ jobs. tasks_in jobs.items ≡ side_tasks.items) }
     ensures within { IfOk result (λ jobs. AreWithin context.now jobs.items) }
 {
-    let mut jobs = make_others(alloc, beside)?;
+    let mut jobs = make_others(alloc, side_tasks)?;
     jobs.reserve(workers.len())?;
     for worker in workers {
         jobs.push_reserved(Job::Worker(context, worker));
@@ -194,31 +193,31 @@ fn make_jobs<'a, A: Drop, P: Drop, B: Drop, T: Drop, X>(
 /// The tasks beside the workers.
 fn make_others<'a, A: Drop, P: Drop, B: Drop, T: Drop, X>(
     alloc: Global,
-    beside: Vec<T>,
+    side_tasks: Vec<T>,
 ) -> Result<Vec<Job<'a, A, P, B, T, X>>, AllocError>
     ensures none { IfOk result (λ jobs. workers_in jobs.items ≡ []) }
-    ensures beside { IfOk result (λ jobs. tasks_in jobs.items ≡ beside.items) }
+    ensures side_tasks { IfOk result (λ jobs. tasks_in jobs.items ≡ side_tasks.items) }
 {
-    let mut jobs = Vec::with_capacity(alloc, beside.len())?;
-    for task in beside {
-        jobs.push_reserved(Job::Beside(task));
+    let mut jobs = Vec::with_capacity(alloc, side_tasks.len())?;
+    for task in side_tasks {
+        jobs.push_reserved(Job::SideTask(task));
     }
     Ok(jobs)
 }
 
 /// Whether all who had a thread had the memory to begin.
-fn have_begun<A, P, B>(lefts: &[Left<A, P, B>]) -> bool
+fn have_begun<A, P, B>(lefts: &[JobResult<A, P, B>]) -> bool
     ensures { result ≡ list_all has_begun lefts.now }
 {
     lefts.iter().all(|left| has_begun(left))
 }
 
 /// Whether one had.
-fn has_begun<A, P, B>(left: &Left<A, P, B>) -> bool
+fn has_begun<A, P, B>(left: &JobResult<A, P, B>) -> bool
     ensures { result ≡ has_begun left.now }
 {
     match left {
-        Left::Unbegun => false,
-        Left::Beside | Left::Worked(_) => true,
+        JobResult::Unbegun => false,
+        JobResult::SideTask | JobResult::Worked(_) => true,
     }
 }

@@ -2,7 +2,7 @@
 ghost use Rattle.std.specs.Prelude.{◌≡◌, ◌≤◌, ◌+◌, false, IfOk, OnErr};
 ghost use Rattle.counted_io.specs.Count.{count_end};
 ghost use Rattle.gate_config.specs.declared.settings.Settings.{Settings as SettingsValue};
-ghost use Rattle.serving.specs.Served.{IsServed, told_where};
+ghost use Rattle.serving.specs.Served.{IsServed, with_flush_result};
 ghost use Rattle.serving.specs.Turns.{IsRun};
 
 use crate::doors::Accepts;
@@ -64,7 +64,7 @@ pub struct WorkerSettings<'a, L, C, S, W> {
     pub listener: &'a L,
     /// Where those come from whom the tasks beside the workers serve: the last worker that ends
     /// closes it.
-    pub beside: Option<&'a L>,
+    pub side_listener: Option<&'a L>,
     /// Where a worker has its settings from.
     pub source: &'a S,
     /// The clock of deadlines.
@@ -241,7 +241,7 @@ where
     let is_sent = writer.inner().is_sent();
     let to = writer.inner().inner().inner().inner().end();
     let sent = writer.inner().inner().inner().inner().sent();
-    let served = told_where(is_sent, served);
+    let served = with_flush_result(is_sent, served);
     linger_behind(&served, &buffers.ahead, &stream, from, clock, time, sent);
     (Arrival { stream, from, to }, served)
 }
@@ -277,8 +277,8 @@ fn linger_behind<T: Connection, I: Inlet<T> + Copy, C: Clock>(
 
 // What is told of an exchange, by whether all that was written was sent. Without a fault of writing
 // it was, by a flush; but that a flush sends all is in no clause of std's.
-fn told_where(is_sent: bool, served: Exchange) -> Exchange
-    ensures { result ≡ told_where is_sent served }
+fn with_flush_result(is_sent: bool, served: Exchange) -> Exchange
+    ensures { result ≡ with_flush_result is_sent served }
 {
     let written_fault = if is_sent {
         served.written_fault

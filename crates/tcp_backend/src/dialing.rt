@@ -3,7 +3,7 @@ ghost use Rattle.std.specs.Prelude.{◌≡◌};
 ghost use Rattle.counted_io.specs.Count.{raised};
 ghost use Rattle.tcp_backend.specs.Connecting.{dialed_of};
 
-use crate::ends::{Outlet, Untold};
+use crate::ends::{OpaqueEnd, Outlet};
 use std::io::{Read, Result, Write};
 use std::net::{Net, OpenStream, SocketAddr, SocketAddrV4, TcpStream};
 use std::os::fd::AsRawFd;
@@ -62,7 +62,7 @@ impl<R: Net> Dialer<R> {
 impl<R: Net> Connector for Dialer<R> {
     type Stream = R::Stream;
 
-    type End = Untold;
+    type End = OpaqueEnd;
 
     ghost use Rattle.tcp_backend.specs.Connecting.{dialed_of};
 
@@ -70,11 +70,11 @@ impl<R: Net> Connector for Dialer<R> {
 
     // The system asks after a backend that is silent, and ends a connection whose backend is gone,
     // or takes nothing of its request.
-    fn connect(&mut self, most: Duration) -> Result<(R::Stream, Untold)> {
+    fn connect(&mut self, most: Duration) -> Result<(R::Stream, OpaqueEnd)> {
         self.connects = self.connects.saturating_add(1);
         let stream = TcpStream::connect_timeout(&self.rt, &SocketAddr::V4(self.address), most)?;
         ask_after(&stream);
         end_untaken(&stream, Duration::from_millis(UNTAKEN_MS));
-        Ok((stream, Untold {}))
+        Ok((stream, OpaqueEnd {}))
     }
 }

@@ -24,9 +24,9 @@ pub(crate) trait Outlet<S> {
 
 /// The end of a socket. It shows nothing, and takes no room.
 #[derive(Clone, Copy)]
-pub(crate) struct Untold {}
+pub(crate) struct OpaqueEnd {}
 
-impl<S: Write> Outlet<S> for Untold {
+impl<S: Write> Outlet<S> for OpaqueEnd {
     ghost use Rattle.std.specs.Prelude.{None};
 
     ghost contents = { λ _. None };

@@ -13,9 +13,9 @@ ghost use Rattle.line_explain.specs.Told.{IsToldAnd};
 ghost use Rattle.load_run.specs.Driver.{IsLoaded};
 ghost use Rattle.text_commands.specs.Loads.{IsLoadStop, IsMore, load_fault_text};
 
-use crate::line_fault::tell_line_fault;
+use crate::line_fault::report_line_fault;
 use counted_io::Counted;
-use fault_lines::{DONE, FAULT, tell_fault};
+use fault_lines::{DONE, FAULT, report_fault};
 use line_explain::{Kept, TextKind, tell_explained};
 use load_run::{LoadFault, load};
 use shared_gate::Cause;
@@ -92,7 +92,7 @@ fn tell<R, E: Write>(
     ensures { IsToldAnd explain E.contents errors.old errors.new
         (fault_line (load_fault_text fault)) (IsMore (kept_of reader.now) E.contents fault) }
 {
-    tell_load_fault(errors, fault);
+    report_load_fault(errors, fault);
     if !explain {
         return;
     }
@@ -144,16 +144,16 @@ where
 }
 
 /// Tells why a load stopped.
-fn tell_load_fault<E: Write>(errors: &mut Counted<E>, fault: LoadFault)
+fn report_load_fault<E: Write>(errors: &mut Counted<E>, fault: LoadFault)
     ensures { IsTold E.contents errors.old errors.new (fault_line (load_fault_text fault)) }
 {
     match fault {
-        LoadFault::Memory => tell_fault(errors, &["memory"]),
-        LoadFault::Read => tell_fault(errors, &["read"]),
-        LoadFault::TooLarge => tell_fault(errors, &["too large"]),
-        LoadFault::Line(fault) => tell_line_fault(errors, fault),
-        LoadFault::Write => tell_fault(errors, &["write"]),
-        LoadFault::Thread => tell_fault(errors, &["thread"]),
+        LoadFault::Memory => report_fault(errors, &["memory"]),
+        LoadFault::Read => report_fault(errors, &["read"]),
+        LoadFault::TooLarge => report_fault(errors, &["too large"]),
+        LoadFault::Line(fault) => report_line_fault(errors, fault),
+        LoadFault::Write => report_fault(errors, &["write"]),
+        LoadFault::Thread => report_fault(errors, &["thread"]),
         LoadFault::Audit(cause) => tell_cause(errors, cause),
     }
 }
@@ -163,7 +163,7 @@ fn tell_cause<E: Write>(errors: &mut Counted<E>, cause: Cause)
     ensures { IsTold E.contents errors.old errors.new
         (fault_line (load_fault_text (LoadFault.Audit cause))) }
 {
-    tell_fault(errors, &["audit: ", cause_word(cause)]);
+    report_fault(errors, &["audit: ", cause_word(cause)]);
 }
 
 /// The word of a cause.

@@ -12,10 +12,10 @@ ghost use Rattle.line_explain.specs.Kept.{kept_of, remaining_of};
 ghost use Rattle.line_explain.specs.Told.{IsToldAnd};
 ghost use Rattle.text_commands.specs.Scripts.{IsAnswerOf, IsMore, IsStop, kind_of};
 
-use crate::line_fault::tell_line_fault;
+use crate::line_fault::report_line_fault;
 use commands::TextTask;
 use counted_io::Counted;
-use fault_lines::{DONE, FAULT, tell_fault};
+use fault_lines::{DONE, FAULT, report_fault};
 use line_explain::{Kept, TextKind, tell_explained};
 use load_driver::{DriverFault, replay};
 use std::alloc::Global;
@@ -80,7 +80,7 @@ fn tell<R, E: Write>(
     ensures { IsToldAnd explain E.contents errors.old errors.new (fault_line (fault_text fault))
         (IsMore (kind_of task) (kept_of reader.now) E.contents fault) }
 {
-    tell_driver_fault(errors, fault);
+    report_driver_fault(errors, fault);
     if !explain {
         return;
     }
@@ -138,14 +138,14 @@ fn carry_out<R: Read, W: Write>(
 }
 
 /// Tells why a driver stopped.
-fn tell_driver_fault<E: Write>(errors: &mut Counted<E>, fault: DriverFault)
+fn report_driver_fault<E: Write>(errors: &mut Counted<E>, fault: DriverFault)
     ensures { IsTold E.contents errors.old errors.new (fault_line (fault_text fault)) }
 {
     match fault {
-        DriverFault::Memory => tell_fault(errors, &["memory"]),
-        DriverFault::Read => tell_fault(errors, &["read"]),
-        DriverFault::TooLarge => tell_fault(errors, &["too large"]),
-        DriverFault::Line(fault) => tell_line_fault(errors, fault),
-        DriverFault::Write => tell_fault(errors, &["write"]),
+        DriverFault::Memory => report_fault(errors, &["memory"]),
+        DriverFault::Read => report_fault(errors, &["read"]),
+        DriverFault::TooLarge => report_fault(errors, &["too large"]),
+        DriverFault::Line(fault) => report_line_fault(errors, fault),
+        DriverFault::Write => report_fault(errors, &["write"]),
     }
 }

@@ -1,5 +1,5 @@
 // Clients over TCP.
-use crate::ends::Untold;
+use crate::ends::OpaqueEnd;
 use crate::keeping::{ask_after, end_untaken};
 use crate::listener::{Arrival, Listener};
 use libc::net::{POLLIN, SHUT_RD, listen, poll, shutdown};
@@ -45,16 +45,16 @@ impl BoundListener {
 impl Listener for BoundListener {
     type Stream = TcpStream;
 
-    type From = Untold;
+    type From = OpaqueEnd;
 
-    type To = Untold;
+    type To = OpaqueEnd;
 
-    fn accept(&self) -> Result<Arrival<TcpStream, Untold, Untold>> {
+    fn accept(&self) -> Result<Arrival<TcpStream, OpaqueEnd, OpaqueEnd>> {
         let (stream, _) = self.listener.accept()?;
         Ok(Arrival {
             stream,
-            from: Untold {},
-            to: Untold {},
+            from: OpaqueEnd {},
+            to: OpaqueEnd {},
         })
     }
 

@@ -48,9 +48,9 @@ pub trait Outlet<S> {
 
 /// An end of a socket: it keeps nothing, takes no room, and tells no bytes.
 #[derive(Clone, Copy)]
-pub struct Untold {}
+pub struct OpaqueEnd {}
 
-impl Inlet<TcpStream> for Untold {
+impl Inlet<TcpStream> for OpaqueEnd {
     ghost use Rattle.std.specs.Prelude.{None};
 
     ghost remaining = { λ _. None };
@@ -65,7 +65,7 @@ impl Inlet<TcpStream> for Untold {
     }
 }
 
-impl Outlet<TcpStream> for Untold {
+impl Outlet<TcpStream> for OpaqueEnd {
     ghost use Rattle.std.specs.Prelude.{None};
 
     ghost contents = { λ _. None };

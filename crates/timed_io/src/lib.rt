@@ -34,7 +34,7 @@ pub use binding::{Binder, SystemAddresses};
 pub use bound_listener::BoundListener;
 pub use connection::{Connection, Lent};
 pub use countdown::Countdown;
-pub use ends::{Inlet, Outlet, Untold, read_ready};
+pub use ends::{Inlet, OpaqueEnd, Outlet, read_ready};
 pub use first_byte::{FirstByte, Patience};
 pub use keeping::{ask_after, end_untaken};
 pub use lingering::linger;

@@ -11,12 +11,12 @@ abbrev pub ghosts-run_named-M-Naming : goal.ghosts-run_named-M-Naming
 ghosts-run_named-M-Naming g a = record {
   calls = a.blanks.calls.name;
   place = places_of a.blanks;
-  making = making_of a.crew.limit a.settings;
+  making = making_of a.size.limit a.settings;
 }
 
 -- and the table of its word; legal is what a limiter of the trace may be asked and answer
 abbrev pub ghosts-run_named-M-GateNaming : goal.ghosts-run_named-M-GateNaming
 ghosts-run_named-M-GateNaming g a = record {
   word = a.word;
-  legal = IsLegalFrom any_rules (journal_of a.crew.limit kept_entries a.settings);
+  legal = IsLegalFrom any_rules (journal_of a.size.limit kept_entries a.settings);
 }

@@ -5,7 +5,7 @@ use Rattle.load_run.proofs.worker.work.Goals as goal
 
 pub loop-place-init : goal.loop-place-init
 loop-place-init g c =
-    begins_with c.args.shop.now.workers c.args.number _ _ _ c.clear.ensures.items
+    begins_with c.args.context.now.workers c.args.number _ _ _ c.clear.ensures.items
     c.clear-2.ensures.items
 
 pub returns : goal.returns

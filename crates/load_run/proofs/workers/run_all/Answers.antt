@@ -16,15 +16,15 @@ returns-clause-work g c =
     let kept = c.in-Ok-gather.worked.kept.items in
     let done = c.in_ok-done.done.items in
     let count : length kept ≡ length done = search rules in
-    all_work c.args.shop.now.workers c.args.shop.now.arrivals.now.items
-    (λ n hand. (hand.number ≡ n) × (hand.shop.now ≡ c.args.shop.now)) _
+    all_work c.args.context.now.workers c.args.context.now.arrivals.now.items
+    (λ n hand. (hand.number ≡ n) × (hand.context.now ≡ c.args.context.now)) _
     (λ n hand back has made.
-    subst (λ shop. IfOk back (λ worker.
-    IsWork shop.workers n shop.arrivals.now.items worker.receipts.items worker.refusals.items
+    subst (λ context. IfOk back (λ worker.
+    IsWork context.workers n context.arrivals.now.items worker.receipts.items worker.refusals.items
     (seen_by worker.pass)))
     has.1
     (subst (λ number. IfOk back (λ worker.
-    IsWork hand.shop.now.workers number hand.shop.now.arrivals.now.items worker.receipts.items
+    IsWork hand.context.now.workers number hand.context.now.arrivals.now.items worker.receipts.items
     worker.refusals.items (seen_by worker.pass))) has.0 made)) c.in-Ok.hands.items done kept
     c.in-Ok-gather.worked.spent.items c.in-Ok.ensures.each c.in_ok-done.ensures.made count
     c.in-Ok-gather.ensures.each

@@ -53,20 +53,20 @@ returns-in_err-watch-clause-refused g c =
     (bound_at g.B.Binder.bound (socket_v4_text c.socket.result) c.args.settings.now.listen
     c.in_ok-front.front same c.in_ok-front.ensures.bound) c.in_err-watch.ensures.lacking
 
-pub returns-in_err-serve_standing-clause-refused :
-    goal.returns-in_err-serve_standing-clause-refused
-returns-in_err-serve_standing-clause-refused g c =
-    let fault = c.in_err-serve_standing.field-0.0 in
-    let was : c.serve_standing.result ≡ Err fault = search rules in
-    let is : c.from_residual-in_err-serve_standing.result ≡ Err (of_workers fault) =
+pub returns-in_err-serve_in-clause-refused :
+    goal.returns-in_err-serve_in-clause-refused
+returns-in_err-serve_in-clause-refused g c =
+    let fault = c.in_err-serve_in.field-0.0 in
+    let was : c.serve_in.result ≡ Err fault = search rules in
+    let is : c.from_residual-in_err-serve_in.result ≡ Err (of_workers fault) =
     search rules in
     let same : socket_v4_text c.socket.result ≡ c.args.settings.now.listen = search rules in
     lacks_workers g.B.Binder.bound g.B.Binder.unbound c.args.settings.now.listen
     c.args.service.now.admin c.args.service.now.status (refused_of c.args.spawner.now)
-    (refused_of c.serve_standing.new.spawner) c.from_residual-in_err-serve_standing.result
-    c.serve_standing.result fault was is
+    (refused_of c.serve_in.new.spawner) c.from_residual-in_err-serve_in.result
+    c.serve_in.result fault was is
     (bound_at g.B.Binder.bound (socket_v4_text c.socket.result) c.args.settings.now.listen
-    c.in_ok-front.front same c.in_ok-front.ensures.bound) c.serve_standing.ensures.thread
+    c.in_ok-front.front same c.in_ok-front.ensures.bound) c.serve_in.ensures.thread
 
 pub returns-clause-front : goal.returns-clause-front
 returns-clause-front g c =

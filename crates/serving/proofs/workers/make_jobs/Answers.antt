@@ -6,7 +6,7 @@ use Rattle.serving.proofs.workers.make_jobs.Goals as goal
 pub loop-worker-init : goal.loop-worker-init
 loop-worker-init g c = record {
   all = search rules;
-  beside = search rules;
+  side_tasks = search rules;
   within = none_within _ c.reserve.new.self.items (search rules);
   room = search rules;
 }
@@ -16,8 +16,8 @@ loop-worker-preserved g c = record {
   all = ap workers_in c.push_reserved.ensures.items
       ∙ one_worker c.loop-worker.jobs.items _ c.in-Some.worker refl
       ∙ ap (λ ws. ws ++ c.in-Some.worker ∷ []) c.loop-worker.invariant.all;
-  beside = ap tasks_in c.push_reserved.ensures.items ∙ no_task c.loop-worker.jobs.items _ refl
-      ∙ c.loop-worker.invariant.beside;
+  side_tasks = ap tasks_in c.push_reserved.ensures.items ∙ no_task c.loop-worker.jobs.items _ refl
+      ∙ c.loop-worker.invariant.side_tasks;
   within = subst (AreWithin c.args.context.now) (sym c.push_reserved.ensures.items)
       (one_within _ c.loop-worker.jobs.items _ c.loop-worker.invariant.within (refl, tt));
   room = search rules;

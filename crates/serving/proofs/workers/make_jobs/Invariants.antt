@@ -8,7 +8,7 @@ use Rattle.serving.proofs.workers.make_jobs.Given as goal
 abbrev pub invariant-loop-worker : goal.invariant-loop-worker
 invariant-loop-worker g l = record {
   all : workers_in l.jobs.items ≡ l.yielded;
-  beside : tasks_in l.jobs.items ≡ l.fn.beside.items;
+  side_tasks : tasks_in l.jobs.items ≡ l.fn.side_tasks.items;
   within : AreWithin l.context l.jobs.items;
   room : vec_len l.jobs + length (into_iter_items l.worker-iterator) ≤ vec_capacity l.jobs;
 }

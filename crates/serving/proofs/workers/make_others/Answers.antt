@@ -7,8 +7,8 @@ pub loop-task-preserved : goal.loop-task-preserved
 loop-task-preserved g c = record {
   none = ap workers_in c.push_reserved.ensures.items
       ∙ no_worker c.loop-task.jobs.items _ refl ∙ c.loop-task.invariant.none;
-  beside = ap tasks_in c.push_reserved.ensures.items
+  side_tasks = ap tasks_in c.push_reserved.ensures.items
       ∙ one_task c.loop-task.jobs.items _ c.in-Some.task refl
-      ∙ ap (λ ts. ts ++ c.in-Some.task ∷ []) c.loop-task.invariant.beside;
+      ∙ ap (λ ts. ts ++ c.in-Some.task ∷ []) c.loop-task.invariant.side_tasks;
   room = search rules;
 }

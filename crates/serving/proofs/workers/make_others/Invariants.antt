@@ -8,6 +8,6 @@ use Rattle.serving.proofs.workers.make_others.Given as goal
 abbrev pub invariant-loop-task : goal.invariant-loop-task
 invariant-loop-task g l = record {
   none : workers_in l.jobs.items ≡ [];
-  beside : tasks_in l.jobs.items ≡ l.yielded;
+  side_tasks : tasks_in l.jobs.items ≡ l.yielded;
   room : vec_len l.jobs + length (into_iter_items l.task-iterator) ≤ vec_capacity l.jobs;
 }

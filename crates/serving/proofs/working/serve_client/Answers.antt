@@ -11,7 +11,7 @@ returns g c =
     let end = c.end-to.ensures ∙ ap end_of (c.inner-10.ensures ∙ ap writer_in (c.inner-9.ensures
     ∙ ap uninterrupted_in (c.inner-8.ensures ∙ ap writer_below c.inner-7.ensures))) in
     served _ _ _ _ _ _ _ _ _ c.exchange-served.result _ _ _ _ c.is_sent-is_sent.result
-    c.exchange-served.ensures.exchanged c.told_where-served.ensures
+    c.exchange-served.ensures.exchanged c.with_flush_result-served.ensures
     (is_fresh _ _ (search rules) (search rules) (search rules) (search rules) (search rules))
     (is_fresh _ _ (search rules) (search rules) (search rules) (search rules) (search rules))
     (search rules)

@@ -8,7 +8,7 @@ use Rattle.text_commands.proofs.loads.tell.Goals as goal
 pub returns : goal.returns
 returns g c =
     let asked : c.args.explain ≡ true = search rules in
-    told_and_more c.args.explain g.E.Write.contents c.args.errors.now c.tell_load_fault.new.errors
+    told_and_more c.args.explain g.E.Write.contents c.args.errors.now c.report_load_fault.new.errors
     c.explain_fault.new.errors (fault_line (load_fault_text c.args.fault))
     (IsMore (kept_of c.args.reader.now) g.E.Write.contents c.args.fault) asked
-    c.tell_load_fault.ensures c.explain_fault.ensures
+    c.report_load_fault.ensures c.explain_fault.ensures

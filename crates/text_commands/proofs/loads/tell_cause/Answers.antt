@@ -10,5 +10,5 @@ text_of word = concat (codes "audit: " ∷ word ∷ [])
 pub returns : goal.returns
 unfolding text_of
 returns g c =
-    subst (λ word. IsTold g.E.Write.contents c.args.errors.now c.tell_fault.new.errors
-    (fault_line (text_of word))) c.cause_word.ensures c.tell_fault.ensures
+    subst (λ word. IsTold g.E.Write.contents c.args.errors.now c.report_fault.new.errors
+    (fault_line (text_of word))) c.cause_word.ensures c.report_fault.ensures

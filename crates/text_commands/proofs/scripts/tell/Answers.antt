@@ -10,7 +10,7 @@ pub returns : goal.returns
 returns g c =
     let asked : c.args.explain ≡ true = search rules in
     told_and_more c.args.explain g.E.Write.contents c.args.errors.now
-    c.tell_driver_fault.new.errors c.explain_fault.new.errors
+    c.report_driver_fault.new.errors c.explain_fault.new.errors
     (fault_line (fault_text c.args.fault))
     (IsMore (kind_of c.args.task) (kept_of c.args.reader.now) g.E.Write.contents c.args.fault)
-    asked c.tell_driver_fault.ensures c.explain_fault.ensures
+    asked c.report_driver_fault.ensures c.explain_fault.ensures

@@ -2,14 +2,14 @@ use Rattle.std.proofs.Common.{subst, codes}
 use Rattle.config_values.specs.Fault.{fault_text}
 use Rattle.fault_lines.specs.FaultLine.{IsTold, fault_line}
 use Rattle.config_file.proofs.Pieces.{word_and_three}
-use Rattle.config_file.proofs.file_fault.tell_config_fault.Goals as goal
+use Rattle.config_file.proofs.file_fault.report_config_fault.Goals as goal
 
 -- the pieces make the fault's text
 pub returns : goal.returns
 returns g c =
     let pieces = c.pieces.result in
     subst
-    (λ text. IsTold g.E.Write.contents c.args.errors.now c.tell_fault.new.errors (fault_line text))
+    (λ text. IsTold g.E.Write.contents c.args.errors.now c.report_fault.new.errors (fault_line text))
     (word_and_three (codes "config: ") pieces.0.now pieces.1.now pieces.2.now
     (fault_text c.args.fault.now) c.pieces.ensures)
-    c.tell_fault.ensures
+    c.report_fault.ensures

@@ -8,7 +8,7 @@ ghost use Rattle.config_file.specs.Reading.{Says};
 ghost use Rattle.gate_opening.specs.Opening.{making_of};
 ghost use Rattle.serve_command.specs.Runs.{AreCountersOfRuns};
 
-use crate::admin::{AdminAddress, Beside, listener_of};
+use crate::admin::{AdminAddress, SideAddresses, listener_of};
 use crate::command::Service;
 use crate::config_text::ConfigText;
 use crate::gateway::serve_gateway;
@@ -32,7 +32,7 @@ const MILLI: u64 = 1_000_000;
 
 /// What is had before a gate is opened, and outlasts it.
 #[derive(Drop)]
-pub(crate) struct Standing<'a, R: SystemClock, L> {
+pub(crate) struct ServeContext<'a, R: SystemClock, L> {
     /// Where clients come from.
     pub(crate) front: &'a L,
     /// Where an operator comes from, where there is an address for one.
@@ -51,10 +51,10 @@ pub(crate) struct Standing<'a, R: SystemClock, L> {
 }
 
 /// Serves by these settings, which are those of the text, and tells the gate's counters.
-pub(crate) fn serve_standing<R, L>(
+pub(crate) fn serve_in<R, L>(
     rt: &R,
     spawner: &mut Spawner<'_, R>,
-    standing: &Standing<'_, R, L>,
+    context: &ServeContext<'_, R, L>,
     settings: &Settings,
     service: &Service<'_>,
 ) -> Result<Counters, ServeFault>
@@ -66,33 +66,33 @@ where
     L::To: Send + Sync,
     R::Stream: Send + Sync,
     R::Listener: Send + Sync,
-    requires says { Says standing.now.text.now.bytes.items (Ok settings.now) }
+    requires says { Says context.now.text.now.bytes.items (Ok settings.now) }
     requires sound { AreSound settings.now }
     requires few { service.now.workers ≤ 64 }
     ensures counted { IfOk result (AreCountersOfRuns any_rules (making_of settings.now)
-        (λ own. Says standing.now.text.now.bytes.items (Ok own))
+        (λ own. Says context.now.text.now.bytes.items (Ok own))
         service.now.workers service.now.per_worker) }
     ensures thread { IsErrOf result ServeFault.Thread →
         refused_of spawner.new ≡ raised (refused_of spawner.old) }
 {
     let client_timeout_ns = u64::from(service.client_timeout_ms) * MILLI;
-    let (alloc, clock) = (standing.alloc, standing.clock);
-    let (admin, status) = (standing.admin, standing.status);
-    let beside = Beside::new(alloc, admin, status, clock, standing.lame_duck);
+    let (alloc, clock) = (context.alloc, context.clock);
+    let (admin, status) = (context.admin, context.status);
+    let side = SideAddresses::new(alloc, admin, status, clock, context.lame_duck);
     let common = WorkerSettings {
-        listener: standing.front,
-        beside: listener_of(admin, status),
-        source: standing.text,
+        listener: context.front,
+        side_listener: listener_of(admin, status),
+        source: context.text,
         clock,
         per_worker: u64::from(service.per_worker),
         client_timeout_ns,
         backend_timeout_ns: call_time(service.backend_timeout_ms),
-        report_every_ns: Some(standing.watch.pace().look_ns),
-        watch: standing.watch,
+        report_every_ns: Some(context.watch.pace().look_ns),
+        watch: context.watch,
         alloc,
     };
     let workers = service.workers as usize;
-    serve_gateway(rt, spawner, &common, settings, workers, &beside)
+    serve_gateway(rt, spawner, &common, settings, workers, &side)
 }
 
 /// So many milliseconds in nanoseconds.

@@ -6,7 +6,7 @@ use std::marker::Model;
 
 /// A text that is told.
 #[derive(Drop)]
-pub(crate) enum Text<'a> {
+pub(crate) enum ResponseText<'a> {
     /// A text that stands.
     Standing(&'a str),
     /// A text that was made.
@@ -15,15 +15,15 @@ pub(crate) enum Text<'a> {
 
 /// A status, which has three digits, with a text. A contract sees both.
 #[derive(Drop)]
-pub(crate) struct Told<'a> {
+pub(crate) struct OperatorResponse<'a> {
     status: u16,
-    text: Text<'a>,
+    text: ResponseText<'a>,
 }
 
-impl<'a> Model for Told<'a> {
+impl<'a> Model for OperatorResponse<'a> {
     ghost use Rattle.std.specs.Prelude.{◌≤◌};
     ghost use Rattle.operator_serving.specs.Words.{Words, words};
-    ghost use Rattle.operator_serving.specs.Told.{text_of};
+    ghost use Rattle.operator_serving.specs.OperatorResponse.{text_of};
 
     ghost Value = { Words };
 
@@ -32,25 +32,25 @@ impl<'a> Model for Told<'a> {
     ghost invariant = { λ t. (100 ≤ t.status) × (t.status ≤ 999) };
 }
 
-impl<'a> Told<'a> {
+impl<'a> OperatorResponse<'a> {
     /// A status with a text that stands.
-    pub(crate) fn new(status: u16, text: &'a str) -> Told<'a>
+    pub(crate) fn new(status: u16, text: &'a str) -> OperatorResponse<'a>
         requires three_digits { (100 ≤ status) × (status ≤ 999) }
         ensures { result ≡ words status text.now }
     {
-        Told {
+        OperatorResponse {
             status,
-            text: Text::Standing(text),
+            text: ResponseText::Standing(text),
         }
     }
 
     /// The status of success, with a text that was made.
-    pub(crate) fn made(text: String) -> Told<'a>
+    pub(crate) fn made(text: String) -> OperatorResponse<'a>
         ensures { result ≡ words 200 (string_bytes text) }
     {
-        Told {
+        OperatorResponse {
             status: 200,
-            text: Text::Made(text),
+            text: ResponseText::Made(text),
         }
     }
 
@@ -67,8 +67,8 @@ impl<'a> Told<'a> {
         ensures { result.now ≡ self.now.text }
     {
         match &self.text {
-            Text::Standing(text) => text.as_bytes(),
-            Text::Made(text) => text.as_bytes(),
+            ResponseText::Standing(text) => text.as_bytes(),
+            ResponseText::Made(text) => text.as_bytes(),
         }
     }
 }
