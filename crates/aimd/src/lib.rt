@@ -9,9 +9,11 @@
 
 mod aimd;
 mod laws;
+mod numbers;
 
 pub use aimd::Aimd;
 pub use laws::{
     decreases_to_the_greatest, falls_by_the_ratio_at_most, falls_no_faster_than_drops,
     rises_by_one_a_sample,
 };
+pub use numbers::{AimdNumbers, GREATEST_RATIO, LEAST_RATIO};

@@ -9,7 +9,9 @@
 #![tactic(auto)]
 
 mod laws;
+mod numbers;
 mod vegas;
 
 pub use laws::{estimates_the_least_queue, never_falls_at_the_base, rises_at_the_base};
+pub use numbers::{MOST_PROBE, MOST_QUEUE, VegasNumbers};
 pub use vegas::Vegas;

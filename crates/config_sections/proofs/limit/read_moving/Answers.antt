@@ -1,14 +1,14 @@
 use Rattle.std.proofs.Common.{rules}
 use Rattle.config_sections.proofs.limit.read_moving.Goals as goal
 
-pub returns-in_err-min-clause-value : goal.returns-in_err-min-clause-value
-returns-in_err-min-clause-value c = λ kind among is. search rules
+pub returns-in_err-lo-clause-value : goal.returns-in_err-lo-clause-value
+returns-in_err-lo-clause-value c = λ kind among is. search rules
 
-pub returns-in_err-max-clause-value : goal.returns-in_err-max-clause-value
-returns-in_err-max-clause-value c = λ kind among is. search rules
+pub returns-in_err-hi-clause-value : goal.returns-in_err-hi-clause-value
+returns-in_err-hi-clause-value c = λ kind among is. search rules
 
-pub returns-in_err-initial-clause-value : goal.returns-in_err-initial-clause-value
-returns-in_err-initial-clause-value c = λ kind among is. search rules
+pub returns-in_err-first-clause-value : goal.returns-in_err-first-clause-value
+returns-in_err-first-clause-value c = λ kind among is. search rules
 
 pub returns-clause-least : goal.returns-clause-least
 returns-clause-least c = search rules

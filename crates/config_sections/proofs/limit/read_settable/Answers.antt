@@ -1,8 +1,9 @@
 use Rattle.std.proofs.Common.{rules, ◌≡◌, refl, []}
 use Rattle.toml.specs.View.{table_view}
+use Rattle.limit_kinds.specs.declared.kind.LimitKind.TheVariants.{Settable}
 use Rattle.config_values.specs.Outcomes.{result_map}
 use Rattle.config_sections.specs.Limit.{moving_values}
-use Rattle.config_sections.specs.Rows.{moving_rows, settable}
+use Rattle.config_sections.specs.Rows.{moving_rows}
 use Rattle.config_sections.specs.Section.{section_values}
 use Rattle.config_sections.proofs.limit.read_settable.Goals as goal
 
@@ -11,14 +12,14 @@ returns-clause-sound c = search rules
 
 pub returns-in_err-moving-clause-value : goal.returns-in_err-moving-clause-value
 returns-in_err-moving-clause-value c =
-    let before : result_map (moving_values settable) c.read_moving.result
+    let before : result_map (moving_values Settable) c.read_moving.result
     ≡ section_values [] moving_rows (table_view c.args.table.now) =
-    c.read_moving.ensures.value settable refl c.requires in
+    c.read_moving.ensures.value Settable refl c.requires in
     search rules
 
 pub returns-clause-value : goal.returns-clause-value
 returns-clause-value c =
-    let before : result_map (moving_values settable) c.read_moving.result
+    let before : result_map (moving_values Settable) c.read_moving.result
     ≡ section_values [] moving_rows (table_view c.args.table.now) =
-    c.read_moving.ensures.value settable refl c.requires in
+    c.read_moving.ensures.value Settable refl c.requires in
     search rules

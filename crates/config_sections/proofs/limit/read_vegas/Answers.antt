@@ -1,8 +1,9 @@
 use Rattle.std.proofs.Common.{rules, ◌≡◌, refl, []}
 use Rattle.toml.specs.View.{table_view}
+use Rattle.limit_kinds.specs.declared.kind.LimitKind.TheVariants.{Vegas}
 use Rattle.config_values.specs.Outcomes.{result_map}
 use Rattle.config_sections.specs.Limit.{moving_values}
-use Rattle.config_sections.specs.Rows.{moving_rows, vegas}
+use Rattle.config_sections.specs.Rows.{moving_rows}
 use Rattle.config_sections.specs.Section.{section_values}
 use Rattle.config_sections.proofs.limit.read_vegas.Goals as goal
 
@@ -11,35 +12,35 @@ returns-clause-sound c = search rules
 
 pub returns-in_err-moving-clause-value : goal.returns-in_err-moving-clause-value
 returns-in_err-moving-clause-value c =
-    let before : result_map (moving_values vegas) c.read_moving.result
+    let before : result_map (moving_values Vegas) c.read_moving.result
     ≡ section_values [] moving_rows (table_view c.args.table.now) =
-    c.read_moving.ensures.value vegas refl c.requires in
+    c.read_moving.ensures.value Vegas refl c.requires in
     search rules
 
 pub returns-in_err-alpha-clause-value : goal.returns-in_err-alpha-clause-value
 returns-in_err-alpha-clause-value c =
-    let before : result_map (moving_values vegas) c.read_moving.result
+    let before : result_map (moving_values Vegas) c.read_moving.result
     ≡ section_values [] moving_rows (table_view c.args.table.now) =
-    c.read_moving.ensures.value vegas refl c.requires in
+    c.read_moving.ensures.value Vegas refl c.requires in
     search rules
 
 pub returns-in_err-beta-clause-value : goal.returns-in_err-beta-clause-value
 returns-in_err-beta-clause-value c =
-    let before : result_map (moving_values vegas) c.read_moving.result
+    let before : result_map (moving_values Vegas) c.read_moving.result
     ≡ section_values [] moving_rows (table_view c.args.table.now) =
-    c.read_moving.ensures.value vegas refl c.requires in
+    c.read_moving.ensures.value Vegas refl c.requires in
     search rules
 
 pub returns-in_err-probe_every-clause-value : goal.returns-in_err-probe_every-clause-value
 returns-in_err-probe_every-clause-value c =
-    let before : result_map (moving_values vegas) c.read_moving.result
+    let before : result_map (moving_values Vegas) c.read_moving.result
     ≡ section_values [] moving_rows (table_view c.args.table.now) =
-    c.read_moving.ensures.value vegas refl c.requires in
+    c.read_moving.ensures.value Vegas refl c.requires in
     search rules
 
 pub returns-clause-value : goal.returns-clause-value
 returns-clause-value c =
-    let before : result_map (moving_values vegas) c.read_moving.result
+    let before : result_map (moving_values Vegas) c.read_moving.result
     ≡ section_values [] moving_rows (table_view c.args.table.now) =
-    c.read_moving.ensures.value vegas refl c.requires in
+    c.read_moving.ensures.value Vegas refl c.requires in
     search rules
