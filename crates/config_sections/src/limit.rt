@@ -1,11 +1,9 @@
 // The keys of the limit.
-ghost use Rattle.std.specs.Prelude.{◌≡◌, ◌≤◌, true, [], IfOk, IsOk, map};
+ghost use Rattle.std.specs.Prelude.{◌≡◌, true, [], IfOk, IsOk, Ok, map};
 ghost use Rattle.toml.specs.Data.{get_member};
 ghost use Rattle.toml.specs.View.{table_view};
-ghost use Rattle.limit_laws.specs.Algorithm.{greatest_limit};
-ghost use Rattle.limit_kinds.specs.declared.kind.LimitKind.{LimitKind as Kind};
 ghost use Rattle.limit_kinds.specs.Kind.{kind_word, kind_words};
-ghost use Rattle.limit_kinds.specs.Specs.{limit_made};
+ghost use Rattle.limit_kinds.specs.Specs.{are_limits, limit_made};
 ghost use Rattle.config_values.specs.Key.{name_of};
 ghost use Rattle.config_values.specs.Outcomes.{result_map};
 ghost use Rattle.config_values.specs.Text.{is_among, text_from};
@@ -60,11 +58,10 @@ pub fn read_limit(table: &Table) -> Result<LimitSpec, ConfigFault>
     ensures sound { IfOk result (λ spec. IsOk (limit_made spec)) }
     ensures value { result ≡ limit_in (table_view table.now) }
 {
-    match limit_kind(table)? {
+    let kind = limit_kind(table)?;
+    match kind {
         LimitKind::Fixed => read_fixed(table),
-        LimitKind::Settable => read_settable(table),
-        LimitKind::Aimd => read_aimd(table),
-        LimitKind::Vegas => read_vegas(table),
+        LimitKind::Settable | LimitKind::Aimd | LimitKind::Vegas => read_moving(table, kind),
     }
 }
 
@@ -90,65 +87,61 @@ fn read_fixed(table: &Table) -> Result<LimitSpec, ConfigFault>
     Ok(LimitSpec::Fixed { permits })
 }
 
-/// A limit that is set by hand.
-fn read_settable(table: &Table) -> Result<LimitSpec, ConfigFault>
-    requires { IsOfKind LimitKind.Settable (table_view table.now) }
+/// A limit of another kind: first the keys that all of these have, then those of its own.
+fn read_moving(table: &Table, kind: LimitKind) -> Result<LimitSpec, ConfigFault>
+    requires kind { IsOfKind kind (table_view table.now) }
+    requires moves { is_among moving (kind_word kind) ≡ true }
     ensures sound { IfOk result (λ spec. IsOk (limit_made spec)) }
     ensures value { result ≡ limit_in (table_view table.now) }
 {
-    let moving = read_moving(table)?;
-    Ok(LimitSpec::Settable(moving))
+    let lo = read_number(table, Key::LimitMin, range_of!(LimitMin))?;
+    let hi = read_number(table, Key::LimitMax, range_of!(LimitMax, lo))?;
+    let first = read_number(table, Key::LimitInitial, range_of!(LimitInitial, lo, hi))?;
+    let limits = Limits { lo, first, hi };
+    match kind {
+        LimitKind::Fixed => unreachable!(),
+        LimitKind::Settable => Ok(LimitSpec::Settable(limits)),
+        LimitKind::Aimd => read_aimd(table, limits),
+        LimitKind::Vegas => read_vegas(table, limits),
+    }
 }
 
-/// An AIMD limit.
-fn read_aimd(table: &Table) -> Result<LimitSpec, ConfigFault>
-    requires { IsOfKind LimitKind.Aimd (table_view table.now) }
+/// An AIMD limit between these limits.
+fn read_aimd(table: &Table, limits: Limits) -> Result<LimitSpec, ConfigFault>
+    requires limits { are_limits limits ≡ true }
+    requires before { section_values [] moving_rows (table_view table.now)
+        ≡ Ok (moving_values LimitKind.Aimd limits) }
     ensures sound { IfOk result (λ spec. IsOk (limit_made spec)) }
     ensures value { result ≡ limit_in (table_view table.now) }
 {
-    let moving = read_moving(table)?;
     let ratio_thousandths = read_number(table, Key::LimitRatio, range_of!(LimitRatio))?;
     let timeout_us = read_number(table, Key::LimitTimeoutUs, range_of!(LimitTimeoutUs))?;
     Ok(LimitSpec::Aimd(AimdNumbers {
-        lo: moving.lo,
-        first: moving.first,
-        hi: moving.hi,
+        lo: limits.lo,
+        first: limits.first,
+        hi: limits.hi,
         ratio_thousandths,
         timeout_ns: u64::from(timeout_us) * MICRO,
     }))
 }
 
-/// A Vegas limit.
-fn read_vegas(table: &Table) -> Result<LimitSpec, ConfigFault>
-    requires { IsOfKind LimitKind.Vegas (table_view table.now) }
+/// A Vegas limit between these limits.
+fn read_vegas(table: &Table, limits: Limits) -> Result<LimitSpec, ConfigFault>
+    requires limits { are_limits limits ≡ true }
+    requires before { section_values [] moving_rows (table_view table.now)
+        ≡ Ok (moving_values LimitKind.Vegas limits) }
     ensures sound { IfOk result (λ spec. IsOk (limit_made spec)) }
     ensures value { result ≡ limit_in (table_view table.now) }
 {
-    let moving = read_moving(table)?;
     let alpha = read_number(table, Key::LimitAlpha, range_of!(LimitAlpha))?;
     let beta = read_number(table, Key::LimitBeta, range_of!(LimitBeta, alpha))?;
     let probe_every = read_number(table, Key::LimitProbeEvery, range_of!(LimitProbeEvery))?;
     Ok(LimitSpec::Vegas(VegasNumbers {
-        lo: moving.lo,
-        first: moving.first,
-        hi: moving.hi,
+        lo: limits.lo,
+        first: limits.first,
+        hi: limits.hi,
         alpha,
         beta,
         probe_every,
     }))
-}
-
-/// The keys that each limit but a fixed one has.
-fn read_moving(table: &Table) -> Result<Limits, ConfigFault>
-    ensures least { IfOk result (λ n. (1 ≤ n.lo) × (n.lo ≤ n.first)) }
-    ensures most { IfOk result (λ n. (n.first ≤ n.hi) × (n.hi ≤ greatest_limit)) }
-    ensures value { (kind : Kind) → is_among moving (kind_word kind) ≡ true
-        → IsOfKind kind (table_view table.now)
-        → result_map (moving_values kind) result
-        ≡ section_values [] moving_rows (table_view table.now) }
-{
-    let lo = read_number(table, Key::LimitMin, range_of!(LimitMin))?;
-    let hi = read_number(table, Key::LimitMax, range_of!(LimitMax, lo))?;
-    let first = read_number(table, Key::LimitInitial, range_of!(LimitInitial, lo, hi))?;
-    Ok(Limits { lo, first, hi })
 }

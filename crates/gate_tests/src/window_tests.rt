@@ -1,5 +1,6 @@
 // A window of as many samples as it holds; and AIMD over windows of windows, and over a window of a
 // million samples, by worked numbers.
+use crate::limits::LEARNING;
 use aimd::{Aimd, AimdNumbers};
 use limit_laws::{Limit, Sample};
 use sample_window::Window;
@@ -17,11 +18,10 @@ fn over<L: Limit>(rt: &impl Abort, inner: L, size: u32, length: u64, min_rtt: u6
 /// AIMD 1 to 100 from 20 that takes a round trip of more than this for a drop.
 fn aimd(rt: &impl Abort, timeout_ns: u64) -> Aimd {
     let numbers = AimdNumbers {
-        lo: 1,
         first: 20,
         hi: 100,
-        ratio_thousandths: 900,
         timeout_ns,
+        ..LEARNING
     };
     Aimd::of(numbers).expect(rt, "a limit")
 }

@@ -4,6 +4,7 @@ use super::dice::Dice;
 use super::drawn_events::drawn;
 use super::four_threads_tests::reply_of;
 use super::plain_limiter::{PlainLimiter, ROOM, few};
+use crate::limits::LEARNING;
 use aimd::{Aimd, AimdNumbers};
 use limiter_core::{Core, Counters, Event, Promote};
 use partitions::{Part, PartitionTable};
@@ -28,11 +29,9 @@ fn limiter<R: Abort>(rt: &R, alloc: Global, promote: Promote) -> Core<Aimd> {
     let rows = [(b"live".as_slice(), 500), (b"batch", 300), (b"scan", 100)];
     let table = PartitionTable::new(alloc, &rows).expect(rt, "a table");
     let numbers = AimdNumbers {
-        lo: 1,
-        first: 3,
         hi: 6,
-        ratio_thousandths: 900,
         timeout_ns: 20_000,
+        ..LEARNING
     };
     let limit = Aimd::of(numbers).expect(rt, "a limit");
     Core::new(alloc, limit, table, ROOM, promote).expect(rt, "a limiter")

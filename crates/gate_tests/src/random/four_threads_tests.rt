@@ -5,9 +5,10 @@ ghost use Rattle.limiter_core.specs.Limiter.{gate_of, stands};
 
 use super::random_calls::{Caller, Told, call_at_random};
 use crate::gates::{Making, next_of};
+use crate::limits::LEARNING;
 use crate::threaded::{Threaded, try_by_threads};
 use crate::threads::{Work, four_done};
-use aimd::{Aimd, AimdNumbers};
+use aimd::Aimd;
 use gate_history::GateSettings;
 use limit_kinds::{AnyLimit, BaseLimit};
 use limit_laws::Limit;
@@ -30,14 +31,7 @@ fn classes<R: Abort>(rt: &R, alloc: Global) -> PartitionTable {
 
 /// A limit of 1 to 5, which begins with 3.
 fn limit<R: Abort>(rt: &R) -> Aimd {
-    let numbers = AimdNumbers {
-        lo: 1,
-        first: 3,
-        hi: 5,
-        ratio_thousandths: 900,
-        timeout_ns: 1_000_000,
-    };
-    Aimd::of(numbers).expect(rt, "a limit")
+    Aimd::of(LEARNING).expect(rt, "a limit")
 }
 
 /// A limiter that is asked by one thread.
