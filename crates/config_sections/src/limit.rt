@@ -1,9 +1,10 @@
 // The keys of the limit.
-ghost use Rattle.std.specs.Prelude.{◌≡◌, true, [], IfOk, IsOk, Ok, map};
+ghost use Rattle.std.specs.Prelude.{◌≡◌, ◌≤◌, true, [], IfOk, IsOk, Ok, map};
 ghost use Rattle.toml.specs.Data.{get_member};
 ghost use Rattle.toml.specs.View.{table_view};
+ghost use Rattle.limit_laws.specs.Algorithm.{greatest_limit};
 ghost use Rattle.limit_kinds.specs.Kind.{kind_word, kind_words};
-ghost use Rattle.limit_kinds.specs.Specs.{are_limits, limit_made};
+ghost use Rattle.limit_kinds.specs.Specs.{limit_made};
 ghost use Rattle.config_values.specs.Key.{name_of};
 ghost use Rattle.config_values.specs.Outcomes.{result_map};
 ghost use Rattle.config_values.specs.Text.{is_among, text_from};
@@ -108,7 +109,8 @@ fn read_moving(table: &Table, kind: LimitKind) -> Result<LimitSpec, ConfigFault>
 
 /// An AIMD limit between these limits.
 fn read_aimd(table: &Table, limits: Limits) -> Result<LimitSpec, ConfigFault>
-    requires limits { are_limits limits ≡ true }
+    requires least { (1 ≤ limits.lo) × (limits.lo ≤ limits.first) }
+    requires most { (limits.first ≤ limits.hi) × (limits.hi ≤ greatest_limit) }
     requires before { section_values [] moving_rows (table_view table.now)
         ≡ Ok (moving_values LimitKind.Aimd limits) }
     ensures sound { IfOk result (λ spec. IsOk (limit_made spec)) }
@@ -127,7 +129,8 @@ fn read_aimd(table: &Table, limits: Limits) -> Result<LimitSpec, ConfigFault>
 
 /// A Vegas limit between these limits.
 fn read_vegas(table: &Table, limits: Limits) -> Result<LimitSpec, ConfigFault>
-    requires limits { are_limits limits ≡ true }
+    requires least { (1 ≤ limits.lo) × (limits.lo ≤ limits.first) }
+    requires most { (limits.first ≤ limits.hi) × (limits.hi ≤ greatest_limit) }
     requires before { section_values [] moving_rows (table_view table.now)
         ≡ Ok (moving_values LimitKind.Vegas limits) }
     ensures sound { IfOk result (λ spec. IsOk (limit_made spec)) }
