@@ -13,7 +13,7 @@ is_in_range n =
     nat_le 1 n.lo && nat_le n.lo n.first && nat_le n.first n.hi && nat_le n.hi greatest_limit
     && nat_le 1 n.timeout_ns && nat_le n.timeout_ns hour
 
--- a ratio of 500 to 999 thousandths
+-- a ratio in its range
 abbrev pub is_ratio : AimdNumbers → Bool
 is_ratio n = nat_le least_ratio n.ratio_thousandths && nat_le n.ratio_thousandths greatest_ratio
 

@@ -51,6 +51,7 @@ limit_of_kind Kind.Vegas values = Spec.Vegas (record {
   probe_every = number_at (codes "probe_every") values;
 })
 
+-- the limit of a section's values
 abbrev pub limit_from : Values → LimitSpec
 limit_from values = limit_of_kind (kind_at values) values
 

@@ -3,9 +3,9 @@
 //!
 //! The shortest round trip seen is taken as that of an empty backend. What a round trip takes
 //! longer than it is time spent in a queue, whose length in permits is compared with two
-//! thresholds. The rule is `specs/VegasRules.antt`, and each call's contract is that of
-//! [`limit_laws::Limit`] at that rule. What an operator may rely on stands on the functions of
-//! `laws`.
+//! thresholds. [`Vegas::of`] makes it of [`VegasNumbers`], by `specs/VegasNumbers.antt`. The rule
+//! is `specs/VegasRules.antt`, and each call's contract is that of [`limit_laws::Limit`] at that
+//! rule. What an operator may rely on stands on the functions of `laws`.
 #![tactic(auto)]
 
 mod laws;

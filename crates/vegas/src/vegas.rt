@@ -77,7 +77,7 @@ impl Vegas {
     ///
     /// The faults, the first that applies: [`MakeFault::Range`] unless
     /// `1 <= lo <= first <= hi <= 10,000` and `probe_every` is at most [`MOST_PROBE`];
-    /// [`MakeFault::Alpha`] unless alpha is at least 1, and beta `alpha` to [`MOST_QUEUE`].
+    /// [`MakeFault::Alpha`] unless `1 <= alpha <= beta` and `beta` is at most [`MOST_QUEUE`].
     pub fn new(
         lo: u32,
         first: u32,
