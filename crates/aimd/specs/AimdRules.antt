@@ -24,10 +24,17 @@ pub record IsInRange (lo first hi timeout : ℕ) : Type 0 where
   pub timeout_least : 1 ≤ timeout
   pub timeout_most : timeout ≤ hour
 
--- a ratio in thousandths: 500 to 999
+-- the least ratio and the greatest one, in thousandths
+abbrev pub least_ratio : ℕ
+least_ratio = 500
+
+abbrev pub greatest_ratio : ℕ
+greatest_ratio = 999
+
+-- a ratio between these
 pub record IsRatio (ratio : ℕ) : Type 0 where
-  pub least : 500 ≤ ratio
-  pub most : ratio ≤ 999
+  pub least : least_ratio ≤ ratio
+  pub most : ratio ≤ greatest_ratio
 
 -- what is true of every AIMD
 pub record IsAimd (s : AimdState) : Type 0 where

@@ -1,9 +1,11 @@
 // A limit that rises by one and falls by a ratio.
 ghost use Rattle.std.specs.Prelude.{◌≡◌, ◌≤◌, ◌↔◌, IfOk, IsOk};
 ghost use Rattle.limit_laws.specs.Algorithm.{greatest_limit};
-ghost use Rattle.aimd.specs.AimdRules.{aimd_rules, aimd_from, decreased, IsDecrease, IsInRange, IsRatio};
+ghost use Rattle.aimd.specs.AimdRules.{aimd_rules, aimd_from, decreased, IsDecrease, IsInRange, IsRatio, greatest_ratio};
+ghost use Rattle.aimd.specs.AimdNumbers.{aimd_made, aimd_of};
 ghost use Rattle.aimd.specs.AimdLaws.{IsLawful-aimd};
 
+use crate::numbers::{AimdNumbers, GREATEST_RATIO, LEAST_RATIO};
 use limit_laws::{GREATEST_LIMIT, HOUR, Limit, MakeFault, Sample, SetFault};
 use std::marker::Model;
 
@@ -58,7 +60,7 @@ impl Aimd {
     ///
     /// The faults, the first that applies: [`MakeFault::Range`] unless
     /// `1 <= lo <= first <= hi <= 10,000` and `timeout` is 1 ns to one hour; [`MakeFault::Ratio`]
-    /// unless `ratio` is 500 to 999.
+    /// unless `ratio` is [`LEAST_RATIO`] to [`GREATEST_RATIO`].
     pub fn new(lo: u32, first: u32, hi: u32, ratio: u32, timeout: u64) -> Result<Aimd, MakeFault>
         ensures made { IsOk result ↔ (IsInRange lo first hi timeout × IsRatio ratio) }
         ensures value { IfOk result (λ aimd. aimd ≡ aimd_from lo first hi ratio timeout) }
@@ -66,13 +68,30 @@ impl Aimd {
         ensures ratio { IsInRange lo first hi timeout → ¬ IsRatio ratio →
             result ≡ Err MakeFault.Ratio }
     {
+        Aimd::of(AimdNumbers {
+            lo,
+            first,
+            hi,
+            ratio_thousandths: ratio,
+            timeout_ns: timeout,
+        })
+    }
+
+    /// The limit of these numbers, with the faults of [`Aimd::new`].
+    pub fn of(numbers: AimdNumbers) -> Result<Aimd, MakeFault>
+        ensures made { result ≡ aimd_made numbers }
+        ensures value { IfOk result (λ aimd. aimd ≡ aimd_of numbers) }
+    {
+        let AimdNumbers { lo, first, hi, .. } = numbers;
+        let ratio = numbers.ratio_thousandths;
+        let timeout = numbers.timeout_ns;
         if lo < 1 || first < lo || hi < first || GREATEST_LIMIT < hi {
             return Err(MakeFault::Range);
         }
         if timeout < 1 || HOUR < timeout {
             return Err(MakeFault::Range);
         }
-        if ratio < 500 || 999 < ratio {
+        if ratio < LEAST_RATIO || GREATEST_RATIO < ratio {
             return Err(MakeFault::Ratio);
         }
         Ok(Aimd {
@@ -132,7 +151,7 @@ impl Limit for Aimd {
 #[tactic(auto, using(crate::proofs::Decrease::decreases))]
 fn decrease(limit: u32, ratio: u32) -> u32
     requires limit { limit ≤ greatest_limit }
-    requires ratio { ratio ≤ 999 }
+    requires ratio { ratio ≤ greatest_ratio }
     ensures value { result ≡ decreased limit ratio }
     ensures greatest { IsDecrease limit ratio result }
 {

@@ -2,14 +2,15 @@
 use Rattle.std.specs.Prelude.{ℕ, List, [], ◌∷◌, length, codes, decimal}
 use Rattle.std.specs.List.{concat}
 use Rattle.gate_config.specs.declared.settings.Settings.{Settings}
-use Rattle.limit_kinds.specs.AnyKinds.{any_limit, kind_name}
+use Rattle.limit_kinds.specs.AnyKinds.{any_kind, any_limit}
+use Rattle.limit_kinds.specs.Kind.{kind_word}
 use Rattle.fault_lines.specs.FaultLine.{line}
 
 -- the kind of the limit and the limit at the start, how many classes, resolvers and bypass rules
 -- there are, and how many callers may wait
 abbrev pub accepted_line : Settings → List ℕ
 accepted_line s = line (concat (
-    codes "ok " ∷ kind_name s.limit ∷ codes " " ∷ decimal (any_limit s.limit)
+    codes "ok " ∷ kind_word (any_kind s.limit) ∷ codes " " ∷ decimal (any_limit s.limit)
     ∷ codes " classes " ∷ decimal (length s.table)
     ∷ codes " resolvers " ∷ decimal (length s.rules.resolvers)
     ∷ codes " bypass " ∷ decimal (length s.rules.bypass)

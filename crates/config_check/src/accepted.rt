@@ -30,7 +30,7 @@ pub(crate) fn write_accepted<W: Write>(
     let mut backlog = Buffer::new();
     let pieces = [
         "ok ",
-        settings.limit.kind(),
+        settings.limit.kind().word(),
         " ",
         initial.format(settings.limit.limit()),
         " classes ",

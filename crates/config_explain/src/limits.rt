@@ -2,9 +2,10 @@
 use crate::settings::MOST_WORKERS;
 use config_sections::{read_limit, read_window};
 use config_values::{Key, read_table};
-use limit_kinds::{LimitSpec, WindowSpec};
+use limit_kinds::LimitSpec;
 use std::alloc::AllocError;
 use toml::Table;
+use windowed::WindowNumbers;
 
 /// One second in nanoseconds.
 const SECOND: u64 = 1_000_000_000;
@@ -25,24 +26,18 @@ pub(crate) fn explain_limit(
         )?;
     }
     let least = match limit_in(table) {
-        Some(
-            LimitSpec::Vegas {
-                lo,
-                probe_every,
-                ..
-            },
-        ) => {
-            explain_probes(out, probe_every)?;
-            lo
+        Some(LimitSpec::Vegas(numbers)) => {
+            explain_probes(out, numbers.probe_every)?;
+            numbers.lo
         }
-        Some(LimitSpec::Aimd { lo, timeout_ns, .. }) => {
-            explain_timeout(out, timeout_ns)?;
-            lo
+        Some(LimitSpec::Aimd(numbers)) => {
+            explain_timeout(out, numbers.timeout_ns)?;
+            numbers.lo
         }
         _ => return Ok(()),
     };
     match window_in(table) {
-        Some(window) => explain_window(out, least, window),
+        Some(window) => explain_window(out, u64::from(least), window),
         None => Ok(()),
     }
 }
@@ -53,12 +48,12 @@ fn limit_in(table: &Table) -> Option<LimitSpec> {
 }
 
 /// The windows, where there are some and none of their keys is at fault.
-fn window_in(table: &Table) -> Option<WindowSpec> {
+fn window_in(table: &Table) -> Option<WindowNumbers> {
     read_window(read_table(table, Key::Window).ok()?).ok()
 }
 
 /// Says that nothing takes a base back that was measured once.
-fn explain_probes(out: &mut String, probe_every: u64) -> Result<(), AllocError> {
+fn explain_probes(out: &mut String, probe_every: u32) -> Result<(), AllocError> {
     if probe_every == 0 {
         write!(
             out,
@@ -84,8 +79,8 @@ fn explain_timeout(out: &mut String, timeout_ns: u64) -> Result<(), AllocError> 
 }
 
 /// Says where a window at the least limit may never have enough answers. One that ends has one.
-fn explain_window(out: &mut String, least: u64, window: WindowSpec) -> Result<(), AllocError> {
-    let (size, most_us) = (window.size, window.max_window_ns / MICRO);
+fn explain_window(out: &mut String, least: u64, window: WindowNumbers) -> Result<(), AllocError> {
+    let (size, most_us) = (u64::from(window.size), window.max_window_ns / MICRO);
     if size > 1 && size > least.saturating_mul(2) {
         write!(
             out,

@@ -1,7 +1,14 @@
 -- The table of keys: which keys there are, in the order in which faults are looked for, and what
 -- each may hold. The share of a class is told in percent by version 1, and in thousandths by
 -- version 2; all other keys are those of both.
-use Rattle.std.specs.Prelude.{ℕ, Bool, true, List, [], ◌∷◌, ◌++◌, Option, Some, None, codes}
+use Rattle.std.specs.Prelude.{ℕ, Bool, true, List, [], ◌∷◌, ◌++◌, map, Option, Some, None, codes}
+use Rattle.limit_laws.specs.Algorithm.{greatest_limit}
+use Rattle.aimd.specs.AimdRules.{least_ratio, greatest_ratio}
+use Rattle.vegas.specs.VegasRules.{most_queue, most_probe}
+use Rattle.sample_window.specs.Totals.{most_samples}
+use Rattle.limit_kinds.specs.declared.kind.LimitKind.{LimitKind}
+use Rattle.limit_kinds.specs.declared.kind.LimitKind.TheVariants.{Fixed, Settable, Aimd, Vegas}
+use Rattle.limit_kinds.specs.Kind.{kind_word, kind_words}
 use Rattle.config_values.specs.declared.key.Key.{Key}
 use Rattle.config_sections.specs.declared.version.Version.{Version}
 use Rattle.config_sections.specs.declared.version.Version.TheVariants.{One, Two}
@@ -47,24 +54,12 @@ row key holds = record { key = key; kinds = []; holds = holds }
 abbrev pub row_for : List (List ℕ) → Key → Holds → Row
 row_for kinds key holds = record { key = key; kinds = kinds; holds = holds }
 
-abbrev pub fixed : List ℕ
-fixed = codes "fixed"
-
-abbrev pub settable : List ℕ
-settable = codes "settable"
-
-abbrev pub aimd : List ℕ
-aimd = codes "aimd"
-
-abbrev pub vegas : List ℕ
-vegas = codes "vegas"
-
--- the kinds of limits, and those that are not fixed
-abbrev pub limit_kinds : List (List ℕ)
-limit_kinds = fixed ∷ settable ∷ aimd ∷ vegas ∷ []
+-- the words of one kind of limit, and of those that are not fixed
+abbrev pub only : LimitKind → List (List ℕ)
+only kind = kind_word kind ∷ []
 
 abbrev pub moving : List (List ℕ)
-moving = settable ∷ aimd ∷ vegas ∷ []
+moving = map kind_word (Settable ∷ Aimd ∷ Vegas ∷ [])
 
 abbrev pub newest : List ℕ
 newest = codes "newest"
@@ -90,26 +85,26 @@ top_rows =
 -- the kind of a limit, and what each limit has that isn't fixed
 abbrev pub moving_rows : List Row
 moving_rows =
-    row Key.LimitKind (word limit_kinds)
-    ∷ row_for moving Key.LimitMin (number (at 1) (at 10000) (Some 1))
-    ∷ row_for moving Key.LimitMax (number (of (codes "min")) (at 10000) (Some 200))
+    row Key.LimitKind (word kind_words)
+    ∷ row_for moving Key.LimitMin (number (at 1) (at greatest_limit) (Some 1))
+    ∷ row_for moving Key.LimitMax (number (of (codes "min")) (at greatest_limit) (Some 200))
     ∷ row_for moving Key.LimitInitial (number (of (codes "min")) (of (codes "max")) (Some 20))
     ∷ []
 
 abbrev pub limit_rows : List Row
 limit_rows =
     moving_rows
-    ++ row_for (fixed ∷ []) Key.LimitInitial (number (at 1) (at 10000) (Some 20))
-    ∷ row_for (aimd ∷ []) Key.LimitRatio (number (at 500) (at 999) (Some 900))
-    ∷ row_for (aimd ∷ []) Key.LimitTimeoutUs (number (at 1) (at 3600000000) (Some 5000000))
-    ∷ row_for (vegas ∷ []) Key.LimitAlpha (number (at 1) (at 100) (Some 3))
-    ∷ row_for (vegas ∷ []) Key.LimitBeta (number (of (codes "alpha")) (at 100) (Some 6))
-    ∷ row_for (vegas ∷ []) Key.LimitProbeEvery (number (at 0) (at 1000000) (Some 0))
+    ++ row_for (only Fixed) Key.LimitInitial (number (at 1) (at greatest_limit) (Some 20))
+    ∷ row_for (only Aimd) Key.LimitRatio (number (at least_ratio) (at greatest_ratio) (Some 900))
+    ∷ row_for (only Aimd) Key.LimitTimeoutUs (number (at 1) (at 3600000000) (Some 5000000))
+    ∷ row_for (only Vegas) Key.LimitAlpha (number (at 1) (at most_queue) (Some 3))
+    ∷ row_for (only Vegas) Key.LimitBeta (number (of (codes "alpha")) (at most_queue) (Some 6))
+    ∷ row_for (only Vegas) Key.LimitProbeEvery (number (at 0) (at most_probe) (Some 0))
     ∷ []
 
 abbrev pub window_rows : List Row
 window_rows =
-    row Key.WindowSize (number (at 1) (at 1000000) (Some 10))
+    row Key.WindowSize (number (at 1) (at most_samples) (Some 10))
     ∷ row Key.WindowMinUs (number (at 1) (at 3600000000) (Some 1000000))
     ∷ row Key.WindowMaxUs (number (of (codes "min_us")) (at 3600000000) (Some 1000000))
     ∷ row Key.WindowMinRttUs (number (at 0) (at 3600000000) (Some 100))

@@ -1,14 +1,14 @@
 -- The section `window`: the windows of its keys.
 use Rattle.std.specs.Prelude.{◌*◌, [], Result, codes}
 use Rattle.toml.specs.Data.{Members}
-use Rattle.limit_kinds.specs.declared.spec.WindowSpec.{WindowSpec}
+use Rattle.windowed.specs.declared.numbers.WindowNumbers.{WindowNumbers}
 use Rattle.config_values.specs.declared.fault.ConfigFault.{ConfigFault}
 use Rattle.config_values.specs.Outcomes.{result_map}
 use Rattle.config_sections.specs.Rows.{window_rows}
 use Rattle.config_sections.specs.Section.{Values, number_at, section_values}
 
 -- the windows of a section's values; times are in nanoseconds
-abbrev pub window_from : Values → WindowSpec
+abbrev pub window_from : Values → WindowNumbers
 window_from values = record {
   size = number_at (codes "size") values;
   min_window_ns = number_at (codes "min_us") values * 1000;
@@ -17,5 +17,5 @@ window_from values = record {
 }
 
 -- the windows of a section, or the first fault of its keys
-abbrev pub window_in : Members → Result WindowSpec ConfigFault
+abbrev pub window_in : Members → Result WindowNumbers ConfigFault
 window_in t = result_map window_from (section_values [] window_rows t)

@@ -1,45 +1,24 @@
 // The keys of the limit.
-ghost use Rattle.std.specs.Prelude.{◌≡◌, ◌≤◌, ℕ, true, List, [], IfOk, IsOk, Ok, Some, None, codes, map, option_map, if◌then◌else◌};
+ghost use Rattle.std.specs.Prelude.{◌≡◌, ◌≤◌, true, [], IfOk, IsOk, Ok, map};
 ghost use Rattle.toml.specs.Data.{get_member};
 ghost use Rattle.toml.specs.View.{table_view};
+ghost use Rattle.limit_laws.specs.Algorithm.{greatest_limit};
+ghost use Rattle.limit_kinds.specs.Kind.{kind_word, kind_words};
 ghost use Rattle.limit_kinds.specs.Specs.{limit_made};
 ghost use Rattle.config_values.specs.Key.{name_of};
 ghost use Rattle.config_values.specs.Outcomes.{result_map};
 ghost use Rattle.config_values.specs.Text.{is_among, text_from};
-ghost use Rattle.config_sections.specs.Limit.{kind_word, limit_in, limit_names, moving_values};
-ghost use Rattle.config_sections.specs.Rows.{limit_kinds, moving, moving_rows};
+ghost use Rattle.config_sections.specs.Limit.{IsOfKind, limit_in, limit_names, moving_values};
+ghost use Rattle.config_sections.specs.Rows.{moving, moving_rows};
 ghost use Rattle.config_sections.specs.Section.{section_values};
 
 use crate::MICRO;
+use aimd::AimdNumbers;
 use config_values::{ConfigFault, Key, KeyAtFault, Range, read_number, read_text};
 use config_words::range_of;
-use limit_kinds::LimitSpec;
+use limit_kinds::{LimitKind, LimitSpec, Limits};
 use toml::Table;
-
-/// How the limit is found.
-#[derive(Clone, Copy)]
-pub enum LimitKind {
-    Fixed,
-    Settable,
-    Aimd,
-    Vegas,
-}
-
-impl LimitKind {
-    /// The kind of this word.
-    fn named(word: &str) -> Option<LimitKind>
-        ensures { option_map kind_word result
-            ≡ if is_among limit_kinds word.now then Some word.now else None }
-    {
-        match word {
-            "fixed" => Some(LimitKind::Fixed),
-            "settable" => Some(LimitKind::Settable),
-            "aimd" => Some(LimitKind::Aimd),
-            "vegas" => Some(LimitKind::Vegas),
-            _ => None,
-        }
-    }
-}
+use vegas::VegasNumbers;
 
 /// The keys that a limit of this kind has.
 pub fn limit_keys(spec: &LimitSpec) -> &'static [Key]
@@ -47,7 +26,7 @@ pub fn limit_keys(spec: &LimitSpec) -> &'static [Key]
 {
     match spec {
         LimitSpec::Fixed { .. } => &[Key::LimitKind, Key::LimitInitial],
-        LimitSpec::Settable { .. } => {
+        LimitSpec::Settable(_) => {
             &[
                 Key::LimitKind,
                 Key::LimitMin,
@@ -55,7 +34,7 @@ pub fn limit_keys(spec: &LimitSpec) -> &'static [Key]
                 Key::LimitInitial,
             ]
         }
-        LimitSpec::Aimd { .. } => &[
+        LimitSpec::Aimd(_) => &[
             Key::LimitKind,
             Key::LimitMin,
             Key::LimitMax,
@@ -63,7 +42,7 @@ pub fn limit_keys(spec: &LimitSpec) -> &'static [Key]
             Key::LimitRatio,
             Key::LimitTimeoutUs,
         ],
-        LimitSpec::Vegas { .. } => &[
+        LimitSpec::Vegas(_) => &[
             Key::LimitKind,
             Key::LimitMin,
             Key::LimitMax,
@@ -80,21 +59,20 @@ pub fn read_limit(table: &Table) -> Result<LimitSpec, ConfigFault>
     ensures sound { IfOk result (λ spec. IsOk (limit_made spec)) }
     ensures value { result ≡ limit_in (table_view table.now) }
 {
-    match limit_kind(table)? {
+    let kind = limit_kind(table)?;
+    match kind {
         LimitKind::Fixed => read_fixed(table),
-        LimitKind::Settable => read_settable(table),
-        LimitKind::Aimd => read_aimd(table),
-        LimitKind::Vegas => read_vegas(table),
+        LimitKind::Settable | LimitKind::Aimd | LimitKind::Vegas => read_moving(table, kind),
     }
 }
 
 /// The word at `limit.kind`.
 fn limit_kind(table: &Table) -> Result<LimitKind, ConfigFault>
     ensures { result_map kind_word result
-        ≡ text_from Key.LimitKind (is_among limit_kinds)
+        ≡ text_from Key.LimitKind (is_among kind_words)
         (get_member (name_of Key.LimitKind) (table_view table.now)) }
 {
-    match LimitKind::named(read_text(table, Key::LimitKind)?) {
+    match LimitKind::named(read_text(table, Key::LimitKind)?.as_bytes()) {
         Some(kind) => Ok(kind),
         None => Err(ConfigFault::Value(KeyAtFault::plain(Key::LimitKind))),
     }
@@ -102,92 +80,71 @@ fn limit_kind(table: &Table) -> Result<LimitKind, ConfigFault>
 
 /// A fixed limit.
 fn read_fixed(table: &Table) -> Result<LimitSpec, ConfigFault>
-    requires { text_from Key.LimitKind (is_among limit_kinds)
-        (get_member (name_of Key.LimitKind) (table_view table.now)) ≡ Ok (codes "fixed") }
+    requires { IsOfKind LimitKind.Fixed (table_view table.now) }
     ensures sound { IfOk result (λ spec. IsOk (limit_made spec)) }
     ensures value { result ≡ limit_in (table_view table.now) }
 {
-    let initial = read_number(table, Key::LimitInitial, range_of!(LimitInitial, of fixed))?;
-    Ok(LimitSpec::Fixed {
-        permits: u64::from(initial),
-    })
+    let permits = read_number(table, Key::LimitInitial, range_of!(LimitInitial, of fixed))?;
+    Ok(LimitSpec::Fixed { permits })
 }
 
-/// A limit that is set by hand.
-fn read_settable(table: &Table) -> Result<LimitSpec, ConfigFault>
-    requires { text_from Key.LimitKind (is_among limit_kinds)
-        (get_member (name_of Key.LimitKind) (table_view table.now)) ≡ Ok (codes "settable") }
+/// A limit of another kind: first the keys that all of these have, then those of its own.
+fn read_moving(table: &Table, kind: LimitKind) -> Result<LimitSpec, ConfigFault>
+    requires kind { IsOfKind kind (table_view table.now) }
+    requires moves { is_among moving (kind_word kind) ≡ true }
     ensures sound { IfOk result (λ spec. IsOk (limit_made spec)) }
     ensures value { result ≡ limit_in (table_view table.now) }
 {
-    let moving = read_moving(table)?;
-    Ok(LimitSpec::Settable {
-        lo: u64::from(moving.min),
-        first: u64::from(moving.initial),
-        hi: u64::from(moving.max),
-    })
+    let lo = read_number(table, Key::LimitMin, range_of!(LimitMin))?;
+    let hi = read_number(table, Key::LimitMax, range_of!(LimitMax, lo))?;
+    let first = read_number(table, Key::LimitInitial, range_of!(LimitInitial, lo, hi))?;
+    let limits = Limits { lo, first, hi };
+    match kind {
+        LimitKind::Fixed => unreachable!(),
+        LimitKind::Settable => Ok(LimitSpec::Settable(limits)),
+        LimitKind::Aimd => read_aimd(table, limits),
+        LimitKind::Vegas => read_vegas(table, limits),
+    }
 }
 
-/// An AIMD limit.
-fn read_aimd(table: &Table) -> Result<LimitSpec, ConfigFault>
-    requires { text_from Key.LimitKind (is_among limit_kinds)
-        (get_member (name_of Key.LimitKind) (table_view table.now)) ≡ Ok (codes "aimd") }
+/// An AIMD limit between these limits.
+fn read_aimd(table: &Table, limits: Limits) -> Result<LimitSpec, ConfigFault>
+    requires least { (1 ≤ limits.lo) × (limits.lo ≤ limits.first) }
+    requires most { (limits.first ≤ limits.hi) × (limits.hi ≤ greatest_limit) }
+    requires before { section_values [] moving_rows (table_view table.now)
+        ≡ Ok (moving_values LimitKind.Aimd limits) }
     ensures sound { IfOk result (λ spec. IsOk (limit_made spec)) }
     ensures value { result ≡ limit_in (table_view table.now) }
 {
-    let moving = read_moving(table)?;
-    let ratio = read_number(table, Key::LimitRatio, range_of!(LimitRatio))?;
+    let ratio_thousandths = read_number(table, Key::LimitRatio, range_of!(LimitRatio))?;
     let timeout_us = read_number(table, Key::LimitTimeoutUs, range_of!(LimitTimeoutUs))?;
-    Ok(LimitSpec::Aimd {
-        lo: u64::from(moving.min),
-        first: u64::from(moving.initial),
-        hi: u64::from(moving.max),
-        ratio: u64::from(ratio),
+    Ok(LimitSpec::Aimd(AimdNumbers {
+        lo: limits.lo,
+        first: limits.first,
+        hi: limits.hi,
+        ratio_thousandths,
         timeout_ns: u64::from(timeout_us) * MICRO,
-    })
+    }))
 }
 
-/// A Vegas limit.
-fn read_vegas(table: &Table) -> Result<LimitSpec, ConfigFault>
-    requires { text_from Key.LimitKind (is_among limit_kinds)
-        (get_member (name_of Key.LimitKind) (table_view table.now)) ≡ Ok (codes "vegas") }
+/// A Vegas limit between these limits.
+fn read_vegas(table: &Table, limits: Limits) -> Result<LimitSpec, ConfigFault>
+    requires least { (1 ≤ limits.lo) × (limits.lo ≤ limits.first) }
+    requires most { (limits.first ≤ limits.hi) × (limits.hi ≤ greatest_limit) }
+    requires before { section_values [] moving_rows (table_view table.now)
+        ≡ Ok (moving_values LimitKind.Vegas limits) }
     ensures sound { IfOk result (λ spec. IsOk (limit_made spec)) }
     ensures value { result ≡ limit_in (table_view table.now) }
 {
-    let moving = read_moving(table)?;
     let alpha = read_number(table, Key::LimitAlpha, range_of!(LimitAlpha))?;
     let beta = read_number(table, Key::LimitBeta, range_of!(LimitBeta, alpha))?;
     let probe_every = read_number(table, Key::LimitProbeEvery, range_of!(LimitProbeEvery))?;
-    Ok(LimitSpec::Vegas {
-        lo: u64::from(moving.min),
-        first: u64::from(moving.initial),
-        hi: u64::from(moving.max),
-        alpha: u64::from(alpha),
-        beta: u64::from(beta),
-        probe_every: u64::from(probe_every),
-    })
-}
-
-/// The keys of a limit that changes: the ends of its range and its first limit, in permits.
-#[derive(Clone, Copy)]
-struct Moving {
-    min: u32,
-    max: u32,
-    initial: u32,
-}
-
-/// The keys that each limit but a fixed one has.
-fn read_moving(table: &Table) -> Result<Moving, ConfigFault>
-    ensures least { IfOk result (λ m. (1 ≤ m.min) × (m.min ≤ m.initial)) }
-    ensures most { IfOk result (λ m. (m.initial ≤ m.max) × (m.max ≤ 10000)) }
-    ensures value { (kind : List ℕ) → is_among moving kind ≡ true
-        → text_from Key.LimitKind (is_among limit_kinds)
-        (get_member (name_of Key.LimitKind) (table_view table.now)) ≡ Ok kind
-        → result_map (moving_values kind) result
-        ≡ section_values [] moving_rows (table_view table.now) }
-{
-    let min = read_number(table, Key::LimitMin, range_of!(LimitMin))?;
-    let max = read_number(table, Key::LimitMax, range_of!(LimitMax, min))?;
-    let initial = read_number(table, Key::LimitInitial, range_of!(LimitInitial, min, max))?;
-    Ok(Moving { min, max, initial })
+    Ok(LimitSpec::Vegas(VegasNumbers {
+        lo: limits.lo,
+        first: limits.first,
+        hi: limits.hi,
+        alpha,
+        beta,
+        probe_every,
+    }))
 }

@@ -7,7 +7,7 @@
 mod caller;
 mod run;
 
-use aimd::Aimd;
+use aimd::{Aimd, AimdNumbers};
 use gate_history::{Blanks, GateSettings};
 use limiter_core::Promote;
 use partitions::PartitionTable;
@@ -17,7 +17,14 @@ use std::marker::Brand;
 
 fn main(rt: HostRuntime) -> anyhow::Result<()> {
     let alloc = rt.alloc();
-    let Ok(limit) = Aimd::new(2, 4, 100, 900, 1_000_000_000) else {
+    let numbers = AimdNumbers {
+        lo: 2,
+        first: 4,
+        hi: 100,
+        ratio_thousandths: 900,
+        timeout_ns: 1_000_000_000,
+    };
+    let Ok(limit) = Aimd::of(numbers) else {
         unreachable!()
     };
     let table = PartitionTable::new(alloc, &[(b"live", 600), (b"batch", 300)])?;

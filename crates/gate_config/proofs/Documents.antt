@@ -2,8 +2,8 @@
 use Rattle.std.proofs.Common.{◌≡◌, ◌∙◌, ap, refl, sym, [], List, Option, option_map, Result, Ok, Err, IsOk}
 use Rattle.toml.specs.Data.{Members}
 use Rattle.partitions.specs.Table.{Row}
+use Rattle.windowed.specs.declared.numbers.WindowNumbers.{WindowNumbers}
 use Rattle.limit_kinds.specs.declared.spec.LimitSpec.{LimitSpec}
-use Rattle.limit_kinds.specs.declared.spec.WindowSpec.{WindowSpec}
 use Rattle.config_values.specs.declared.fault.ConfigFault.{ConfigFault}
 use Rattle.config_values.specs.Outcomes.{◌>>=◌, result_map}
 use Rattle.config_sections.specs.declared.top.TopKeys.{TopKeys}
@@ -17,7 +17,7 @@ use Rattle.gate_config.specs.Document.{DocumentValues, RuleValues, TableRef, byp
 pub record IsRead (t : Members) : Type 0 where
   pub top : Values
   pub limit : Members × LimitSpec
-  pub window : Option (Members × WindowSpec)
+  pub window : Option (Members × WindowNumbers)
   pub is_top : section_values [] top_rows t ≡ Ok top
   pub is_limit : limit_of t ≡ Ok limit
   pub is_window : window_of t ≡ Ok window
@@ -25,8 +25,8 @@ pub record IsRead (t : Members) : Type 0 where
 -- it was, where each part was
 abbrev pub is_read : (t : Members) (top : Result TopKeys ConfigFault)
     (limit : Result (TableRef × LimitSpec) ConfigFault)
-    (window : Result (Option (TableRef × WindowSpec)) ConfigFault)
-    (a : TopKeys) (b : TableRef × LimitSpec) (c : Option (TableRef × WindowSpec)) →
+    (window : Result (Option (TableRef × WindowNumbers)) ConfigFault)
+    (a : TopKeys) (b : TableRef × LimitSpec) (c : Option (TableRef × WindowNumbers)) →
     result_map top_values top ≡ section_values [] top_rows t →
     result_map limit_member limit ≡ limit_of t →
     result_map (option_map window_member) window ≡ window_of t →

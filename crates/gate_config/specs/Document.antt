@@ -8,8 +8,8 @@ use Rattle.toml.specs.Data.{Members, get_member}
 use Rattle.toml.specs.View.{table_view}
 use Rattle.arrayvec.specs.ArrayVec.{ArrayVec}
 use Rattle.partitions.specs.Table.{Row}
+use Rattle.windowed.specs.declared.numbers.WindowNumbers.{WindowNumbers}
 use Rattle.limit_kinds.specs.declared.spec.LimitSpec.{LimitSpec}
-use Rattle.limit_kinds.specs.declared.spec.WindowSpec.{WindowSpec}
 use Rattle.config_values.specs.declared.fault.ConfigFault.{ConfigFault}
 use Rattle.config_values.specs.declared.key.Key.TheVariants as Key
 use Rattle.config_values.specs.Outcomes.{◌>>=◌}
@@ -32,7 +32,7 @@ use Rattle.gate_config.specs.declared.document.RuleKeys.{RuleKeys}
 pub record DocumentValues : Type 0 where
   pub top : Values
   pub limit : Members × LimitSpec
-  pub window : Option (Members × WindowSpec)
+  pub window : Option (Members × WindowNumbers)
   pub classes : List Members × List Row
   pub resolvers : List (Members × Values)
   pub bypasses : List (Members × Values)
@@ -44,7 +44,7 @@ TableRef = Bor (BTreeMap (String Global) Value)
 abbrev pub limit_member : TableRef × LimitSpec → Members × LimitSpec
 limit_member member = (table_view member.0.now, member.1)
 
-abbrev pub window_member : TableRef × WindowSpec → Members × WindowSpec
+abbrev pub window_member : TableRef × WindowNumbers → Members × WindowNumbers
 window_member member = (table_view member.0.now, member.1)
 
 abbrev pub tables_and_rows : Bor (List Value) × ArrayVec ClassKeys → List Members × List Row
@@ -79,11 +79,11 @@ limit_of t = table_from Key.Limit (get_member (codes "limit") t) >>= λ limit.
     limit_in limit >>= λ spec. Ok (limit, spec)
 
 -- the windows of a table's keys, where there is one
-abbrev pub read_window : Option Members → Result (Option (Members × WindowSpec)) ConfigFault
+abbrev pub read_window : Option Members → Result (Option (Members × WindowNumbers)) ConfigFault
 read_window None = Ok None
-read_window (Some window) = window_in window >>= λ spec. Ok (Some (window, spec))
+read_window (Some window) = window_in window >>= λ numbers. Ok (Some (window, numbers))
 
-abbrev pub window_of : Members → Result (Option (Members × WindowSpec)) ConfigFault
+abbrev pub window_of : Members → Result (Option (Members × WindowNumbers)) ConfigFault
 window_of t = optional_from Key.Window (get_member (codes "window") t) >>= read_window
 
 -- the classes in a version: at most four tables, each read behind those before it

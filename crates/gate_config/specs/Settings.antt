@@ -3,7 +3,7 @@ use Rattle.std.specs.Prelude.{◌≡◌, ◌≤◌, ℕ, ◌*◌, ℤ, pos, ◌=
 use Rattle.toml.specs.Data.{Data, Members, get_member, integer}
 use Rattle.toml.specs.Parse.{parse_document}
 use Rattle.limit_kinds.specs.AnyKinds.{any_from}
-use Rattle.limit_kinds.specs.Specs.{first_limit, window_numbers}
+use Rattle.limit_kinds.specs.Specs.{first_limit}
 use Rattle.limiter_core.specs.declared.promote.Promote.{Promote}
 use Rattle.limiter_core.specs.declared.promote.Promote.TheVariants.{Newest, All}
 use Rattle.classifier.specs.declared.resolver.Resolver.{Resolver}
@@ -49,7 +49,7 @@ settings_with d resolvers = record {
   keep = number_at (codes "keep") d.top;
   promote = promote_named (text_at (codes "promote") d.top);
   limit =
-      any_from (first_limit d.limit.1) (option_map (λ window. window_numbers window.1) d.window);
+      any_from (first_limit d.limit.1) (option_map (λ window. window.1) d.window);
   table = d.classes.1;
   rules = record { resolvers = resolvers; bypass = map (λ rule. bypass_from rule.1) d.bypasses };
 }

@@ -1,7 +1,7 @@
 -- The keys of a configuration that aren't allowed where they stand.
 use Rattle.std.specs.Prelude.{ℕ, List, [], ◌∷◌, ◌++◌, map, flat_map, Option, Some, None}
 use Rattle.toml.specs.Data.{Members}
-use Rattle.limit_kinds.specs.declared.spec.WindowSpec.{WindowSpec}
+use Rattle.windowed.specs.declared.numbers.WindowNumbers.{WindowNumbers}
 use Rattle.config_values.specs.declared.key.Key.{Key}
 use Rattle.config_values.specs.declared.key.Section.TheVariants as In
 use Rattle.config_values.specs.Key.{name_of}
@@ -18,7 +18,7 @@ top_names =
     map name_of (Key.Version ∷ map (λ row. row.key) top_rows
     ++ Key.Limit ∷ Key.Window ∷ Key.Class ∷ Key.Resolver ∷ Key.Bypass ∷ [])
 
-abbrev pub window_unknown_keys : Option (Members × WindowSpec) → List UnknownKey
+abbrev pub window_unknown_keys : Option (Members × WindowNumbers) → List UnknownKey
 window_unknown_keys None = []
 window_unknown_keys (Some window) =
     unknown_keys_in In.Window (map (λ row. name_of row.key) window_rows) window.0

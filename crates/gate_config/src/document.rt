@@ -2,7 +2,8 @@
 ghost use Rattle.std.specs.Option.{ForSome};
 ghost use Rattle.std.specs.Prelude.{◌≡◌, [], Err, IfErr, IfOk, IsErrOf, IsOk, map, option_map};
 ghost use Rattle.toml.specs.View.{table_view};
-ghost use Rattle.limit_kinds.specs.Specs.{limit_made, windows_made};
+ghost use Rattle.windowed.specs.WindowedRules.{windows_made};
+ghost use Rattle.limit_kinds.specs.Specs.{limit_made};
 ghost use Rattle.config_values.specs.declared.fault.ConfigFault.{ConfigFault as FaultValue};
 ghost use Rattle.config_values.specs.Outcomes.{Answers, result_map};
 ghost use Rattle.config_values.specs.Table.{tables_among};
@@ -19,9 +20,10 @@ use config_sections::{
     read_bypasses, read_classes, read_limit, read_resolvers, read_top, read_window,
 };
 use config_values::{ConfigFault, Key, read_optional_table, read_table, read_tables};
-use limit_kinds::{LimitSpec, WindowSpec};
+use limit_kinds::LimitSpec;
 use std::alloc::Global;
 use toml::{Table, Value};
+use windowed::WindowNumbers;
 
 /// The most resolvers, and the most bypass rules.
 const MOST_RULES: usize = 32;
@@ -31,7 +33,7 @@ const MOST_RULES: usize = 32;
 pub struct Document<'a> {
     pub top: TopKeys,
     pub limit: (&'a Table, LimitSpec),
-    pub window: Option<(&'a Table, WindowSpec)>,
+    pub window: Option<(&'a Table, WindowNumbers)>,
     pub rules: RuleKeys<'a>,
 }
 
@@ -80,7 +82,7 @@ fn limit_in<'a>(table: &'a Table) -> Result<(&'a Table, LimitSpec), ConfigFault>
 }
 
 /// The table `window` and the windows of its keys, where there is one.
-fn window_in<'a>(table: &'a Table) -> Result<Option<(&'a Table, WindowSpec)>, ConfigFault>
+fn window_in<'a>(table: &'a Table) -> Result<Option<(&'a Table, WindowNumbers)>, ConfigFault>
     ensures sound { IfOk result (λ window. ForSome window (λ w. IsOk (windows_made w.1))) }
     ensures said { result_map (option_map window_member) result ≡ window_of (table_view table.now) }
 {

@@ -4,7 +4,8 @@ ghost use Rattle.std.specs.Prelude.{◌≡◌, [], ◌≢◌, ◌⊎◌, IfOk, I
 ghost use Rattle.toml.specs.Data.{Members, get_member};
 ghost use Rattle.toml.specs.Errors.{IsBlank};
 ghost use Rattle.toml.specs.View.{table_view};
-ghost use Rattle.limit_kinds.specs.Specs.{limit_made, windows_made};
+ghost use Rattle.windowed.specs.WindowedRules.{windows_made};
+ghost use Rattle.limit_kinds.specs.Specs.{limit_made};
 ghost use Rattle.config_values.specs.declared.fault.ConfigFault.{ConfigFault as FaultValue};
 ghost use Rattle.config_values.specs.Outcomes.{Answers};
 ghost use Rattle.config_sections.specs.Bypass.{bypass_member};

@@ -13,6 +13,8 @@ mod closing;
 #[cfg(test)]
 mod gates;
 #[cfg(test)]
+mod limits;
+#[cfg(test)]
 mod raised_limit_tests;
 #[cfg(test)]
 mod random;

@@ -1,6 +1,7 @@
 // A window of as many samples as it holds; and AIMD over windows of windows, and over a window of a
 // million samples, by worked numbers.
-use aimd::Aimd;
+use crate::limits::LEARNING;
+use aimd::{Aimd, AimdNumbers};
 use limit_laws::{Limit, Sample};
 use sample_window::Window;
 use std::process::Abort;
@@ -15,8 +16,14 @@ fn over<L: Limit>(rt: &impl Abort, inner: L, size: u32, length: u64, min_rtt: u6
 }
 
 /// AIMD 1 to 100 from 20 that takes a round trip of more than this for a drop.
-fn aimd(rt: &impl Abort, timeout: u64) -> Aimd {
-    Aimd::new(1, 20, 100, 900, timeout).expect(rt, "a limit")
+fn aimd(rt: &impl Abort, timeout_ns: u64) -> Aimd {
+    let numbers = AimdNumbers {
+        first: 20,
+        hi: 100,
+        timeout_ns,
+        ..LEARNING
+    };
+    Aimd::of(numbers).expect(rt, "a limit")
 }
 
 /// A sample that began at this moment, in nanoseconds, with 10 permits in flight.

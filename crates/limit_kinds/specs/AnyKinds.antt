@@ -1,13 +1,15 @@
 -- A limit over each sample or over windows, as one: each keeps its own rule.
-use Rattle.std.specs.Prelude.{ℕ, List, Option, None, Some, Result}
+use Rattle.std.specs.Prelude.{ℕ, Option, None, Some, Result}
 use Rattle.limit_laws.specs.declared.limit.SetFault.{SetFault}
 use Rattle.limit_laws.specs.Facts.{SampleFacts}
 use Rattle.limit_laws.specs.Algorithm.{Algorithm}
-use Rattle.windowed.specs.WindowedRules.{WindowNumbers, WindowedState, opened, windowed_rules}
+use Rattle.windowed.specs.declared.numbers.WindowNumbers.{WindowNumbers}
+use Rattle.windowed.specs.WindowedRules.{WindowedState, opened, windowed_rules}
+use Rattle.limit_kinds.specs.declared.kind.LimitKind.{LimitKind}
 use Rattle.limit_kinds.specs.declared.kinds.BaseLimit.{BaseLimit}
 use Rattle.limit_kinds.specs.declared.kinds.AnyLimit.{AnyLimit}
 use Rattle.limit_kinds.specs.declared.kinds.AnyLimit.TheVariants.{Plain, Windowed}
-use Rattle.limit_kinds.specs.Kinds.{base_name, base_rules, set_in}
+use Rattle.limit_kinds.specs.Kinds.{base_kind, base_rules, set_in}
 
 -- the rule over windows
 abbrev pub window_rules : Algorithm (WindowedState BaseLimit)
@@ -37,10 +39,10 @@ abbrev pub any_first : AnyLimit → AnyLimit
 any_first (Plain s) = Plain (base_rules.first s)
 any_first (Windowed s) = Windowed (window_rules.first s)
 
--- a limit over windows is called as the limit inside
-abbrev pub kind_name : AnyLimit → List ℕ
-kind_name (Plain s) = base_name s
-kind_name (Windowed s) = base_name s.inner
+-- the kind of a limit, over windows that of the limit inside
+abbrev pub any_kind : AnyLimit → LimitKind
+any_kind (Plain s) = base_kind s
+any_kind (Windowed s) = base_kind s.inner
 
 -- the rule that a limit has
 abbrev pub any_rules : Algorithm AnyLimit

@@ -1,5 +1,5 @@
--- The kinds of limit, as one: each kind has its name, and keeps its own rule.
-use Rattle.std.specs.Prelude.{ℕ, List, Result, Ok, Err, codes}
+-- The kinds of limit, as one: each keeps its own rule.
+use Rattle.std.specs.Prelude.{ℕ, Result, Ok, Err}
 use Rattle.limit_laws.specs.declared.limit.SetFault.{SetFault}
 use Rattle.limit_laws.specs.Facts.{SampleFacts}
 use Rattle.limit_laws.specs.Algorithm.{Algorithm}
@@ -7,6 +7,8 @@ use Rattle.limit_laws.specs.FixedRules.{fixed_rules}
 use Rattle.limit_laws.specs.SettableRules.{settable_rules}
 use Rattle.aimd.specs.AimdRules.{aimd_rules}
 use Rattle.vegas.specs.VegasRules.{vegas_rules}
+use Rattle.limit_kinds.specs.declared.kind.LimitKind.{LimitKind}
+use Rattle.limit_kinds.specs.declared.kind.LimitKind.TheVariants as kind
 use Rattle.limit_kinds.specs.declared.kinds.BaseLimit.{BaseLimit}
 use Rattle.limit_kinds.specs.declared.kinds.BaseLimit.TheVariants.{Fixed, Settable, Aimd, Vegas}
 
@@ -51,12 +53,12 @@ base_first (Settable s) = Settable (settable_rules.first s)
 base_first (Aimd s) = Aimd (aimd_rules.first s)
 base_first (Vegas s) = Vegas (vegas_rules.first s)
 
--- what a kind is called
-abbrev pub base_name : BaseLimit → List ℕ
-base_name (Fixed s) = codes "fixed"
-base_name (Settable s) = codes "settable"
-base_name (Aimd s) = codes "aimd"
-base_name (Vegas s) = codes "vegas"
+-- the kind of a limit
+abbrev pub base_kind : BaseLimit → LimitKind
+base_kind (Fixed s) = kind.Fixed
+base_kind (Settable s) = kind.Settable
+base_kind (Aimd s) = kind.Aimd
+base_kind (Vegas s) = kind.Vegas
 
 -- the rule of the kind that a limit is of
 abbrev pub base_rules : Algorithm BaseLimit

@@ -1,3 +1,4 @@
+pub mod Kind
 pub mod Wrapped
 pub mod Kinds
 pub mod KindsLaws

@@ -1,8 +1,9 @@
 // The kinds of limit, as one.
 ghost use Rattle.std.specs.Prelude.{◌≡◌};
-ghost use Rattle.limit_kinds.specs.AnyKinds.{any_from, kind_name};
-ghost use Rattle.limit_kinds.specs.Kinds.{base_name};
+ghost use Rattle.limit_kinds.specs.AnyKinds.{any_from, any_kind};
+ghost use Rattle.limit_kinds.specs.Kinds.{base_kind};
 
+use super::kind::LimitKind;
 use aimd::Aimd;
 use limit_laws::{Fixed, Limit, Sample, SetFault, Settable};
 use vegas::Vegas;
@@ -18,15 +19,15 @@ pub enum BaseLimit {
 }
 
 impl BaseLimit {
-    /// What the kind is called: `fixed`, `settable`, `aimd` or `vegas`.
-    pub fn kind(&self) -> &'static str
-        ensures { result.now ≡ base_name self.now }
+    /// The kind of the limit.
+    pub fn kind(&self) -> LimitKind
+        ensures { result ≡ base_kind self.now }
     {
         match self {
-            BaseLimit::Fixed(_) => "fixed",
-            BaseLimit::Settable(_) => "settable",
-            BaseLimit::Aimd(_) => "aimd",
-            BaseLimit::Vegas(_) => "vegas",
+            BaseLimit::Fixed(_) => LimitKind::Fixed,
+            BaseLimit::Settable(_) => LimitKind::Settable,
+            BaseLimit::Aimd(_) => LimitKind::Aimd,
+            BaseLimit::Vegas(_) => LimitKind::Vegas,
         }
     }
 }
@@ -117,9 +118,9 @@ impl AnyLimit {
         }
     }
 
-    /// What the kind is called; over windows, that of the limit inside.
-    pub fn kind(&self) -> &'static str
-        ensures { result.now ≡ kind_name self.now }
+    /// The kind of the limit; over windows, that of the limit inside.
+    pub fn kind(&self) -> LimitKind
+        ensures { result ≡ any_kind self.now }
     {
         match self {
             AnyLimit::Plain(limit) => limit.kind(),

@@ -3,6 +3,10 @@ use Rattle.std.specs.Prelude.{ℕ, ◌^◌, ◌-◌, Bool, true, List, [], ◌�
 use Rattle.std.specs.List.{list_any}
 use Rattle.std.specs.Borrow.{Bor}
 use Rattle.limit_laws.specs.Facts.{hour}
+use Rattle.limit_laws.specs.Algorithm.{greatest_limit}
+use Rattle.sample_window.specs.Totals.{most_samples}
+use Rattle.aimd.specs.AimdRules.{least_ratio, greatest_ratio}
+use Rattle.vegas.specs.VegasRules.{most_queue, most_probe}
 use Rattle.script.specs.Words.{is_number}
 use Rattle.line_explain.specs.declared.forms.TextKind.{TextKind}
 use Rattle.line_explain.specs.declared.forms.TextKind.TheVariants.{Script, Trace}
@@ -44,23 +48,25 @@ form_of form = map wanted_at form.now
 -- the least limit, the first and the greatest one, behind the words of the line
 abbrev pub limits : List Wanted → List Wanted
 limits behind =
-    from_to 1 10000 ∷ number (Of 2) (At 10000) ∷ number (Of 3) (At 10000) ∷ behind
+    from_to 1 greatest_limit ∷ number (Of 2) (At greatest_limit)
+    ∷ number (Of 3) (At greatest_limit) ∷ behind
 
 abbrev pub limit_forms : List (List Wanted)
 limit_forms =
-    (word (codes "limit") ∷ word (codes "fixed") ∷ from_to 1 10000 ∷ [])
+    (word (codes "limit") ∷ word (codes "fixed") ∷ from_to 1 greatest_limit ∷ [])
     ∷ (word (codes "limit") ∷ word (codes "settable") ∷ limits [])
     ∷ (word (codes "limit") ∷ word (codes "aimd") ∷ limits
-    (from_to 500 999 ∷ from_to 1 hour ∷ []))
+    (from_to least_ratio greatest_ratio ∷ from_to 1 hour ∷ []))
     ∷ (word (codes "limit") ∷ word (codes "vegas") ∷ limits
-    (from_to 1 100 ∷ number (Of 5) (At 100) ∷ from_to 0 1000000 ∷ []))
+    (from_to 1 most_queue ∷ number (Of 5) (At most_queue)
+    ∷ from_to 0 most_probe ∷ []))
     ∷ []
 
 -- the lines that set
 abbrev pub settings : List (List Wanted)
 settings =
     limit_forms
-    ++ (word (codes "window") ∷ from_to 1 1000000 ∷ from_to 1 hour ∷ number (Of 2) (At hour)
+    ++ (word (codes "window") ∷ from_to 1 most_samples ∷ from_to 1 hour ∷ number (Of 2) (At hour)
     ∷ from_to 0 hour ∷ [])
     ∷ (word (codes "share") ∷ name ∷ from_to 1 1000 ∷ [])
     ∷ (word (codes "class") ∷ name ∷ from_to 1 100 ∷ [])

@@ -53,7 +53,7 @@ setting_of first rest =
 -- a setting with the bytes of its class's name
 abbrev pub setting_bytes : Setting (Bor (List ℕ)) → Setting (List ℕ)
 setting_bytes (Limit spec) = Limit spec
-setting_bytes (Window spec) = Window spec
+setting_bytes (Window numbers) = Window numbers
 setting_bytes (Class name percent) = Class name.now percent
 setting_bytes (Share name thousandths) = Share name.now thousandths
 setting_bytes (Backlog room) = Backlog room

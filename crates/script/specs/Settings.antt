@@ -7,14 +7,14 @@ use Rattle.partitions.specs.Faults.{fault_of}
 use Rattle.lifo_backlog.specs.Waiters.{most_waiters}
 use Rattle.limiter_core.specs.declared.promote.Promote.{Promote}
 use Rattle.limiter_core.specs.declared.promote.Promote.TheVariants.{Newest}
-use Rattle.windowed.specs.WindowedRules.{WindowNumbers}
+use Rattle.windowed.specs.declared.numbers.WindowNumbers.{WindowNumbers}
+use Rattle.windowed.specs.WindowedRules.{windows_made}
 use Rattle.limit_kinds.specs.declared.kinds.BaseLimit.{BaseLimit}
 use Rattle.limit_kinds.specs.declared.kinds.BaseLimit.TheVariants.{Fixed}
 use Rattle.limit_kinds.specs.declared.kinds.AnyLimit.{AnyLimit}
 use Rattle.limit_kinds.specs.declared.spec.LimitSpec.{LimitSpec}
-use Rattle.limit_kinds.specs.declared.spec.WindowSpec.{WindowSpec}
 use Rattle.limit_kinds.specs.AnyKinds.{any_from}
-use Rattle.limit_kinds.specs.Specs.{limit_made, windows_made}
+use Rattle.limit_kinds.specs.Specs.{limit_made}
 use Rattle.script.specs.declared.setting.Setting.{Setting}
 use Rattle.script.specs.declared.setting.Setting.TheVariants.{Limit, Window, Class, Share, Backlog, Keep, Timeout, Promotion}
 use Rattle.script.specs.declared.fault_kind.FaultKind.{FaultKind}
@@ -64,9 +64,9 @@ abbrev pub with_limit : SettingFacts → LimitSpec → Set
 with_limit s spec =
     once s.limit (in_range (limit_made spec) (λ limit. record s { limit = Some limit }))
 
-abbrev pub with_window : SettingFacts → WindowSpec → Set
-with_window s spec =
-    once s.window (in_range (windows_made spec) (λ window. record s { window = Some window }))
+abbrev pub with_window : SettingFacts → WindowNumbers → Set
+with_window s numbers =
+    once s.window (in_range (windows_made numbers) (λ window. record s { window = Some window }))
 
 -- at most 10,000 may wait
 abbrev pub with_backlog : SettingFacts → ℕ → Set
@@ -112,7 +112,7 @@ with_percent s name percent = with_row s (record { name = name; thousandths = 10
 -- WHAT A SETTING LEADS TO behind these settings
 abbrev pub with_setting : SettingFacts → Setting (List ℕ) → Set
 with_setting s (Limit spec) = with_limit s spec
-with_setting s (Window spec) = with_window s spec
+with_setting s (Window numbers) = with_window s numbers
 with_setting s (Class name percent) = with_percent s name percent
 with_setting s (Share name thousandths) =
     with_row s (record { name = name; thousandths = thousandths })

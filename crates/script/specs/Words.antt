@@ -1,5 +1,5 @@
 -- The words of a line, the numbers that words spell, and what is read of the words in front.
-use Rattle.std.specs.Prelude.{ℕ, ◌^◌, Bool, ◌==◌, nat_lt, nat_le, ◌&&◌, List, [], ◌∷◌, length, filter, Option, None, Some, option_map, option_and_then, Result, Ok, Err, if◌then◌else◌}
+use Rattle.std.specs.Prelude.{ℕ, ◌^◌, ◌-◌, min, Bool, ◌==◌, nat_lt, nat_le, ◌&&◌, List, [], ◌∷◌, length, filter, Option, None, Some, option_map, option_and_then, Result, Ok, Err, if◌then◌else◌}
 use Rattle.std.specs.List.{slice_split, list_all}
 use Rattle.std.specs.Char.{is_ascii_digit}
 use Rattle.std.specs.Str.Parse.{digits_value}
@@ -26,6 +26,18 @@ first_number (word ∷ rest) = option_map (λ n. (n, rest)) (number_of word)
 -- what is made of the number in front and the words behind it
 abbrev pub with_number : {A : Type 0} → (ℕ → List (List ℕ) → Option A) → List (List ℕ) → Option A
 with_number f ws = option_and_then (λ cut. f cut.0 cut.1) (first_number ws)
+
+-- a number in 32 bits: one of 2^32 or more is in no range of a count, and is taken as the greatest
+-- of these, which is in none either
+abbrev pub in_32_bits : ℕ → ℕ
+in_32_bits n = min n (2 ^ 32 - 1)
+
+-- the same of a count in front: of permits, of samples, of thousandths
+abbrev pub first_count : List (List ℕ) → Option (ℕ × List (List ℕ))
+first_count ws = option_map (λ cut. (in_32_bits cut.0, cut.1)) (first_number ws)
+
+abbrev pub with_count : {A : Type 0} → (ℕ → List (List ℕ) → Option A) → List (List ℕ) → Option A
+with_count f ws = option_and_then (λ cut. f cut.0 cut.1) (first_count ws)
 
 -- what is made of the word in front and the words behind it
 abbrev pub with_word :

@@ -4,7 +4,7 @@ ghost use Rattle.std.specs.Prelude.{IfNone};
 ghost use Rattle.std.specs.Char.{is_ascii_digit};
 ghost use Rattle.std.specs.List.{list_all};
 ghost use Rattle.std.specs.Str.Parse.{digits_value};
-ghost use Rattle.script.specs.Words.{words, number_of, first_number, lone_number, number_pair};
+ghost use Rattle.script.specs.Words.{words, number_of, first_number, first_count, in_32_bits, lone_number, number_pair};
 
 use super::words::next_word;
 
@@ -48,6 +48,24 @@ pub(crate) fn next_number(line: &[u8]) -> Option<(u64, &[u8])>
 {
     let (word, line) = next_word(line)?;
     Some((read_number(word)?, line))
+}
+
+/// A number in 32 bits. One of 2^32 or more is in no range of a count, and neither is what it
+/// becomes.
+pub(crate) fn in_32_bits(number: u64) -> u32
+    ensures { result ≡ in_32_bits number }
+{
+    u32::try_from(number).unwrap_or(u32::MAX)
+}
+
+/// The count in front, in 32 bits, and what follows it; nothing where no number is in front.
+pub(crate) fn next_count(line: &[u8]) -> Option<(u32, &[u8])>
+    ensures none { IfNone result (first_count (words line.now) ≡ None) }
+    ensures first { IfSome result
+        (λ cut. first_count (words line.now) ≡ Some (cut.0, words cut.1.now)) }
+{
+    let (number, line) = next_number(line)?;
+    Some((in_32_bits(number), line))
 }
 
 /// The number of a line that has no other word.

@@ -7,8 +7,9 @@ use super::limit_line::read_limit;
 use super::numbers::{next_number, read_lone_number};
 use super::window_line::read_window;
 use super::words::{is_word, next_word};
-use limit_kinds::{LimitSpec, WindowSpec};
+use limit_kinds::LimitSpec;
 use limiter_core::Promote;
+use windowed::WindowNumbers;
 
 /// A setting, whose numbers may be out of their ranges. A class is told by a `C`, as a line is read
 /// by its name.
@@ -17,7 +18,7 @@ pub enum Setting<C> {
     /// The limit.
     Limit(LimitSpec),
     /// Windows over it.
-    Window(WindowSpec),
+    Window(WindowNumbers),
     /// One more class, and its percentage of the limit.
     Class { name: C, percent: u64 },
     /// One more class, and its share of the limit in thousandths.

@@ -7,13 +7,13 @@ ghost use Rattle.script.specs.Settings.{table_of};
 
 use super::fault_kind::FaultKind;
 use super::setting::Setting;
-use limit_kinds::{AnyLimit, BaseLimit, LimitSpec, WindowSpec};
+use limit_kinds::{AnyLimit, BaseLimit, LimitSpec};
 use limit_laws::HOUR;
 use limiter_core::Promote;
 use partitions::{PartitionTable, TableFault, from_percent};
 use std::alloc::{AllocError, Global};
 use std::marker::Model;
-use windowed::WindowSettings;
+use windowed::{WindowNumbers, WindowSettings};
 
 /// The most that may be let wait.
 const MOST_WAITING: u32 = 10_000;
@@ -103,7 +103,7 @@ impl<'a> Settings<'a> {
     {
         match setting {
             Setting::Limit(spec) => Ok(self.take_limit(spec)),
-            Setting::Window(spec) => Ok(self.take_window(spec)),
+            Setting::Window(numbers) => Ok(self.take_window(numbers)),
             Setting::Class { name, percent } => self.take_class(name, percent),
             Setting::Share { name, thousandths } => self.take_share(name, thousandths),
             Setting::Backlog { room } => Ok(self.take_backlog(room)),
@@ -130,15 +130,15 @@ impl<'a> Settings<'a> {
     }
 
     /// Takes windows.
-    fn take_window(&mut self, spec: WindowSpec) -> Result<(), FaultKind>
-        ensures taken { OnOk result (with_window self.old spec ≡ Ok self.new) }
-        ensures fault { IfErr result (λ why. with_window self.old spec ≡ Err why) }
+    fn take_window(&mut self, numbers: WindowNumbers) -> Result<(), FaultKind>
+        ensures taken { OnOk result (with_window self.old numbers ≡ Ok self.new) }
+        ensures fault { IfErr result (λ why. with_window self.old numbers ≡ Err why) }
         ensures unchanged { OnErr result (self.new ≡ self.old) }
     {
         if self.windows.is_some() {
             return Err(FaultKind::Twice);
         }
-        self.windows = Some(spec.make()?);
+        self.windows = Some(WindowSettings::of(numbers)?);
         Ok(())
     }
 
@@ -345,10 +345,7 @@ fn fixed(n: u32) -> BaseLimit
     requires most { n ≤ greatest_limit }
     ensures { result ≡ BaseLimit.Fixed n }
 {
-    let spec = LimitSpec::Fixed {
-        permits: u64::from(n),
-    };
-    match spec.make() {
+    match (LimitSpec::Fixed { permits: n }).make() {
         Ok(limit) => limit,
         Err(_) => unreachable!(),
     }

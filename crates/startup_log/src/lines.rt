@@ -45,7 +45,7 @@ pub fn log_listening<R: Log, F: Opener>(
         warn!(rt; target: "admission", backend:%;
             "the backend is this gateway itself: each request comes back to it");
     }
-    let limit = settings.limit.kind();
+    let limit = settings.limit.kind().word();
     info!(rt; target: "admission", address:%, workers, limit; "listening");
 }
 

@@ -1,3 +1,4 @@
 pub mod VegasRules
+pub mod VegasNumbers
 pub mod VegasLaws
 pub mod Queues

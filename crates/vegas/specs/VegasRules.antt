@@ -33,11 +33,15 @@ pub record IsInRange (lo first hi probe_every : ℕ) : Type 0 where
   pub small : hi ≤ greatest_limit
   pub probe_most : probe_every ≤ most_probe
 
+-- the greatest threshold of a queue
+abbrev pub most_queue : ℕ
+most_queue = 100
+
 -- thresholds of a queue: 1 ≤ alpha ≤ beta ≤ 100
 pub record AreThresholds (alpha beta : ℕ) : Type 0 where
   pub least : 1 ≤ alpha
   pub order : alpha ≤ beta
-  pub most : beta ≤ 100
+  pub most : beta ≤ most_queue
 
 -- what is true of every Vegas limit
 pub record IsVegas (s : VegasState) : Type 0 where

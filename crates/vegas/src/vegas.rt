@@ -3,13 +3,12 @@ ghost use Rattle.std.specs.Prelude.{◌≡◌, ◌≤◌, ◌↔◌, IfOk, IsOk}
 ghost use Rattle.limit_laws.specs.Facts.{hour};
 ghost use Rattle.limit_laws.specs.Algorithm.{greatest_limit};
 ghost use Rattle.vegas.specs.VegasRules.{vegas_rules, vegas_from, queue as queue_lem, measured, probes, count_after, IsInRange, AreThresholds};
+ghost use Rattle.vegas.specs.VegasNumbers.{vegas_made, vegas_of};
 ghost use Rattle.vegas.specs.VegasLaws.{IsLawful-vegas};
 
+use crate::numbers::{MOST_PROBE, MOST_QUEUE, VegasNumbers};
 use limit_laws::{GREATEST_LIMIT, Limit, MakeFault, Sample, SetFault};
 use std::marker::Model;
-
-/// The most samples between two probes.
-const MOST_PROBE: u32 = 1_000_000;
 
 /// Rises by one permit while the queue behind it is short, and falls by one where it is long or a
 /// call was dropped.
@@ -77,8 +76,8 @@ impl Vegas {
     /// anew, never where that is 0.
     ///
     /// The faults, the first that applies: [`MakeFault::Range`] unless
-    /// `1 <= lo <= first <= hi <= 10,000` and `probe_every <= 1,000,000`; [`MakeFault::Alpha`]
-    /// unless `1 <= alpha <= beta <= 100`.
+    /// `1 <= lo <= first <= hi <= 10,000` and `probe_every` is at most [`MOST_PROBE`];
+    /// [`MakeFault::Alpha`] unless `1 <= alpha <= beta` and `beta` is at most [`MOST_QUEUE`].
     pub fn new(
         lo: u32,
         first: u32,
@@ -95,13 +94,36 @@ impl Vegas {
         ensures alpha { IsInRange lo first hi probe_every → ¬ AreThresholds alpha beta →
             result ≡ Err MakeFault.Alpha }
     {
+        Vegas::of(VegasNumbers {
+            lo,
+            first,
+            hi,
+            alpha,
+            beta,
+            probe_every,
+        })
+    }
+
+    /// The limit of these numbers, with the faults of [`Vegas::new`].
+    pub fn of(numbers: VegasNumbers) -> Result<Vegas, MakeFault>
+        ensures made { result ≡ vegas_made numbers }
+        ensures value { IfOk result (λ vegas. vegas ≡ vegas_of numbers) }
+    {
+        let VegasNumbers {
+            lo,
+            first,
+            hi,
+            alpha,
+            beta,
+            probe_every,
+        } = numbers;
         if lo < 1 || first < lo || hi < first || GREATEST_LIMIT < hi {
             return Err(MakeFault::Range);
         }
         if MOST_PROBE < probe_every {
             return Err(MakeFault::Range);
         }
-        if alpha < 1 || beta < alpha || 100 < beta {
+        if alpha < 1 || beta < alpha || MOST_QUEUE < beta {
             return Err(MakeFault::Alpha);
         }
         Ok(Vegas {

@@ -5,7 +5,8 @@ use Rattle.std.proofs.lemmas.Bool.{cases_lt, cases_Bool, leb-true}
 use Rattle.std.proofs.lemmas.List.Elements.{All-push, All-nil, filter_map-append}
 use Rattle.limit_laws.specs.Facts.{SampleFacts}
 use Rattle.sample_window.specs.Totals.{most_samples}
-use Rattle.windowed.specs.WindowedRules.{WindowNumbers, is_kept, end_of}
+use Rattle.windowed.specs.declared.numbers.WindowNumbers.{WindowNumbers}
+use Rattle.windowed.specs.WindowedRules.{is_kept, end_of}
 use Rattle.windowed.specs.Windows.{Input, Sampled, SetTo, Stretch, samples_of, kept_sample, inputs_of, window_samples, StaysOpen, IsWindow, AreWindows, due_after, due_after_all, CutsIntoWindows}
 use Rattle.windowed.specs.Learning.{CutsFromAnyMoment}
 
@@ -99,7 +100,7 @@ cut w due before (Sampled x ∷ inputs) o = elim (cases_Bool (is_kept w x)) [
       (open_other w due before (Sampled x) (no_sample w x e) o))
   | inl e ↦
       let s : Stretch = record { before = before; last = x } in
-      let kept : w.min_rtt ≤ x.rtt = leb-true w.min_rtt x.rtt e in
+      let kept : w.min_rtt_ns ≤ x.rtt = leb-true w.min_rtt_ns x.rtt e in
       elim (cases_lt due (end_of x)) [
         | inl late ↦
             window_first w due before x inputs

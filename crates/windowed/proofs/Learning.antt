@@ -6,7 +6,8 @@ use Rattle.std.proofs.lemmas.List.Elements.{All-head, All-tail, All-cons, filter
 use Rattle.std.proofs.lemmas.List.Folds.{fold-map}
 use Rattle.limit_laws.specs.Facts.{SampleFacts, IsSample}
 use Rattle.limit_laws.specs.Algorithm.{Algorithm}
-use Rattle.windowed.specs.WindowedRules.{WindowNumbers, windowed_rules, windowed_next, is_kept}
+use Rattle.windowed.specs.declared.numbers.WindowNumbers.{WindowNumbers}
+use Rattle.windowed.specs.WindowedRules.{windowed_rules, windowed_next, is_kept}
 use Rattle.windowed.specs.Windows.{Input, Sampled, after, run, is_setting, Stretch, samples_of, inputs_of, window_samples, window_mean, handed_on, IsCuttingFrom}
 use Rattle.windowed.specs.Learning.{HasEnough, HasTooFew, emptied, LearnsFromEachWindow, LearnsNothingFromFew}
 use Rattle.windowed.proofs.Runs.{run_windows}

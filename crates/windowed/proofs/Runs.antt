@@ -7,7 +7,8 @@ use Rattle.std.proofs.lemmas.List.Sums.{fold-append}
 use Rattle.limit_laws.specs.Facts.{SampleFacts, IsSample}
 use Rattle.limit_laws.specs.Algorithm.{Algorithm}
 use Rattle.sample_window.specs.Totals.{most_samples}
-use Rattle.windowed.specs.WindowedRules.{opened, WindowNumbers, windowed_rules, windowed_next, is_kept, end_of}
+use Rattle.windowed.specs.declared.numbers.WindowNumbers.{WindowNumbers}
+use Rattle.windowed.specs.WindowedRules.{opened, windowed_rules, windowed_next, is_kept, end_of}
 use Rattle.windowed.specs.Windows.{Input, Sampled, SetTo, after, run, is_setting, kept_sample, Stretch, samples_of, inputs_of, window_samples, handed_on, StaysOpen, IsWindow, AreWindows, due_after, due_after_all, InnerRunsOverWindows}
 use Rattle.windowed.proofs.Totals.{all_left, all_right}
 use Rattle.windowed.proofs.Cuttings.{samples_of_kept, no_sample}
@@ -57,7 +58,7 @@ module _ {S : Type 0} (rules : Algorithm S) (w : WindowNumbers) where
       (omega (arith, is.none_before.few)) in
       let last =
       next-ended rules w due (run rules inner settings) (samples_of w s.before) s.last
-      (le-leb w.min_rtt s.last.rtt is.kept) is.ends samples in
+      (le-leb w.min_rtt_ns s.last.rtt is.kept) is.ends samples in
       fold-append (after (windowed_rules rules)) (state_of w due inner []) s.before
       (Sampled s.last ∷ [])
       ∙ ap (λ t. windowed_next rules t s.last) before
@@ -66,7 +67,8 @@ module _ {S : Type 0} (rules : Algorithm S) (w : WindowNumbers) where
 
   window_inputs : (due : ℕ) (s : Stretch) → IsWindow w due s →
       samples_of w (inputs_of s) ≡ window_samples w s
-  window_inputs due s is = samples_of_kept w s.before s.last (le-leb w.min_rtt s.last.rtt is.kept)
+  window_inputs due s is =
+      samples_of_kept w s.before s.last (le-leb w.min_rtt_ns s.last.rtt is.kept)
 
   pub run_windows : (due : ℕ) (inner : S) (windows : List Stretch) (rest : List Input) →
       AreWindows w due windows → StaysOpen w (due_after_all w due windows) rest →

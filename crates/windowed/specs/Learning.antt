@@ -2,7 +2,8 @@
 use Rattle.std.specs.Prelude.{◌≡◌, ℕ, ◌≤◌, ◌<◌, List, All, length, fold, map}
 use Rattle.limit_laws.specs.Facts.{SampleFacts, IsSample}
 use Rattle.limit_laws.specs.Algorithm.{Algorithm}
-use Rattle.windowed.specs.WindowedRules.{WindowNumbers, WindowedState, opened, windowed_next}
+use Rattle.windowed.specs.declared.numbers.WindowNumbers.{WindowNumbers}
+use Rattle.windowed.specs.WindowedRules.{WindowedState, opened, windowed_next}
 use Rattle.windowed.specs.Windows.{Input, Sampled, Stretch, window_samples, window_mean, IsCuttingFrom}
 
 -- a window has enough samples to be handed on

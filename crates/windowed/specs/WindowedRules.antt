@@ -1,35 +1,42 @@
 -- A limit algorithm that learns from windows of samples, by the totals that it keeps.
-use Rattle.std.specs.Prelude.{ℕ, ◌+◌, ◌*◌, ◌/◌, ◌≤◌, Bool, [], Result, Ok, Err, min, max, nat_lt, nat_le, ◌||◌, if◌then◌else◌}
+use Rattle.std.specs.Prelude.{ℕ, ◌+◌, ◌*◌, ◌/◌, ◌≤◌, Bool, [], Result, Ok, Err, min, max, nat_lt, nat_le, ◌||◌, ◌&&◌, if◌then◌else◌}
+use Rattle.limit_laws.specs.declared.limit.MakeFault.{MakeFault}
+use Rattle.limit_laws.specs.declared.limit.MakeFault.TheVariants.{Window}
 use Rattle.limit_laws.specs.declared.limit.SetFault.{SetFault}
 use Rattle.limit_laws.specs.Facts.{SampleFacts, hour}
 use Rattle.limit_laws.specs.Algorithm.{Algorithm}
 use Rattle.sample_window.specs.Totals.{WindowTotals, totals, with_sample, most_samples}
+use Rattle.windowed.specs.declared.numbers.WindowNumbers.{WindowNumbers}
 
--- how many samples a window must have to be handed on, the least and the most time that a window
--- lasts, and the least round trip that counts; times in nanoseconds
-pub record WindowNumbers : Type 0 where
-  pub size : ℕ
-  pub min_window : ℕ
-  pub max_window : ℕ
-  pub min_rtt : ℕ
-
--- these numbers
+-- these numbers: how many samples a window must have to be handed on, the least and the most time
+-- that a window lasts, and the least round trip that counts
 abbrev pub numbers_from : ℕ → ℕ → ℕ → ℕ → WindowNumbers
 numbers_from size min_window max_window min_rtt = record {
   size = size;
-  min_window = min_window;
-  max_window = max_window;
-  min_rtt = min_rtt;
+  min_window_ns = min_window;
+  max_window_ns = max_window;
+  min_rtt_ns = min_rtt;
 }
 
 -- the ranges of the settings
 pub record AreSettings (w : WindowNumbers) : Type 0 where
   pub size_least : 1 ≤ w.size
   pub size_most : w.size ≤ most_samples
-  pub min_least : 1 ≤ w.min_window
-  pub order : w.min_window ≤ w.max_window
-  pub max_most : w.max_window ≤ hour
-  pub rtt_most : w.min_rtt ≤ hour
+  pub min_least : 1 ≤ w.min_window_ns
+  pub order : w.min_window_ns ≤ w.max_window_ns
+  pub max_most : w.max_window_ns ≤ hour
+  pub rtt_most : w.min_rtt_ns ≤ hour
+
+-- the same as a test
+abbrev pub are_settings : WindowNumbers → Bool
+are_settings w =
+    nat_le 1 w.size && nat_le w.size most_samples
+    && nat_le 1 w.min_window_ns && nat_le w.min_window_ns w.max_window_ns
+    && nat_le w.max_window_ns hour && nat_le w.min_rtt_ns hour
+
+-- THE SETTINGS of these numbers, where each is in its range
+abbrev pub windows_made : WindowNumbers → Result WindowNumbers MakeFault
+windows_made w = if are_settings w then Ok w else Err Window
 
 -- the inner algorithm, the totals of the open window, and the moment after which a sample ends it
 pub record WindowedState (S : Type 0) : Type 0 where
@@ -48,12 +55,12 @@ end_of x = x.start + x.rtt
 
 -- whether a sample counts
 abbrev pub is_kept : WindowNumbers → SampleFacts → Bool
-is_kept w x = nat_le w.min_rtt x.rtt
+is_kept w x = nat_le w.min_rtt_ns x.rtt
 
 -- after which moment the next window ends, where a window of these totals ended with this
 -- sample: twice its least round trip later, within the bounds
 abbrev pub update_after : WindowNumbers → WindowTotals → SampleFacts → ℕ
-update_after w t x = end_of x + min (max (2 * t.least) w.min_window) w.max_window
+update_after w t x = end_of x + min (max (2 * t.least) w.min_window_ns) w.max_window_ns
 
 -- the mean sample of a window of these totals that ended with this sample
 abbrev pub mean_sample : WindowTotals → SampleFacts → SampleFacts

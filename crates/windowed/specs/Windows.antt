@@ -5,7 +5,8 @@ use Rattle.std.specs.Result.{result_unwrap_or}
 use Rattle.limit_laws.specs.Facts.{SampleFacts, IsSample}
 use Rattle.limit_laws.specs.Algorithm.{Algorithm}
 use Rattle.sample_window.specs.Totals.{totals, most_samples}
-use Rattle.windowed.specs.WindowedRules.{WindowNumbers, opened, windowed_rules, is_kept, end_of, update_after, mean_sample}
+use Rattle.windowed.specs.declared.numbers.WindowNumbers.{WindowNumbers}
+use Rattle.windowed.specs.WindowedRules.{opened, windowed_rules, is_kept, end_of, update_after, mean_sample}
 
 -- what an algorithm is told: a sample, or a setting by hand
 pub data Input : Type 0 where
@@ -54,7 +55,7 @@ pub record StaysOpen (w : WindowNumbers) (due : ℕ) (inputs : List Input) : Typ
 -- a window ends at its first sample that ended after the due moment, or at its 1,000,000th
 pub record IsWindow (w : WindowNumbers) (due : ℕ) (s : Stretch) : Type 0 where
   pub none_before : StaysOpen w due s.before
-  pub kept : w.min_rtt ≤ s.last.rtt
+  pub kept : w.min_rtt_ns ≤ s.last.rtt
   pub ends : (due < end_of s.last) ⊎ (length (window_samples w s) ≡ most_samples)
 
 -- the due moment of the window after this one

@@ -12,9 +12,11 @@
 #![tactic(auto)]
 
 mod laws;
+mod numbers;
 mod settings;
 mod windowed;
 
 pub use laws::{cuts_into_windows, inner_runs_over_windows, learns_from_windows_with_enough};
+pub use numbers::{MOST_SAMPLES, WindowNumbers};
 pub use settings::WindowSettings;
 pub use windowed::Windowed;

@@ -3,7 +3,8 @@ ghost use Rattle.std.specs.Prelude.{◌≡◌, ◌↔◌, IfOk, IfErr, IsOk};
 ghost use Rattle.windowed.specs.WindowedRules.{AreSettings, numbers_from, opened, windowed_rules};
 ghost use Rattle.windowed.specs.WindowedLaws.{IsLawful-windowed};
 
-use super::settings::{MOST_SAMPLES, WindowSettings};
+use crate::numbers::MOST_SAMPLES;
+use crate::settings::WindowSettings;
 use limit_laws::{Limit, MakeFault, Sample, SetFault};
 use sample_window::Window;
 use std::marker::Model;

@@ -1,17 +1,18 @@
 // From the numbers of a limit and its windows to the limit.
 ghost use Rattle.std.specs.Option.{ForSome};
-ghost use Rattle.std.specs.Prelude.{◌≡◌, IsOk, option_map};
+ghost use Rattle.std.specs.Prelude.{◌≡◌, IsOk};
+ghost use Rattle.windowed.specs.WindowedRules.{windows_made};
 ghost use Rattle.limit_kinds.specs.AnyKinds.{any_from};
-ghost use Rattle.limit_kinds.specs.Specs.{first_limit, limit_made, window_numbers, windows_made};
+ghost use Rattle.limit_kinds.specs.Specs.{first_limit, limit_made};
 
-use limit_kinds::{AnyLimit, LimitSpec, WindowSpec};
-use windowed::WindowSettings;
+use limit_kinds::{AnyLimit, LimitSpec};
+use windowed::{WindowNumbers, WindowSettings};
 
 /// The limit of these numbers, over windows where there are numbers of some.
-pub fn any_limit(limit: LimitSpec, window: Option<WindowSpec>) -> AnyLimit
+pub fn any_limit(limit: LimitSpec, window: Option<WindowNumbers>) -> AnyLimit
     requires limit { IsOk (limit_made limit) }
-    requires window { ForSome window (λ spec. IsOk (windows_made spec)) }
-    ensures { result ≡ any_from (first_limit limit) (option_map window_numbers window) }
+    requires window { ForSome window (λ numbers. IsOk (windows_made numbers)) }
+    ensures { result ≡ any_from (first_limit limit) window }
 {
     let base = match limit.make() {
         Ok(base) => base,
@@ -19,16 +20,16 @@ pub fn any_limit(limit: LimitSpec, window: Option<WindowSpec>) -> AnyLimit
     };
     match window {
         None => AnyLimit::new(base, None),
-        Some(window) => AnyLimit::new(base, Some(windows(window))),
+        Some(numbers) => AnyLimit::new(base, Some(windows(numbers))),
     }
 }
 
 /// The windows of these numbers.
-fn windows(spec: WindowSpec) -> WindowSettings
-    requires { IsOk (windows_made spec) }
-    ensures { result ≡ window_numbers spec }
+fn windows(numbers: WindowNumbers) -> WindowSettings
+    requires { IsOk (windows_made numbers) }
+    ensures { result ≡ numbers }
 {
-    match spec.make() {
+    match WindowSettings::of(numbers) {
         Ok(settings) => settings,
         Err(_) => unreachable!(),
     }

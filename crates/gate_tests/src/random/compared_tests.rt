@@ -4,7 +4,8 @@ use super::dice::Dice;
 use super::drawn_events::drawn;
 use super::four_threads_tests::reply_of;
 use super::plain_limiter::{PlainLimiter, ROOM, few};
-use aimd::Aimd;
+use crate::limits::LEARNING;
+use aimd::{Aimd, AimdNumbers};
 use limiter_core::{Core, Counters, Event, Promote};
 use partitions::{Part, PartitionTable};
 use std::alloc::Global;
@@ -27,7 +28,12 @@ fn a_limiter_that_promotes_all_is_as_a_plain_one(rt: HostRuntime) {
 fn limiter<R: Abort>(rt: &R, alloc: Global, promote: Promote) -> Core<Aimd> {
     let rows = [(b"live".as_slice(), 500), (b"batch", 300), (b"scan", 100)];
     let table = PartitionTable::new(alloc, &rows).expect(rt, "a table");
-    let limit = Aimd::new(1, 3, 6, 900, 20_000).expect(rt, "a limit");
+    let numbers = AimdNumbers {
+        hi: 6,
+        timeout_ns: 20_000,
+        ..LEARNING
+    };
+    let limit = Aimd::of(numbers).expect(rt, "a limit");
     Core::new(alloc, limit, table, ROOM, promote).expect(rt, "a limiter")
 }
 

@@ -5,6 +5,7 @@ ghost use Rattle.limiter_core.specs.Limiter.{gate_of, stands};
 
 use super::random_calls::{Caller, Told, call_at_random};
 use crate::gates::{Making, next_of};
+use crate::limits::LEARNING;
 use crate::threaded::{Threaded, try_by_threads};
 use crate::threads::{Work, four_done};
 use aimd::Aimd;
@@ -30,7 +31,7 @@ fn classes<R: Abort>(rt: &R, alloc: Global) -> PartitionTable {
 
 /// A limit of 1 to 5, which begins with 3.
 fn limit<R: Abort>(rt: &R) -> Aimd {
-    Aimd::new(1, 3, 5, 900, 1_000_000).expect(rt, "a limit")
+    Aimd::of(LEARNING).expect(rt, "a limit")
 }
 
 /// A limiter that is asked by one thread.
