@@ -11,7 +11,7 @@ use partitions::Part;
 use std::alloc::Global;
 use std::cell::Cell;
 use std::io::{BufRead, Error, ErrorKind, Read, Result, Write};
-use wire::{Answer, Backend, Response, WireFault};
+use wire::{Backend, BackendAnswer, Response, WireFault};
 
 /// Gives its bytes, or shows them, at most `most` in a call. One call alone fails.
 #[derive(Drop)]
@@ -183,19 +183,19 @@ impl Backend for Told {
 
     ghost shown = { λ b. None };
 
-    fn forward(&mut self, _request: &Request) -> Answer
+    fn forward(&mut self, _request: &Request) -> BackendAnswer
         ensures { self.new.count ≡ raised self.old.count }
     {
         self.count = self.count.saturating_add(1);
         match self.says {
             Says::Status(status) => {
                 let headers = Headers::new(Vec::new(self.alloc));
-                Answer::Answered(Response::new(status.clamp(100, 999), headers, None))
+                BackendAnswer::Answered(Response::new(status.clamp(100, 999), headers, None))
             }
-            Says::NotConnected => Answer::NotConnected,
-            Says::Broken(fault) => Answer::Broken(fault),
-            Says::Late => Answer::Late,
-            Says::Memory => Answer::Memory,
+            Says::NotConnected => BackendAnswer::NotConnected,
+            Says::Broken(fault) => BackendAnswer::Broken(fault),
+            Says::Late => BackendAnswer::Late,
+            Says::Memory => BackendAnswer::Memory,
         }
     }
 

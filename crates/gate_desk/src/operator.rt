@@ -3,7 +3,7 @@ use crate::desk::GateDesk;
 use crate::watch::DeskWatch;
 use clocks::Clock;
 use limit_laws::Limit;
-use operator_serving::{Buffers, Operating, operate};
+use operator_serving::{Operating, OperatorBuffers, operate};
 use shared_gate::GateNaming;
 use std::alloc::AllocError;
 use std::sync::Wait;
@@ -17,7 +17,7 @@ use timed_io::Listener;
 pub struct Operator<'a, G: Limit, M: GateNaming, R, L, C, W> {
     common: &'a Operating<'a, L, C>,
     desk: GateDesk<'a, G, M, R, L, C, W>,
-    buffers: Buffers,
+    buffers: OperatorBuffers,
     also: Option<&'a L>,
 }
 
@@ -28,7 +28,7 @@ impl<'a, G: Limit, M: GateNaming, R, L, C, W: Drop> Operator<'a, G, M, R, L, C, 
         desk: GateDesk<'a, G, M, R, L, C, W>,
         also: Option<&'a L>,
     ) -> Result<Operator<'a, G, M, R, L, C, W>, AllocError> {
-        let buffers = Buffers::new(common.alloc)?;
+        let buffers = OperatorBuffers::new(common.alloc)?;
         Ok(Operator {
             common,
             desk,

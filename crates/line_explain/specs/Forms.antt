@@ -12,8 +12,8 @@ use Rattle.line_explain.specs.declared.forms.TextKind.{TextKind}
 use Rattle.line_explain.specs.declared.forms.TextKind.TheVariants.{Script, Trace}
 use Rattle.line_explain.specs.declared.place.Bound.{Bound}
 use Rattle.line_explain.specs.declared.place.Bound.TheVariants.{At, Of}
-use Rattle.line_explain.specs.declared.place.Place.{Place}
-use Rattle.line_explain.specs.declared.place.Place.TheVariants.{Words, Number, Name, Class}
+use Rattle.line_explain.specs.declared.place.WordPlace.{WordPlace}
+use Rattle.line_explain.specs.declared.place.WordPlace.TheVariants.{Words, Number, Name, Class}
 
 -- what is wanted at a place of a line: one of some words, a number in a range, of which an end may
 -- be the number at an earlier place, the name of a class that the line brings, or that of a class
@@ -36,13 +36,13 @@ abbrev pub any_number : Wanted
 any_number = from_to 0 (2 ^ 64 - 1)
 
 -- what a place of the code's forms wants, and what all places of one do
-abbrev pub wanted_at : Place → Wanted
+abbrev pub wanted_at : WordPlace → Wanted
 wanted_at (Words ws) = one_of (map (λ w. w.now) ws.now)
 wanted_at (Number n) = number n.low n.high
 wanted_at Name = name
 wanted_at Class = class
 
-abbrev pub form_of : Bor (List Place) → List Wanted
+abbrev pub form_of : Bor (List WordPlace) → List Wanted
 form_of form = map wanted_at form.now
 
 -- the least limit, the first and the greatest one, behind the words of the line

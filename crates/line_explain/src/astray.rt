@@ -6,7 +6,7 @@ ghost use Rattle.line_explain.specs.Forms.{fits, form_of, wanted_at};
 ghost use Rattle.line_explain.specs.Astray.{astray, reach};
 
 use crate::forms::{TextKind, forms};
-use crate::place::Place;
+use crate::place::WordPlace;
 use script::read_number;
 
 /// Whether a word is this one.
@@ -38,25 +38,25 @@ fn is_among(word: &[u8], words: &[&str]) -> bool
 }
 
 /// Whether a word may stand at a place, whichever number it spells.
-fn fits(place: Place, word: &[u8]) -> bool
+fn fits(place: WordPlace, word: &[u8]) -> bool
     ensures { result ≡ fits (wanted_at place) word.now }
 {
     match place {
-        Place::Words(words) => is_among(word, words),
-        Place::Number(_) => read_number(word).is_some(),
-        Place::Name | Place::Class => true,
+        WordPlace::Words(words) => is_among(word, words),
+        WordPlace::Number(_) => read_number(word).is_some(),
+        WordPlace::Name | WordPlace::Class => true,
     }
 }
 
 /// How many words of a line stand where a form wants them, from the first one on.
-pub(crate) fn reach(line: &[u8], form: &[Place]) -> usize
+pub(crate) fn reach(line: &[u8], form: &[WordPlace]) -> usize
     ensures { result ≡ reach (words line.now) (form_of form.entry) }
 {
     count_fitting(line, form)
 }
 
 /// The same, by the words of the line beside the places of the form.
-fn count_fitting(line: &[u8], form: &[Place]) -> usize
+fn count_fitting(line: &[u8], form: &[WordPlace]) -> usize
     ensures { result ≡ length (take_while (λ pair. fits (wanted_at pair.1) pair.0)
         (zip (words line.now) form.now)) }
 {

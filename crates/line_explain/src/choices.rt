@@ -1,7 +1,7 @@
 // What the forms want at a place.
 use crate::astray::reach;
 use crate::forms::{TextKind, forms};
-use crate::place::{Bound, Number, Place};
+use crate::place::{Bound, Number, WordPlace};
 use std::alloc::AllocError;
 
 /// What may stand at a place.
@@ -10,7 +10,7 @@ enum Choice<'a> {
     /// This word.
     Word(&'a str),
     /// A number of this form.
-    Number(&'a [Place], Number),
+    Number(&'a [WordPlace], Number),
     /// The name of a class that the line brings.
     Name,
     /// That of a class that is known.
@@ -55,13 +55,17 @@ pub(crate) fn push_choices(
 
 impl<'a, 'b> Choices<'a, 'b> {
     /// What a form wants.
-    fn meet_at(&mut self, form: &'a [Place], wanted: Option<Place>) -> Result<(), AllocError> {
+    fn meet_at(
+        &mut self,
+        form: &'a [WordPlace],
+        wanted: Option<WordPlace>,
+    ) -> Result<(), AllocError> {
         match wanted {
             None => self.meet(Choice::End),
-            Some(Place::Name) => self.meet(Choice::Name),
-            Some(Place::Class) => self.meet(Choice::Class),
-            Some(Place::Number(number)) => self.meet(Choice::Number(form, number)),
-            Some(Place::Words(words)) => self.meet_words(words),
+            Some(WordPlace::Name) => self.meet(Choice::Name),
+            Some(WordPlace::Class) => self.meet(Choice::Class),
+            Some(WordPlace::Number(number)) => self.meet(Choice::Number(form, number)),
+            Some(WordPlace::Words(words)) => self.meet_words(words),
         }
     }
 
@@ -99,11 +103,13 @@ impl<'a, 'b> Choices<'a, 'b> {
 }
 
 /// Whether two forms that begin alike want the same.
-fn is_same(one: Option<Place>, other: Option<Place>) -> bool {
+fn is_same(one: Option<WordPlace>, other: Option<WordPlace>) -> bool {
     match (one, other) {
-        (Some(Place::Words(one)), Some(Place::Words(other))) => one.first() == other.first(),
-        (Some(Place::Number(one)), Some(Place::Number(other))) => one.name == other.name,
-        (Some(Place::Name), Some(Place::Name)) | (Some(Place::Class), Some(Place::Class)) => true,
+        (Some(WordPlace::Words(one)), Some(WordPlace::Words(other))) => one.first()
+            == other.first(),
+        (Some(WordPlace::Number(one)), Some(WordPlace::Number(other))) => one.name == other.name,
+        (Some(WordPlace::Name), Some(WordPlace::Name))
+        | (Some(WordPlace::Class), Some(WordPlace::Class)) => true,
         _ => false,
     }
 }
@@ -126,7 +132,7 @@ fn push_choice(out: &mut String, choice: Choice<'_>) -> Result<(), AllocError> {
 /// Says what a number counts, and its range by the names of the form.
 pub(crate) fn push_held(
     out: &mut String,
-    form: &[Place],
+    form: &[WordPlace],
     number: Number,
 ) -> Result<(), AllocError> {
     let Number {
@@ -145,11 +151,11 @@ pub(crate) fn push_held(
 }
 
 /// Says an end of a range.
-fn push_bound(out: &mut String, form: &[Place], bound: Bound) -> Result<(), AllocError> {
+fn push_bound(out: &mut String, form: &[WordPlace], bound: Bound) -> Result<(), AllocError> {
     match bound {
         Bound::At(number) => write!(out, "{number}"),
         Bound::Of(place) => match form.get(place) {
-            Some(Place::Number(number)) => out.push_str(number.name),
+            Some(WordPlace::Number(number)) => out.push_str(number.name),
             _ => Ok(()),
         },
     }

@@ -1,6 +1,6 @@
 // Classes beside those that a text has.
 use crate::astray::word_at;
-use crate::place::{Bound, Number, Place};
+use crate::place::{Bound, Number, WordPlace};
 use crate::value::push_name;
 use partitions::{Part, PartitionTable};
 use std::alloc::AllocError;
@@ -53,12 +53,12 @@ fn left_of(table: &PartitionTable) -> u32 {
 /// Says why a class isn't taken.
 pub(crate) fn push_refusal(
     out: &mut String,
-    form: &[Place],
+    form: &[WordPlace],
     refusal: Refusal,
 ) -> Result<(), AllocError> {
     match (refusal, form.get(2)) {
         (Refusal::TooMany, _) => out.push_str("there may be at most four classes"),
-        (Refusal::Left(left), Some(Place::Number(number))) => push_left(out, *number, left),
+        (Refusal::Left(left), Some(WordPlace::Number(number))) => push_left(out, *number, left),
         _ => push_name(out),
     }
 }

@@ -2,7 +2,7 @@
 ghost use Rattle.std.specs.Prelude.{◌≡◌, map};
 ghost use Rattle.line_explain.specs.Forms.{form_of, forms_of};
 
-use crate::place::{Bound, Number, Place};
+use crate::place::{Bound, Number, WordPlace};
 use config_words::key_row;
 use limit_laws::HOUR;
 
@@ -18,14 +18,14 @@ pub enum TextKind {
 /// The place of one word.
 macro_rules! word {
     ($($word:literal)*) => {
-        Place::Words(&[$($word),*])
+        WordPlace::Words(&[$($word),*])
     };
 }
 
 /// The place of a number in a range.
 macro_rules! number {
     ($name:literal, $held:literal, $low:expr, $high:expr) => {
-        Place::Number(Number {
+        WordPlace::Number(Number {
             name: $name,
             held: $held,
             low: Bound::At($low),
@@ -73,7 +73,7 @@ macro_rules! number_of_row {
         $name:literal [$low:literal] $key:ident $start:literal $held:literal
             [$before:ident to $most:literal; $($default:tt)*] $(help $help:literal)?;
     ) => {
-        Place::Number(Number {
+        WordPlace::Number(Number {
             name: $name,
             held: $held,
             low: Bound::Of($low),
@@ -83,16 +83,16 @@ macro_rules! number_of_row {
 }
 
 /// When something is asked.
-const NOW: Place = any_number!("NOW", "nanoseconds");
+const NOW: WordPlace = any_number!("NOW", "nanoseconds");
 
 /// When a call comes.
-const AT: Place = any_number!("AT", "nanoseconds");
+const AT: WordPlace = any_number!("AT", "nanoseconds");
 
 /// The number of an acquire.
-const ACQUIRED: Place = any_number!("N", "the number of an acquire");
+const ACQUIRED: WordPlace = any_number!("N", "the number of an acquire");
 
 /// How long a call holds its permit.
-const HELD: Place = number!(
+const HELD: WordPlace = number!(
     "DURATION",
     "how long its permit is held, nanoseconds, ",
     0,
@@ -100,7 +100,7 @@ const HELD: Place = number!(
 );
 
 /// The longest time that a window lasts.
-const LONGEST: Place = Place::Number(Number {
+const LONGEST: WordPlace = WordPlace::Number(Number {
     name: "MAX",
     held: "the longest window in nanoseconds, ",
     low: Bound::Of(2),
@@ -108,7 +108,7 @@ const LONGEST: Place = Place::Number(Number {
 });
 
 /// How a permit ends.
-const OUTCOME: Place = word!("success" "ignored" "dropped");
+const OUTCOME: WordPlace = word!("success" "ignored" "dropped");
 
 /// The forms of the lines that set, and these behind them.
 macro_rules! with_settings {
@@ -148,8 +148,8 @@ macro_rules! with_settings {
                 LONGEST,
                 number!("MINRTT", "quicker answers are left out, nanoseconds, ", 0, HOUR),
             ],
-            &[word!("share"), Place::Name, number_of!("THOUSANDTHS", ClassShare)],
-            &[word!("class"), Place::Name, number_of!("PERCENT", ClassPercent)],
+            &[word!("share"), WordPlace::Name, number_of!("THOUSANDTHS", ClassShare)],
+            &[word!("class"), WordPlace::Name, number_of!("PERCENT", ClassPercent)],
             &[word!("backlog"), number_of!("N", Backlog)],
             &[word!("keep"), number_of!("K", Keep)],
             &[word!("keep"), number_of!("K", Keep), word!("rolling")],
@@ -161,9 +161,9 @@ macro_rules! with_settings {
 }
 
 /// The forms of a script's lines.
-static SCRIPT: [&[Place]; 21] = with_settings![
-    &[word!("acquire"), Place::Class, NOW],
-    &[word!("acquire"), Place::Class, NOW, word!("wait")],
+static SCRIPT: [&[WordPlace]; 21] = with_settings![
+    &[word!("acquire"), WordPlace::Class, NOW],
+    &[word!("acquire"), WordPlace::Class, NOW, word!("wait")],
     &[word!("bypass"), NOW],
     &[word!("end"), ACQUIRED, OUTCOME, NOW],
     &[word!("claim"), ACQUIRED],
@@ -174,15 +174,15 @@ static SCRIPT: [&[Place]; 21] = with_settings![
         NOW
     ],
     &[word!("reset"), NOW],
-    &[word!("look"), Place::Class],
+    &[word!("look"), WordPlace::Class],
 ];
 
 /// Those of a trace's.
-static TRACE: [&[Place]; 15] = with_settings![
-    &[word!("arrive"), Place::Class, AT, HELD, OUTCOME],
+static TRACE: [&[WordPlace]; 15] = with_settings![
+    &[word!("arrive"), WordPlace::Class, AT, HELD, OUTCOME],
     &[
         word!("arrive"),
-        Place::Class,
+        WordPlace::Class,
         AT,
         HELD,
         OUTCOME,
@@ -192,7 +192,7 @@ static TRACE: [&[Place]; 15] = with_settings![
 ];
 
 /// The forms that the lines of a text have.
-pub(crate) fn forms(kind: TextKind) -> &'static [&'static [Place]]
+pub(crate) fn forms(kind: TextKind) -> &'static [&'static [WordPlace]]
     ensures { map form_of result.now ≡ forms_of kind }
 {
     match kind {

@@ -20,7 +20,7 @@ pub(crate) struct Number {
 
 /// What stands at a place of a line.
 #[derive(Clone, Copy)]
-pub(crate) enum Place {
+pub(crate) enum WordPlace {
     /// One of these words.
     Words(&'static [&'static str]),
     /// A number.

@@ -7,7 +7,7 @@ ghost use Rattle.line_explain.specs.Outside.{end_at, form_had, is_whole, is_with
 use crate::astray::{count_words, is_filled, is_space, reach, word_at};
 use crate::choices::push_held;
 use crate::forms::{TextKind, forms};
-use crate::place::{Bound, Number, Place};
+use crate::place::{Bound, Number, WordPlace};
 use config_words::key_row;
 use partitions::is_name;
 use script::read_number;
@@ -21,7 +21,7 @@ macro_rules! held_of_row {
 }
 
 /// The form that a whole line has.
-pub(crate) fn form_had(kind: TextKind, line: &[u8]) -> Option<&'static [Place]>
+pub(crate) fn form_had(kind: TextKind, line: &[u8]) -> Option<&'static [WordPlace]>
     ensures { option_map form_of result ≡ form_had kind (words line.now) }
 {
     let found = forms(kind).iter().find(|form| is_whole(line, form));
@@ -29,21 +29,21 @@ pub(crate) fn form_had(kind: TextKind, line: &[u8]) -> Option<&'static [Place]>
 }
 
 /// Whether a line has a form from its first word to its last.
-fn is_whole(line: &[u8], form: &[Place]) -> bool
+fn is_whole(line: &[u8], form: &[WordPlace]) -> bool
     ensures { result ≡ is_whole (words line.now) (form_of form.entry) }
 {
     reach(line, form) == form.len() && count_words(line) == form.len()
 }
 
 /// The place of the first word that is out of its range; the number of places where none is.
-pub(crate) fn outside(line: &[u8], form: &[Place]) -> usize
+pub(crate) fn outside(line: &[u8], form: &[WordPlace]) -> usize
     ensures { result ≡ outside (words line.now) (form_of form.entry) }
 {
     count_within(line, form)
 }
 
 /// The same, by the words of the line beside the places of the form.
-fn count_within(line: &[u8], form: &[Place]) -> usize
+fn count_within(line: &[u8], form: &[WordPlace]) -> usize
     ensures { result ≡ length (take_while (λ pair. is_within (words line.now) (wanted_at pair.1)
         pair.0) (zip (words line.now) form.now)) }
 {
@@ -55,16 +55,16 @@ fn count_within(line: &[u8], form: &[Place]) -> usize
 }
 
 /// Whether a word is in the range of what is wanted at its place.
-fn is_within(line: &[u8], place: Place, word: &[u8]) -> bool
+fn is_within(line: &[u8], place: WordPlace, word: &[u8]) -> bool
     ensures { result ≡ is_within (words line.now) (wanted_at place) word.now }
 {
     match place {
-        Place::Number(number) => match read_number(word) {
+        WordPlace::Number(number) => match read_number(word) {
             Some(n) => end_at(line, number.low) <= n && n <= end_at(line, number.high),
             None => true,
         },
-        Place::Name => is_name(word),
-        Place::Words(_) | Place::Class => true,
+        WordPlace::Name => is_name(word),
+        WordPlace::Words(_) | WordPlace::Class => true,
     }
 }
 
@@ -92,11 +92,11 @@ fn number_at(line: &[u8], place: usize) -> Option<u64>
 pub(crate) fn push_wanted(
     out: &mut String,
     line: &[u8],
-    form: &[Place],
+    form: &[WordPlace],
     place: usize,
 ) -> Result<(), AllocError> {
     match form.get(place) {
-        Some(Place::Number(number)) => {
+        Some(WordPlace::Number(number)) => {
             let name = number.name;
             write!(out, "{name}, ")?;
             push_held(out, form, *number)?;

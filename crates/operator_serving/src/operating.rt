@@ -15,8 +15,8 @@ use std::sync::Wait;
 use std::thread;
 use std::time::{Clock as SystemClock, Duration};
 use timed_io::{
-    Arrival, Connection, Inlet, Lent, Listener, Outlet, TimedReader, TimedWriter, Uninterrupted,
-    linger,
+    AcceptedClient, Connection, Inlet, Lent, Listener, Outlet, TimedReader, TimedWriter,
+    Uninterrupted, linger,
 };
 
 /// How many bytes are read or written at once.
@@ -45,15 +45,15 @@ pub struct Operating<'a, L, C> {
 
 /// The buffers that are kept for all operators.
 #[derive(Drop)]
-pub struct Buffers {
+pub struct OperatorBuffers {
     ahead: ReadBuffer,
     behind: WriteBuffer,
 }
 
-impl Buffers {
+impl OperatorBuffers {
     /// New buffers. It fails only out of memory.
-    pub fn new(alloc: Global) -> Result<Buffers, AllocError> {
-        Ok(Buffers {
+    pub fn new(alloc: Global) -> Result<OperatorBuffers, AllocError> {
+        Ok(OperatorBuffers {
             ahead: ReadBuffer::new(alloc, PIECE)?,
             behind: WriteBuffer::new(alloc, PIECE)?,
         })
@@ -65,7 +65,7 @@ pub fn operate<R: Wait + SystemClock, L: Listener, C: Clock, D: Desk>(
     rt: &R,
     common: &Operating<'_, L, C>,
     desk: &mut D,
-    buffers: &mut Buffers,
+    buffers: &mut OperatorBuffers,
 )
     ensures served { AreServed D.rows D.shows D.does common.now.audience common.now.page.now
         desk.old desk.new }
@@ -88,9 +88,9 @@ pub fn operate<R: Wait + SystemClock, L: Listener, C: Clock, D: Desk>(
 /// and sees that it gets to read its answer.
 fn serve_operator<T, I, O, L, C, D>(
     common: &Operating<'_, L, C>,
-    client: Arrival<T, I, O>,
+    client: AcceptedClient<T, I, O>,
     desk: &mut D,
-    buffers: &mut Buffers,
+    buffers: &mut OperatorBuffers,
 )
 where
     T: Connection + Drop,
@@ -103,7 +103,7 @@ where
     ensures looks { common.now.audience ≡ Anyone → desk.new ≡ desk.old }
 {
     let (clock, time) = (common.clock, common.timeout_ns);
-    let Arrival { stream, from, to } = client;
+    let AcceptedClient { stream, from, to } = client;
     let caller = Peer {
         stream: &stream,
         from,

@@ -14,7 +14,7 @@ use Rattle.gate_port.specs.Asking.{Admits, Ask, IsAsked, ask_of, told}
 use Rattle.gate_port.specs.Ending.{Ends, IsEnding}
 use Rattle.gate_port.specs.Log.{AdmitsIn, EndsIn, Grows, IsAskedIn, IsEndedIn}
 use Rattle.gate_port.specs.Shown.{Adds, Shown}
-use Rattle.wire.specs.declared.answer.Answer.{Answer}
+use Rattle.wire.specs.declared.answer.BackendAnswer.{BackendAnswer}
 use Rattle.proxy.specs.declared.told.Verdict.TheVariants as verdict
 use Rattle.proxy.specs.Settling.{Serves, ServesIn, asked_for}
 use Rattle.proxy.specs.Table.{outcome_of}
@@ -103,7 +103,7 @@ asks_in s class class' deadline until now old new facts answer a waits is same p
 
 module _ (ask : Ask) (now : ℕ) where
   -- who was admitted is asked for, and then ended
-  pub serves_admitted : (old mid new : Option Shown) (permit : PermitFacts) (answer : Answer)
+  pub serves_admitted : (old mid new : Option Shown) (permit : PermitFacts) (answer : BackendAnswer)
       (outcome : Outcome) (end : ℕ)
       → Adds old mid (λ before added. IsAsked ask before now added (admission.Admitted permit))
       → outcome ≡ outcome_of answer → Ends permit outcome end mid new
@@ -124,7 +124,7 @@ module _ (ask : Ask) (now : ℕ) where
       })
 
   -- nobody else is ended
-  pub serves_bypassed : (old new : Option Shown) (answer : Answer) (end : ℕ)
+  pub serves_bypassed : (old new : Option Shown) (answer : BackendAnswer) (end : ℕ)
       → Adds old new (λ before added. IsAsked ask before now added admission.Bypassed)
       → Adds old new (Serves ask verdict.Bypassed (Some answer) now end)
   serves_bypassed old new answer end p =
@@ -172,7 +172,7 @@ grows_map (Some o) None P R p f = absurd p
 grows_map (Some o) (Some n) P R p f = f o n p
 
 module _ (ask : Ask) (now : ℕ) where
-  pub logs_admitted : (old mid new : Option (List Entry)) (permit : PermitFacts) (answer : Answer)
+  pub logs_admitted : (old mid new : Option (List Entry)) (permit : PermitFacts) (answer : BackendAnswer)
       (outcome : Outcome) (end : ℕ)
       → Grows old mid (λ before after. IsAskedIn ask before now after (admission.Admitted permit))
       → outcome ≡ outcome_of answer → EndsIn permit outcome end mid new
@@ -190,7 +190,7 @@ module _ (ask : Ask) (now : ℕ) where
         ending = ended;
       })
 
-  pub logs_bypassed : (old new : Option (List Entry)) (answer : Answer) (end : ℕ)
+  pub logs_bypassed : (old new : Option (List Entry)) (answer : BackendAnswer) (end : ℕ)
       → Grows old new (λ before after. IsAskedIn ask before now after admission.Bypassed)
       → Grows old new (ServesIn ask verdict.Bypassed (Some answer) now end)
   logs_bypassed old new answer end p =

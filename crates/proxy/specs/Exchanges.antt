@@ -16,7 +16,7 @@ use Rattle.wire.specs.Fault.{IsUsedUp, Reads}
 use Rattle.wire.specs.Messages.{IsRequest, Said}
 use Rattle.gate_config.specs.declared.settings.Settings.{Settings}
 use Rattle.gate_port.specs.Shown.{Shown}
-use Rattle.wire.specs.declared.answer.Answer.{Answer}
+use Rattle.wire.specs.declared.answer.BackendAnswer.{BackendAnswer}
 use Rattle.wire.specs.Forwards.{Forwarded}
 use Rattle.proxy.specs.declared.told.Exchange.{Exchange}
 use Rattle.proxy.specs.declared.told.Verdict.TheVariants as verdict
@@ -48,7 +48,7 @@ pub record World : Type 0 where
   pub writer : Counted Bytes
   pub shown : Option Shown
   pub known : Option (List Entry)
-  pub looks : Looked Answer
+  pub looks : Looked BackendAnswer
   pub count : ℕ
   pub log : Option (List Forwarded)
 
@@ -68,8 +68,8 @@ pub record IsRead (reader reader' writer writer' : Counted Bytes) (read : Result
 
 -- after a fault of reading the gate isn't asked, no clock is looked at and nothing is forwarded;
 -- else what was read is settled
-abbrev pub Deals : Settings → World → World → Result Request WireFault → Option Answer → Exchange
-    → Type 0
+abbrev pub Deals : Settings → World → World → Result Request WireFault
+    → Option BackendAnswer → Exchange → Type 0
 Deals s old new (Err f) answer x =
     (x.class ≡ None) × (x.admission ≡ verdict.NotAsked) × (answer ≡ None)
     × (new.shown ≡ old.shown) × (new.count ≡ old.count) × (new.log ≡ old.log)
@@ -95,7 +95,7 @@ is_unsent (Ok request) before reads = false
 pub record IsExchange (s : Settings) (old new : World) (x : Exchange) : Type 0 where
   pub read : Result Request WireFault
   pub asked : Counted Bytes
-  pub answer : Option Answer
+  pub answer : Option BackendAnswer
   pub reading : IsRead old.reader new.reader old.writer asked read
   pub deals : Deals s old new read answer x
   pub status : x.answer ≡ sent_status read answer

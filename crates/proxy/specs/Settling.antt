@@ -15,7 +15,7 @@ use Rattle.gate_port.specs.Asking.{Ask, IsAsked}
 use Rattle.gate_port.specs.Ending.{IsEnding}
 use Rattle.gate_port.specs.Log.{Grows, IsAskedIn, IsEndedIn}
 use Rattle.gate_port.specs.Shown.{Adds, Shown}
-use Rattle.wire.specs.declared.answer.Answer.{Answer}
+use Rattle.wire.specs.declared.answer.BackendAnswer.{BackendAnswer}
 use Rattle.wire.specs.Forwards.{Forwarded, Logs}
 use Rattle.proxy.specs.declared.told.Verdict.{Verdict}
 use Rattle.proxy.specs.declared.told.Verdict.TheVariants as verdict
@@ -47,18 +47,19 @@ verdict_of (admission.Refused why) = verdict.Refused why
 
 -- the backend was given the request where it answered, and else nothing
 abbrev pub IsForwarded : Option (List Forwarded) → Option (List Forwarded) → Request
-    → Option Answer → Type 0
+    → Option BackendAnswer → Type 0
 IsForwarded old new request None = new ≡ old
 IsForwarded old new request (Some answer) = Logs old new request answer
 
 -- LOOKS AT THE CLOCK: one, which tells when it is asked for; and where it is admitted one more,
 -- made once this answer of the backend's is known, which tells when its permit is ended
-abbrev pub looks_of : Verdict → Option Answer → ℕ → ℕ → Looked Answer → Looked Answer
+abbrev pub looks_of : Verdict → Option BackendAnswer → ℕ → ℕ → Looked BackendAnswer
+    → Looked BackendAnswer
 looks_of verdict.Admitted answer now end old = looked (looked old now None) end answer
 looks_of _ answer now end old = looked old now None
 
 -- an admitted permit is ended with the answer's outcome, and nobody else ends anything
-abbrev pub Closes : Admission PermitFacts → Option Answer → ℕ → List Entry → Type 0
+abbrev pub Closes : Admission PermitFacts → Option BackendAnswer → ℕ → List Entry → Type 0
 Closes (admission.Admitted permit) (Some answer) end ended =
     IsEnding permit (outcome_of answer) end ended
 Closes (admission.Admitted permit) None end ended = ⊥
@@ -66,8 +67,8 @@ Closes _ answer end ended = ended ≡ []
 
 -- THE ENTRIES of one asking at this moment, where this was shown before, and of the ending of what
 -- it got
-pub record Serves (ask : Ask) (said : Verdict) (answer : Option Answer) (now end : ℕ) (old : Shown)
-    (added : List Entry) : Type 0 where
+pub record Serves (ask : Ask) (said : Verdict) (answer : Option BackendAnswer) (now end : ℕ)
+    (old : Shown) (added : List Entry) : Type 0 where
   pub asked : List Entry
   pub ended : List Entry
   pub admission : Admission PermitFacts
@@ -77,7 +78,8 @@ pub record Serves (ask : Ask) (said : Verdict) (answer : Option Answer) (now end
   pub ending : Closes admission answer end ended
 
 -- and the same in a log: an admitted permit's ending stands in it, and nothing else is added
-abbrev pub ClosesIn : Admission PermitFacts → Option Answer → ℕ → List Entry → List Entry → Type 0
+abbrev pub ClosesIn : Admission PermitFacts → Option BackendAnswer → ℕ → List Entry
+    → List Entry → Type 0
 ClosesIn (admission.Admitted permit) (Some answer) end old new =
     IsEndedIn permit (outcome_of answer) end old new
 ClosesIn (admission.Admitted permit) None end old new = ⊥
@@ -85,7 +87,7 @@ ClosesIn _ answer end old new = new ≡ old
 
 -- IN A LOG of which this was known: one asking at this moment, and behind it the ending of what it
 -- got, with others' calls between
-pub record ServesIn (ask : Ask) (said : Verdict) (answer : Option Answer) (now end : ℕ)
+pub record ServesIn (ask : Ask) (said : Verdict) (answer : Option BackendAnswer) (now end : ℕ)
     (old new : List Entry) : Type 0 where
   pub mid : List Entry
   pub admission : Admission PermitFacts
@@ -98,9 +100,9 @@ pub record ServesIn (ask : Ask) (said : Verdict) (answer : Option Answer) (now e
 -- of this, at the moments that the clock told at just these looks, of which none tells less than
 -- the one before
 pub record IsSettled (s : Settings) (request : Request) (shown shown' : Option Shown)
-    (known known' : Option (List Entry)) (looks looks' : Looked Answer)
+    (known known' : Option (List Entry)) (looks looks' : Looked BackendAnswer)
     (count count' : ℕ) (log log' : Option (List Forwarded))
-    (class : Class) (said : Verdict) (answer : Option Answer) : Type 0 where
+    (class : Class) (said : Verdict) (answer : Option BackendAnswer) : Type 0 where
   pub class_is : class ≡ class_by s request
   pub counted : count' ≡ (if is_through said then raised count else count)
   pub answered : is_some answer ≡ is_through said

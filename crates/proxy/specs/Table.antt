@@ -9,9 +9,9 @@ use Rattle.wire.specs.declared.fault.WireFault.TheVariants as fault
 use Rattle.message_parts.specs.declared.request.Request.{Request}
 use Rattle.wire.specs.Response.{ResponseValue}
 use Rattle.wire.specs.Written.{response_text}
-use Rattle.wire.specs.declared.answer.Answer.{Answer}
-use Rattle.wire.specs.declared.answer.Answer.TheVariants.{Answered, NotConnected, Broken}
-use Rattle.wire.specs.declared.answer.Answer.TheVariants.{Late, Memory}
+use Rattle.wire.specs.declared.answer.BackendAnswer.{BackendAnswer}
+use Rattle.wire.specs.declared.answer.BackendAnswer.TheVariants.{Answered, NotConnected, Broken}
+use Rattle.wire.specs.declared.answer.BackendAnswer.TheVariants.{Late, Memory}
 
 -- WHAT A STATUS TELLS THE GATE: a backend that had too much to do, or sent no final response, has
 -- dropped the request; of its load an other fault of the server's says nothing
@@ -22,14 +22,14 @@ status_outcome status =
     else (if nat_lt status 500 then Success else Ignored)
 
 -- WHAT AN ANSWER TELLS THE GATE
-abbrev pub outcome_of : Answer → Outcome
+abbrev pub outcome_of : BackendAnswer → Outcome
 outcome_of (Answered response) = status_outcome response.status
 outcome_of NotConnected = Ignored
 outcome_of (Broken f) = Dropped
 outcome_of Late = Dropped
 outcome_of Memory = Ignored
 
-abbrev pub outcome_at : Option Answer → Option Outcome
+abbrev pub outcome_at : Option BackendAnswer → Option Outcome
 outcome_at None = None
 outcome_at (Some answer) = Some (outcome_of answer)
 
@@ -49,7 +49,7 @@ fault_status fault.TurnLimit = None
 
 -- THE REPLY, where a request was read: the response that is passed on, or else the status of the
 -- gateway's own answer; none of a backend means that it wasn't asked
-abbrev pub reply_of : Option Answer → Result ResponseValue ℕ
+abbrev pub reply_of : Option BackendAnswer → Result ResponseValue ℕ
 reply_of (Some (Answered response)) = if nat_lt response.status 200 then Err 502 else Ok response
 reply_of (Some NotConnected) = Err 502
 reply_of (Some (Broken f)) = Err 502
@@ -67,14 +67,14 @@ abbrev pub text_of : List ℕ → Result ResponseValue ℕ → List ℕ
 text_of method (Ok response) = response_text method response
 text_of method (Err status) = local_text status
 
-abbrev pub reply_status : Option Answer → ℕ
+abbrev pub reply_status : Option BackendAnswer → ℕ
 reply_status answer = status_of (reply_of answer)
 
 -- whether that is the gateway's own answer
-abbrev pub is_own : Option Answer → Bool
+abbrev pub is_own : Option BackendAnswer → Bool
 is_own answer = is_err (reply_of answer)
 
-abbrev pub reply_text : List ℕ → Option Answer → List ℕ
+abbrev pub reply_text : List ℕ → Option BackendAnswer → List ℕ
 reply_text method answer = text_of method (reply_of answer)
 
 abbrev pub local_or_nothing : Option ℕ → List ℕ
@@ -82,15 +82,15 @@ local_or_nothing None = []
 local_or_nothing (Some status) = local_text status
 
 -- the status and the text that the client gets, by what was read
-abbrev pub sent_status : Result Request WireFault → Option Answer → Option ℕ
+abbrev pub sent_status : Result Request WireFault → Option BackendAnswer → Option ℕ
 sent_status (Err f) answer = fault_status f
 sent_status (Ok request) answer = Some (reply_status answer)
 
 -- whether it is the gateway's own answer
-abbrev pub is_sent_own : Result Request WireFault → Option Answer → Bool
+abbrev pub is_sent_own : Result Request WireFault → Option BackendAnswer → Bool
 is_sent_own (Err f) answer = is_some (fault_status f)
 is_sent_own (Ok request) answer = is_own answer
 
-abbrev pub sent_text : Result Request WireFault → Option Answer → List ℕ
+abbrev pub sent_text : Result Request WireFault → Option BackendAnswer → List ℕ
 sent_text (Err f) answer = local_or_nothing (fault_status f)
 sent_text (Ok request) answer = reply_text request.method answer

@@ -16,7 +16,7 @@ use gate_port::GatePort;
 use message_text::write_local_answer;
 use std::alloc::Global;
 use std::io::{BufRead, Write};
-use wire::{Answer, Backend, WireFault, read_request};
+use wire::{Backend, BackendAnswer, WireFault, read_request};
 
 /// Serves one connection: reads a request, asks the gate for it, forwards it once where it is let
 /// through, ends its permit, and answers the client.
@@ -31,7 +31,7 @@ pub fn exchange<P: GatePort, B: Backend, C: Clock, R: BufRead, W: Write>(
     port: &mut P,
     backend: &mut B,
     settings: &Settings,
-    looks: &mut Looks<'_, C, Answer>,
+    looks: &mut Looks<'_, C, BackendAnswer>,
     reader: &mut Counted<R>,
     writer: &mut Counted<W>,
 ) -> Exchange

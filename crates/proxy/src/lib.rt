@@ -19,4 +19,4 @@ pub use gate_port::{GatePort, Why};
 pub use replying::fault_status;
 pub use told::{Exchange, Verdict};
 pub use watch::Watch;
-pub use wire::{Answer, Backend};
+pub use wire::{Backend, BackendAnswer};

@@ -9,34 +9,34 @@ use counted_io::{Counted, WriteFault};
 use message_parts::Method;
 use message_text::write_local_answer;
 use std::io::Write;
-use wire::{Answer, Response, WireFault, write_response};
+use wire::{BackendAnswer, Response, WireFault, write_response};
 
 /// What the client gets of a backend that answered so or wasn't asked: the response, where it is
 /// passed on, or else the status of the gateway's own answer. A status below 200 is of no final
 /// response, and isn't passed on.
-fn reply_of(answer: &Option<Answer>) -> Result<&Response, u16>
+fn reply_of(answer: &Option<BackendAnswer>) -> Result<&Response, u16>
     ensures passed { IfOk result (λ response. reply_of answer.now ≡ Ok response.now) }
     ensures own { IfErr result (λ status. reply_of answer.now ≡ Err status) }
     ensures three_digits { IfErr result (λ status. (100 ≤ status) × (status ≤ 999)) }
 {
     match answer {
-        Some(Answer::Answered(response)) => {
+        Some(BackendAnswer::Answered(response)) => {
             if response.status() < 200 {
                 Err(502)
             } else {
                 Ok(response)
             }
         }
-        Some(Answer::NotConnected) => Err(502),
-        Some(Answer::Broken(_)) => Err(502),
-        Some(Answer::Late) => Err(504),
-        Some(Answer::Memory) => Err(500),
+        Some(BackendAnswer::NotConnected) => Err(502),
+        Some(BackendAnswer::Broken(_)) => Err(502),
+        Some(BackendAnswer::Late) => Err(504),
+        Some(BackendAnswer::Memory) => Err(500),
         None => Err(429),
     }
 }
 
 /// The status of what the client gets.
-pub(crate) fn reply_status(answer: &Option<Answer>) -> u16
+pub(crate) fn reply_status(answer: &Option<BackendAnswer>) -> u16
     ensures { result ≡ reply_status answer.now }
 {
     match reply_of(answer) {
@@ -46,7 +46,7 @@ pub(crate) fn reply_status(answer: &Option<Answer>) -> u16
 }
 
 /// Whether what the client gets is the gateway's own answer.
-pub(crate) fn is_own(answer: &Option<Answer>) -> bool
+pub(crate) fn is_own(answer: &Option<BackendAnswer>) -> bool
     ensures { result ≡ is_own answer.now }
 {
     reply_of(answer).is_err()
@@ -55,7 +55,7 @@ pub(crate) fn is_own(answer: &Option<Answer>) -> bool
 /// Writes and flushes what the client gets, and tells a fault of writing.
 pub(crate) fn reply<W: Write>(
     writer: &mut Counted<W>,
-    answer: &Option<Answer>,
+    answer: &Option<BackendAnswer>,
     method: &Method,
 ) -> Option<WireFault>
     ensures all { result ≡ None →
@@ -75,7 +75,7 @@ pub(crate) fn reply<W: Write>(
 /// whatever the method.
 fn write_reply<W: Write>(
     writer: &mut Counted<W>,
-    answer: &Option<Answer>,
+    answer: &Option<BackendAnswer>,
     method: &Method,
 ) -> Result<(), WriteFault>
     ensures all { OnOk result

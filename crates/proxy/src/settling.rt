@@ -11,14 +11,14 @@ use gate_port::{Admission, GatePort};
 use limit_laws::LAST_MOMENT;
 use limiter_core::Outcome;
 use message_parts::Request;
-use wire::{Answer, Backend};
+use wire::{Backend, BackendAnswer};
 
 /// What became of a request before its answer is written. No permit is out any more.
 #[derive(Drop)]
 pub(crate) struct Settled {
     pub(crate) class: Class,
     pub(crate) admission: Verdict,
-    pub(crate) answer: Option<Answer>,
+    pub(crate) answer: Option<BackendAnswer>,
 }
 
 /// What a status tells the gate: 429, 503 and 504 say that the backend had too much to do, any
@@ -34,20 +34,20 @@ fn status_outcome(status: u16) -> Outcome
 }
 
 /// What a backend's answer tells the gate.
-fn outcome(answer: &Answer) -> Outcome
+fn outcome(answer: &BackendAnswer) -> Outcome
     ensures { result ≡ outcome_of answer.now }
 {
     match answer {
-        Answer::Answered(response) => status_outcome(response.status()),
-        Answer::NotConnected => Outcome::Ignored,
-        Answer::Broken(_) => Outcome::Dropped,
-        Answer::Late => Outcome::Dropped,
-        Answer::Memory => Outcome::Ignored,
+        BackendAnswer::Answered(response) => status_outcome(response.status()),
+        BackendAnswer::NotConnected => Outcome::Ignored,
+        BackendAnswer::Broken(_) => Outcome::Dropped,
+        BackendAnswer::Late => Outcome::Dropped,
+        BackendAnswer::Memory => Outcome::Ignored,
     }
 }
 
 /// The same, where the backend answered.
-pub(crate) fn outcome_at(answer: &Option<Answer>) -> Option<Outcome>
+pub(crate) fn outcome_at(answer: &Option<BackendAnswer>) -> Option<Outcome>
     ensures { result ≡ outcome_at answer.now }
 {
     match answer {
@@ -75,7 +75,7 @@ pub(crate) fn settle<P: GatePort, B: Backend, C: Clock>(
     port: &mut P,
     backend: &mut B,
     settings: &Settings,
-    looks: &mut Looks<'_, C, Answer>,
+    looks: &mut Looks<'_, C, BackendAnswer>,
     request: &Request,
 ) -> Settled
     ensures { IsSettled settings.now request.now (P.shown port.old) (P.shown port.new)

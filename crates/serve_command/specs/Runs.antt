@@ -7,7 +7,7 @@ use Rattle.gate_ledgers.specs.Making.{Making}
 use Rattle.shared_gate.specs.Calls.{Pass}
 use Rattle.shared_gate.specs.Reported.{AreCountersBehind}
 use Rattle.gate_config.specs.declared.settings.Settings.{Settings}
-use Rattle.serving.specs.declared.working.Tally.{Tally}
+use Rattle.serving.specs.declared.working.TurnCounts.{TurnCounts}
 use Rattle.serving.specs.Turns.{IsRun, Place}
 
 -- where a worker stands: by the counts of its door and of its backend, of which sockets show
@@ -31,7 +31,7 @@ pub record HasRunTo (Gives : Settings → Type 0) (most : ℕ) (pass : Pass) : T
   pub failed : ℕ
   pub closed : Bool
   pub forwarded : ℕ
-  pub tally : Tally
+  pub tally : TurnCounts
   pub run : IsRun settings most (stood_at 0 0 false 0 [])
       (stood_at given failed closed forwarded pass.log) tally
   pub accepted : given ≡ tally.accepted

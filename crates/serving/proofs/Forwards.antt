@@ -4,14 +4,14 @@ use Rattle.counted_io.specs.Count.{raised}
 use Rattle.wire.specs.declared.fault.WireFault.{WireFault}
 use Rattle.message_parts.specs.declared.request.Request.{Request}
 use Rattle.gate_config.specs.declared.settings.Settings.{Settings}
-use Rattle.wire.specs.declared.answer.Answer.{Answer}
+use Rattle.wire.specs.declared.answer.BackendAnswer.{BackendAnswer}
 use Rattle.proxy.specs.declared.told.Exchange.{Exchange}
 use Rattle.proxy.specs.Exchanges.{Deals, IsExchange, World}
 use Rattle.proxy.specs.Settling.{is_through}
 
 -- what was dealt with was forwarded once where it was let through
 dealt_once : (s : Settings) (old new : World) (read : Result Request WireFault)
-    (answer : Option Answer) (x : Exchange) → Deals s old new read answer x
+    (answer : Option BackendAnswer) (x : Exchange) → Deals s old new read answer x
     → new.count ≡ (if is_through x.admission then raised old.count else old.count)
 dealt_once s old new (Err f) answer x deals =
     deals.4 ∙ sym (ap (λ said. if is_through said then raised old.count else old.count) deals.1)

@@ -10,7 +10,7 @@ use Rattle.wire.specs.Forwards.{Forwarded}
 use Rattle.proxy.specs.declared.told.Exchange.{Exchange}
 use Rattle.proxy.specs.Exchanges.{Bytes}
 use Rattle.proxy.specs.Settling.{is_through}
-use Rattle.serving.specs.declared.working.Tally.{Tally}
+use Rattle.serving.specs.declared.working.TurnCounts.{TurnCounts}
 use Rattle.serving.specs.Served.{Back, IsServed}
 use Rattle.serving.specs.Turns.{AreServed, AreTaken, IsRun, Missing, Place, Serving, Shows, Turn}
 use Rattle.serving.specs.Turns.{events_of, failed_by, given_by, missed, sent_by, served}
@@ -111,7 +111,7 @@ nothing_shown None = tt
 nothing_shown (Some s) = (refl, sym (append-nil s.log))
 
 -- so many turns were taken so far
-pub record Took (s : Settings) (count : ℕ) (old new : Place) (tally : Tally) : Type 0 where
+pub record Took (s : Settings) (count : ℕ) (old new : Place) (tally : TurnCounts) : Type 0 where
   pub turns : List Turn
   pub taken : AreTaken s turns old new tally
   pub many : length turns ≡ count
@@ -133,7 +133,7 @@ begins s place = record {
 }
 
 -- one more was
-pub goes_on : (s : Settings) (count : ℕ) (old mid new : Place) (before after : Tally) (t : Turn)
+pub goes_on : (s : Settings) (count : ℕ) (old mid new : Place) (before after : TurnCounts) (t : Turn)
     → Took s count old mid before
     → after.accepted ≡ before.accepted + served (t ∷ [])
     → after.unaccepted ≡ before.unaccepted + missed (t ∷ [])
@@ -165,7 +165,7 @@ both_counted (Missing ∷ ts) = let same = both_counted ts in omega arith
 both_counted (Serving sent written told ∷ ts) = let same = both_counted ts in omega arith
 
 -- each turn has a client, or none
-pub both_of : (s : Settings) (count : ℕ) (old new : Place) (tally : Tally)
+pub both_of : (s : Settings) (count : ℕ) (old new : Place) (tally : TurnCounts)
     → Took s count old new tally → tally.accepted + tally.unaccepted ≡ count
 both_of s count old new tally took =
     let both = both_counted took.turns in
@@ -193,7 +193,7 @@ all_once s (Serving sent written told ∷ ts) old new all =
     let others = all_once s ts all.1 new all.4 in
     omega arith
 
-pub forwarded_at_most : (s : Settings) (count : ℕ) (old new : Place) (tally : Tally)
+pub forwarded_at_most : (s : Settings) (count : ℕ) (old new : Place) (tally : TurnCounts)
     → Took s count old new tally → new.back.count ≤ old.back.count + tally.accepted
 forwarded_at_most s count old new tally took =
     let all = all_once s took.turns old.back new.back took.taken.exchanges in
@@ -224,7 +224,7 @@ failed_exactly (Missing ∷ ts) n h =
 failed_exactly (Serving sent written told ∷ ts) n h = failed_exactly ts n h
 
 -- where a door's counts don't come to their ends, they rise by what is tallied
-pub all_given : (s : Settings) (count most : ℕ) (old new : Place) (tally : Tally)
+pub all_given : (s : Settings) (count most : ℕ) (old new : Place) (tally : TurnCounts)
     → Took s count old new tally → count ≤ most → old.given + most ≤ count_end
     → new.given ≡ old.given + tally.accepted
 all_given s count most old new tally took few room =
@@ -234,7 +234,7 @@ all_given s count most old new tally took few room =
     let given = took.taken.given ∙ given_exactly took.turns old.given (omega arith) in
     omega arith
 
-pub all_failed : (s : Settings) (count most : ℕ) (old new : Place) (tally : Tally)
+pub all_failed : (s : Settings) (count most : ℕ) (old new : Place) (tally : TurnCounts)
     → Took s count old new tally → count ≤ most → old.failed + most ≤ count_end
     → new.failed ≡ old.failed + tally.unaccepted
 all_failed s count most old new tally took few room =
@@ -246,7 +246,7 @@ all_failed s count most old new tally took few room =
 
 -- the turns that were taken are a run, where they are as many as were asked for, or the door was
 -- found closed
-pub run_of : (s : Settings) (count most : ℕ) (old new : Place) (tally : Tally)
+pub run_of : (s : Settings) (count most : ℕ) (old new : Place) (tally : TurnCounts)
     → Took s count old new tally → count ≤ most → (new.closed ≡ false → count ≡ most)
     → IsRun s most old new tally
 run_of s count most old new tally took few whole = record {

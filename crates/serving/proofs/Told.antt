@@ -9,7 +9,7 @@ use Rattle.counted_io.specs.Counted.{calls_of, failures_of, flushes_of, inner_of
 use Rattle.message_parts.specs.declared.request.Request.{Request}
 use Rattle.wire.specs.declared.fault.WireFault.{WireFault}
 use Rattle.gate_config.specs.declared.settings.Settings.{Settings}
-use Rattle.wire.specs.declared.answer.Answer.{Answer}
+use Rattle.wire.specs.declared.answer.BackendAnswer.{BackendAnswer}
 use Rattle.proxy.specs.declared.told.Exchange.{Exchange}
 use Rattle.proxy.specs.declared.told.Verdict.{Verdict}
 use Rattle.proxy.specs.Exchanges.{Bytes, Deals, IsExchange, World}
@@ -50,8 +50,8 @@ unfolding counted
 over c bytes = counted bytes (calls_of c) (flushes_of c) (failures_of c) (is_flushed c)
 
 dealt : (s : Settings) (old : World) (reader writer writer' : Counted Bytes)
-    (looks : Looked Answer) (new : Back) (read : Result Request WireFault)
-    (answer : Option Answer) (x y : Exchange)
+    (looks : Looked BackendAnswer) (new : Back) (read : Result Request WireFault)
+    (answer : Option BackendAnswer) (x y : Exchange)
     → y.class ≡ x.class → y.admission ≡ x.admission
     → Deals s old (around reader writer looks new) read answer x
     → Deals s old (around reader writer' looks new) read answer y
@@ -66,7 +66,7 @@ dealt s old reader writer writer' looks new (Ok request) answer x y class admiss
 
 -- the same exchange, where other bytes are told at the end of the writer
 ended_with : (s : Settings) (old : World) (reader writer : Counted Bytes)
-    (looks : Looked Answer) (new : Back) (x : Exchange) (written : Bytes) (sent : Bool)
+    (looks : Looked BackendAnswer) (new : Back) (x : Exchange) (written : Bytes) (sent : Bool)
     → IsExchange s old (around reader writer looks new) x
     → (sent ≡ true → inner_of writer ≡ written)
     → IsExchange s old (around reader (over writer written) looks new) (with_flush_result sent x)
@@ -102,7 +102,7 @@ ended_with s old reader writer looks new x written false e all = record {
   unasked = λ same. refl;
 }
 
-served_so : (s : Settings) (from from' to to' : Counted Bytes) (looks looks' : Looked Answer)
+served_so : (s : Settings) (from from' to to' : Counted Bytes) (looks looks' : Looked BackendAnswer)
     (old new : Back) (x : Exchange) (first unwritten written : Bytes) (sent : Bool)
     → IsExchange s (around from to looks old) (around from' to' looks' new) x
     → from ≡ fresh first → to ≡ fresh unwritten → looks ≡ unlooked
@@ -118,7 +118,7 @@ served_so s from from' to to' looks looks' old new x first unwritten written sen
       looks = looks';
       exchanged = ended_with s (around (fresh first) (fresh unwritten) unlooked old) from' to'
           looks' new x written sent
-          (subst (λ (l : Looked Answer).
+          (subst (λ (l : Looked BackendAnswer).
           IsExchange s (around (fresh first) (fresh unwritten) l old) end x) new_looks
           (subst (λ (c : Counted Bytes). IsExchange s (around (fresh first) c looks old) end x)
           new_to
@@ -127,7 +127,7 @@ served_so s from from' to to' looks looks' old new x first unwritten written sen
       ended = refl;
     }
 
-pub served : (s : Settings) (from from' to to' : Counted Bytes) (looks looks' : Looked Answer)
+pub served : (s : Settings) (from from' to to' : Counted Bytes) (looks looks' : Looked BackendAnswer)
     (old new : Back) (x y : Exchange) (first unwritten written : Bytes) (sent : Bool)
     → IsExchange s (around from to looks old) (around from' to' looks' new) x
     → y ≡ with_flush_result sent x → from ≡ fresh first → to ≡ fresh unwritten → looks ≡ unlooked

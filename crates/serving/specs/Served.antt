@@ -6,7 +6,7 @@ use Rattle.limiter_core.specs.declared.event.Entry.{Entry}
 use Rattle.gate_config.specs.declared.settings.Settings.{Settings}
 use Rattle.gate_port.specs.Shown.{Shown}
 use Rattle.wire.specs.declared.fault.WireFault.TheVariants as fault
-use Rattle.wire.specs.declared.answer.Answer.{Answer}
+use Rattle.wire.specs.declared.answer.BackendAnswer.{BackendAnswer}
 use Rattle.wire.specs.Forwards.{Forwarded}
 use Rattle.proxy.specs.declared.told.Exchange.{Exchange}
 use Rattle.proxy.specs.Exchanges.{Bytes, IsExchange, World}
@@ -25,7 +25,7 @@ abbrev pub fresh : Bytes → Counted Bytes
 fresh bytes = record { inner = bytes; calls = 0; flushes = 0; failures = 0; is_flushed = false }
 
 -- what an exchange finds or leaves
-abbrev pub around : Counted Bytes → Counted Bytes → Looked Answer → Back → World
+abbrev pub around : Counted Bytes → Counted Bytes → Looked BackendAnswer → Back → World
 around reader writer looks back = record {
   reader = reader;
   writer = writer;
@@ -42,7 +42,7 @@ pub record IsServed (s : Settings) (sent unwritten written : Bytes) (old new : B
     : Type 0 where
   pub reader : Counted Bytes
   pub writer : Counted Bytes
-  pub looks : Looked Answer
+  pub looks : Looked BackendAnswer
   pub exchanged : IsExchange s (around (fresh sent) (fresh unwritten) unlooked old)
       (around reader writer looks new) x
   pub ended : writer.inner ≡ written

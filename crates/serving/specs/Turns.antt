@@ -5,7 +5,7 @@ use Rattle.counted_io.specs.Count.{raised}
 use Rattle.gate_config.specs.declared.settings.Settings.{Settings}
 use Rattle.proxy.specs.declared.told.Exchange.{Exchange}
 use Rattle.proxy.specs.Exchanges.{Bytes}
-use Rattle.serving.specs.declared.working.Tally.{Tally}
+use Rattle.serving.specs.declared.working.TurnCounts.{TurnCounts}
 use Rattle.serving.specs.Served.{Back, IsServed}
 use Rattle.serving.specs.Visits.{Event, Opened, Missed, Closed, Follows, Visits}
 
@@ -75,7 +75,7 @@ Shows turns old new = Follows old new (λ o n.
     (o.coming ≡ sent_by turns ++ n.coming) × (n.log ≡ o.log ++ events_of turns))
 
 -- TAKEN: the turns, as they are tallied, as the door counts and shows them, and as they are served
-pub record AreTaken (s : Settings) (turns : List Turn) (old new : Place) (tally : Tally)
+pub record AreTaken (s : Settings) (turns : List Turn) (old new : Place) (tally : TurnCounts)
     : Type 0 where
   pub accepted : tally.accepted ≡ served turns
   pub unaccepted : tally.unaccepted ≡ missed turns
@@ -85,7 +85,7 @@ pub record AreTaken (s : Settings) (turns : List Turn) (old new : Place) (tally 
   pub shown : Shows turns old.visits new.visits
 
 -- A RUN of so many turns, or of fewer where the door was found closed
-pub record IsRun (s : Settings) (most : ℕ) (old new : Place) (tally : Tally) : Type 0 where
+pub record IsRun (s : Settings) (most : ℕ) (old new : Place) (tally : TurnCounts) : Type 0 where
   pub turns : List Turn
   pub taken : AreTaken s turns old new tally
   pub few : length turns ≤ most

@@ -7,7 +7,7 @@ ghost use Rattle.serving.specs.Visits.{Arrives, Closes, Misses};
 
 use proxy::{Exchange, Watch};
 use std::io::Result;
-use timed_io::{Arrival, Connection, Inlet, Listener, Outlet};
+use timed_io::{AcceptedClient, Connection, Inlet, Listener, Outlet};
 
 /// One worker's own way to its clients: it counts them, and may show what it did.
 pub trait Accepts {
@@ -35,7 +35,7 @@ pub trait Accepts {
     ghost visits: { Self → Option Visits };
 
     /// Waits for the next client, to whom nothing was written yet.
-    fn accept(&mut self) -> Result<Arrival<Self::Stream, Self::From, Self::To>>
+    fn accept(&mut self) -> Result<AcceptedClient<Self::Stream, Self::From, Self::To>>
         ensures given { given self.new
             ≡ (if is_ok result then raised (given self.old) else given self.old) }
         ensures failed { failed self.new ≡ raised_by_err result (failed self.old) }
@@ -46,7 +46,7 @@ pub trait Accepts {
         ensures missed { OnErr result (Misses (visits self.old) (visits self.new)) };
 
     /// Lets the client go, of whom this is told: its connection is closed.
-    fn close(&mut self, client: Arrival<Self::Stream, Self::From, Self::To>, told: &Exchange)
+    fn close(&mut self, client: AcceptedClient<Self::Stream, Self::From, Self::To>, told: &Exchange)
         ensures given { given self.new ≡ given self.old }
         ensures failed { failed self.new ≡ failed self.old }
         ensures closed { Closes (visits self.old) (visits self.new) (Self.To.contents client.to)
@@ -102,7 +102,7 @@ impl<'a, L: Listener, W: Watch> Accepts for Door<'a, L, W> {
 
     ghost visits = { λ _. None };
 
-    fn accept(&mut self) -> Result<Arrival<L::Stream, L::From, L::To>> {
+    fn accept(&mut self) -> Result<AcceptedClient<L::Stream, L::From, L::To>> {
         let outcome = self.listener.accept();
         match &outcome {
             Ok(_) => {
@@ -120,7 +120,7 @@ impl<'a, L: Listener, W: Watch> Accepts for Door<'a, L, W> {
         outcome
     }
 
-    fn close(&mut self, client: Arrival<L::Stream, L::From, L::To>, told: &Exchange)
+    fn close(&mut self, client: AcceptedClient<L::Stream, L::From, L::To>, told: &Exchange)
         ensures given { given_of self.new ≡ given_of self.old }
         ensures failed { failed_of self.new ≡ failed_of self.old }
         ensures closed { Closes None None (L.To.contents client.to) told.now }

@@ -4,7 +4,7 @@ ghost use Rattle.serving.specs.Workers.{Leaves, Makes};
 
 use crate::doors::Accepts;
 use crate::reporting::ActiveWorkers;
-use crate::working::{Buffers, Source, Tally, WorkerSettings, work};
+use crate::working::{ClientBuffers, Source, TurnCounts, WorkerSettings, work};
 use clocks::Clock;
 use gate_port::GatePort;
 use proxy::Watch;
@@ -20,7 +20,7 @@ pub(crate) struct Worker<A, P, B> {
     pub(crate) door: A,
     pub(crate) port: P,
     pub(crate) backend: B,
-    pub(crate) buffers: Buffers,
+    pub(crate) buffers: ClientBuffers,
 }
 
 /// What a worker leaves.
@@ -33,7 +33,7 @@ pub struct WorkerExit<A, P, B> {
     /// Where it forwarded requests.
     pub backend: B,
     /// What came of its turns.
-    pub tally: Tally,
+    pub tally: TurnCounts,
 }
 
 /// What all workers have in common.

@@ -10,7 +10,7 @@ use crate::doors::{Accepts, Door};
 use crate::fault::ServeFault;
 use crate::jobs::{Context, Job, JobResult, Worker};
 use crate::reporting::{ActiveWorkers, Reporter};
-use crate::working::{Buffers, Source, WorkerSettings};
+use crate::working::{ClientBuffers, Source, WorkerSettings};
 use clocks::Clock;
 use gate_config::Settings;
 use gate_port::{GatePort, GateView};
@@ -115,7 +115,7 @@ fn make_workers<'l, R: Net, P: Drop, L, C, S, W>(
             door: Door::new(common.listener, watch),
             port,
             backend: TcpBackend::new(rt, alloc, address, watch, clock, most_ns)?,
-            buffers: Buffers::new(alloc)?,
+            buffers: ClientBuffers::new(alloc)?,
         };
         workers.push_reserved(worker);
     }

@@ -16,7 +16,7 @@ use std::alloc::{AllocError, Global};
 use std::thread;
 use std::time::{Clock as SystemClock, Duration};
 use timed_io::{
-    Arrival, Connection, FirstByte, Inlet, Lent, Outlet, Patience, TimedReader, TimedWriter,
+    AcceptedClient, Connection, FirstByte, Inlet, Lent, Outlet, Patience, TimedReader, TimedWriter,
     Uninterrupted, linger,
 };
 use wire::{Backend, WireFault};
@@ -26,15 +26,15 @@ const WITHOUT_A_CLIENT_MS: u64 = 10;
 
 /// The buffers that a worker keeps for all its clients.
 #[derive(Drop)]
-pub struct Buffers {
+pub struct ClientBuffers {
     ahead: ReadBuffer,
     behind: WriteBuffer,
 }
 
-impl Buffers {
+impl ClientBuffers {
     /// New buffers. It fails only out of memory.
-    pub fn new(alloc: Global) -> Result<Buffers, AllocError> {
-        Ok(Buffers {
+    pub fn new(alloc: Global) -> Result<ClientBuffers, AllocError> {
+        Ok(ClientBuffers {
             ahead: ReadBuffer::new(alloc, PIECE)?,
             behind: WriteBuffer::new(alloc, PIECE)?,
         })
@@ -86,7 +86,7 @@ pub struct WorkerSettings<'a, L, C, S, W> {
 
 /// What came of a worker's turns.
 #[derive(Clone, Copy)]
-pub struct Tally {
+pub struct TurnCounts {
     /// How many clients it had.
     pub accepted: u64,
     /// How often none was to be had.
@@ -105,8 +105,8 @@ pub fn work<R, A, P, B, C, L, S, W>(
     door: &mut A,
     port: &mut P,
     backend: &mut B,
-    buffers: &mut Buffers,
-) -> Tally
+    buffers: &mut ClientBuffers,
+) -> TurnCounts
 where
     R: SystemClock,
     A: Accepts,
@@ -152,7 +152,7 @@ where
     ensures failed { A.failed door.old + common.now.per_worker ≤ count_end →
         A.failed door.new ≡ A.failed door.old + result.unaccepted }
 {
-    let mut tally = Tally {
+    let mut tally = TurnCounts {
         accepted: 0,
         unaccepted: 0,
     };
@@ -186,11 +186,11 @@ where
 fn serve_client<T, I, O, P, B, C, L, S, W>(
     common: &WorkerSettings<'_, L, C, S, W>,
     settings: &Settings,
-    client: Arrival<T, I, O>,
+    client: AcceptedClient<T, I, O>,
     port: &mut P,
     backend: &mut B,
-    buffers: &mut Buffers,
-) -> (Arrival<T, I, O>, Exchange)
+    buffers: &mut ClientBuffers,
+) -> (AcceptedClient<T, I, O>, Exchange)
 where
     T: Connection,
     I: Inlet<T> + Copy,
@@ -219,7 +219,7 @@ where
     let patience = FreeWorkers {
         watch: common.watch,
     };
-    let Arrival { stream, from, to } = client;
+    let AcceptedClient { stream, from, to } = client;
     let first = FirstByte::new(Lent::new(&stream, from), &patience);
     let timed = TimedReader::new(first, clock, time);
     let buffered = BufferedRead::new(Uninterrupted::new(timed), &mut buffers.ahead);
@@ -243,7 +243,7 @@ where
     let sent = writer.inner().inner().inner().inner().sent();
     let served = with_flush_result(is_sent, served);
     linger_behind(&served, &buffers.ahead, &stream, from, clock, time, sent);
-    (Arrival { stream, from, to }, served)
+    (AcceptedClient { stream, from, to }, served)
 }
 
 /// The workers that are free for others than who sends nothing.

@@ -8,7 +8,7 @@ ghost use Rattle.tcp_backend.specs.Sent.{IsCut};
 use crate::answer_read::AnswerRead;
 use crate::call_time::CallTime;
 use crate::early::EarlyRead;
-use crate::ends::Outlet;
+use crate::ends::RequestOutlet;
 use crate::unanswered::UnansweredWrite;
 use clocks::Clock;
 use counted_io::Counted;
@@ -20,7 +20,7 @@ use std::net::OpenStream;
 use std::os::fd::AsRawFd;
 use std::time::Duration;
 use timed_io::{Countdown, read_ready};
-use wire::{Answer, Response, WireFault, read_response, write_request};
+use wire::{BackendAnswer, Response, WireFault, read_response, write_request};
 
 /// How many reads the end of a connection may take, behind an answer that was read whole.
 const LAST_READS: u32 = 16;
@@ -54,7 +54,7 @@ pub(crate) fn ask<S, E, C>(
 ) -> Asked<E>
 where
     S: Read + OpenStream + AsRawFd,
-    E: Outlet<S> + Copy,
+    E: RequestOutlet<S> + Copy,
     C: Clock,
     ensures sent { result.is_sent ≡ true → Appends (E.contents end) (E.contents result.end)
         (request_text host.now request.now) }
@@ -83,7 +83,7 @@ where
 }
 
 // Writes the request, and tells whether it was written whole.
-fn send<S: OpenStream, E: Outlet<S> + Copy, C: Clock>(
+fn send<S: OpenStream, E: RequestOutlet<S> + Copy, C: Clock>(
     stream: &mut S,
     end: E,
     time: Option<Countdown<'_, C>>,
@@ -144,13 +144,13 @@ pub(crate) fn read_on<S: Read + OpenStream + AsRawFd>(stream: &mut S) {
 
 // What becomes of a request that was sent over a connection, and whether the last look found the
 // call's time to be over.
-pub(crate) fn answer_of(asked: Result<Response, WireFault>, is_over: bool) -> Answer
+pub(crate) fn answer_of(asked: Result<Response, WireFault>, is_over: bool) -> BackendAnswer
     ensures { result ≡ answer_of asked is_over }
 {
     match asked {
-        Ok(response) => Answer::Answered(response),
-        Err(WireFault::Memory) => Answer::Memory,
-        Err(WireFault::Read | WireFault::Write) if is_over => Answer::Late,
-        Err(fault) => Answer::Broken(fault),
+        Ok(response) => BackendAnswer::Answered(response),
+        Err(WireFault::Memory) => BackendAnswer::Memory,
+        Err(WireFault::Read | WireFault::Write) if is_over => BackendAnswer::Late,
+        Err(fault) => BackendAnswer::Broken(fault),
     }
 }

@@ -2,7 +2,7 @@
 ghost use Rattle.std.specs.Prelude.{◌≡◌, ◌⊎◌, IfOk, None};
 ghost use Rattle.std.specs.Net.Text.{socket_v4_text};
 ghost use Rattle.counted_io.specs.Count.{raised};
-ghost use Rattle.wire.specs.declared.answer.Answer.TheVariants.{Late, NotConnected};
+ghost use Rattle.wire.specs.declared.answer.BackendAnswer.TheVariants.{Late, NotConnected};
 ghost use Rattle.tcp_backend.specs.CallTime.{call_deadline};
 ghost use Rattle.tcp_backend.specs.Connecting.{count_of, host_of, limit_of};
 
@@ -19,7 +19,7 @@ use message_parts::Request;
 use std::alloc::{AllocError, Global};
 use std::io::Error;
 use std::net::{Net, SocketAddrV4};
-use wire::{Answer, Backend};
+use wire::{Backend, BackendAnswer};
 
 /// Why a backend was not made.
 #[derive(Clone, Copy, Drop)]
@@ -108,7 +108,7 @@ impl<'c, R: Net, W: BackendWatch, C: Clock> Backend for TcpBackend<'c, R, R::Str
     /// the time of the call is over before, all that is `Late`. A response that says its own length
     /// is read behind a write that failed or stands still, too: the backend may have answered
     /// before it read the whole request. `NotConnected`, `Broken` and `Late` are told.
-    fn forward(&mut self, request: &Request) -> Answer
+    fn forward(&mut self, request: &Request) -> BackendAnswer
         ensures count { count_of self.new ≡ raised (count_of self.old) }
         ensures limit { limit_of self.new ≡ limit_of self.old }
         ensures unlimited { limit_of self.old ≡ None → ¬ (result ≡ Late) }
@@ -145,7 +145,7 @@ fn forward_over<K: Connector, W: BackendWatch, C: Clock>(
     limit: &Limit<'_, C>,
     watch: &W,
     request: &Request,
-) -> Answer
+) -> BackendAnswer
     ensures once { K.connects connector.new ≡ raised (K.connects connector.old) }
     ensures unlimited { limit.now.most_ns ≡ None → ¬ (result ≡ Late) }
 {
@@ -171,10 +171,10 @@ fn forward_over<K: Connector, W: BackendWatch, C: Clock>(
     );
     let answer = answer_of(asked, call.is_over(looked));
     match &answer {
-        Answer::Answered(_) => line.answered = Some(stream),
-        Answer::Broken(fault) => watch.broken(*fault),
-        Answer::Late => watch.late(),
-        Answer::NotConnected | Answer::Memory => {}
+        BackendAnswer::Answered(_) => line.answered = Some(stream),
+        BackendAnswer::Broken(fault) => watch.broken(*fault),
+        BackendAnswer::Late => watch.late(),
+        BackendAnswer::NotConnected | BackendAnswer::Memory => {}
     }
     answer
 }
@@ -184,16 +184,16 @@ fn unconnected<W: BackendWatch, C: Clock>(
     call: &CallTime<'_, C>,
     watch: &W,
     error: &Error,
-) -> Answer
+) -> BackendAnswer
     ensures either { (result ≡ NotConnected) ⊎ (result ≡ Late) }
     ensures unlimited { call_deadline call.now ≡ None → result ≡ NotConnected }
 {
     if call.is_over_now() {
         watch.late();
-        Answer::Late
+        BackendAnswer::Late
     } else {
         watch.unreached(error);
-        Answer::NotConnected
+        BackendAnswer::NotConnected
     }
 }
 

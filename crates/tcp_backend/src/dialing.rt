@@ -3,7 +3,7 @@ ghost use Rattle.std.specs.Prelude.{◌≡◌};
 ghost use Rattle.counted_io.specs.Count.{raised};
 ghost use Rattle.tcp_backend.specs.Connecting.{dialed_of};
 
-use crate::ends::{OpaqueEnd, Outlet};
+use crate::ends::{OpaqueEnd, RequestOutlet};
 use std::io::{Read, Result, Write};
 use std::net::{Net, OpenStream, SocketAddr, SocketAddrV4, TcpStream};
 use std::os::fd::AsRawFd;
@@ -19,7 +19,7 @@ pub(crate) trait Connector {
     type Stream: Read + Write + OpenStream + AsRawFd + Drop;
 
     // Where it is written to.
-    type End: Outlet<Self::Stream> + Copy;
+    type End: RequestOutlet<Self::Stream> + Copy;
 
     ghost use Rattle.std.specs.Prelude.{ℕ};
 

@@ -6,7 +6,7 @@ use std::io::{Result, Write};
 
 /// The end of a connection that is written to. It may show what was written; a stream of std, which
 /// is read and written by one owner, can't.
-pub(crate) trait Outlet<S> {
+pub(crate) trait RequestOutlet<S> {
     ghost use Rattle.std.specs.Prelude.{ℕ, List, Option};
 
     // What was written, where that is shown.
@@ -26,7 +26,7 @@ pub(crate) trait Outlet<S> {
 #[derive(Clone, Copy)]
 pub(crate) struct OpaqueEnd {}
 
-impl<S: Write> Outlet<S> for OpaqueEnd {
+impl<S: Write> RequestOutlet<S> for OpaqueEnd {
     ghost use Rattle.std.specs.Prelude.{None};
 
     ghost contents = { λ _. None };

@@ -5,7 +5,7 @@ ghost use Rattle.std.specs.Io.KnownBytes.{Keeps, WriteAppends};
 ghost use Rattle.tcp_backend.specs.CallTime.{IsLate, Stands, countdown_to};
 ghost use Rattle.tcp_backend.specs.Sent.{end_of, writer_time};
 
-use crate::ends::Outlet;
+use crate::ends::RequestOutlet;
 use clocks::Clock;
 use std::io::{Error, ErrorKind, Result, Write};
 use std::net::OpenStream;
@@ -91,7 +91,8 @@ impl<'s, 'c, S, E: Copy, C> UnansweredWrite<'s, 'c, S, E, C> {
     }
 }
 
-impl<'s, 'c, S: OpenStream, E: Outlet<S>, C: Clock> Write for UnansweredWrite<'s, 'c, S, E, C> {
+impl<'s, 'c, S: OpenStream, E: RequestOutlet<S>, C: Clock> Write
+    for UnansweredWrite<'s, 'c, S, E, C> {
     ghost contents = { λ writer. E.contents (end_of writer) };
 
     #[tactic(auto, using(crate::proofs::Known::anew))]

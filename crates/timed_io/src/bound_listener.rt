@@ -1,7 +1,7 @@
 // Clients over TCP.
 use crate::ends::OpaqueEnd;
 use crate::keeping::{ask_after, end_untaken};
-use crate::listener::{Arrival, Listener};
+use crate::listener::{AcceptedClient, Listener};
 use libc::net::{POLLIN, SHUT_RD, listen, poll, shutdown};
 use libc::types::pollfd;
 use std::io::Result;
@@ -49,9 +49,9 @@ impl Listener for BoundListener {
 
     type To = OpaqueEnd;
 
-    fn accept(&self) -> Result<Arrival<TcpStream, OpaqueEnd, OpaqueEnd>> {
+    fn accept(&self) -> Result<AcceptedClient<TcpStream, OpaqueEnd, OpaqueEnd>> {
         let (stream, _) = self.listener.accept()?;
-        Ok(Arrival {
+        Ok(AcceptedClient {
             stream,
             from: OpaqueEnd {},
             to: OpaqueEnd {},

@@ -38,7 +38,7 @@ pub use ends::{Inlet, OpaqueEnd, Outlet, read_ready};
 pub use first_byte::{FirstByte, Patience};
 pub use keeping::{ask_after, end_untaken};
 pub use lingering::linger;
-pub use listener::{Arrival, Listener};
+pub use listener::{AcceptedClient, Listener};
 pub use reading::{LimitedRead, TimedReader};
 pub use uninterrupted::Uninterrupted;
 pub use writing::{LimitedWrite, TimedWriter};

@@ -8,7 +8,7 @@ use std::time::{Clock, Duration};
 
 /// A client who came.
 #[derive(Drop)]
-pub struct Arrival<S, F, T> {
+pub struct AcceptedClient<S, F, T> {
     /// Its connection.
     pub stream: S,
     /// The end that is read.
@@ -30,7 +30,7 @@ pub trait Listener {
 
     /// Waits for the next client, to whom nothing was written yet; the fault is the system's, where
     /// there was none to be had. Once it is closed, nobody waits.
-    fn accept(&self) -> Result<Arrival<Self::Stream, Self::From, Self::To>>
+    fn accept(&self) -> Result<AcceptedClient<Self::Stream, Self::From, Self::To>>
         ensures unwritten { IfOk result (λ client.
             IfSome (Self.To.contents client.to) (λ written. written ≡ [])) };
 

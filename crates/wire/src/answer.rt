@@ -4,7 +4,7 @@ use crate::response::Response;
 
 /// What became of a request that was forwarded.
 #[derive(Drop)]
-pub enum Answer {
+pub enum BackendAnswer {
     /// The backend's response, read whole.
     Answered(Response),
     /// There was no connection, so nothing was sent.

@@ -3,7 +3,7 @@ ghost use Rattle.std.specs.Prelude.{◌≡◌, ℕ};
 ghost use Rattle.counted_io.specs.Count.{raised};
 ghost use Rattle.wire.specs.Forwards.{Logs};
 
-use crate::answer::Answer;
+use crate::answer::BackendAnswer;
 use message_parts::Request;
 
 /// A server behind the gateway. It counts the requests that it was given.
@@ -18,7 +18,7 @@ pub trait Backend {
     ghost shown: { Self → Option (List Forwarded) };
 
     /// Gives it the request once, and waits for its answer.
-    fn forward(&mut self, request: &Request) -> Answer
+    fn forward(&mut self, request: &Request) -> BackendAnswer
         ensures count { forwarded self.new ≡ raised (forwarded self.old) }
         ensures log { Logs (shown self.old) (shown self.new) request.now result };
 

@@ -22,7 +22,7 @@ mod request_reading;
 mod response;
 mod response_reading;
 
-pub use answer::Answer;
+pub use answer::BackendAnswer;
 pub use answering::write_response;
 pub use backend::Backend;
 pub use fault::WireFault;

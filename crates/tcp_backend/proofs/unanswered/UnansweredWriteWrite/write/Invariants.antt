@@ -6,6 +6,7 @@ use Rattle.tcp_backend.proofs.unanswered.UnansweredWriteWrite.write.Given as goa
 -- the calls so far left the known bytes and the deadline as they were
 abbrev pub invariant-loop : goal.invariant-loop
 invariant-loop g l = record {
-  kept : Keeps (g.E.Outlet.contents (end_of l.fn.self)) (g.E.Outlet.contents (end_of l.self));
+  kept : Keeps (g.E.RequestOutlet.contents (end_of l.fn.self))
+      (g.E.RequestOutlet.contents (end_of l.self));
   deadline : Stands (countdown_to (writer_time l.fn.self)) (countdown_to (writer_time l.self));
 }
