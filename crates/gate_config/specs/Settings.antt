@@ -45,7 +45,7 @@ settings_with d resolvers = record {
   backend = text_at (codes "backend") d.top;
   backlog = number_at (codes "backlog") d.top;
   wait = flag_at (codes "wait") d.top;
-  timeout = number_at (codes "timeout_ms") d.top * 1000000;
+  timeout_ns = number_at (codes "timeout_ms") d.top * 1000000;
   keep = number_at (codes "keep") d.top;
   promote = promote_named (text_at (codes "promote") d.top);
   limit =
@@ -89,7 +89,7 @@ IsOfKey Fault.Route = ⊥
 -- nanoseconds
 pub record AreSound (s : Settings) : Type 0 where
   pub backlog_most : s.backlog ≤ 10000
-  pub timeout_least : 1000000 ≤ s.timeout
-  pub timeout_most : s.timeout ≤ 3600000000000
+  pub timeout_least : 1000000 ≤ s.timeout_ns
+  pub timeout_most : s.timeout_ns ≤ 3600000000000
   pub keep_least : 1 ≤ s.keep
   pub keep_most : s.keep ≤ 1000000

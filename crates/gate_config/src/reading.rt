@@ -123,7 +123,7 @@ fn made_of(alloc: Global, document: Document) -> Result<Settings, ConfigFault>
         backend: top.backend,
         backlog: top.backlog,
         wait: top.wait,
-        timeout: u64::from(top.timeout_ms) * MILLI,
+        timeout_ns: u64::from(top.timeout_ms) * MILLI,
         keep: top.keep,
         promote: promote_of(top.promote),
         limit,

@@ -17,7 +17,7 @@ pub struct Settings {
     /// Whether refused callers wait.
     pub wait: bool,
     /// The longest wait, in nanoseconds: a millisecond to an hour.
-    pub timeout: u64,
+    pub timeout_ns: u64,
     /// How many entries of the history are kept, from 1 to 1,000,000.
     pub keep: u32,
     /// Which waiters get the room that falls free.

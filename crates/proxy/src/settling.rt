@@ -58,11 +58,11 @@ pub(crate) fn outcome_at(answer: &Option<BackendAnswer>) -> Option<Outcome>
 
 /// Until when a request may wait that is read now, at most 2^62; none where it may not.
 fn deadline(settings: &Settings, now: u64) -> Option<u64>
-    ensures { result
-        ≡ (if settings.now.wait then Some (min (now + settings.now.timeout) (2 ^ 62)) else None) }
+    ensures { result ≡ (if settings.now.wait
+        then Some (min (now + settings.now.timeout_ns) (2 ^ 62)) else None) }
 {
     if settings.wait {
-        Some(now.saturating_add(settings.timeout).min(LAST_MOMENT))
+        Some(now.saturating_add(settings.timeout_ns).min(LAST_MOMENT))
     } else {
         None
     }
