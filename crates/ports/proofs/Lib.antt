@@ -1,7 +1,7 @@
-pub mod Asked
 pub mod Ended
 pub mod Getting
 pub mod Grown
 pub mod InLog
 pub mod LastWaiter
 pub mod Made
+pub mod SoloAsked

@@ -1,6 +1,6 @@
 use Rattle.std.proofs.Common.{rules, ap}
 use Rattle.gate_port.specs.Asking.{ask_of, says}
-use Rattle.ports.proofs.Asked.{asked_in_vain, asked_once, asked_twice, same_event}
+use Rattle.ports.proofs.SoloAsked.{asked_in_vain, asked_once, asked_twice, same_event}
 use Rattle.ports.proofs.solo.SoloPortGatePort.admit.Goals as goal
 
 pub returns-in-Admitted-clause-entries : goal.returns-in-Admitted-clause-entries
