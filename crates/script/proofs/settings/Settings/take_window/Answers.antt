@@ -10,14 +10,14 @@ returns-then-is_some-clause-fault c = search rules
 pub returns-then-is_some-clause-unchanged : goal.returns-then-is_some-clause-unchanged
 returns-then-is_some-clause-unchanged c = search rules
 
-pub returns-in_err-make-clause-taken : goal.returns-in_err-make-clause-taken
-returns-in_err-make-clause-taken c = search rules
+pub returns-in_err-of-clause-taken : goal.returns-in_err-of-clause-taken
+returns-in_err-of-clause-taken c = search rules
 
-pub returns-in_err-make-clause-fault : goal.returns-in_err-make-clause-fault
-returns-in_err-make-clause-fault c = search rules
+pub returns-in_err-of-clause-fault : goal.returns-in_err-of-clause-fault
+returns-in_err-of-clause-fault c = search rules
 
-pub returns-in_err-make-clause-unchanged : goal.returns-in_err-make-clause-unchanged
-returns-in_err-make-clause-unchanged c = search rules
+pub returns-in_err-of-clause-unchanged : goal.returns-in_err-of-clause-unchanged
+returns-in_err-of-clause-unchanged c = search rules
 
 pub returns-clause-taken : goal.returns-clause-taken
 returns-clause-taken c = search rules
