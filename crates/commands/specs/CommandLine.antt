@@ -1,18 +1,17 @@
 -- The command line, and the run that its words name.
-use Rattle.std.specs.Prelude.{◌≡◌, ◌≤◌, ℕ, List, Option, Some, None, true, false, codes}
-use Rattle.clap.specs.Words.{App, Row, Text, app_of, first_of, new_app, with_rule, with_subcommand}
-use Rattle.limit_laws.specs.Algorithm.{greatest_limit}
+use Rattle.std.specs.Prelude.{◌≡◌, ℕ, List, Option, Some, None, true, false, codes, fold}
+use Rattle.clap.specs.Words.{App, Row, Text, app_of, first_of, new_app, with_rule}
+use Rattle.clap.specs.Words.{with_subcommand}
 use Rattle.clap.specs.declared.builder.command.Command.{Command}
 use Rattle.clap.specs.declared.builder.command.Command.TheViews.{out-Command}
 use Rattle.commands.specs.declared.command_line.Run.{Run}
 use Rattle.commands.specs.declared.command_line.Run.TheVariants.{Text as OfText, Load, Check, Serve}
 use Rattle.commands.specs.declared.command_line.TextTask.{TextTask}
 use Rattle.commands.specs.declared.command_line.TextTask.TheVariants.{Replay, Simulate}
-use Rattle.commands.specs.Rules.{admin_rule, backend_timeout_rule, client_timeout_rule, config_rule}
-use Rattle.commands.specs.Rules.{explain_rule, limit_rule, log_lines_rule, per_worker_rule}
-use Rattle.commands.specs.Rules.{report_rule, status_rule, workers_rule}
+use Rattle.commands.specs.Options.{limit, workers}
+use Rattle.commands.specs.Rules.{config_rule, explain_rule, limit_rule, serve_rules, workers_rule}
 use Rattle.commands.specs.ServeOptions.{AreServeOptions, AreWithinRanges}
-use Rattle.commands.specs.Values.{HasNumber, is_set}
+use Rattle.commands.specs.Values.{Has, IsWithin, is_set}
 
 -- a command over a script or a trace
 abbrev pub limited_app : Text → App
@@ -30,16 +29,9 @@ load_app = with_rule (limited_app (codes "load")) workers_rule
 abbrev pub check_app : App
 check_app = with_rule (with_rule (new_app (codes "check")) config_rule) explain_rule
 
--- the options of `serve` that say how long, and those that say where and how it is seen
-abbrev pub timed_serve_app : App
-timed_serve_app =
-    with_rule (with_rule (with_rule (with_rule (with_rule (new_app (codes "serve")) config_rule)
-    workers_rule) per_worker_rule) client_timeout_rule) backend_timeout_rule
-
+-- the one with the options of the table, one behind the other
 abbrev pub serve_app : App
-serve_app =
-    with_rule (with_rule (with_rule (with_rule timed_serve_app report_rule) admin_rule)
-    status_rule) log_lines_rule
+serve_app = fold with_rule (with_rule (new_app (codes "serve")) config_rule) serve_rules
 
 -- a command that has a version, and subcommands of which one is required
 abbrev pub asking : Text → App
@@ -67,18 +59,16 @@ IsWithoutGlobals app command =
 
 -- the task is that of this subcommand, with the numbers that its rows have
 abbrev pub IsTaskOf : Text → List Row → TextTask → Type 0
-IsTaskOf name rows (Replay limit) =
-    (name ≡ codes "replay") × HasNumber rows (codes "limit") 1 greatest_limit limit
-IsTaskOf name rows (Simulate limit) =
-    (name ≡ codes "simulate") × HasNumber rows (codes "limit") 1 greatest_limit limit
+IsTaskOf name rows (Replay permits) = (name ≡ codes "replay") × Has rows limit permits
+IsTaskOf name rows (Simulate permits) = (name ≡ codes "simulate") × Has rows limit permits
 
 -- the run is that of this subcommand, with the numbers, the path and the address that its rows have
 abbrev pub IsCommandOf : Text → List Row → Run → Type 0
 IsCommandOf name rows (OfText task explain) =
     IsTaskOf name rows task × (explain ≡ is_set (codes "explain") rows)
-IsCommandOf name rows (Load limit workers explain) =
-    (name ≡ codes "load") × HasNumber rows (codes "limit") 1 greatest_limit limit
-    × HasNumber rows (codes "workers") 1 64 workers × (explain ≡ is_set (codes "explain") rows)
+IsCommandOf name rows (Load permits threads explain) =
+    (name ≡ codes "load") × Has rows limit permits × Has rows workers threads
+    × (explain ≡ is_set (codes "explain") rows)
 IsCommandOf name rows (Check path explain) =
     (name ≡ codes "check") × (first_of (codes "config") rows ≡ Some path.now)
     × (explain ≡ is_set (codes "explain") rows)
@@ -95,13 +85,13 @@ NamesNoRun named = (run : Run) → IsRunOf named run → ⊥
 
 -- the limit of a text without a limit line
 abbrev pub limit_of : TextTask → ℕ
-limit_of (Replay limit) = limit
-limit_of (Simulate limit) = limit
+limit_of (Replay permits) = permits
+limit_of (Simulate permits) = permits
 
 -- the numbers of a run lie in their ranges
 abbrev pub KeepsRanges : Run → Type 0
-KeepsRanges (OfText task explain) = (1 ≤ limit_of task) × (limit_of task ≤ greatest_limit)
-KeepsRanges (Load limit workers explain) =
-    (1 ≤ limit) × (limit ≤ greatest_limit) × (1 ≤ workers) × (workers ≤ 64)
+KeepsRanges (OfText task explain) = IsWithin limit.holds (limit_of task)
+KeepsRanges (Load permits threads explain) =
+    IsWithin limit.holds permits × IsWithin workers.holds threads
 KeepsRanges (Check path explain) = Unit {0}
 KeepsRanges (Serve options) = AreWithinRanges options

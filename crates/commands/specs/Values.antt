@@ -1,5 +1,5 @@
 -- What the words give for an option.
-use Rattle.std.specs.Prelude.{◌≡◌, ◌≤◌, ℕ, List, Option, Some, None, Bool, false, codes}
+use Rattle.std.specs.Prelude.{◌≡◌, ◌≤◌, ℕ, List, Option, Some, None, IfSome, Bool, false, codes}
 use Rattle.std.specs.Option.{option_map_or}
 use Rattle.std.specs.Str.{bytes_eq}
 use Rattle.std.specs.Net.Addr.{IsLoopbackV4}
@@ -8,6 +8,10 @@ use Rattle.std.specs.Net.Socket.{v4_ip, v4_port}
 use Rattle.std.specs.declared.net.socket_addr.SocketAddrV4.{SocketAddrV4}
 use Rattle.std.specs.Str.Parse.{IsNumeral, digits_value, without_leading_plus}
 use Rattle.clap.specs.Words.{Row, Text, first_of, one_of}
+use Rattle.commands.specs.declared.serve_options.LogLines.{LogLines}
+use Rattle.commands.specs.declared.serve_options.LogLines.TheVariants.{Plain, Time, Journal}
+use Rattle.commands.specs.Options.{Entry, Holds, Value, address, log_lines, loopback, number}
+use Rattle.commands.specs.Options.{number_if_given}
 
 -- the number that the rows have for an option lies in the range
 abbrev pub HasNumber : List Row → Text → ℕ → ℕ → ℕ → Type 0
@@ -38,6 +42,43 @@ MayHaveAddress rows id (Some a) = HasAddress rows id a
 abbrev pub MayHaveLoopback : List Row → Text → Option SocketAddrV4 → Type 0
 MayHaveLoopback rows id None = first_of id rows ≡ None
 MayHaveLoopback rows id (Some a) = HasLoopback rows id a
+
+-- the word of each form of the log's lines
+abbrev pub log_lines_word : LogLines → Text
+log_lines_word Plain = codes "plain"
+log_lines_word Time = codes "time"
+log_lines_word Journal = codes "journal"
+
+-- the rows have the word of this form
+abbrev pub HasLogLines : List Row → Text → LogLines → Type 0
+HasLogLines rows id lines = first_of id rows ≡ Some (log_lines_word lines)
+
+-- the rows have this value for an option that holds this, in its range
+abbrev pub HasValue : List Row → Text → (holds : Holds) → Value holds → Type 0
+HasValue rows id (number low high) n = HasNumber rows id low high n
+HasValue rows id (number_if_given low high) n = HasOptional rows id low high n
+HasValue rows id address a = MayHaveAddress rows id a
+HasValue rows id loopback a = MayHaveLoopback rows id a
+HasValue rows id log_lines lines = HasLogLines rows id lines
+
+abbrev pub Has : List Row → (e : Entry) → Value e.holds → Type 0
+Has rows e value = HasValue rows e.word e.holds value
+
+-- they have some value for it
+pub record HasSome (rows : List Row) (id : Text) (holds : Holds) : Type 0 where
+  pub value : Value holds
+  pub has : HasValue rows id holds value
+
+abbrev pub Lacks : List Row → Text → Holds → Type 0
+Lacks rows id holds = HasSome rows id holds → ⊥
+
+-- a value is in the range of what its option holds
+abbrev pub IsWithin : (holds : Holds) → Value holds → Type 0
+IsWithin (number low high) n = (low ≤ n) × (n ≤ high)
+IsWithin (number_if_given low high) n = IfSome n (λ n. (low ≤ n) × (n ≤ high))
+IsWithin address a = IfSome a (λ a. 1 ≤ v4_port a)
+IsWithin loopback a = IfSome a (λ a. (1 ≤ v4_port a) × IsLoopbackV4 (v4_ip a))
+IsWithin log_lines lines = Unit {0}
 
 -- the rows have a flag
 abbrev pub is_set : Text → List Row → Bool

@@ -1,8 +1,10 @@
 // Addresses that options give.
-ghost use Rattle.std.specs.Prelude.{IfSome, IsNone, Option};
+ghost use Rattle.std.specs.Prelude.{IfSome, IsNone};
 ghost use Rattle.std.specs.declared.net.socket_addr.SocketAddrV4.{SocketAddrV4 as Socket};
 ghost use Rattle.clap.specs.Words.{found_of, rows_of};
-ghost use Rattle.commands.specs.Values.{HasAddress, HasLoopback, MayHaveAddress, MayHaveLoopback};
+ghost use Rattle.commands.specs.Options.{address as any_address, loopback as any_loopback};
+ghost use Rattle.commands.specs.Values.{HasAddress, HasLoopback, Lacks, MayHaveAddress};
+ghost use Rattle.commands.specs.Values.{MayHaveLoopback};
 
 use clap::ArgMatches;
 use std::net::SocketAddrV4;
@@ -34,8 +36,7 @@ fn loopback(matches: &ArgMatches<'_>, id: &str) -> Option<SocketAddrV4>
 /// The address of an option that may be left out.
 pub(crate) fn optional_address(matches: &ArgMatches<'_>, id: &str) -> Option<Option<SocketAddrV4>>
     ensures value { IfSome result (MayHaveAddress (rows_of (found_of matches.now)) id.now) }
-    ensures none { IsNone result → (a : Option Socket)
-        → MayHaveAddress (rows_of (found_of matches.now)) id.now a → ⊥ }
+    ensures none { IsNone result → Lacks (rows_of (found_of matches.now)) id.now any_address }
 {
     match matches.get_str(id) {
         None => Some(None),
@@ -46,8 +47,7 @@ pub(crate) fn optional_address(matches: &ArgMatches<'_>, id: &str) -> Option<Opt
 /// That of one that may be left out, and else is a loopback address.
 pub(crate) fn optional_loopback(matches: &ArgMatches<'_>, id: &str) -> Option<Option<SocketAddrV4>>
     ensures value { IfSome result (MayHaveLoopback (rows_of (found_of matches.now)) id.now) }
-    ensures none { IsNone result → (a : Option Socket)
-        → MayHaveLoopback (rows_of (found_of matches.now)) id.now a → ⊥ }
+    ensures none { IsNone result → Lacks (rows_of (found_of matches.now)) id.now any_loopback }
 {
     match matches.get_str(id) {
         None => Some(None),

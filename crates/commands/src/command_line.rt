@@ -10,7 +10,9 @@ ghost use Rattle.commands.specs.declared.command_line.Run.{Run as RunValue};
 use super::addresses::{optional_address, optional_loopback};
 use super::interface::{command, serve_command};
 use super::numbers::number;
-use super::serve_options::{ServeOptions, serve_options};
+use super::options::{option_row, read, read_by_row};
+use super::rows::{OptionRow, SERVE_ROWS, Takes};
+use super::serve_options::{ServeOptions, log_lines, serve_options};
 use clap::error::ErrorKind;
 use clap::{ArgMatches, Error};
 use std::alloc::{AllocError, Global};
@@ -68,7 +70,7 @@ fn replay_run<'a>(matches: &ArgMatches<'a>) -> Option<Run<'a>>
     ensures none { IsNone result → (run : RunValue)
         → IsCommandOf (codes "replay") (rows_of (found_of matches.now)) run → ⊥ }
 {
-    let limit = number(matches, "limit", 1, 10_000)?;
+    let limit = read!(matches, Limit)?;
     let task = TextTask::Replay { limit };
     let explain = is_set(matches, "explain");
     Some(Run::Text { task, explain })
@@ -80,7 +82,7 @@ fn simulate_run<'a>(matches: &ArgMatches<'a>) -> Option<Run<'a>>
     ensures none { IsNone result → (run : RunValue)
         → IsCommandOf (codes "simulate") (rows_of (found_of matches.now)) run → ⊥ }
 {
-    let limit = number(matches, "limit", 1, 10_000)?;
+    let limit = read!(matches, Limit)?;
     let task = TextTask::Simulate { limit };
     let explain = is_set(matches, "explain");
     Some(Run::Text { task, explain })
@@ -92,8 +94,8 @@ fn load_run<'a>(matches: &ArgMatches<'a>) -> Option<Run<'a>>
     ensures none { IsNone result → (run : RunValue)
         → IsCommandOf (codes "load") (rows_of (found_of matches.now)) run → ⊥ }
 {
-    let limit = number(matches, "limit", 1, 10_000)?;
-    let workers = number(matches, "workers", 1, 64)?;
+    let limit = read!(matches, Limit)?;
+    let workers = read!(matches, Workers)?;
     let explain = is_set(matches, "explain");
     Some(Run::Load {
         limit,
@@ -155,13 +157,10 @@ fn named_run<'a>(matches: &ArgMatches<'a>) -> Option<Run<'a>>
 }
 
 /// A value that an option of `serve` can't take, and that the parser let pass.
-enum WrongValue<'a> {
-    /// That of `--admin`.
-    Admin(&'a str),
-    /// That of `--status`.
-    Status(&'a str),
-    /// That of `--log-lines`.
-    LogLines(&'a str),
+struct WrongValue<'a> {
+    text: &'a str,
+    /// The option.
+    row: OptionRow,
 }
 
 /// The run of the words, where the subcommand that they name has one; else the value that is
@@ -188,38 +187,37 @@ fn run_among<'a>(
 /// other words.
 fn wrong_value<'a>(matches: &ArgMatches<'a>) -> Option<WrongValue<'a>> {
     let (_, found) = matches.subcommand()?;
-    if optional_loopback(found, "admin").is_none() {
-        Some(WrongValue::Admin(found.get_str("admin")?))
-    } else if optional_address(found, "status").is_none() {
-        Some(WrongValue::Status(found.get_str("status")?))
-    } else {
-        Some(WrongValue::LogLines(found.get_str("log-lines")?))
+    for row in &SERVE_ROWS {
+        if is_wrong(found, row) {
+            let text = found.get_str(row.word)?;
+            return Some(WrongValue { text, row: *row });
+        }
+    }
+    None
+}
+
+/// Whether the text of an option isn't a value of it.
+fn is_wrong(matches: &ArgMatches<'_>, row: &OptionRow) -> bool {
+    match row.takes {
+        Takes::Number { .. } => false,
+        Takes::Address => optional_address(matches, row.word).is_none(),
+        Takes::Loopback => optional_loopback(matches, row.word).is_none(),
+        Takes::LogLines => log_lines(matches, row.word).is_none(),
     }
 }
 
 /// The error of words that name no run: a value that isn't what an option wants, or no command.
 fn unnamed(alloc: Global, wrong: Option<WrongValue<'_>>) -> Result<Error, AllocError> {
-    let (text, option, wanted) = match wrong {
-        None => return command(alloc)?.error(ErrorKind::MissingSubcommand, "no command is named"),
-        Some(WrongValue::Admin(text)) => (
-            text,
-            "--admin <ADDRESS>",
-            "a loopback IPv4 address with a port is wanted, such as 127.0.0.1:9901",
-        ),
-        Some(WrongValue::Status(text)) => (
-            text,
-            "--status <ADDRESS>",
-            "an IPv4 address with a port is wanted, such as 0.0.0.0:9902",
-        ),
-        Some(WrongValue::LogLines(text)) => {
-            (
-                text,
-                "--log-lines <FORM>",
-                "plain, time or journal is wanted",
-            )
-        }
+    let Some(WrongValue { text, row }) = wrong else {
+        return command(alloc)?.error(ErrorKind::MissingSubcommand, "no command is named");
     };
-    let fault = format!(in alloc; "invalid value '{}' for '{}': {}", text, option, wanted)?;
+    let fault = format!(in alloc;
+        "invalid value '{}' for '--{} <{}>': {}",
+        text,
+        row.word,
+        row.value_name,
+        row.takes.wanted()
+    )?;
     let mut serve = serve_command(alloc)?.bin_name("admission serve")?;
     serve.error(ErrorKind::ValueValidation, fault.as_str())
 }

@@ -1,161 +1,20 @@
 // The commands, and the words that each takes.
-ghost use Rattle.std.specs.Prelude.{◌≡◌, false, Ok, IfOk, None, Some};
+ghost use Rattle.std.specs.Prelude.{◌≡◌, false, Ok, IfOk};
 ghost use Rattle.clap.specs.Words.{App, Rule, app_of, new_app, rule_of, with_rule, with_subcommand};
 ghost use Rattle.commands.specs.CommandLine.{IsWithoutGlobals, admission_app, check_app, limited_app};
 ghost use Rattle.commands.specs.CommandLine.{load_app, offline_app, replay_app, serve_app, simulate_app};
 ghost use Rattle.commands.specs.CommandLine.{text_app};
-ghost use Rattle.commands.specs.Rules.{admin_rule, backend_timeout_rule, client_timeout_rule};
-ghost use Rattle.commands.specs.Rules.{config_rule, explain_rule, limit_rule, log_lines_rule};
-ghost use Rattle.commands.specs.Rules.{option_rule, optional_rule, per_worker_rule, report_rule};
-ghost use Rattle.commands.specs.Rules.{status_rule, workers_rule};
+ghost use Rattle.commands.specs.Rows.{with_rows};
+ghost use Rattle.commands.specs.Rules.{config_rule, explain_rule, limit_rule};
 
 use super::help::{
     ABOUT, CHECK_ABOUT, CHECK_HELP, LOAD_ABOUT, LOAD_HELP, REPLAY_ABOUT, REPLAY_HELP, SERVE_ABOUT,
     SERVE_HELP, SIMULATE_ABOUT, SIMULATE_HELP,
 };
-use clap::builder::ValueParser;
-use clap::{Arg, ArgAction, Command, value_parser};
+use super::rows::{LIMIT, OptionRow, SERVE_ROWS, WORKERS};
+use clap::{Arg, ArgAction, Command};
 use release::version;
 use std::alloc::{AllocError, Global};
-
-/// An option of this name that takes a number, which help calls `shown`.
-fn number_option<'a>(
-    alloc: Global,
-    name: &'a str,
-    shown: &'a str,
-    help: &'a str,
-    numbers: ValueParser<'a>,
-    default: &'a str,
-) -> Arg<'a>
-    ensures rule { rule_of result ≡ option_rule name.now default.now numbers.entry }
-    ensures local { result.global ≡ false }
-{
-    Arg::new(alloc, name)
-        .long(name)
-        .value_name(shown)
-        .help(help)
-        .value_parser(numbers)
-        .default_value(default)
-}
-
-/// `--limit N`.
-fn limit_option<'a>(alloc: Global) -> Arg<'a>
-    ensures rule { rule_of result ≡ limit_rule }
-    ensures local { result.global ≡ false }
-{
-    let help = "The limit of a text without a limit line, 1 to 10000 permits";
-    let numbers = value_parser!(u32).range(1..=10_000);
-    number_option(alloc, "limit", "N", help, numbers, "20")
-}
-
-/// `--workers W`.
-fn workers_option<'a>(alloc: Global) -> Arg<'a>
-    ensures rule { rule_of result ≡ workers_rule }
-    ensures local { result.global ≡ false }
-{
-    let help = "How many threads work, 1 to 64";
-    let numbers = value_parser!(u32).range(1..=64);
-    number_option(alloc, "workers", "W", help, numbers, "4")
-}
-
-/// `--per-worker M`.
-fn per_worker_option<'a>(alloc: Global) -> Arg<'a>
-    ensures rule { rule_of result ≡ per_worker_rule }
-    ensures local { result.global ≡ false }
-{
-    let help = "Connections of each worker, 1 to 1000000000";
-    let numbers = value_parser!(u32).range(1..=1_000_000_000);
-    number_option(alloc, "per-worker", "M", help, numbers, "1000000000")
-}
-
-/// `--client-timeout-ms T`.
-fn client_timeout_option<'a>(alloc: Global) -> Arg<'a>
-    ensures rule { rule_of result ≡ client_timeout_rule }
-    ensures local { result.global ≡ false }
-{
-    let help = "Milliseconds that a client may take, 1 to 3600000";
-    let numbers = value_parser!(u32).range(1..=3_600_000);
-    number_option(alloc, "client-timeout-ms", "T", help, numbers, "10000")
-}
-
-/// An option of this name that takes a number, which help calls `shown`, or is left out.
-fn optional_option<'a>(
-    alloc: Global,
-    name: &'a str,
-    shown: &'a str,
-    help: &'a str,
-    numbers: ValueParser<'a>,
-) -> Arg<'a>
-    ensures rule { rule_of result ≡ optional_rule name.now (Some numbers.entry) }
-    ensures local { result.global ≡ false }
-{
-    Arg::new(alloc, name)
-        .long(name)
-        .value_name(shown)
-        .help(help)
-        .value_parser(numbers)
-}
-
-/// `--backend-timeout-ms T`.
-fn backend_timeout_option<'a>(alloc: Global) -> Arg<'a>
-    ensures rule { rule_of result ≡ backend_timeout_rule }
-    ensures local { result.global ≡ false }
-{
-    let help = "Milliseconds for the backend, 1 to 3600000; without it no limit";
-    let numbers = value_parser!(u32).range(1..=3_600_000);
-    optional_option(alloc, "backend-timeout-ms", "T", help, numbers)
-}
-
-/// `--report-seconds N`.
-fn report_option<'a>(alloc: Global) -> Arg<'a>
-    ensures rule { rule_of result ≡ report_rule }
-    ensures local { result.global ≡ false }
-{
-    let help = "Seconds between two lines of the report, 1 to 3600; without it none";
-    let numbers = value_parser!(u32).range(1..=3_600);
-    optional_option(alloc, "report-seconds", "N", help, numbers)
-}
-
-/// An option of this name that takes an address, or is left out.
-fn address_option<'a>(alloc: Global, name: &'a str, help: &'a str) -> Arg<'a>
-    ensures rule { rule_of result ≡ optional_rule name.now None }
-    ensures local { result.global ≡ false }
-{
-    Arg::new(alloc, name)
-        .long(name)
-        .value_name("ADDRESS")
-        .help(help)
-}
-
-/// `--admin ADDRESS`.
-fn admin_option<'a>(alloc: Global) -> Arg<'a>
-    ensures rule { rule_of result ≡ admin_rule }
-    ensures local { result.global ≡ false }
-{
-    let help = "The operator's address, such as 127.0.0.1:9901; without it none";
-    address_option(alloc, "admin", help)
-}
-
-/// `--status ADDRESS`.
-fn status_option<'a>(alloc: Global) -> Arg<'a>
-    ensures rule { rule_of result ≡ status_rule }
-    ensures local { result.global ≡ false }
-{
-    let help = "An address for health and metrics alone; without it none";
-    address_option(alloc, "status", help)
-}
-
-/// `--log-lines FORM`.
-fn log_lines_option<'a>(alloc: Global) -> Arg<'a>
-    ensures rule { rule_of result ≡ log_lines_rule }
-    ensures local { result.global ≡ false }
-{
-    Arg::new(alloc, "log-lines")
-        .long("log-lines")
-        .value_name("FORM")
-        .help("How lines of the log begin: plain, time or journal")
-        .default_value("plain")
-}
 
 /// `--explain`.
 fn explain_flag<'a>(alloc: Global, help: &'a str) -> Arg<'a>
@@ -195,7 +54,7 @@ fn limited_alone<'a>(
 ) -> Result<Command<'a>, AllocError>
     ensures { IfOk result (IsWithoutGlobals (with_rule (new_app name.now) limit_rule)) }
 {
-    described(alloc, name, about, help).arg(limit_option(alloc))
+    described(alloc, name, about, help).arg(LIMIT.argument(alloc))
 }
 
 /// A command of this name that takes `--limit N` and `--explain`.
@@ -267,7 +126,7 @@ fn load_command<'a>(alloc: Global) -> Result<Command<'a>, AllocError>
     ensures { IfOk result (IsWithoutGlobals load_app) }
 {
     let load = limited(alloc, "load", LOAD_ABOUT, LOAD_HELP);
-    with_argument(load, workers_option(alloc))
+    with_argument(load, WORKERS.argument(alloc))
 }
 
 /// `check CONFIG [--explain]`.
@@ -279,20 +138,27 @@ fn check_command<'a>(alloc: Global) -> Result<Command<'a>, AllocError>
     with_argument(check, explain_flag(alloc, help))
 }
 
-/// `serve CONFIG [--workers W] [--per-worker M] [--client-timeout-ms T] [--backend-timeout-ms T]
-/// [--report-seconds N] [--admin ADDRESS] [--status ADDRESS] [--log-lines FORM]`.
+/// The command, where it was made, with the options of these rows, one behind the other.
+fn with_rows<'a>(
+    alloc: Global,
+    mut command: Result<Command<'a>, AllocError>,
+    rows: &[OptionRow],
+) -> Result<Command<'a>, AllocError>
+    ensures { (app : App) → IfOk command.entry (IsWithoutGlobals app)
+        → IfOk result (IsWithoutGlobals (with_rows app rows.now)) }
+{
+    for row in rows {
+        command = with_argument(command, row.argument(alloc));
+    }
+    command
+}
+
+/// `serve CONFIG`, with the options of its rows.
 pub(crate) fn serve_command<'a>(alloc: Global) -> Result<Command<'a>, AllocError>
     ensures { IfOk result (IsWithoutGlobals serve_app) }
 {
     let serve = configured(alloc, "serve", SERVE_ABOUT, SERVE_HELP);
-    let serve = with_argument(serve, workers_option(alloc));
-    let serve = with_argument(serve, per_worker_option(alloc));
-    let serve = with_argument(serve, client_timeout_option(alloc));
-    let serve = with_argument(serve, backend_timeout_option(alloc));
-    let serve = with_argument(serve, report_option(alloc));
-    let serve = with_argument(serve, admin_option(alloc));
-    let serve = with_argument(serve, status_option(alloc));
-    with_argument(serve, log_lines_option(alloc))
+    with_rows(alloc, serve, &SERVE_ROWS)
 }
 
 /// The command, with a subcommand, where both were made.

@@ -9,6 +9,8 @@ mod command_line;
 mod help;
 mod interface;
 mod numbers;
+mod options;
+mod rows;
 mod serve_options;
 
 pub use command_line::{Run, TextTask, words};

@@ -1,12 +1,13 @@
 // The words of `serve`.
 ghost use Rattle.std.specs.Prelude.{IfSome, IsNone};
 ghost use Rattle.clap.specs.Words.{found_of, rows_of};
-ghost use Rattle.commands.specs.ServeOptions.{AreServeOptions, HasLogLines};
-ghost use Rattle.commands.specs.declared.serve_options.LogLines.{LogLines as LogLinesValue};
-ghost use Rattle.commands.specs.declared.serve_options.ServeOptions.{ServeOptions as OptionsValue};
+ghost use Rattle.commands.specs.Options.{log_lines as any_form};
+ghost use Rattle.commands.specs.ServeOptions.{AreGiven, AreServeOptions};
+ghost use Rattle.commands.specs.Values.{HasLogLines, Lacks};
 
 use super::addresses::{optional_address, optional_loopback};
 use super::numbers::{number, optional_number};
+use super::options::{option_row, read, read_by_row};
 use clap::ArgMatches;
 use std::net::SocketAddrV4;
 
@@ -21,23 +22,22 @@ pub enum LogLines {
     Journal,
 }
 
-/// What a gateway is asked to do.
+/// What a gateway is asked to do: the values of its options, each in the range of its row.
 #[derive(Clone, Copy)]
 pub struct ServeOptions<'a> {
     /// The path of its configuration.
     pub path: &'a str,
-    /// How many workers serve clients: 1 to 64.
+    /// How many workers serve clients.
     pub workers: u32,
-    /// How many connections each worker accepts before it ends: 1 to 1,000,000,000.
+    /// How many connections each worker accepts before it ends.
     pub per_worker: u32,
-    /// How many milliseconds a client may take for its request, and again for its answer: 1 to
-    /// 3,600,000.
+    /// How many milliseconds a client may take for its request, and again for its answer.
     pub client_timeout_ms: u32,
-    /// How many milliseconds the backend may take, from the connect to the end of its answer: 1 to
-    /// 3,600,000; as long as it likes without it.
+    /// How many milliseconds the backend may take, from the connect to the end of its answer; as
+    /// long as it likes without it.
     pub backend_timeout_ms: Option<u32>,
-    /// How many seconds there are from one line of the report to the next: 1 to 3,600; there is
-    /// none without it.
+    /// How many seconds there are from one line of the report to the next; there is none without
+    /// it.
     pub report_seconds: Option<u32>,
     /// Where an operator sees the state and changes it: a loopback address with a port from 1 up.
     pub admin: Option<SocketAddrV4>,
@@ -48,12 +48,11 @@ pub struct ServeOptions<'a> {
 }
 
 /// How lines of the log are to begin.
-fn log_lines(matches: &ArgMatches<'_>) -> Option<LogLines>
-    ensures value { IfSome result (HasLogLines (rows_of (found_of matches.now))) }
-    ensures none { IsNone result → (lines : LogLinesValue)
-        → HasLogLines (rows_of (found_of matches.now)) lines → ⊥ }
+pub(crate) fn log_lines(matches: &ArgMatches<'_>, id: &str) -> Option<LogLines>
+    ensures value { IfSome result (HasLogLines (rows_of (found_of matches.now)) id.now) }
+    ensures none { IsNone result → Lacks (rows_of (found_of matches.now)) id.now any_form }
 {
-    match matches.get_str("log-lines")? {
+    match matches.get_str(id)? {
         "plain" => Some(LogLines::Plain),
         "time" => Some(LogLines::Time),
         "journal" => Some(LogLines::Journal),
@@ -64,18 +63,17 @@ fn log_lines(matches: &ArgMatches<'_>) -> Option<LogLines>
 /// The options of `serve`, where each is in its range.
 pub(crate) fn serve_options<'a>(matches: &ArgMatches<'a>) -> Option<ServeOptions<'a>>
     ensures value { IfSome result (AreServeOptions (rows_of (found_of matches.now))) }
-    ensures none { IsNone result → (options : OptionsValue)
-        → AreServeOptions (rows_of (found_of matches.now)) options → ⊥ }
+    ensures none { IsNone result → AreGiven (rows_of (found_of matches.now)) → ⊥ }
 {
     let path = matches.get_str("config")?;
-    let workers = number(matches, "workers", 1, 64)?;
-    let per_worker = number(matches, "per-worker", 1, 1_000_000_000)?;
-    let client_timeout_ms = number(matches, "client-timeout-ms", 1, 3_600_000)?;
-    let backend_timeout_ms = optional_number(matches, "backend-timeout-ms", 1, 3_600_000)?;
-    let report_seconds = optional_number(matches, "report-seconds", 1, 3_600)?;
-    let admin = optional_loopback(matches, "admin")?;
-    let status = optional_address(matches, "status")?;
-    let log_lines = log_lines(matches)?;
+    let workers = read!(matches, Workers)?;
+    let per_worker = read!(matches, PerWorker)?;
+    let client_timeout_ms = read!(matches, ClientTimeoutMs)?;
+    let backend_timeout_ms = read!(matches, BackendTimeoutMs)?;
+    let report_seconds = read!(matches, ReportSeconds)?;
+    let admin = read!(matches, Admin)?;
+    let status = read!(matches, Status)?;
+    let log_lines = read!(matches, LogLines)?;
     Some(ServeOptions {
         path,
         workers,

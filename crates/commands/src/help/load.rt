@@ -1,9 +1,36 @@
 // The help of `load`.
+use crate::options::{option_row, option_rows};
 
 pub(crate) const LOAD_ABOUT: &str =
     "Makes the calls of a trace by threads at one gate, and audits what they were told";
 
-pub(crate) const LOAD_HELP: &str = "\
+/// Texts with the ranges and defaults of options between them.
+macro_rules! with_ranges {
+    (
+        [$($before:literal,)* in $behind:literal]
+        $(
+            $name:ident $word:literal $value_name:literal
+                [$least:literal to $most:literal; default $default:literal]
+                listed $($listed:literal)* $(told $($told:literal)*)?;
+        )*
+    ) => {
+        concat!(
+            $(
+                $before,
+                stringify!($least),
+                " to ",
+                stringify!($most),
+                "; default ",
+                stringify!($default),
+            )*
+            $behind
+        )
+    };
+}
+
+pub(crate) const LOAD_HELP: &str = option_rows!(
+    [Limit Workers] with_ranges,
+    "\
 Reads a trace from standard input, whole and at most 16 MiB, before the first call. Its lines are
 those of `admission simulate --help`, its settings those of `admission replay --help`.
 
@@ -14,8 +41,10 @@ permit, for the timeout of the trace by the machine's own clock, until another w
 promotes it. Which worker comes first depends on the machine: where calls are refused or wait, two
 runs may end differently.
 
-  --limit N      the fixed limit of a trace without a limit line, permits, 1 to 10000; default 20
-  --workers W    threads that make the calls, 1 to 64; default 4
+  --limit N      the fixed limit of a trace without a limit line, permits, ",
+    "
+  --workers W    threads that make the calls, ",
+    in "
   --explain      says more after a line's fault
 
 At the end all that the workers were told is compared with the gate's history: each call stands in
@@ -62,4 +91,5 @@ closes:
                              the trace
   admission: write           standard output can't be written: a full disk, a closed pipe
 
-With --explain a line more follows that of a line at fault, as `simulate` has it.";
+With --explain a line more follows that of a line at fault, as `simulate` has it."
+);

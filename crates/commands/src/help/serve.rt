@@ -1,38 +1,93 @@
 // The help of `serve`.
+use crate::options::{option_row, option_rows, serve_rows};
 
 pub(crate) const SERVE_ABOUT: &str = "Stands before a backend, and forwards what the limit admits";
 
-pub(crate) const SERVE_HELP: &str = "\
+/// A text, the lines of the options, and the text behind them.
+macro_rules! with_options {
+    ([$before:literal, $behind:literal] $($rows:tt)*) => {
+        with_options! { @ [$before,] [$behind] $($rows)* }
+    };
+    // The lines of each row go behind those before it.
+    (
+        @ [$($lines:tt)*] [$behind:literal]
+        $name:ident $word:literal $value_name:literal
+            [$least:literal to $most:literal; default $default:literal]
+            listed $($listed:literal)*
+            told $before:literal $between:literal $rest:literal;
+        $($rows:tt)*
+    ) => {
+        with_options! {
+            @
+            [
+                $($lines)* "  --", $word, " ", $value_name, $before, stringify!($least), " to ",
+                stringify!($most), $between, "default ", stringify!($default), $rest, "\n",
+            ]
+            [$behind]
+            $($rows)*
+        }
+    };
+    (
+        @ [$($lines:tt)*] [$behind:literal]
+        $name:ident $word:literal $value_name:literal [$least:literal to $most:literal]
+            listed $($listed:literal)*
+            told $before:literal $rest:literal;
+        $($rows:tt)*
+    ) => {
+        with_options! {
+            @
+            [
+                $($lines)* "  --", $word, " ", $value_name, $before, stringify!($least), " to ",
+                stringify!($most), $rest, "\n",
+            ]
+            [$behind]
+            $($rows)*
+        }
+    };
+    (
+        @ [$($lines:tt)*] [$behind:literal]
+        $name:ident $word:literal $value_name:literal [log lines; default $form:ident]
+            listed $($listed:literal)*
+            told $before:literal $rest:literal;
+        $($rows:tt)*
+    ) => {
+        with_options! {
+            @
+            [
+                $($lines)* "  --", $word, " ", $value_name, $before, "default ", stringify!($form),
+                $rest, "\n",
+            ]
+            [$behind]
+            $($rows)*
+        }
+    };
+    (
+        @ [$($lines:tt)*] [$behind:literal]
+        $name:ident $word:literal $value_name:literal [$($address:ident)*]
+            listed $($listed:literal)*
+            told $rest:literal;
+        $($rows:tt)*
+    ) => {
+        with_options! {
+            @ [$($lines)* "  --", $word, " ", $value_name, $rest, "\n",] [$behind] $($rows)*
+        }
+    };
+    (@ [$($lines:tt)*] [$behind:literal]) => {
+        concat!($($lines)* $behind)
+    };
+}
+
+pub(crate) const SERVE_HELP: &str = serve_rows!(
+    with_options,
+    "\
 Serves clients at the address `listen` of the file CONFIG and forwards to its `backend` what its
 limit admits. CONFIG is TOML text of at most 1 MiB; `admission check --help` has its keys, and
 `admission check` says whether a file is right before anything is served. A connection carries one
 request, HTTP/1.1 or 1.0, and is closed after its answer. Bodies are read whole, up to 8 MiB each
 way.
 
-  --workers W             threads that serve, 1 to 64; default 4. Each serves one connection at a
-                          time, from its first byte to the last of its answer, also while it waits
-                          for a permit: at most W requests are in flight or wait. Use 64 unless the
-                          limit is small
-  --per-worker M          connections that each worker serves before it ends, 1 to 1000000000;
-                          default 1000000000. The program ends once all workers have
-  --client-timeout-ms T   milliseconds that a client may take, 1 to 3600000; default 10000: for its
-                          whole request, and again to take its whole answer. A slower client is cut
-                          off, and its permit is ended
-  --backend-timeout-ms T  milliseconds that the backend may take from the connect to the end of its
-                          answer, 1 to 3600000; without it there is no limit. Past it the client is
-                          answered 504
-  --report-seconds N      seconds between two lines of the report in the log, 1 to 3600; without it
-                          there are none
-  --admin ADDRESS         a loopback address of IPv4 with a port, such as 127.0.0.1:9901, at which
-                          the operator of this machine sees the state and changes it; without it
-                          there is none
-  --status ADDRESS        an address of IPv4 with a port, such as 0.0.0.0:9902, at which GET /health
-                          and GET /metrics are answered, and nothing changes; without it there is
-                          none
-  --log-lines FORM        how each line of the log begins; default plain: with its level. With time
-                          it begins with the time in UTC, and with journal with the priority that
-                          systemd reads
-
+",
+    "
 For example, with this file as gate.toml
 
   version = 2
@@ -114,4 +169,5 @@ Exits with status 0 once all workers have ended, with 2 for a wrong command line
   admission: memory        out of memory: lower the workers, the limit, `backlog` or `keep`
   admission: thread        a thread can't be started, and those that were have ended: take fewer
                            workers, or raise the system's limit on threads
-  admission: write         standard output can't be written: a full disk, a closed pipe";
+  admission: write         standard output can't be written: a full disk, a closed pipe"
+);

@@ -1,4 +1,4 @@
-use Rattle.std.proofs.Common.{rules, ◌≡◌, ◌∙◌, sym, subst, ap}
+use Rattle.std.proofs.Common.{rules, ◌∙◌, sym, subst, ap}
 use Rattle.std.specs.Net.Addr.{IsLoopbackV4}
 use Rattle.std.specs.Net.Socket.{v4_ip}
 use Rattle.clap.specs.Words.{found_of, rows_of}

@@ -6,11 +6,11 @@ use Rattle.commands.proofs.addresses.optional_loopback.Goals as goal
 
 -- the text that is there is none of a loopback address with a port
 pub returns-in_err-loopback-in-Some-clause-none : goal.returns-in_err-loopback-in-Some-clause-none
-returns-in_err-loopback-in-Some-clause-none c is a has =
+returns-in_err-loopback-in-Some-clause-none c is =
     no_loopback (rows_of (found_of c.args.matches.now)) c.args.id.now c.in-Some.field-0.now
     (sym (first_value-rows (found_of c.args.matches.now) c.args.id.now) ∙ sym c.get_str.ensures
     ∙ search rules)
-    (c.in_err-loopback-in-Some.ensures.none refl) a has
+    (c.in_err-loopback-in-Some.ensures.none refl)
 
 pub returns-in-None-clause-value : goal.returns-in-None-clause-value
 returns-in-None-clause-value c =

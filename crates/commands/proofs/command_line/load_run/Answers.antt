@@ -6,12 +6,12 @@ use Rattle.commands.proofs.command_line.load_run.Goals as goal
 pub returns-in_err-limit-clause-none : goal.returns-in_err-limit-clause-none
 returns-in_err-limit-clause-none c none run is =
     no_load (rows_of (found_of c.args.matches.now)) run
-    (λ limit workers has with_workers. c.in_err-limit.ensures.none refl limit has) is
+    (λ some with_workers. c.in_err-limit.ensures.none refl some) is
 
 pub returns-in_err-workers-clause-none : goal.returns-in_err-workers-clause-none
 returns-in_err-workers-clause-none c none run is =
     no_load (rows_of (found_of c.args.matches.now)) run
-    (λ limit workers has with_workers. c.in_err-workers.ensures.none refl workers with_workers) is
+    (λ some with_workers. c.in_err-workers.ensures.none refl with_workers) is
 
 pub returns-clause-run : goal.returns-clause-run
 returns-clause-run c = search rules

@@ -7,4 +7,4 @@ use Rattle.commands.proofs.interface.load_command.Goals as goal
 pub returns : goal.returns
 returns c =
     c.with_argument.ensures (limited_app (codes "load")) workers_rule c.limited-load.ensures
-    c.workers_option.ensures.rule c.workers_option.ensures.local
+    c.argument.ensures.rule c.argument.ensures.local

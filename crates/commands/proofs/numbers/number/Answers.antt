@@ -22,17 +22,17 @@ same found id low high n result fits value has =
     has.1 has.2 has.3 (omega arith)
 
 pub returns-in-Some-clause-none : goal.returns-in-Some-clause-none
-returns-in-Some-clause-none c none n has =
+returns-in-Some-clause-none c none some =
     let read =
-    same (found_of c.args.matches.now) c.args.id.now c.args.low c.args.high n c.get_one.result
-    c.ranges.high.fits c.get_one.ensures.value has in
+    same (found_of c.args.matches.now) c.args.id.now c.args.low c.args.high some.value c.get_one.result
+    c.ranges.high.fits c.get_one.ensures.value some.has in
     search rules
 
 pub returns-in-Some-2-clause-none : goal.returns-in-Some-2-clause-none
-returns-in-Some-2-clause-none c none n has =
+returns-in-Some-2-clause-none c none some =
     let read =
-    same (found_of c.args.matches.now) c.args.id.now c.args.low c.args.high n c.get_one.result
-    c.ranges.high.fits c.get_one.ensures.value has in
+    same (found_of c.args.matches.now) c.args.id.now c.args.low c.args.high some.value c.get_one.result
+    c.ranges.high.fits c.get_one.ensures.value some.has in
     search rules
 
 pub returns-in_default-clause-value : goal.returns-in_default-clause-value
@@ -44,8 +44,8 @@ returns-in_default-clause-value c =
     (read.0, read.1, read.2, read.3, c.if-n-low.false, c.if-high-n.false)
 
 pub returns-in_default-2-clause-none : goal.returns-in_default-2-clause-none
-returns-in_default-2-clause-none c none n has =
+returns-in_default-2-clause-none c none some =
     let read =
-    same (found_of c.args.matches.now) c.args.id.now c.args.low c.args.high n c.get_one.result
-    c.ranges.high.fits c.get_one.ensures.value has in
+    same (found_of c.args.matches.now) c.args.id.now c.args.low c.args.high some.value c.get_one.result
+    c.ranges.high.fits c.get_one.ensures.value some.has in
     search rules
