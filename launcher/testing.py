@@ -1,7 +1,7 @@
 """Passes the tests: ./test [--quick|--all] [--from STAGE]
 
-  (no word)     all proofs, the tests of the crates and those of the built program: some 47 minutes
-  --all         the wrong bodies too, which the prover must refuse, as .ci/run has it: some 80 minutes
+  (no word)     all proofs, the tests of the crates and those of the built program: 34 minutes
+  --all         the wrong bodies too, which the prover must refuse, as .ci/run has it: some 75 minutes
   --quick       no proofs: the layout, the program compiled without them, and scripts that it passes: some 4 minutes
   --from STAGE  begins at a stage: layout, proofs, program or overload. From program on the proved program has to stand
   --help        prints this
