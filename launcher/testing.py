@@ -34,13 +34,17 @@ WHAT = {
 SCRIPTS = (
     ("program", "lines", "keys", "limits", "load", "manual"),
     ("messages", "exchanges", "classes", "serve", "memory"),
-    ("model", "launcher", "install", "hosts"),
+    ("model", "launcher", "install", "hosts", "alerts"),
 )
 # What the program without proofs passes, and those scripts whose long cases are left out then.
-QUICK = (("program", "load", "lines", "keys"), ("messages", "exchanges"), ("serve", "classes", "limits", "manual"))
+QUICK = (
+    ("program", "load", "lines", "keys"),
+    ("messages", "exchanges"),
+    ("serve", "classes", "limits", "manual", "alerts"),
+)
 SHORT = ("program", "load", "messages", "serve")
 # Scripts that take no program.
-ALONE = ("launcher", "install")
+ALONE = ("launcher", "install", "alerts")
 
 
 class Failed(Exception):

@@ -98,7 +98,7 @@ class Beside(Operating):
     def is_busy(self, backend: Backend) -> None:
         """It isn't healthy while all workers are held, and is again once one is free; a drain is told first."""
         gate = self.operated(backend, workers=2)
-        held = []
+        held: list[Later] = []
         for wanted in (DONE, DONE, BUSY):
             self.judge(f"health with {len(held)} of 2 workers held", told(wanted), gate.call("GET /health"))
             if len(held) < 2:
@@ -238,8 +238,8 @@ class Beside(Operating):
         for path in ("/health?from=probe", "http://elsewhere/health"):
             self.judge(path, told(DONE), gate.look(path))
         self.judge("metrics", True, b"\nadmission_limit 2\n" in gate.look("/metrics"))
-        lines = told(DONE).partition(b"ok\n")[0]
-        self.judge("HEAD", lines, gate.tell(request("HEAD /health HTTP/1.1", "Host: h")))
+        head = told(DONE).partition(b"ok\n")[0]
+        self.judge("HEAD", head, gate.tell(request("HEAD /health HTTP/1.1", "Host: h")))
         for method in ("POST", "PUT", "DELETE", "OPTIONS", "get"):
             for path in ("/health", "/metrics"):
                 words = request(f"{method} {path} HTTP/1.1", "Host: h", MARK)

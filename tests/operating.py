@@ -11,7 +11,7 @@ import time
 import typing
 from collections.abc import Callable, Sequence
 
-from loopback import BODY, Backend, Gateway, Later, read_all
+from loopback import BODY, Backend, Gateway, Later, Listener, read_all
 from operator_rows import (
     CLOSING,
     DONE,
@@ -110,7 +110,7 @@ class Operated(Gateway):
 class Operating(Served):
     """Cases on the operator's address."""
 
-    def operated(self, backend: Backend, settings: str = "", workers: int = 4, **how: typing.Any) -> Operated:
+    def operated(self, backend: Listener, settings: str = "", workers: int = 4, **how: typing.Any) -> Operated:
         """A gateway before this backend, whose workers end by a drain alone."""
         return Operated(self.program, self.room, backend.port, settings, each=ALWAYS, workers=workers, **how)
 

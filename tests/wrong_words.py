@@ -8,7 +8,8 @@ NAME = "NAME, 1 to 32 of a-z 0-9 - _, not unknown, not given before"
 LATE = "settings stand before all other lines, and line {} is another"
 TWICE = "this setting stands once, and line {} has it"
 
-# A script whose last line is at fault, the word that is named, and what is wanted there. Each form is cut at each place.
+# A script whose last line is at fault, the word that is named, and what is wanted there. Each form is cut at each
+# place.
 OF_SCRIPTS = [
     ("limits", '1, "limits"', REQUESTS),
     ("Limit fixed 1", '1, "Limit"', REQUESTS),
@@ -31,15 +32,27 @@ OF_SCRIPTS = [
     ("limit settable 3 2 4", '4, "2"', "N, permits, LO to 10000, here 3 to 10000"),
     ("limit settable 1 3 2", '5, "2"', "HI, permits, N to 10000, here 3 to 10000"),
     ("limit aimd 1 2 3", "6 isn't there", "RATIO in digits, what a drop leaves in thousandths, 500 to 999"),
-    ("limit aimd 1 2 3 900 1s", '7, "1s"', f"TIMEOUT in digits, a longer round trip is a drop, nanoseconds, 1 to {HOUR}"),
+    (
+        "limit aimd 1 2 3 900 1s",
+        '7, "1s"',
+        f"TIMEOUT in digits, a longer round trip is a drop, nanoseconds, 1 to {HOUR}",
+    ),
     ("limit aimd 1 2 3 499 1", '6, "499"', "RATIO, what a drop leaves in thousandths, 500 to 999"),
     ("limit aimd 1 2 3 1000 1", '6, "1000"', "RATIO, what a drop leaves in thousandths, 500 to 999"),
     ("limit aimd 1 2 3 900 0", '7, "0"', f"TIMEOUT, a longer round trip is a drop, nanoseconds, 1 to {HOUR}"),
     ("limit vegas 1 2 3", "6 isn't there", "ALPHA in digits, the limit rises below this queue, permits, 1 to 100"),
     ("limit vegas 1 2 3 4 x 0", '7, "x"', "BETA in digits, the limit falls above this queue, permits, ALPHA to 100"),
-    ("limit vegas 1 2 3 4 5", "8 isn't there", "PROBE in digits, samples until the base is measured anew, 0 to 1000000"),
+    (
+        "limit vegas 1 2 3 4 5",
+        "8 isn't there",
+        "PROBE in digits, samples until the base is measured anew, 0 to 1000000",
+    ),
     ("limit vegas 1 2 3 0 1 0", '6, "0"', "ALPHA, the limit rises below this queue, permits, 1 to 100"),
-    ("limit vegas 1 2 3 4 3 0", '7, "3"', "BETA, the limit falls above this queue, permits, ALPHA to 100, here 4 to 100"),
+    (
+        "limit vegas 1 2 3 4 3 0",
+        '7, "3"',
+        "BETA, the limit falls above this queue, permits, ALPHA to 100, here 4 to 100",
+    ),
     ("limit vegas 1 2 3 4 5 1000001", '8, "1000001"', "PROBE, samples until the base is measured anew, 0 to 1000000"),
     ("window", "2 isn't there", "SIZE in digits, samples, 1 to 1000000"),
     ("window 1 x", '3, "x"', f"MIN in digits, the shortest window in nanoseconds, 1 to {HOUR}"),
@@ -108,7 +121,11 @@ OF_TRACES = [
     (f"arrive other 0 {HOUR}1 good", '5, "good"', "success, ignored or dropped"),
     ("arrive live 0 1 success waits", '6, "waits"', "nothing more or wait"),
     ("arrive live 0 1 success wait 1", '7, "1"', "nothing more"),
-    (f"arrive a 0 {HOUR}1 success", f'4, "{HOUR}1"', f"DURATION, how long its permit is held, nanoseconds, 0 to {HOUR}"),
+    (
+        f"arrive a 0 {HOUR}1 success",
+        f'4, "{HOUR}1"',
+        f"DURATION, how long its permit is held, nanoseconds, 0 to {HOUR}",
+    ),
     ("class live 60\narrive other 0 1 success", '2, "other"', "CLASS, one of live, unknown"),
     ("bypass", "2 isn't there", "AT in digits, nanoseconds"),
     ("bypass 1\n\ntimeout 0", '1, "timeout"', LATE.format(1)),
