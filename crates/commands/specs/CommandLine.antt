@@ -1,9 +1,11 @@
 -- The command line, and the run that its words name.
-use Rattle.std.specs.Prelude.{◌≡◌, ℕ, List, Option, Some, None, true, false, codes, fold}
-use Rattle.clap.specs.Words.{App, Row, Text, app_of, first_of, new_app, with_rule}
+use Rattle.std.specs.Prelude.{◌≡◌, ℕ, List, [], ◌∷◌, Option, Some, None, true, false, codes, fold}
+use Rattle.clap.specs.Words.{App, HasKind, Row, Text, app_of, first_of, new_app, with_rule}
 use Rattle.clap.specs.Words.{with_subcommand}
 use Rattle.clap.specs.declared.builder.command.Command.{Command}
 use Rattle.clap.specs.declared.builder.command.Command.TheViews.{out-Command}
+use Rattle.clap.specs.declared.error.Error.{Error}
+use Rattle.clap.specs.declared.error.kind.ErrorKind.TheVariants.{MissingSubcommand, ValueValidation}
 use Rattle.commands.specs.declared.command_line.Run.{Run}
 use Rattle.commands.specs.declared.command_line.Run.TheVariants.{Text as OfText, Load, Check, Serve}
 use Rattle.commands.specs.declared.command_line.TextTask.{TextTask}
@@ -82,6 +84,11 @@ IsRunOf (Some named) run = IsCommandOf named.0 named.1 run
 -- the subcommand which the words name, if they name one, is none of a run
 abbrev pub NamesNoRun : Option (Text × List Row) → Type 0
 NamesNoRun named = (run : Run) → IsRunOf named run → ⊥
+
+-- the error is that of a mistake in words that the parser took: a value that isn't what its option
+-- takes, or no command; or memory ran out. Its status is 2, and never that of help
+abbrev pub IsMistake : Error → Type 0
+IsMistake = HasKind (ValueValidation ∷ MissingSubcommand ∷ [])
 
 -- the limit of a text without a limit line
 abbrev pub limit_of : TextTask → ℕ

@@ -2,7 +2,8 @@
 ghost use Rattle.std.specs.Prelude.{◌≡◌, ◌⊎◌, map, codes, string_bytes, [], IfErr, IfOk, IfSome};
 ghost use Rattle.std.specs.Prelude.{IsErr, IsNone, OnOk};
 ghost use Rattle.clap.specs.Words.{HasKind, fault_of, found_of, rows_of, subcommand_of, subcommand_rows_of};
-ghost use Rattle.commands.specs.CommandLine.{IsCommandOf, IsRunOf, KeepsRanges, NamesNoRun};
+ghost use Rattle.commands.specs.CommandLine.{IsCommandOf, IsMistake, IsRunOf, KeepsRanges};
+ghost use Rattle.commands.specs.CommandLine.{NamesNoRun};
 ghost use Rattle.commands.specs.CommandLine.{admission_app};
 ghost use Rattle.commands.specs.Values.{is_set};
 ghost use Rattle.commands.specs.declared.command_line.Run.{Run as RunValue};
@@ -207,7 +208,9 @@ fn is_wrong(matches: &ArgMatches<'_>, row: &OptionRow) -> bool {
 }
 
 /// The error of words that name no run: a value that isn't what an option wants, or no command.
-fn unnamed(alloc: Global, wrong: Option<WrongValue<'_>>) -> Result<Error, AllocError> {
+fn unnamed(alloc: Global, wrong: Option<WrongValue<'_>>) -> Result<Error, AllocError>
+    ensures { IfOk result IsMistake }
+{
     let Some(WrongValue { text, row }) = wrong else {
         return command(alloc)?.error(ErrorKind::MissingSubcommand, "no command is named");
     };
@@ -231,11 +234,12 @@ pub fn words<'a>(alloc: Global, list: &'a [String]) -> Result<Run<'a>, Error>
     ensures faultless { OnOk result (fault_of admission_app (map string_bytes list.now) ≡ []) }
     ensures ranges { IfOk result KeepsRanges }
 
-    // An error is of a kind that the words are at fault by, or says out of memory, unless
-    // they name no run.
+    // An error is of a kind that the words are at fault by, or says out of memory; or the parser
+    // took the words, they name no run, and it is that of a mistake.
     ensures refused { IfErr result (λ error.
         HasKind (fault_of admission_app (map string_bytes list.now)) error
-        ⊎ NamesNoRun (subcommand_of admission_app (map string_bytes list.now))) }
+        ⊎ (IsMistake error
+        × NamesNoRun (subcommand_of admission_app (map string_bytes list.now)))) }
 {
     match run_among(alloc, list)? {
         Ok(run) => Ok(run),
