@@ -10,10 +10,11 @@ What a process has taken of the processors, as /proc told it last, counts for th
 - wrong bodies: a check of the crate in another folder, which is a copy with an edit,
 - running: a program out of crates/NAME/out.
 
-Printed are the rows of docs/GATE.md, where a crate's tests count as its proof, and then the whole: the minutes of each
-kind, processor minutes and minutes by the clock, on how many processors, and what the machine's host took of these
-meanwhile (`stolen`, of all processors together). What a process does between the last look at it and its end is
-missed; the whole is what the system counted, so how much that was is told too, with what the command itself took.
+Printed are rows as docs/gate_times.txt has them, where a crate's tests count as its proof, and then the whole: the
+minutes of each kind, processor minutes and minutes by the clock, on how many processors, and what the machine's host
+took of these meanwhile (`stolen`, of all processors together). What a process does between the last look at it and its
+end is missed; the whole is what the system counted, so how much that was is told too, with what the command itself
+took.
 --log writes a line for each process of a crate as it ended. The status is that of the command.
 """
 import argparse
@@ -149,15 +150,13 @@ def edits_of(crate: str) -> int:
 
 
 def rows(sums: Sums) -> Iterator[str]:
-    """The rows of docs/GATE.md, in the order of crates.txt."""
+    """The rows of docs/gate_times.txt, in the order of crates.txt."""
     text = (TOP / "crates.txt").read_text(encoding="utf-8")
     order = [line.partition(":")[0] for line in text.splitlines() if ":" in line]
     seen = {name for name, _ in sums}
-    yield "| Crate | proof | wrong bodies | all of them |"
-    yield "|---|---|---|---|"
     for name in [name for name in order if name in seen] + sorted(seen - {*order}):
         proof, bodies = round(sums[name, "proof"] + sums[name, "tests"]), round(sums[name, "wrong bodies"])
-        yield f"| {name} | {proof} | {edits_of(name) or ''} | {bodies or ''} |"
+        yield f"{name:<16} {proof:>4} {edits_of(name):>3} {bodies:>4}"
 
 
 def minutes(sums: Sums) -> str:

@@ -11,18 +11,20 @@ from pathlib import Path
 
 # How often a line is written where it can't be rewritten in place, in seconds.
 EVERY = 10
-# At first a second of docs/GATE.md's table is taken for two of a processor here, for so many seconds.
+# At first a second of docs/gate_times.txt is taken for two of a processor here, for so many seconds.
 PRIOR = 60
 SLOWNESS = 2
+# A row of that file: a crate, the seconds of its proof, how many wrong bodies it has, and their seconds.
+TIMES = r"^(\w+) +(\d+) +(\d+) +(\d+)$"
 
 
 class Work:
-    """What a run has to do: seconds of docs/GATE.md's table for each crate, and the crates that wait for others."""
+    """What a run has to do: seconds of docs/gate_times.txt for each crate, and the crates that wait for others."""
 
     def __init__(self, top: Path, names: list[str], with_edits: bool) -> None:
-        text = (top / "docs/GATE.md").read_text(encoding="utf-8") if (top / "docs/GATE.md").exists() else ""
-        found = re.findall(r"^\| (\w+) \| (\d+) \| (\d*) *\| (\d*) *\|$", text, re.M)
-        rows = {name: (int(proof), int(count or 0), int(edits or 0)) for name, proof, count, edits in found}
+        times = top / "docs/gate_times.txt"
+        found = re.findall(TIMES, times.read_text(encoding="utf-8") if times.exists() else "", re.M)
+        rows = {name: (int(proof), int(count), int(edits)) for name, proof, count, edits in found}
         lines = re.findall(r"^(\w+):([^#\n]*)", (top / "crates.txt").read_text(encoding="utf-8"), re.M)
         self.names = names
         self.below = {name: [it for it in rest.split() if it in names] for name, rest in lines if name in names}
