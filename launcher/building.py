@@ -145,8 +145,12 @@ def running(words: list[str], here: Path, at: Path, output: int | IO[str]) -> It
     try:
         yield ran
     finally:
-        with contextlib.suppress(ProcessLookupError):
-            os.killpg(ran.pid, signal.SIGTERM)
+        # by force behind that, since what the caller ignores they ignore too
+        for number in (signal.SIGTERM, signal.SIGKILL):
+            with contextlib.suppress(ProcessLookupError):
+                os.killpg(ran.pid, number)
+            with contextlib.suppress(subprocess.TimeoutExpired):
+                ran.wait(5)
         ran.wait()
 
 

@@ -86,4 +86,7 @@ def main(words: list[str]) -> None:
         signal.signal(it, was)
     for it in (signal.SIGPIPE, signal.SIGXFSZ):
         signal.signal(it, signal.SIG_DFL)
-    os.execv(program, [str(program), *words])
+    try:
+        os.execv(program, [str(program), *words])
+    except OSError as error:
+        fail(f"{program} can't be started: {error.strerror}")
