@@ -1,0 +1,129 @@
+"""Numbers that documents tell in sentences, and where each is from: a constant of the sources, or what is packaged."""
+import pathlib
+import re
+from collections.abc import Callable
+
+TOP = pathlib.Path(__file__).resolve().parent.parent
+WORDS = {"a": 1, "one": 1, "two": 2, "three": 3, "four": 4, "five": 5, "ten": 10, "half": 0.5}
+UNIT = "packaging/admission.service"
+
+
+def number_of(word: str) -> float:
+    """A number in digits or as a word."""
+    return WORDS[word.lower()] if word.lower() in WORDS else float(word.replace(",", ""))
+
+
+def constant(file: str, name: str, by: float = 1) -> Callable[[], float]:
+    """A constant of a file of the sources, divided by a unit."""
+
+    def value() -> float:
+        text = (TOP / "crates" / file).read_text(encoding="utf-8")
+        found = re.search(rf"const {name}: \w+ = ([\d_]+);", text)
+        return int(found[1]) / by if found else float("nan")
+
+    return value
+
+
+def packaged(pattern: str, file: str = UNIT) -> Callable[[], float]:
+    """A number of what is packaged, by a pattern."""
+
+    def value() -> float:
+        found = re.search(pattern, (TOP / file).read_text(encoding="utf-8"))
+        return float(found[1].replace("_", "")) if found else float("nan")
+
+    return value
+
+
+OPERATING, FORMATS, RUNBOOK = "docs/OPERATING.md", "docs/FORMATS.md", "docs/RUNBOOK.md"
+BODY = constant("message_fields/src/length.rt", "MOST_BODY", 2**20)
+HEAD = constant("message_reading/src/head_cut.rt", "MOST_HEAD")
+LINES = constant("message_reading/src/head_lines.rt", "MOST_LINES")
+LINGERS = constant("timed_io/src/lingering.rt", "LONGEST_NS", 1e9)
+SILENCE = constant("timed_io/src/first_byte.rt", "SILENCE_MS", 1e3)
+OPEN = constant("timed_io/src/bound_listener.rt", "OPEN_TO_ALL_MS", 1e3)
+AT_ONCE = constant("serve_command/src/admin.rt", "AT_ONCE")
+OPERATOR = constant("serve_command/src/admin.rt", "TIMEOUT_NS", 1e9)
+SPELL = constant("serve_reports/src/spell.rt", "LENGTH_NS", 1e9)
+DELAY = constant("operator_calls/src/query.rt", "LONGEST_MS")
+AFTER, WAIT, RESTARTS = packaged(r"AFTER=(\d+)"), packaged(r"--wait (\d+)"), packaged(r"RestartSec=(\d+)s")
+WORKERS, LIMIT_MS = packaged(r"--workers (\d+)"), packaged(r"BACKEND_MS=(\d+)")
+
+
+def minutes_kept() -> float:
+    """How long the page keeps what it saw."""
+    return packaged(r"KEPT_SECONDS = (\d+)", "crates/metrics/src/page.rt")() / 60
+
+
+def seconds_unasked() -> float:
+    """When a peer that is gone is noticed: the first question, and those that follow."""
+    keeping = "timed_io/src/keeping.rt"
+    idle, between, questions = (constant(keeping, it)() for it in ("IDLE_SECONDS", "BETWEEN_SECONDS", "QUESTIONS"))
+    return idle + between * questions
+
+
+def days_of_the_default() -> float:
+    return WORKERS() * 1e9 // (7_000 * 86_400)
+
+
+def slowest_upload() -> float:
+    """The kB a second of the largest body in the default time of a client, in tens."""
+    return -(-BODY() * 2**20 // 10_000 // 10) * 10
+
+
+def of_examples() -> float:
+    return sum(1 for it in (TOP / "examples").rglob("*") if it.is_file())
+
+
+# A document, a sentence with a number in each of its groups, and what the numbers are.
+NUMBERS: tuple[tuple[str, str, tuple[Callable[[], float], ...]], ...] = (
+    (OPERATING, r"It lists (\d+) files, (\d+) of them examples", (lambda: of_examples() + 15, of_examples)),
+    (OPERATING, r"runs (\d+) workers as an unprivileged user", (WORKERS,)),
+    (OPERATING, r"starts the program again (\w+) seconds after any end", (RESTARTS,)),
+    (OPERATING, r"for (\w+) seconds `/health` is 503 while clients", (AFTER,)),
+    (OPERATING, r"cut off who still is after (\d+) seconds", (WAIT,)),
+    (OPERATING, r"With (\d+) workers at 7,000 requests a second the default lasts (\d+) days", (WORKERS, days_of_the_default)),
+    (OPERATING, r"The unit sets ([\d,]+); `docs/TUNING.md`", (LIMIT_MS,)),
+    (OPERATING, r"up to (\d+) MiB each way. A slow upload of (\d+) MiB needs (\d+) kB/s", (BODY, BODY, slowest_upload)),
+    (OPERATING, r"nothing yet is closed after (\w+) second if no worker", (SILENCE,)),
+    (OPERATING, r"may go on sending for T more, (\w+) seconds at most", (LINGERS,)),
+    (OPERATING, r"is noticed in some (\w+) seconds all the same", (seconds_unasked,)),
+    (OPERATING, r"doesn't read for (\w+) seconds, once the system's buffers", (constant("tcp_backend/src/dialing.rt", "UNTAKEN_MS", 1e3),)),
+    (OPERATING, r"draws the last (\w+) minutes", (minutes_kept,)),
+    (OPERATING, r"in the first (\w+) second so is whoever comes", (OPEN,)),
+    (OPERATING, r"the unit starts the program again (\w+) seconds later", (RESTARTS,)),
+    (OPERATING, r"\*\*(\w+) callers are served at once\*\*, each with (\w+) second for its request and (\w+) for", (AT_ONCE, OPERATOR, OPERATOR)),
+    (OPERATING, r"\[\[class\]\]`, at most (\w+)", (constant("partitions/src/table.rt", "MOST_KNOWN"),)),
+    (OPERATING, r"\[\[resolver\]\]`, at most (\w+)", (constant("gate_config/src/document.rt", "MOST_RULES"),)),
+    (OPERATING, r"\[\[bypass\]\]`, at most (\w+)", (constant("gate_config/src/document.rt", "MOST_RULES"),)),
+    (OPERATING, r"a table of at most (\d+) patterns", (constant("config_sections/src/resolver.rt", "MOST_ROUTES"),)),
+    (OPERATING, r"a limit above (\d+) is never reached", (constant("config_explain/src/settings.rt", "MOST_WORKERS"),)),
+    (FORMATS, r"at most one line comes in (\w+) seconds", (SPELL,)),
+    (FORMATS, r"TOML 1.1 in UTF-8, at most (\d+) MiB \(([\d,]+) bytes\)", (constant("config_file/src/reading.rt", "MOST_CONFIG", 2**20), constant("config_file/src/reading.rt", "MOST_CONFIG"))),
+    (FORMATS, r"or `too slow` after ([\d,]+) reads", (constant("wire/src/request_reading.rt", "MOST_READS"),)),
+    (FORMATS, r"it has more than (\d+) bytes, or doesn't end", (constant("config_file/src/reading.rt", "MOST_CONFIG"),)),
+    (FORMATS, r"isn't `after-ms=N` with N from (\d+) to ([\d,]+) \|", (lambda: 1.0, DELAY)),
+    (FORMATS, r"(\w+) callers are served at once, each within (\w+) second for its request and (\w+) for", (AT_ONCE, OPERATOR, OPERATOR)),
+    (FORMATS, r"at most ([\d,]+) bytes, and ([\d,]+) lines after the first", (HEAD, LINES)),
+    (FORMATS, r"At most (\d+) heads with 100", (constant("message_reading/src/final_head.rt", "MOST_INTERIM"),)),
+    (FORMATS, r"one string of digits; at most ([\d,]+)", (constant("message_fields/src/length.rt", "MOST_BODY"),)),
+    (FORMATS, r"up to its LF, at most ([\d,]+) bytes, and `httparse`", (constant("message_reading/src/size_line.rt", "MOST_SIZE_LINE"),)),
+    (FORMATS, r"all sizes together at most ([\d,]+)", (constant("message_fields/src/length.rt", "MOST_BODY"),)),
+    (FORMATS, r"up to an empty one, at most ([\d,]+) bytes", (constant("message_reading/src/trailers.rt", "MOST_TRAILERS"),)),
+    (FORMATS, r"all bytes to the end, at most ([\d,]+)", (constant("message_fields/src/length.rt", "MOST_BODY"),)),
+    (FORMATS, r"`TurnLimit` \(([\d,]+) reads for one message\)", (constant("wire/src/request_reading.rt", "MOST_READS"),)),
+    (FORMATS, r"wasn't at its end after ([\d,]+) reads", (constant("load_driver/src/driver.rt", "MOST_READS"),)),
+    (FORMATS, r"there are more than ([\d,]+) bytes", (constant("load_driver/src/driver.rt", "MOST_BYTES"),)),
+    (FORMATS, r"can't be read, or has more than (\d+) MiB", (constant("config_file/src/reading.rt", "MOST_CONFIG", 2**20),)),
+    (RUNBOOK, r"`/health` is 503 for (\w+) seconds while clients are still", (AFTER,)),
+    (RUNBOOK, r"Who is still inside after (\d+) seconds is cut off, and the status is (\d+)", (WAIT, packaged(r"SuccessExitStatus=(\d+)"))),
+    (RUNBOOK, r"`--after (\d)` for the lame duck", (AFTER,)),
+    (RUNBOOK, r"since the unit starts the program again (\w+) seconds later", (RESTARTS,)),
+    (RUNBOOK, r"says `draining` there for (\w+) seconds", (AFTER,)),
+    (RUNBOOK, r"the backend's answer is unreadable, cut off or above (\d+) MiB", (BODY,)),
+    (RUNBOOK, r"the request's head is above (\d+) KiB or (\d+) lines", (lambda: HEAD() / 1024, LINES)),
+    (RUNBOOK, r"At the default of (\d+) seconds a body of (\d+) MiB needs (\d+) kB/s", (lambda: 10.0, BODY, slowest_upload)),
+    (RUNBOOK, r"come at most once in (\w+) seconds each", (SPELL,)),
+    (RUNBOOK, r"draws the last (\w+) minutes of what the report tells", (minutes_kept,)),
+    (RUNBOOK, r"start with `--workers N`; where I is (\d+) or more", (constant("startup_log/src/lines.rt", "MOST_WORKERS"),)),
+    (RUNBOOK, r"With (\d+) descriptors the clients of (\d+) workers take them all", (WORKERS, WORKERS)),
+)
