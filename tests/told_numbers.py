@@ -46,6 +46,10 @@ OPERATOR = constant("serve_command/src/admin.rt", "TIMEOUT_NS", 1e9)
 SPELL = constant("serve_reports/src/spell.rt", "LENGTH_NS", 1e9)
 DELAY = constant("operator_calls/src/query.rt", "LONGEST_MS")
 AFTER, WAIT, RESTARTS = packaged(r"AFTER=(\d+)"), packaged(r"--wait (\d+)"), packaged(r"RestartSec=(\d+)s")
+ADMIN, STATUS = packaged(r"ADMIN=127\.0\.0\.1:(\d+)"), packaged(r"STATUS=127\.0\.0\.1:(\d+)")
+LISTEN, BACKEND = (
+    packaged(rf'(?m)^{it} = "127\.0\.0\.1:(\d+)"', "packaging/admission.toml") for it in ("listen", "backend")
+)
 WORKERS, LIMIT_MS = packaged(r"--workers (\d+)"), packaged(r"BACKEND_MS=(\d+)")
 
 
@@ -125,5 +129,22 @@ NUMBERS: tuple[tuple[str, str, tuple[Callable[[], float], ...]], ...] = (
     (RUNBOOK, r"come at most once in (\w+) seconds each", (SPELL,)),
     (RUNBOOK, r"draws the last (\w+) minutes of what the report tells", (minutes_kept,)),
     (RUNBOOK, r"start with `--workers N`; where I is (\d+) or more", (constant("startup_log/src/lines.rt", "MOST_WORKERS"),)),
+    (RUNBOOK, r"`admission-drain 127\.0\.0\.1:(\d+)`", (ADMIN,)),
+    (RUNBOOK, r"restart admission && curl [^:]*://127\.0\.0\.1:(\d+)/health", (ADMIN,)),
+    (RUNBOOK, r"restart admission-second && curl [^:]*://127\.0\.0\.1:(\d+)/health", (lambda: ADMIN() + 10,)),
+    (RUNBOOK, r"established dst 127\.0\.0\.1:(\d+) \|", (BACKEND,)),
+    (RUNBOOK, r"'sport = :(\d+)'", (LISTEN,)),
+    (RUNBOOK, r"`http://127\.0\.0\.1:(\d+)/`", (ADMIN,)),
+    (RUNBOOK, r"ssh -L (\d+):127\.0\.0\.1:(\d+)", (ADMIN, ADMIN)),
+    (RUNBOOK, r"curl -s http://127\.0\.0\.1:(\d+)/metrics", (ADMIN,)),
+    (OPERATING, r"operator's address is 127\.0\.0\.1:(\d+), and its address for status 127\.0\.0\.1:(\d+)", (ADMIN, STATUS)),
+    (OPERATING, r"ADMIN=127\.0\.0\.1:(\d+) STATUS=127\.0\.0\.1:(\d+)", (lambda: ADMIN() + 10, lambda: STATUS() + 10)),
+    (OPERATING, r"With `--admin 127\.0\.0\.1:(\d+)`, which the unit has", (ADMIN,)),
+    (OPERATING, r"`http://127\.0\.0\.1:(\d+)/`", (ADMIN,)),
+    (OPERATING, r"ssh -L (\d+):127\.0\.0\.1:(\d+)", (ADMIN, ADMIN)),
+    (OPERATING, r"`localhost:(\d+)` as a target", (ADMIN,)),
+    (OPERATING, r"targets: \['127\.0\.0\.1:(\d+)'\]", (ADMIN,)),
+    (OPERATING, r"`--status 0\.0\.0\.0:(\d+)`", (STATUS,)),
+    (FORMATS, r"So for `localhost:(\d+)`", (ADMIN,)),
     (RUNBOOK, r"With (\d+) descriptors the clients of (\d+) workers take them all", (WORKERS, WORKERS)),
 )
