@@ -48,6 +48,13 @@ OF_FAULTS = [
         "value limit.max",
     ),
     (
+        SETTABLE,
+        "# max = 200\nmin = 9\n#max = 3\n  # min = 1\nmax = 8 # max = 9\n# max = 5\n",
+        "",
+        "line 10: max = 8 # max = 9\nlimit.max: permits, min to 10000; default 200\nhere from 9 to 10000\n",
+        "value limit.max",
+    ),
+    (
         PLAIN,
         "initial = 0\n",
         "",
@@ -346,6 +353,17 @@ OF_FAULTS += [
         "resolver 17 of 17\nline 78: zebra = 1\nresolver.zebra isn't a key here; those that are: kind method class\n",
         "unknown resolver.zebra",
     ),
+]
+# No character that a terminal obeys is shown.
+OF_FAULTS += [
+    (
+        "",
+        f'backlog = "{chr(code)}2J{chr(code)}"\n',
+        FIXED,
+        'line 4: backlog = " 2J "\nbacklog: how many callers may wait for a permit, 0 to 10000; default 100\n',
+        "kind backlog",
+    )
+    for code in (9, *range(0x80, 0xA0))
 ]
 # The same in version 1, whose shares are in percent.
 OF_FAULTS_OF_ONE = [
