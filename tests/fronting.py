@@ -137,7 +137,7 @@ class Fronts(Judge):
         serve = [self.program, "serve", str(file), "--workers", str(workers), *words]
         process = self.start(*serve, stdout=subprocess.PIPE, stderr=subprocess.PIPE, text=True)
         for line in process.stderr or ():
-            if "listening" in line:
+            if "] listening address" in line:
                 return process, port
         raise RuntimeError("the gateway didn't start")
 

@@ -223,7 +223,8 @@ class Gateway:
     def read_log(self) -> None:
         for line in self.process.stderr or ():
             self.log.append(line.rstrip("\n"))
-            if "listening" in line:
+            # The last of its addresses: those beside it are told of before.
+            if "] listening address" in line:
                 self.is_listening.set()
         self.is_listening.set()
 
