@@ -1,5 +1,5 @@
 -- What is told of a gate at one moment.
-use Rattle.std.specs.Prelude.{◌≡◌, ◌≤◌, All, List}
+use Rattle.std.specs.Prelude.{◌≡◌, ◌≤◌, ◌<◌, All, List}
 use mathlib.Core.List.{IsPrefix}
 use Rattle.limit_laws.specs.Algorithm.{Algorithm}
 use Rattle.limiter_core.specs.declared.event.Entry.{Entry}
@@ -11,6 +11,7 @@ use Rattle.limiter_core.specs.Legal.{IsLegal}
 use Rattle.gate_journal.specs.Image.{Standing, image_of}
 use Rattle.gate_ledgers.specs.Making.{Making}
 use Rattle.gate_history.specs.Book.{IsUnasked, calls_of}
+use Rattle.audit.specs.declared.judge.Calls.{Calls}
 use Rattle.gate_port.specs.declared.report.Report.{Report}
 use Rattle.gate_port.specs.Report.{report_in}
 use Rattle.shared_gate.specs.Calls.{Pass}
@@ -47,3 +48,25 @@ pub record AreCountersBehind {S : Type 0} (rules : Algorithm S) (m : Making) (pa
   pub told : report.counters ≡ counters
   pub begun : All (λ pass. IsPrefix pass.log log) passes
   pub enough : calls_by passes ≤ calls_of log
+
+-- THE COUNTERS OF ALL PASSES that call: each call of the log was made by one of these
+pub record AreCountersOfAll {S : Type 0} (rules : Algorithm S) (m : Making) (passes : List Pass)
+    (counters : Counters) : Type 0 where
+  pub log : List Entry
+  pub report : Report
+  pub after : IsReportAfter rules m log report
+  pub told : report.counters ≡ counters
+  pub begun : All (λ pass. IsPrefix pass.log log) passes
+  pub all : calls_by passes ≡ calls_of log
+
+-- PASSES ARE MISSING: the log after which a report is told begins with what each of these knows,
+-- and has calls that none of them made
+pub record ArePassesMissing {S : Type 0} (rules : Algorithm S) (m : Making) (passes : List Pass)
+    (calls : Calls) : Type 0 where
+  pub log : List Entry
+  pub report : Report
+  pub after : IsReportAfter rules m log report
+  pub begun : All (λ pass. IsPrefix pass.log log) passes
+  pub book : calls.book ≡ calls_of log
+  pub sum : calls.sum ≡ calls_by passes
+  pub fewer : calls.sum < calls.book

@@ -11,7 +11,8 @@ ghost use Rattle.shared_gate.specs.Calls.{Tells, Gets, Waits, Claims, GivesUp, E
 ghost use Rattle.shared_gate.specs.Calls.{pass_of};
 ghost use Rattle.shared_gate.specs.Closing.{FailsBy, IsKept, calls_by};
 ghost use Rattle.shared_gate.specs.Log.{CallsLegal};
-ghost use Rattle.shared_gate.specs.Reported.{AreCountersBehind, AreCountersOf, IsReportOf};
+ghost use Rattle.shared_gate.specs.Reported.{AreCountersBehind, AreCountersOf, AreCountersOfAll};
+ghost use Rattle.shared_gate.specs.Reported.{ArePassesMissing, IsReportOf};
 
 use crate::answers::Waited;
 use crate::closing::{AuditFault, count_calls, judge};
@@ -19,6 +20,7 @@ use crate::naming::GateNaming;
 use crate::pass::{Pass, with_readers};
 use crate::sealed::Sealed;
 use crate::word::Word;
+use audit::Calls;
 use clocks::Clock;
 use gate_history::{
     Book, Call, Claimed, Entry, GaveUp, Got, History, Permit, Receipt, Spent, Step, Ticket,
@@ -99,6 +101,21 @@ impl<L: Limit, M: GateNaming> SharedGate<L, M> {
         let mut sealed = self.book.lock(rt);
         sealed.take_back(&self.word, passes);
         sealed.report().counters
+    }
+
+    /// The same where nobody else has called: these are counters of their calls alone. Else how
+    /// many calls there were, and how many of them by these passes.
+    pub fn counters_of_all(&self, rt: &impl Wait, passes: Vec<Pass<M>>) -> Result<Counters, Calls>
+        ensures all { IfOk result (AreCountersOfAll L.rules M.making passes.items) }
+        ensures missing { IfErr result (ArePassesMissing L.rules M.making passes.items) }
+    {
+        let mut sealed = self.book.lock(rt);
+        let calls = sealed.take_back(&self.word, passes);
+        let counters = sealed.report().counters;
+        if calls.sum != calls.book {
+            return Err(calls);
+        }
+        Ok(counters)
     }
 
     /// The state at one moment, and the counters so far. It makes no step of the history, and

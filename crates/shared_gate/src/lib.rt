@@ -23,7 +23,7 @@ mod sealed;
 mod word;
 
 pub use answers::Waited;
-pub use audit::Cause;
+pub use audit::{Calls, Cause};
 pub use clocks::{Clock, ProgramClock};
 pub use closing::AuditFault;
 pub use gate::SharedGate;

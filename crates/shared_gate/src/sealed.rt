@@ -10,6 +10,7 @@ ghost use Rattle.shared_gate.specs.Reported.{IsReportAfter};
 use crate::closing::count_calls;
 use crate::naming::GateNaming;
 use crate::pass::Pass;
+use audit::Calls;
 use gate_history::{Book, Call, Entry, Journal, Step};
 use gate_journal::rolling_runs_are_legal;
 use gate_port::{Report, report_of};
@@ -63,14 +64,17 @@ impl<L: Limit, M: GateNaming> Sealed<L, M> {
         step
     }
 
-    /// Takes passes back, by which no more calls are made: their calls are in the log.
-    pub(crate) fn take_back(&mut self, word: &SharedWord<Entry>, passes: Vec<Pass<M>>)
+    /// Takes passes back, by which no more calls are made, and tells how many calls there were and
+    /// how many were made by these: they are in the log.
+    pub(crate) fn take_back(&mut self, word: &SharedWord<Entry>, passes: Vec<Pass<M>>) -> Calls
         requires { word.now ≡ M.word }
+        ensures book { result.book ≡ calls_of self.old }
+        ensures sum { result.sum ≡ calls_by passes.items }
         ensures begun { All (λ pass. IsPrefix pass.log self.old) passes.items }
-        ensures enough { calls_by passes.items ≤ calls_of self.old }
+        ensures enough { result.sum ≤ result.book }
         ensures same { self.new ≡ self.old }
     {
-        let _calls = count_calls(&mut self.book, word, &mut self.keeper, passes);
+        count_calls(&mut self.book, word, &mut self.keeper, passes)
     }
 
     /// The state, and what was counted by then.

@@ -1,4 +1,4 @@
-use Rattle.std.proofs.Common.{◌≡◌, ◌≤◌, ◌∙◌, List, All, refl, subst, sym}
+use Rattle.std.proofs.Common.{arith, ◌≡◌, ◌≤◌, ◌∙◌, List, All, refl, subst, sym}
 use mathlib.Core.List.{IsPrefix}
 use Rattle.limiter_core.specs.declared.event.Entry.{Entry}
 use Rattle.gate_history.specs.Book.{calls_of}
@@ -22,5 +22,10 @@ returns g c =
           c.take_back.ensures.begun;
       enough =
           subst (λ (log : List Entry). calls_by passes ≤ calls_of log) same
-          c.take_back.ensures.enough;
+          (omega (
+            arith,
+            c.take_back.ensures.enough,
+            c.take_back.ensures.book,
+            c.take_back.ensures.sum,
+          ));
     }
