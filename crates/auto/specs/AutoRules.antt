@@ -248,6 +248,12 @@ unlearned first = record {
 abbrev pub auto_from : ℕ → ℕ → ℕ → AutoState
 auto_from lo first hi = record { lo = lo; first = first; hi = hi; learned = unlearned first }
 
+-- the first state under another greatest limit, which is no more than its own and at least lo
+abbrev pub up_to : ℕ → AutoState → AutoState
+up_to most s =
+    let hi = max (min s.hi most) s.lo in
+    auto_from s.lo (min s.first hi) hi
+
 abbrev pub auto_rules : Algorithm AutoState
 auto_rules = record {
   lo = λ s. s.lo;

@@ -1,7 +1,7 @@
 // A limit that needs no numbers.
 ghost use Rattle.std.specs.Prelude.{◌≡◌, ◌↔◌, IfOk, IsOk, OnErr};
 ghost use Rattle.auto.specs.AutoState.{IsInRange};
-ghost use Rattle.auto.specs.AutoRules.{auto_from, auto_rules};
+ghost use Rattle.auto.specs.AutoRules.{auto_from, auto_rules, up_to};
 ghost use Rattle.auto.specs.AutoLaws.{IsLawful-auto};
 
 use crate::learned::Learned;
@@ -51,6 +51,21 @@ impl Auto {
             hi,
             learned: Learned::none(first),
         })
+    }
+
+    /// The same limit in its first state with a greatest limit of `hi`, unless its own is less; of
+    /// `lo` where `hi` is less than that.
+    pub fn up_to(&self, hi: u32) -> Auto
+        ensures { result ≡ up_to hi self.now }
+    {
+        let hi = self.hi.min(hi).max(self.lo);
+        let first = self.first.min(hi);
+        Auto {
+            lo: self.lo,
+            first,
+            hi,
+            learned: Learned::none(first),
+        }
     }
 }
 

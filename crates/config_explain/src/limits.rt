@@ -2,6 +2,7 @@
 use crate::settings::MOST_WORKERS;
 use config_sections::{read_limit, read_window};
 use config_values::{Key, read_table};
+use gate_config::version_of;
 use limit_kinds::LimitSpec;
 use std::alloc::AllocError;
 use toml::Table;
@@ -19,7 +20,7 @@ pub(crate) fn explain_limit(
     table: &Table,
     greatest: u64,
 ) -> Result<(), AllocError> {
-    if greatest > MOST_WORKERS {
+    if greatest > u64::from(MOST_WORKERS) {
         write!(
             out,
             "a limit above {MOST_WORKERS} is never reached: there are at most as many workers\n"
@@ -44,7 +45,7 @@ pub(crate) fn explain_limit(
 
 /// The limit, where none of its keys is at fault.
 fn limit_in(table: &Table) -> Option<LimitSpec> {
-    read_limit(read_table(table, Key::Limit).ok()?).ok()
+    read_limit(version_of(table)?, read_table(table, Key::Limit).ok()?).ok()
 }
 
 /// The windows, where there are some and none of their keys is at fault.

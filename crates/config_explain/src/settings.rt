@@ -2,13 +2,14 @@
 use crate::callers::explain_callers;
 use crate::limits::explain_limit;
 use config_values::{Key, value_at};
-use gate_config::Settings;
+use gate_config::{AnyLimit, Settings};
+use limit_kinds::LimitKind;
 use limit_laws::Limit;
 use std::alloc::AllocError;
 use toml::Table;
 
 /// The most workers.
-pub(crate) const MOST_WORKERS: u64 = 64;
+pub(crate) const MOST_WORKERS: u32 = 64;
 
 /// Says how many workers it wants, what has no effect, and where the limit may not adapt.
 pub(crate) fn explain_settings(
@@ -24,13 +25,25 @@ pub(crate) fn explain_settings(
             "wait = false: nobody waits, so backlog = {backlog} has no effect\n"
         )?;
     }
-    explain_limit(out, table, u64::from(settings.limit.hi()))?;
+    explain_limit(out, table, u64::from(limit_of(settings).hi()))?;
     explain_callers(out, table, settings)
+}
+
+/// The limit before as many workers as there may be.
+fn limit_of(settings: &Settings) -> AnyLimit {
+    settings.limit_for(MOST_WORKERS)
 }
 
 /// Says how many may be inside together, and so how many workers are wanted.
 fn explain_workers(out: &mut String, settings: &Settings) -> Result<(), AllocError> {
     let (limit, shares, waiting) = most_of(settings);
+    if let LimitKind::Auto = settings.limit.kind() {
+        write!(
+            out,
+            "limit.kind = \"auto\": it goes up to what the workers leave over, at most limit.max; \
+             with --workers {MOST_WORKERS} to {limit}\n"
+        )?;
+    }
     let inside = limit.saturating_add(shares).saturating_add(waiting);
     write!(
         out,
@@ -42,15 +55,15 @@ fn explain_workers(out: &mut String, settings: &Settings) -> Result<(), AllocErr
 
 /// The greatest limit, the most that shares add to it, and the most who wait.
 fn most_of(settings: &Settings) -> (u64, u64, u64) {
-    let limit = u64::from(settings.limit.hi());
-    let most = settings.table.most(settings.limit.hi());
-    let waiting = if settings.wait { settings.backlog } else { 0 };
-    (limit, most.saturating_sub(limit), u64::from(waiting))
+    let hi = limit_of(settings).hi();
+    let limit = u64::from(hi);
+    let most = settings.table.most(hi);
+    (limit, most.saturating_sub(limit), u64::from(settings.waiting()))
 }
 
 /// Says how many workers are wanted where so many may be inside together.
 fn say_workers(out: &mut String, inside: u64) -> Result<(), AllocError> {
-    if inside < MOST_WORKERS {
+    if inside < u64::from(MOST_WORKERS) {
         let workers = inside.saturating_add(1);
         write!(
             out,

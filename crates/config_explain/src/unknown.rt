@@ -1,7 +1,7 @@
 // Which key isn't allowed where it stands.
 use crate::faults::{Source, show_place};
 use crate::members::member_of;
-use config_values::UnknownAtFault;
+use config_values::{Section, UnknownAtFault};
 use std::alloc::AllocError;
 
 /// Says where the key stands that isn't allowed, and which are.
@@ -19,5 +19,16 @@ pub(crate) fn explain_unknown(
         let name = key.name();
         write!(out, " {name}")?;
     }
-    out.push_str("\n")
+    out.push_str("\n")?;
+    explain_window(out, section, path)
+}
+
+/// Says of a table of windows, which stands beside each limit but one, why it doesn't here.
+fn explain_window(out: &mut String, section: Section, path: &str) -> Result<(), AllocError> {
+    match (section, path) {
+        (Section::Top, "window") => out.push_str(
+            "limit.kind = \"auto\" counts windows of its own, of as many answers as the limit\n",
+        ),
+        _ => Ok(()),
+    }
 }

@@ -5,14 +5,14 @@ use Rattle.partitions.specs.Table.{Row}
 use Rattle.config_values.specs.declared.fault.ConfigFault.{ConfigFault}
 use Rattle.config_values.specs.Outcomes.{of_member, ◌>>=◌}
 use Rattle.config_sections.specs.declared.version.Version.{Version}
-use Rattle.config_sections.specs.declared.version.Version.TheVariants.{One, Two}
+use Rattle.config_sections.specs.declared.version.Version.TheVariants.{One}
 use Rattle.config_sections.specs.Rows.{class_rows}
 use Rattle.config_sections.specs.Section.{Values, number_at, read_each, section_values, text_at}
 
 -- the thousandths among a class's values: ten times its percentage, or its share
 abbrev pub thousandths_at : Version → Values → ℕ
 thousandths_at One values = 10 * number_at (codes "percent") values
-thousandths_at Two values = number_at (codes "share") values
+thousandths_at _ values = number_at (codes "share") values
 
 -- the row of a class's values
 abbrev pub row_from : Version → Values → Row

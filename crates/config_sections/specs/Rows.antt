@@ -1,17 +1,17 @@
 -- The table of keys: which keys there are, in the order in which faults are looked for, and what
--- each may hold. The share of a class is told in percent by version 1, and in thousandths by
--- version 2; all other keys are those of both.
+-- each may hold. The share of a class is told in percent by version 1, and in thousandths since
+-- version 2; a limit without numbers came with version 3. All else is that of each version.
 use Rattle.std.specs.Prelude.{ℕ, Bool, true, List, [], ◌∷◌, ◌++◌, map, Option, Some, None, codes}
 use Rattle.limit_laws.specs.Algorithm.{greatest_limit}
 use Rattle.aimd.specs.AimdRules.{least_ratio, greatest_ratio}
 use Rattle.vegas.specs.VegasRules.{most_queue, most_probe}
 use Rattle.sample_window.specs.Totals.{most_samples}
 use Rattle.limit_kinds.specs.declared.kind.LimitKind.{LimitKind}
-use Rattle.limit_kinds.specs.declared.kind.LimitKind.TheVariants.{Fixed, Settable, Aimd, Vegas}
+use Rattle.limit_kinds.specs.declared.kind.LimitKind.TheVariants.{Fixed, Settable, Aimd, Vegas, Auto}
 use Rattle.limit_kinds.specs.Kind.{kind_word, kind_words}
 use Rattle.config_values.specs.declared.key.Key.{Key}
 use Rattle.config_sections.specs.declared.version.Version.{Version}
-use Rattle.config_sections.specs.declared.version.Version.TheVariants.{One, Two}
+use Rattle.config_sections.specs.declared.version.Version.TheVariants.{One, Three}
 
 -- an end of a range: a number, the number of an earlier key of the section, or what the classes so
 -- far leave of a hundred percent, or of a thousand thousandths
@@ -54,12 +54,20 @@ row key holds = record { key = key; kinds = []; holds = holds }
 abbrev pub row_for : List (List ℕ) → Key → Holds → Row
 row_for kinds key holds = record { key = key; kinds = kinds; holds = holds }
 
--- the words of one kind of limit, and of those that are not fixed
+-- the words of the kinds of limit in a version
+abbrev pub kinds_in : Version → List (List ℕ)
+kinds_in Three = kind_words
+kinds_in _ = map kind_word (Fixed ∷ Settable ∷ Aimd ∷ Vegas ∷ [])
+
+-- the words of one kind of limit, of those that move by numbers, and of those that are not fixed
 abbrev pub only : LimitKind → List (List ℕ)
 only kind = kind_word kind ∷ []
 
 abbrev pub moving : List (List ℕ)
 moving = map kind_word (Settable ∷ Aimd ∷ Vegas ∷ [])
+
+abbrev pub unfixed : List (List ℕ)
+unfixed = map kind_word (Settable ∷ Aimd ∷ Vegas ∷ Auto ∷ [])
 
 abbrev pub newest : List ℕ
 newest = codes "newest"
@@ -82,25 +90,32 @@ top_rows =
     ∷ row Key.Promote (choice promote_rules newest)
     ∷ []
 
--- the kind of a limit, and what each limit has that isn't fixed
+-- what each limit has that moves by numbers
 abbrev pub moving_rows : List Row
 moving_rows =
-    row Key.LimitKind (word kind_words)
-    ∷ row_for moving Key.LimitMin (number (at 1) (at greatest_limit) (Some 1))
+    row_for unfixed Key.LimitMin (number (at 1) (at greatest_limit) (Some 1))
     ∷ row_for moving Key.LimitMax (number (of (codes "min")) (at greatest_limit) (Some 200))
     ∷ row_for moving Key.LimitInitial (number (of (codes "min")) (of (codes "max")) (Some 20))
     ∷ []
 
-abbrev pub limit_rows : List Row
-limit_rows =
+-- the numbers of a limit
+abbrev pub number_rows : List Row
+number_rows =
     moving_rows
     ++ row_for (only Fixed) Key.LimitInitial (number (at 1) (at greatest_limit) (Some 20))
+    ∷ row_for (only Auto) Key.LimitMax
+    (number (of (codes "min")) (at greatest_limit) (Some greatest_limit))
+    ∷ row_for (only Auto) Key.LimitInitial (number (of (codes "min")) (of (codes "max")) (Some 4))
     ∷ row_for (only Aimd) Key.LimitRatio (number (at least_ratio) (at greatest_ratio) (Some 900))
     ∷ row_for (only Aimd) Key.LimitTimeoutUs (number (at 1) (at 3600000000) (Some 5000000))
     ∷ row_for (only Vegas) Key.LimitAlpha (number (at 1) (at most_queue) (Some 3))
     ∷ row_for (only Vegas) Key.LimitBeta (number (of (codes "alpha")) (at most_queue) (Some 6))
     ∷ row_for (only Vegas) Key.LimitProbeEvery (number (at 0) (at most_probe) (Some 0))
     ∷ []
+
+-- the kind of a limit, and its numbers
+abbrev pub limit_rows : Version → List Row
+limit_rows version = row Key.LimitKind (word (kinds_in version)) ∷ number_rows
 
 abbrev pub window_rows : List Row
 window_rows =
@@ -112,7 +127,7 @@ window_rows =
 
 abbrev pub share_row : Version → Row
 share_row One = row Key.ClassPercent (number (at 1) left_of_hundred None)
-share_row Two = row Key.ClassShare (number (at 1) left_of_thousand None)
+share_row _ = row Key.ClassShare (number (at 1) left_of_thousand None)
 
 abbrev pub class_rows : Version → List Row
 class_rows version =
@@ -144,8 +159,8 @@ bypass_rows =
     ∷ row_for (codes "header" ∷ []) Key.BypassEquals text
     ∷ []
 
--- all rows, of both versions
+-- all rows, of each version
 abbrev pub all_rows : List Row
 all_rows =
-    top_rows ++ limit_rows ++ window_rows ++ class_rows One ++ class_rows Two ++ resolver_rows
-    ++ bypass_rows
+    top_rows ++ limit_rows Three ++ window_rows ++ class_rows One ++ class_rows Three
+    ++ resolver_rows ++ bypass_rows

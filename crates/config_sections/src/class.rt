@@ -8,7 +8,7 @@ ghost use Rattle.config_values.specs.Key.{name_of};
 ghost use Rattle.config_values.specs.Outcomes.{result_map};
 ghost use Rattle.config_values.specs.Table.{tables_among};
 ghost use Rattle.config_values.specs.Text.{text_from};
-ghost use Rattle.config_sections.specs.declared.version.Version.TheVariants.{One, Two};
+ghost use Rattle.config_sections.specs.declared.version.Version.TheVariants.{One, Two, Three};
 ghost use Rattle.config_sections.specs.Class.{class_after, class_from, classes_of};
 ghost use Rattle.config_sections.specs.ClassRows.{class_row, is_class, is_new_name, left_by};
 ghost use Rattle.config_sections.specs.Rows.{class_rows};
@@ -26,7 +26,7 @@ pub fn class_keys(version: Version) -> &'static [Key]
 {
     match version {
         Version::One => &[Key::ClassName, Key::ClassPercent],
-        Version::Two => &[Key::ClassName, Key::ClassShare],
+        Version::Two | Version::Three => &[Key::ClassName, Key::ClassShare],
     }
 }
 
@@ -82,7 +82,7 @@ fn read_keys<'a>(
 {
     match version {
         Version::One => read_by_percent(before, table),
-        Version::Two => read_by_share(before, table),
+        Version::Two | Version::Three => read_by_share(before, table),
     }
 }
 
@@ -98,10 +98,12 @@ fn read_by_percent<'a>(before: &[ClassKeys], table: &'a Table) -> Result<ClassKe
     Ok(ClassKeys { name, thousandths })
 }
 
-/// The keys of a class whose share is told in thousandths.
+/// The keys of a class whose share is told in thousandths, as in version 2 and later.
 fn read_by_share<'a>(before: &[ClassKeys], table: &'a Table) -> Result<ClassKeys<'a>, ConfigFault>
-    ensures { result_map class_row result
+    ensures two { result_map class_row result
         ≡ class_from Two (map class_row before.now) (table_view table.now) }
+    ensures three { result_map class_row result
+        ≡ class_from Three (map class_row before.now) (table_view table.now) }
 {
     let name = new_name(before, table, Key::ClassName)?;
     let left = left_by(before);

@@ -19,7 +19,7 @@ pub use class::{ClassKeys, class_keys, read_classes};
 pub use limit::{limit_keys, read_limit};
 pub use promote::PromoteRule;
 pub use resolver::{ResolverKeys, check_resolvers, read_resolvers};
-pub use top::{TOP_KEYS, TopKeys, read_top};
+pub use top::{NO_WINDOW, TOP_KEYS, TopKeys, read_top};
 pub use version::Version;
 pub use window::{WINDOW_KEYS, read_window};
 

@@ -28,6 +28,22 @@ pub const TOP_KEYS: [Key; 13] = [
     Key::Bypass,
 ];
 
+/// Those beside a limit that has windows of its own.
+pub const NO_WINDOW: [Key; 12] = [
+    Key::Version,
+    Key::Listen,
+    Key::Backend,
+    Key::Backlog,
+    Key::Wait,
+    Key::TimeoutMs,
+    Key::Keep,
+    Key::Promote,
+    Key::Limit,
+    Key::Class,
+    Key::Resolver,
+    Key::Bypass,
+];
+
 /// What the keys outside all tables hold.
 #[derive(Drop)]
 pub struct TopKeys {

@@ -30,7 +30,35 @@ macro_rules! range_between {
         [$low:ident, $high:ident]
         [
             $key:ident to $other:ident, of fixed $least:literal to $most:literal;
-            default $default:literal
+            default $default:literal, of auto $first:literal
+        ]
+    ) => {
+        Range::new($low, $high, $default)
+    };
+    (
+        [$low:ident]
+        [
+            $key:ident to $high:literal;
+            default $default:literal, of auto what the workers leave over
+        ]
+    ) => {
+        Range::new($low, $high, $default)
+    };
+    // What the workers leave over is told once they are known: until then it is the greatest.
+    (
+        [of auto, $low:ident]
+        [
+            $key:ident to $high:literal;
+            default $default:literal, of auto what the workers leave over
+        ]
+    ) => {
+        Range::new($low, $high, $high)
+    };
+    (
+        [of auto, $low:ident, $high:ident]
+        [
+            $key:ident to $other:ident, of fixed $least:literal to $most:literal;
+            default $usual:literal, of auto $default:literal
         ]
     ) => {
         Range::new($low, $high, $default)
@@ -39,7 +67,7 @@ macro_rules! range_between {
         [of fixed]
         [
             $key:ident to $other:ident, of fixed $low:literal to $high:literal;
-            default $default:literal
+            default $default:literal, of auto $first:literal
         ]
     ) => {
         Range::new($low, $high, $default)

@@ -4,7 +4,7 @@
 #[macro_export]
 macro_rules! key_row {
     (Version [$($row:tt)*] $($given:tt)*) => { $($row)*! { $($given)*
-        Version "  version       " "2, or 1 with the shares of classes in percent; required";
+        Version "  version       " "2 or 3, or 1 with the shares of classes in percent; required";
     } };
     (Listen [$($row:tt)*] $($given:tt)*) => { $($row)*! { $($given)*
         Listen "  listen        " "A.B.C.D:PORT, port 1 to 65535, where requests come in; required";
@@ -36,16 +36,19 @@ macro_rules! key_row {
         Limit "[limit], required:" "" explained "a table, [limit]; required";
     } };
     (LimitKind [$($row:tt)*] $($given:tt)*) => { $($row)*! { $($given)*
-        LimitKind "  kind          " "\"fixed\", \"settable\", \"aimd\" or \"vegas\"; required";
+        LimitKind "  kind          "
+            "\"fixed\", \"settable\", \"aimd\", \"vegas\" or, in version 3, \"auto\"; required";
     } };
     (LimitMin [$($row:tt)*] $($given:tt)*) => { $($row)*! { $($given)*
         LimitMin "  min           " "permits, " [1 to 10000; default 1] help ". Not of fixed";
     } };
     (LimitMax [$($row:tt)*] $($given:tt)*) => { $($row)*! { $($given)*
-        LimitMax "  max           " "permits, " [min to 10000; default 200] help ". Not of fixed";
+        LimitMax "  max           " "permits, "
+            [min to 10000; default 200, of auto what the workers leave over] help ". Not of fixed";
     } };
     (LimitInitial [$($row:tt)*] $($given:tt)*) => { $($row)*! { $($given)*
-        LimitInitial "  initial       " "permits, " [min to max, of fixed 1 to 10000; default 20];
+        LimitInitial "  initial       " "permits, "
+            [min to max, of fixed 1 to 10000; default 20, of auto 4];
     } };
     (LimitRatio [$($row:tt)*] $($given:tt)*) => { $($row)*! { $($given)*
         LimitRatio "  ratio         aimd: " "what a drop leaves in thousandths, "
@@ -96,7 +99,7 @@ macro_rules! key_row {
             "1 to 32 of a-z 0-9 - _, not unknown, not given before; required";
     } };
     (ClassShare [$($row:tt)*] $($given:tt)*) => { $($row)*! { $($given)*
-        ClassShare "  share         version 2: " "thousandths, "
+        ClassShare "  share         version 2 and 3: " "thousandths, "
             [1 to what the classes before leave of 1000; required];
     } };
     (ClassPercent [$($row:tt)*] $($given:tt)*) => { $($row)*! { $($given)*

@@ -14,24 +14,24 @@ use Rattle.config_sections.specs.Top.{top_values}
 use Rattle.gate_config.specs.Document.{DocumentValues, RuleValues, TableRef, bypasses_of, classes_in, document_of, limit_member, limit_of, resolvers_of, rules_of, window_member, window_of}
 
 -- what stands before the rules was read
-pub record IsRead (t : Members) : Type 0 where
+pub record IsRead (v : Version) (t : Members) : Type 0 where
   pub top : Values
   pub limit : Members × LimitSpec
   pub window : Option (Members × WindowNumbers)
   pub is_top : section_values [] top_rows t ≡ Ok top
-  pub is_limit : limit_of t ≡ Ok limit
+  pub is_limit : limit_of v t ≡ Ok limit
   pub is_window : window_of t ≡ Ok window
 
 -- it was, where each part was
-abbrev pub is_read : (t : Members) (top : Result TopKeys ConfigFault)
+abbrev pub is_read : (v : Version) (t : Members) (top : Result TopKeys ConfigFault)
     (limit : Result (TableRef × LimitSpec) ConfigFault)
     (window : Result (Option (TableRef × WindowNumbers)) ConfigFault)
     (a : TopKeys) (b : TableRef × LimitSpec) (c : Option (TableRef × WindowNumbers)) →
     result_map top_values top ≡ section_values [] top_rows t →
-    result_map limit_member limit ≡ limit_of t →
+    result_map limit_member limit ≡ limit_of v t →
     result_map (option_map window_member) window ≡ window_of t →
-    top ≡ Ok a → limit ≡ Ok b → window ≡ Ok c → IsRead t
-is_read t top limit window a b c of_top of_limit of_window is_a is_b is_c = record {
+    top ≡ Ok a → limit ≡ Ok b → window ≡ Ok c → IsRead v t
+is_read v t top limit window a b c of_top of_limit of_window is_a is_b is_c = record {
   top = top_values a;
   limit = limit_member b;
   window = option_map window_member c;
@@ -41,7 +41,7 @@ is_read t top limit window a b c of_top of_limit of_window is_a is_b is_c = reco
 }
 
 -- what was read, and the rules
-abbrev pub with_rules : {t : Members} → IsRead t → RuleValues → DocumentValues
+abbrev pub with_rules : {v : Version} {t : Members} → IsRead v t → RuleValues → DocumentValues
 with_rules read rules = record {
   top = read.top;
   limit = read.limit;
@@ -71,7 +71,7 @@ of_three (Err e) b c all make = refl
 of_three (Ok x) b c all make = of_two (b x) c (all x) make
 
 -- the document is at fault where the rules are
-pub document_read : (v : Version) (t : Members) (read : IsRead t) →
+pub document_read : (v : Version) (t : Members) (read : IsRead v t) →
     document_of v t ≡ (rules_of v t >>= λ rules. Ok (with_rules read rules))
 document_read v t read =
     rw (read.is_top, read.is_limit, read.is_window)

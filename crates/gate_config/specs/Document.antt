@@ -73,10 +73,10 @@ document_values d = record {
   bypasses = map bypass_member d.rules.bypasses.items;
 }
 
--- the table `limit` and the limit of its keys
-abbrev pub limit_of : Members → Result (Members × LimitSpec) ConfigFault
-limit_of t = table_from Key.Limit (get_member (codes "limit") t) >>= λ limit.
-    limit_in limit >>= λ spec. Ok (limit, spec)
+-- the table `limit` and the limit of its keys in a version
+abbrev pub limit_of : Version → Members → Result (Members × LimitSpec) ConfigFault
+limit_of version t = table_from Key.Limit (get_member (codes "limit") t) >>= λ limit.
+    limit_in version limit >>= λ spec. Ok (limit, spec)
 
 -- the windows of a table's keys, where there is one
 abbrev pub read_window : Option Members → Result (Option (Members × WindowNumbers)) ConfigFault
@@ -114,7 +114,7 @@ rules_of version t =
 abbrev pub document_of : Version → Members → Result DocumentValues ConfigFault
 document_of version t =
     section_values [] top_rows t >>= λ top.
-    limit_of t >>= λ limit.
+    limit_of version t >>= λ limit.
     window_of t >>= λ window.
     classes_in version t >>= λ classes.
     resolvers_of classes.1 t >>= λ resolvers.

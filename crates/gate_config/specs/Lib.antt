@@ -2,3 +2,4 @@ pub mod Document
 pub mod UnknownKeys
 pub mod Rules
 pub mod Settings
+pub mod Workers

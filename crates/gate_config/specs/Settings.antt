@@ -12,7 +12,7 @@ use Rattle.config_values.specs.declared.fault.ConfigFault.TheVariants as Fault
 use Rattle.config_values.specs.Outcomes.{◌>>=◌}
 use Rattle.config_values.specs.Unknown.{UnknownKey, least, unknown_key_text}
 use Rattle.config_sections.specs.declared.version.Version.{Version}
-use Rattle.config_sections.specs.declared.version.Version.TheVariants.{One, Two}
+use Rattle.config_sections.specs.declared.version.Version.TheVariants.{One, Two, Three}
 use Rattle.config_sections.specs.Rows.{all}
 use Rattle.config_sections.specs.Section.{flag_at, number_at, text_at}
 use Rattle.gate_config.specs.declared.settings.Settings.{Settings}
@@ -24,9 +24,12 @@ use Rattle.gate_config.specs.UnknownKeys.{unknown_keys_of}
 abbrev pub Reads : List ℕ → Members → Type 0
 Reads bytes t = IsUtf8 bytes × (parse_document bytes ≡ Some t)
 
--- the version of a whole number, which is 1 or 2
+-- the version of a whole number, which is 1, 2 or 3
 abbrev pub version_from : ℤ → Option Version
-version_from (pos n) = if n == 1 then Some One else (if n == 2 then Some Two else None)
+version_from (pos n) =
+    if n == 1 then Some One
+    else (if n == 2 then Some Two
+    else (if n == 3 then Some Three else None))
 version_from _ = None
 
 -- the version of what stands at the key `version`

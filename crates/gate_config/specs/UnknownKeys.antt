@@ -2,6 +2,8 @@
 use Rattle.std.specs.Prelude.{ℕ, List, [], ◌∷◌, ◌++◌, map, flat_map, Option, Some, None}
 use Rattle.toml.specs.Data.{Members}
 use Rattle.windowed.specs.declared.numbers.WindowNumbers.{WindowNumbers}
+use Rattle.limit_kinds.specs.declared.spec.LimitSpec.{LimitSpec}
+use Rattle.limit_kinds.specs.declared.spec.LimitSpec.TheVariants.{Auto}
 use Rattle.config_values.specs.declared.key.Key.{Key}
 use Rattle.config_values.specs.declared.key.Section.TheVariants as In
 use Rattle.config_values.specs.Key.{name_of}
@@ -12,11 +14,16 @@ use Rattle.config_sections.specs.Rows.{bypass_rows, class_rows, resolver_rows, t
 use Rattle.config_sections.specs.Section.{Values, names_of}
 use Rattle.gate_config.specs.Document.{DocumentValues}
 
+-- the table of windows, which a limit may have but for one without numbers: that has its own
+abbrev pub window_keys : LimitSpec → List Key
+window_keys (Auto n) = []
+window_keys _ = Key.Window ∷ []
+
 -- the keys that no section holds: the version, those of the rows, and those of the tables
-abbrev pub top_names : List (List ℕ)
-top_names =
+abbrev pub top_names : LimitSpec → List (List ℕ)
+top_names spec =
     map name_of (Key.Version ∷ map (λ row. row.key) top_rows
-    ++ Key.Limit ∷ Key.Window ∷ Key.Class ∷ Key.Resolver ∷ Key.Bypass ∷ [])
+    ++ Key.Limit ∷ window_keys spec ++ Key.Class ∷ Key.Resolver ∷ Key.Bypass ∷ [])
 
 abbrev pub window_unknown_keys : Option (Members × WindowNumbers) → List UnknownKey
 window_unknown_keys None = []
@@ -36,7 +43,7 @@ bypass_unknown_keys b = unknown_keys_in In.Bypass (names_of bypass_rows b.1) b.0
 -- all of them, in a version
 abbrev pub unknown_keys_of : Version → Members → DocumentValues → List UnknownKey
 unknown_keys_of version t d =
-    unknown_keys_in In.Top top_names t
+    unknown_keys_in In.Top (top_names d.limit.1) t
     ++ unknown_keys_in In.Limit (limit_names d.limit.1) d.limit.0
     ++ window_unknown_keys d.window ++ flat_map (class_unknown_keys version) d.classes.0
     ++ flat_map resolver_unknown_keys d.resolvers ++ flat_map bypass_unknown_keys d.bypasses

@@ -61,7 +61,7 @@ pub fn read_document<'a>(
         document_of version (table_view table.now) ≡ Err fault → IsErrOf result fault }
 {
     let top = read_top(table)?;
-    let limit = limit_in(table)?;
+    let limit = limit_in(version, table)?;
     let window = window_in(table)?;
     let rules = rules_in(alloc, version, table)?;
     Ok(Document {
@@ -72,13 +72,16 @@ pub fn read_document<'a>(
     })
 }
 
-/// The table `limit` and the limit of its keys.
-fn limit_in<'a>(table: &'a Table) -> Result<(&'a Table, LimitSpec), ConfigFault>
+/// The table `limit` and the limit of its keys in a version.
+fn limit_in<'a>(
+    version: Version,
+    table: &'a Table,
+) -> Result<(&'a Table, LimitSpec), ConfigFault>
     ensures sound { IfOk result (λ limit. IsOk (limit_made limit.1)) }
-    ensures said { result_map limit_member result ≡ limit_of (table_view table.now) }
+    ensures said { result_map limit_member result ≡ limit_of version (table_view table.now) }
 {
     let limit = read_table(table, Key::Limit)?;
-    Ok((limit, read_limit(limit)?))
+    Ok((limit, read_limit(version, limit)?))
 }
 
 /// The table `window` and the windows of its keys, where there is one.

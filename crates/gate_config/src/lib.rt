@@ -9,6 +9,7 @@ mod document;
 mod reading;
 mod settings;
 mod unknown_keys;
+mod workers;
 
 pub use config_values::{Address, ConfigFault, Key, Section};
 pub use limit_kinds::{AnyLimit, BaseLimit};

@@ -1,18 +1,20 @@
 // The keys that aren't allowed where they stand.
 ghost use Rattle.std.specs.Prelude.{◌≡◌, flat_map, fold, map, option_map};
 ghost use Rattle.toml.specs.View.{table_view};
+ghost use Rattle.config_values.specs.Key.{name_of};
 ghost use Rattle.config_values.specs.Table.{tables_among};
 ghost use Rattle.config_values.specs.Unknown.{least, lesser, unknown_key_of};
 ghost use Rattle.config_sections.specs.Bypass.{bypass_member};
 ghost use Rattle.config_sections.specs.Resolver.{resolver_member};
 ghost use Rattle.gate_config.specs.Document.{document_values};
-ghost use Rattle.gate_config.specs.UnknownKeys.{bypass_unknown_keys, class_unknown_keys, resolver_unknown_keys, unknown_keys_of};
+ghost use Rattle.gate_config.specs.UnknownKeys.{bypass_unknown_keys, class_unknown_keys, resolver_unknown_keys, top_names, unknown_keys_of};
 
 use crate::document::Document;
 use config_sections::{
-    BypassKeys, ResolverKeys, TOP_KEYS, Version, WINDOW_KEYS, class_keys, limit_keys,
+    BypassKeys, NO_WINDOW, ResolverKeys, TOP_KEYS, Version, WINDOW_KEYS, class_keys, limit_keys,
 };
-use config_values::{Section, UnknownKey, least_unknown};
+use config_values::{Key, Section, UnknownKey, least_unknown};
+use limit_kinds::LimitSpec;
 use toml::{Table, Value};
 
 /// The key that isn't allowed where it stands in a version, of several the one with the least path.
@@ -24,8 +26,8 @@ pub fn least_unknown_key<'a>(
     ensures { option_map unknown_key_of result
         ≡ least (unknown_keys_of version (table_view table.now) (document_values document.now)) }
 {
-    let mut least = least_unknown(None, Section::Top, None, &TOP_KEYS, table);
     let (limit, spec) = &document.limit;
+    let mut least = least_unknown(None, Section::Top, None, top_keys(spec), table);
     least = least_unknown(least, Section::Limit, None, limit_keys(spec), limit);
     if let Some((window, _)) = &document.window {
         least = least_unknown(least, Section::Window, None, &WINDOW_KEYS, window);
@@ -33,6 +35,16 @@ pub fn least_unknown_key<'a>(
     least = least_of_classes(version, least, document.rules.classes.0);
     least = least_of_resolvers(least, &document.rules.resolvers);
     least_of_bypasses(least, &document.rules.bypasses)
+}
+
+/// The keys outside all tables beside a limit.
+fn top_keys(spec: &LimitSpec) -> &'static [Key]
+    ensures { map name_of result.now ≡ top_names spec.now }
+{
+    match spec {
+        LimitSpec::Auto(_) => &NO_WINDOW,
+        _ => &TOP_KEYS,
+    }
 }
 
 /// The least of these classes' and one more.

@@ -10,22 +10,24 @@ ghost use Rattle.gate_opening.specs.Opening.{journal_of, making_of};
 
 use gate_config::{AnyLimit, Settings};
 use gate_history::{Blanks, Book, GateSettings};
-use limit_laws::Limit;
 use shared_gate::{GateNaming, SharedGate, Word};
 use std::alloc::{AllocError, Global};
 
-/// What the gate of a configuration is made with. It rolls whenever it holds as many entries as are
-/// kept.
-fn gate_settings(settings: &Settings) -> Result<GateSettings<AnyLimit>, AllocError>
+/// What the gate of a configuration before so many workers is made with. It rolls whenever it holds
+/// as many entries as are kept.
+fn gate_settings(
+    settings: &Settings,
+    workers: u32,
+) -> Result<GateSettings<AnyLimit>, AllocError>
     requires { AreSound settings.now }
     ensures range { IfOk result AreInRange }
-    ensures begins { IfOk result (λ made. begun made ≡ journal_of settings.now) }
+    ensures begins { IfOk result (λ made. begun made ≡ journal_of workers settings.now) }
 {
     let Ok(table) = settings.table.copy() else {
         return Err(AllocError);
     };
     Ok(GateSettings {
-        limit: settings.limit.copy(),
+        limit: settings.limit_for(workers),
         table,
         room: settings.backlog,
         promote: settings.promote,
@@ -34,12 +36,13 @@ fn gate_settings(settings: &Settings) -> Result<GateSettings<AnyLimit>, AllocErr
     })
 }
 
-/// The gate of these settings, which rolls, with so many passes, by which no call was made yet. A
-/// book gives at most a million; where it gives fewer than are asked for, that is out of memory
+/// The gate of these settings before so many workers, which rolls, with so many passes, by which no
+/// call was made yet. A book gives at most a million; where it gives fewer than are asked for, that is out of memory
 /// too.
 pub fn open_gate<M: GateNaming>(
     alloc: Global,
     settings: &Settings,
+    workers: u32,
     blanks: Blanks,
     word: Word,
     count: usize,
@@ -47,13 +50,13 @@ pub fn open_gate<M: GateNaming>(
     requires word { word ≡ M.word }
     requires names { AreNamed M.calls M.place blanks }
     requires parts { AreWhole blanks }
-    requires making { M.making ≡ making_of settings.now }
+    requires making { M.making ≡ making_of workers settings.now }
     requires sound { AreSound settings.now }
-    requires legal { CallsLegal any_rules (journal_of settings.now) M.legal }
+    requires legal { CallsLegal any_rules (journal_of workers settings.now) M.legal }
     ensures all { IfOk result (λ made. vec_len made.1 ≡ count) }
     ensures passes { IfOk result (λ made. made.1.items ≡ replicate count (pass_of 0)) }
 {
-    let made = gate_settings(settings)?;
+    let made = gate_settings(settings, workers)?;
     let book = Book::begin(alloc, made, blanks)?;
     SharedGate::open(alloc, word, book, count)
 }

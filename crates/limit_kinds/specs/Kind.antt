@@ -1,11 +1,11 @@
 -- The list of the kinds of limit, and what each is called.
 use Rattle.std.specs.Prelude.{ℕ, List, [], ◌∷◌, map, find, Option, bytes_eq, codes}
 use Rattle.limit_kinds.specs.declared.kind.LimitKind.{LimitKind}
-use Rattle.limit_kinds.specs.declared.kind.LimitKind.TheVariants.{Fixed, Settable, Aimd, Vegas}
+use Rattle.limit_kinds.specs.declared.kind.LimitKind.TheVariants.{Fixed, Settable, Aimd, Vegas, Auto}
 
 -- all kinds
 abbrev pub kinds : List LimitKind
-kinds = Fixed ∷ Settable ∷ Aimd ∷ Vegas ∷ []
+kinds = Fixed ∷ Settable ∷ Aimd ∷ Vegas ∷ Auto ∷ []
 
 -- what a kind is called
 abbrev pub kind_word : LimitKind → List ℕ
@@ -13,6 +13,7 @@ kind_word Fixed = codes "fixed"
 kind_word Settable = codes "settable"
 kind_word Aimd = codes "aimd"
 kind_word Vegas = codes "vegas"
+kind_word Auto = codes "auto"
 
 -- what the kinds are called
 abbrev pub kind_words : List (List ℕ)

@@ -6,11 +6,12 @@ use Rattle.limit_laws.specs.Algorithm.{greatest_limit}
 use Rattle.limit_laws.specs.SettableRules.{settable_from}
 use Rattle.aimd.specs.AimdNumbers.{aimd_made, aimd_of}
 use Rattle.vegas.specs.VegasNumbers.{vegas_made, vegas_of}
+use Rattle.auto.specs.AutoRules.{auto_from}
 use Rattle.limit_kinds.specs.declared.kinds.BaseLimit.{BaseLimit}
 use Rattle.limit_kinds.specs.declared.kinds.BaseLimit.TheVariants as base
 use Rattle.limit_kinds.specs.declared.spec.Limits.{Limits}
 use Rattle.limit_kinds.specs.declared.spec.LimitSpec.{LimitSpec}
-use Rattle.limit_kinds.specs.declared.spec.LimitSpec.TheVariants.{Fixed, Settable, Aimd, Vegas}
+use Rattle.limit_kinds.specs.declared.spec.LimitSpec.TheVariants.{Fixed, Settable, Aimd, Vegas, Auto}
 
 -- 1 ≤ lo ≤ first ≤ hi ≤ 10,000
 abbrev pub are_limits : Limits → Bool
@@ -23,6 +24,7 @@ first_limit (Fixed permits) = base.Fixed permits
 first_limit (Settable n) = base.Settable (settable_from n.lo n.first n.hi)
 first_limit (Aimd n) = base.Aimd (aimd_of n)
 first_limit (Vegas n) = base.Vegas (vegas_of n)
+first_limit (Auto n) = base.Auto (auto_from n.lo n.first n.hi)
 
 -- what an algorithm makes, as a limit of its kind
 abbrev pub of_kind : {S : Type 0} → (S → BaseLimit) → Result S MakeFault →
@@ -38,3 +40,4 @@ limit_made (Fixed permits) =
 limit_made (Settable n) = if are_limits n then Ok (first_limit (Settable n)) else Err Range
 limit_made (Aimd n) = of_kind base.Aimd (aimd_made n)
 limit_made (Vegas n) = of_kind base.Vegas (vegas_made n)
+limit_made (Auto n) = if are_limits n then Ok (first_limit (Auto n)) else Err Range

@@ -14,14 +14,17 @@ pub enum LimitKind {
     Aimd,
     /// One that changes by Vegas.
     Vegas,
+    /// One that finds itself.
+    Auto,
 }
 
 /// All of them.
-const KINDS: [LimitKind; 4] = [
+const KINDS: [LimitKind; 5] = [
     LimitKind::Fixed,
     LimitKind::Settable,
     LimitKind::Aimd,
     LimitKind::Vegas,
+    LimitKind::Auto,
 ];
 
 impl LimitKind {
@@ -34,6 +37,7 @@ impl LimitKind {
             LimitKind::Settable => "settable",
             LimitKind::Aimd => "aimd",
             LimitKind::Vegas => "vegas",
+            LimitKind::Auto => "auto",
         }
     }
 

@@ -5,6 +5,7 @@ ghost use Rattle.limit_kinds.specs.Kinds.{base_kind};
 
 use super::kind::LimitKind;
 use aimd::Aimd;
+use auto::Auto;
 use limit_laws::{Fixed, Limit, Sample, SetFault, Settable};
 use vegas::Vegas;
 use windowed::{WindowSettings, Windowed};
@@ -16,6 +17,7 @@ pub enum BaseLimit {
     Settable(Settable),
     Aimd(Aimd),
     Vegas(Vegas),
+    Auto(Auto),
 }
 
 impl BaseLimit {
@@ -28,6 +30,7 @@ impl BaseLimit {
             BaseLimit::Settable(_) => LimitKind::Settable,
             BaseLimit::Aimd(_) => LimitKind::Aimd,
             BaseLimit::Vegas(_) => LimitKind::Vegas,
+            BaseLimit::Auto(_) => LimitKind::Auto,
         }
     }
 }
@@ -44,6 +47,7 @@ impl Limit for BaseLimit {
             BaseLimit::Settable(limit) => limit.lo(),
             BaseLimit::Aimd(limit) => limit.lo(),
             BaseLimit::Vegas(limit) => limit.lo(),
+            BaseLimit::Auto(limit) => limit.lo(),
         }
     }
 
@@ -53,6 +57,7 @@ impl Limit for BaseLimit {
             BaseLimit::Settable(limit) => limit.hi(),
             BaseLimit::Aimd(limit) => limit.hi(),
             BaseLimit::Vegas(limit) => limit.hi(),
+            BaseLimit::Auto(limit) => limit.hi(),
         }
     }
 
@@ -62,6 +67,7 @@ impl Limit for BaseLimit {
             BaseLimit::Settable(limit) => limit.limit(),
             BaseLimit::Aimd(limit) => limit.limit(),
             BaseLimit::Vegas(limit) => limit.limit(),
+            BaseLimit::Auto(limit) => limit.limit(),
         }
     }
 
@@ -71,6 +77,7 @@ impl Limit for BaseLimit {
             BaseLimit::Settable(limit) => limit.on_sample(sample),
             BaseLimit::Aimd(limit) => limit.on_sample(sample),
             BaseLimit::Vegas(limit) => limit.on_sample(sample),
+            BaseLimit::Auto(limit) => limit.on_sample(sample),
         }
     }
 
@@ -80,6 +87,7 @@ impl Limit for BaseLimit {
             BaseLimit::Settable(limit) => limit.set(n),
             BaseLimit::Aimd(limit) => limit.set(n),
             BaseLimit::Vegas(limit) => limit.set(n),
+            BaseLimit::Auto(limit) => limit.set(n),
         }
     }
 
@@ -89,6 +97,7 @@ impl Limit for BaseLimit {
             BaseLimit::Settable(limit) => limit.reset(),
             BaseLimit::Aimd(limit) => limit.reset(),
             BaseLimit::Vegas(limit) => limit.reset(),
+            BaseLimit::Auto(limit) => limit.reset(),
         }
     }
 

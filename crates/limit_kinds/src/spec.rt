@@ -4,6 +4,7 @@ ghost use Rattle.limit_kinds.specs.Specs.{first_limit, limit_made};
 
 use super::kinds::BaseLimit;
 use aimd::{Aimd, AimdNumbers};
+use auto::Auto;
 use limit_laws::{Fixed, MakeFault, Settable};
 use vegas::{Vegas, VegasNumbers};
 
@@ -25,14 +26,15 @@ pub enum LimitSpec {
     Settable(Limits),
     Aimd(AimdNumbers),
     Vegas(VegasNumbers),
+    Auto(Limits),
 }
 
 impl LimitSpec {
     /// The limit of these numbers, in its first state; else the fault that its kind has first.
     ///
     /// [`MakeFault::Range`] unless a fixed limit has 1 to 10,000 permits, and one that is set by
-    /// hand `1 <= lo <= first <= hi <= 10,000`. The others are made by [`Aimd::of`] and
-    /// [`Vegas::of`].
+    /// hand, or finds itself, `1 <= lo <= first <= hi <= 10,000`. The others are made by
+    /// [`Aimd::of`] and [`Vegas::of`].
     pub fn make(self) -> Result<BaseLimit, MakeFault>
         ensures made { result ≡ limit_made self }
         ensures value { IfOk result (λ limit. limit ≡ first_limit self) }
@@ -44,6 +46,9 @@ impl LimitSpec {
             }
             LimitSpec::Aimd(numbers) => Ok(BaseLimit::Aimd(Aimd::of(numbers)?)),
             LimitSpec::Vegas(numbers) => Ok(BaseLimit::Vegas(Vegas::of(numbers)?)),
+            LimitSpec::Auto(Limits { lo, first, hi }) => {
+                Ok(BaseLimit::Auto(Auto::new(lo, first, hi)?))
+            }
         }
     }
 }

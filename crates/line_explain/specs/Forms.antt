@@ -54,7 +54,7 @@ limits behind =
 abbrev pub limit_forms : List (List Wanted)
 limit_forms =
     (word (codes "limit") ∷ word (codes "fixed") ∷ from_to 1 greatest_limit ∷ [])
-    ∷ (word (codes "limit") ∷ word (codes "settable") ∷ limits [])
+    ∷ (word (codes "limit") ∷ one_of (codes "settable" ∷ codes "auto" ∷ []) ∷ limits [])
     ∷ (word (codes "limit") ∷ word (codes "aimd") ∷ limits
     (from_to least_ratio greatest_ratio ∷ from_to 1 hour ∷ []))
     ∷ (word (codes "limit") ∷ word (codes "vegas") ∷ limits

@@ -117,7 +117,7 @@ macro_rules! with_settings {
             &[word!("limit"), word!("fixed"), number_of!("N", LimitInitial)],
             &[
                 word!("limit"),
-                word!("settable"),
+                word!("settable" "auto"),
                 number_of!("LO", LimitMin),
                 number_of!("N", LimitMax, 2),
                 number_of!("HI", LimitMax, 3),

@@ -4,7 +4,7 @@ use Rattle.limit_kinds.specs.declared.kind.LimitKind.{LimitKind}
 use Rattle.limit_kinds.specs.declared.kind.LimitKind.TheVariants as kind
 use Rattle.limit_kinds.specs.declared.spec.Limits.{Limits}
 use Rattle.limit_kinds.specs.declared.spec.LimitSpec.{LimitSpec}
-use Rattle.limit_kinds.specs.declared.spec.LimitSpec.TheVariants.{Fixed, Settable, Aimd, Vegas}
+use Rattle.limit_kinds.specs.declared.spec.LimitSpec.TheVariants.{Fixed, Settable, Aimd, Vegas, Auto}
 use Rattle.limit_kinds.specs.Kind.{kind_named}
 use Rattle.script.specs.Words.{with_count, with_word, alone, lone_number, in_32_bits}
 
@@ -23,8 +23,8 @@ with_limits f ws = option_and_then (λ cut. f cut.0 cut.1) (first_limits ws)
 abbrev pub fixed_line : List (List ℕ) → Option LimitSpec
 fixed_line ws = option_map (λ permits. Fixed (in_32_bits permits)) (lone_number ws)
 
-abbrev pub settable_line : List (List ℕ) → Option LimitSpec
-settable_line ws = with_limits (λ limits. alone (Settable limits)) ws
+abbrev pub limits_line : List (List ℕ) → Option Limits
+limits_line ws = option_and_then (λ cut. alone cut.0 cut.1) (first_limits ws)
 
 abbrev pub aimd_line : List (List ℕ) → Option LimitSpec
 aimd_line ws =
@@ -50,9 +50,10 @@ vegas_line ws =
 
 abbrev pub line_of_kind : LimitKind → List (List ℕ) → Option LimitSpec
 line_of_kind kind.Fixed ws = fixed_line ws
-line_of_kind kind.Settable ws = settable_line ws
+line_of_kind kind.Settable ws = option_map Settable (limits_line ws)
 line_of_kind kind.Aimd ws = aimd_line ws
 line_of_kind kind.Vegas ws = vegas_line ws
+line_of_kind kind.Auto ws = option_map Auto (limits_line ws)
 
 -- what follows `limit`: the word of a kind, and its numbers
 abbrev pub limit_line : List (List ℕ) → Option LimitSpec

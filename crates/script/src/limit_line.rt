@@ -1,7 +1,7 @@
 // The lines that give a limit, with its numbers as they stand.
 ghost use Rattle.std.specs.Prelude.{◌≡◌, IfNone, IfSome, None, Some};
 ghost use Rattle.script.specs.Words.{words};
-ghost use Rattle.script.specs.LimitLine.{fixed_line, settable_line, aimd_line, vegas_line};
+ghost use Rattle.script.specs.LimitLine.{fixed_line, limits_line, aimd_line, vegas_line};
 ghost use Rattle.script.specs.LimitLine.{first_limits, limit_line};
 
 use super::numbers::{in_32_bits, next_count, read_lone_number};
@@ -30,15 +30,15 @@ fn next_limits(line: &[u8]) -> Option<(Limits, &[u8])>
     Some((Limits { lo, first, hi }, line))
 }
 
-/// What follows `settable`.
-fn read_settable(line: &[u8]) -> Option<LimitSpec>
-    ensures { result ≡ settable_line (words line.now) }
+/// What follows a kind that has these limits alone.
+fn read_limits(line: &[u8]) -> Option<Limits>
+    ensures { result ≡ limits_line (words line.now) }
 {
     let (limits, line) = next_limits(line)?;
     if next_word(line).is_some() {
         return None;
     }
-    Some(LimitSpec::Settable(limits))
+    Some(limits)
 }
 
 /// What follows `aimd`.
@@ -82,8 +82,9 @@ pub(crate) fn read_limit(line: &[u8]) -> Option<LimitSpec>
     let (word, line) = next_word(line)?;
     match LimitKind::named(word)? {
         LimitKind::Fixed => read_fixed(line),
-        LimitKind::Settable => read_settable(line),
+        LimitKind::Settable => Some(LimitSpec::Settable(read_limits(line)?)),
         LimitKind::Aimd => read_aimd(line),
         LimitKind::Vegas => read_vegas(line),
+        LimitKind::Auto => Some(LimitSpec::Auto(read_limits(line)?)),
     }
 }

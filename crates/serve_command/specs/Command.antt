@@ -52,8 +52,8 @@ pub record HasServed {F L W : Type 0} (Opened : F → Type 0) (remaining : F →
   pub operator : IsBoundToo Bound admin
   pub lookers : IsBoundToo Bound status
   pub counters : Counters
-  pub counted : AreCountersOfRuns any_rules (making_of settings) (λ own. Says bytes (Ok own))
-      workers most counters
+  pub counted : AreCountersOfRuns any_rules (making_of workers settings)
+      (λ own. Says bytes (Ok own)) workers most counters
   pub written : Wrote contents old new (counters_line counters)
   pub unfailing : failures_of new ≡ failures_of old
   pub flushed : is_flushed new ≡ true

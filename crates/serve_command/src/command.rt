@@ -210,7 +210,8 @@ where
     ensures front { OnOk result (IsBound B.bound settings.now.listen) }
     ensures operator { OnOk result (IsBoundToo B.bound service.now.admin) }
     ensures status { OnOk result (IsBoundToo B.bound service.now.status) }
-    ensures counted { IfOk result (AreCountersOfRuns any_rules (making_of settings.now)
+    ensures counted { IfOk result (AreCountersOfRuns any_rules
+        (making_of service.now.workers settings.now)
         (λ own. Says text.now.bytes.items (Ok own)) service.now.workers service.now.per_worker) }
     ensures refused { IfErr result (IsOfServing B.bound B.unbound settings.now.listen
         service.now.admin service.now.status

@@ -69,7 +69,8 @@ where
     requires says { Says context.now.text.now.bytes.items (Ok settings.now) }
     requires sound { AreSound settings.now }
     requires few { service.now.workers ≤ 64 }
-    ensures counted { IfOk result (AreCountersOfRuns any_rules (making_of settings.now)
+    ensures counted { IfOk result (AreCountersOfRuns any_rules
+        (making_of service.now.workers settings.now)
         (λ own. Says context.now.text.now.bytes.items (Ok own))
         service.now.workers service.now.per_worker) }
     ensures thread { IsErrOf result ServeFault.Thread →
@@ -91,8 +92,14 @@ where
         watch: context.watch,
         alloc,
     };
-    let workers = service.workers as usize;
-    serve_gateway(rt, spawner, &common, settings, workers, &side)
+    serve_gateway(
+        rt,
+        spawner,
+        &common,
+        settings,
+        service.workers,
+        &side,
+    )
 }
 
 /// So many milliseconds in nanoseconds.

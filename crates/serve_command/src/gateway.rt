@@ -43,7 +43,7 @@ pub(crate) fn serve_gateway<R, L, C, S>(
     spawner: &mut Spawner<'_, R>,
     common: &WorkerSettings<'_, L, C, S, Watcher<'_, R>>,
     settings: &Settings,
-    workers: usize,
+    workers: u32,
     side: &SideAddresses<'_, L, C>,
 ) -> Result<Counters, ServeFault>
 where
@@ -59,7 +59,7 @@ where
     requires given { S.gives common.now.source.now settings.now }
     requires sound { AreSound settings.now }
     requires few { workers ≤ 64 }
-    ensures counted { IfOk result (AreCountersOfRuns any_rules (making_of settings.now)
+    ensures counted { IfOk result (AreCountersOfRuns any_rules (making_of workers settings.now)
         (S.gives common.now.source.now) workers common.now.per_worker) }
     ensures thread { IsErrOf result ServeFault.Thread →
         refused_of spawner.new ≡ raised (refused_of spawner.old) }
@@ -75,7 +75,7 @@ fn serve_named<M, R, L, C, S>(
     spawner: &mut Spawner<'_, R>,
     common: &WorkerSettings<'_, L, C, S, Watcher<'_, R>>,
     settings: &Settings,
-    workers: usize,
+    workers: u32,
     side: &SideAddresses<'_, L, C>,
     blanks: Blanks,
     word: Word,
@@ -94,11 +94,11 @@ where
     requires names { AreNamed M.calls M.place blanks }
     requires parts { AreWhole blanks }
     requires word { word ≡ M.word }
-    requires making { M.making ≡ making_of settings.now }
+    requires making { M.making ≡ making_of workers settings.now }
     requires sound { AreSound settings.now }
-    requires legal { CallsLegal any_rules (journal_of settings.now) M.legal }
+    requires legal { CallsLegal any_rules (journal_of workers settings.now) M.legal }
     requires few { workers ≤ 64 }
-    ensures counted { IfOk result (AreCountersOfRuns any_rules (making_of settings.now)
+    ensures counted { IfOk result (AreCountersOfRuns any_rules (making_of workers settings.now)
         (S.gives common.now.source.now) workers common.now.per_worker) }
     ensures thread { IsErrOf result ServeFault.Thread →
         refused_of spawner.new ≡ raised (refused_of spawner.old) }
@@ -107,11 +107,12 @@ where
     let (gate, mut passes) = open_gate::<M>(
         common.alloc,
         settings,
+        workers,
         blanks,
         word,
-        workers + others,
+        workers as usize + others,
     )?;
-    let own = take_own(&mut passes, workers, others)?;
+    let own = take_own(&mut passes, workers as usize, others)?;
     serve_through(rt, spawner, common, settings, side, &gate, passes, own)
 }
 

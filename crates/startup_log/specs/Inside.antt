@@ -1,10 +1,11 @@
 -- How many callers a gate lets in.
-use Rattle.std.specs.Prelude.{◌+◌, ℕ, if◌then◌else◌}
+use Rattle.std.specs.Prelude.{◌+◌, ℕ}
 use Rattle.limit_kinds.specs.AnyKinds.{any_hi}
 use Rattle.partitions.specs.Table.{bound}
 use Rattle.gate_config.specs.declared.settings.Settings.{Settings}
+use Rattle.gate_config.specs.Workers.{limit_for, waiting}
 
--- how many callers can be in flight at the greatest limit, with each class's share of it, or wait
--- where callers wait
-abbrev pub most_inside : Settings → ℕ
-most_inside s = bound s.table (any_hi s.limit) + (if s.wait then s.backlog else 0)
+-- how many callers can be in flight at the greatest limit before so many workers, with each class's
+-- share of it, or wait
+abbrev pub most_inside : ℕ → Settings → ℕ
+most_inside workers s = bound s.table (any_hi (limit_for workers s)) + waiting s

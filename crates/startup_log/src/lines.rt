@@ -7,6 +7,7 @@ use crate::descriptors::most_descriptors;
 use config_file::why_unread;
 use file_opening::Opener;
 use gate_config::Settings;
+use limit_kinds::LimitKind;
 use limit_laws::Limit;
 use log::{Log, error, info, warn};
 use std::alloc::Global;
@@ -32,7 +33,7 @@ pub fn log_listening<R: Log, F: Opener>(
 )
     requires { AreSound settings.now }
 {
-    let inside = most_inside(settings);
+    let inside = most_inside(settings, workers);
     if inside > u64::from(workers) {
         let wanted = inside.saturating_add(1).min(MOST_WORKERS);
         warn!(rt; target: "admission", inside, workers, wanted;
@@ -45,8 +46,23 @@ pub fn log_listening<R: Log, F: Opener>(
         warn!(rt; target: "admission", backend:%;
             "the backend is this gateway itself: each request comes back to it");
     }
-    let limit = settings.limit.kind().word();
-    info!(rt; target: "admission", address:%, workers, limit; "listening");
+    log_address(rt, settings, workers);
+}
+
+/// Logs where clients are listened for, and of a limit without numbers how far it goes up.
+fn log_address<R: Log>(rt: &R, settings: &Settings, workers: u32)
+    requires { AreSound settings.now }
+{
+    let address = settings.listen.socket();
+    let kind = settings.limit.kind();
+    let limit = kind.word();
+    match kind {
+        LimitKind::Auto => {
+            let max = settings.limit_for(workers).hi();
+            info!(rt; target: "admission", address:%, workers, limit, max; "listening");
+        }
+        _ => info!(rt; target: "admission", address:%, workers, limit; "listening"),
+    }
 }
 
 /// Logs why the file of the configuration can't be read, unless it is out of memory for the words.
@@ -85,14 +101,14 @@ fn log_descriptors<R: Log, F: Opener>(rt: &R, files: &F, alloc: Global, workers:
     }
 }
 
-/// How many callers the gate lets be in flight at the greatest limit, by it or by their shares, or
-/// wait.
-fn most_inside(settings: &Settings) -> u64
+/// How many callers the gate before so many workers lets be in flight at the greatest limit, by it
+/// or by their shares, or wait.
+fn most_inside(settings: &Settings, workers: u32) -> u64
     requires { AreSound settings.now }
-    ensures { result ≡ most_inside settings.now }
+    ensures { result ≡ most_inside workers settings.now }
 {
-    let waiting = if settings.wait { settings.backlog } else { 0 };
-    settings.table.most(settings.limit.hi()) + u64::from(waiting)
+    let limit = settings.limit_for(workers);
+    settings.table.most(limit.hi()) + u64::from(settings.waiting())
 }
 
 /// Whether who connects to the backend arrives where clients are listened for: at the same port of

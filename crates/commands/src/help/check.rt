@@ -40,7 +40,7 @@ A small configuration, for 64 workers, is
   backlog = 10                 # callers that may wait
 
   [limit]
-  kind = \"fixed\"               # or settable, aimd, vegas
+  kind = \"fixed\"               # or settable, aimd, vegas; in version 3 auto
   initial = 40                 # requests at the backend at once
 
 The keys, with unit, range and default. An omitted key takes its default, or the nearer end of its
@@ -49,7 +49,17 @@ range if an earlier key leaves the default outside.
 Before the tables:
 ",
     "
-With a table of each kind, and the numbers of the packaged configuration:
+The packaged configuration is
+
+  version = 3
+  listen = \"127.0.0.1:8080\"
+  backend = \"127.0.0.1:9000\"
+  backlog = 10
+
+  [limit]
+  kind = \"auto\"                # up to what the workers leave over; no [window] beside it
+
+With a table of each kind:
 
   version = 2
   listen = \"127.0.0.1:8080\"
@@ -90,7 +100,7 @@ the first key at fault:
   admission: config: read         no such file, no permission, a folder, or more than 1 MiB
   admission: config: toml         not TOML in UTF-8: a number with a unit, such as 5s, a text
                                   without quotes or with typographic ones, a key given twice
-  admission: config: version      version is missing or isn't the whole number 1 or 2
+  admission: config: version      version is missing or isn't the whole number 1, 2 or 3
   admission: config: missing KEY  a required key isn't there, or stands in another table
   admission: config: kind KEY     a text where a number is wanted, [class] in place of [[class]]
   admission: config: value KEY    out of the key's range, or a class that isn't there or is there

@@ -19,6 +19,7 @@ limit is fixed at the N of --limit.
                                rises while the queue is below ALPHA permits (1 to 100), falls above
                                BETA (ALPHA to 100), and measures the least round trip anew after
                                PROBE samples (0 to 1000000; 0: never)
+  limit auto LO N HI           finds itself, by the time of answers and how many are in flight
   window SIZE MIN MAX MINRTT   the limit learns from windows of at least SIZE samples (1 to 1000000)
                                that last MIN to MAX (1 ns to one hour, MIN at most MAX); round trips
                                below MINRTT (0 to one hour) are left out. Without this line it

@@ -102,7 +102,7 @@ For example, with this file as gate.toml
 `admission serve gate.toml --workers 64` lets 40 requests be at the backend at once and 10 more wait
 for a second each; `python3 -m http.server 9000` is a backend to try it with, and
 `curl http://127.0.0.1:8080/` a client. The packaged configuration finds its limit by itself: it is
-of the kind vegas, from 3 to 32 permits, and learns from windows.
+of the kind auto, and goes up to what the workers leave over.
 
 An answer of the backend lets the newest waiter in if it has room; with `promote = \"all\"` it lets
 in all waiters that have room, so that nobody waits below a limit that has risen.

@@ -91,8 +91,9 @@ returns-clause-served g c =
       lookers = c.in_ok-counters.ensures.status;
       counters = c.in_ok-counters.counters;
       counted =
-          subst (λ (xs : List ℕ). AreCountersOfRuns any_rules (making_of s)
-          (λ own. Says xs (Ok own)) c.args.service.now.workers c.args.service.now.per_worker
+          subst (λ (xs : List ℕ). AreCountersOfRuns any_rules
+          (making_of c.args.service.now.workers s) (λ own. Says xs (Ok own))
+          c.args.service.now.workers c.args.service.now.per_worker
           c.in_ok-counters.counters) same c.in_ok-counters.ensures.counted;
       written = c.in_ok-write_counters.ensures.all;
       unfailing = c.in_ok-write_counters.ensures.unfailing;

@@ -12,7 +12,8 @@ returns-clause-counted g c =
     let gives = g.S.Source.gives common.source.now in
     let all : vec_len c.take_own.new.passes ≡ c.args.workers = c.in_ok-own.ensures.all in
     subst (λ (n : ℕ). IfOk c.serve_through.result
-    (AreCountersOfRuns any_rules (making_of c.args.settings.now) gives n common.per_worker)) all
+    (AreCountersOfRuns any_rules (making_of c.args.workers c.args.settings.now) gives n
+    common.per_worker)) all
     (subst (λ (m : Making). IfOk c.serve_through.result
     (AreCountersOfRuns any_rules m gives (vec_len c.take_own.new.passes) common.per_worker))
     c.requires.making c.serve_through.ensures.counted)

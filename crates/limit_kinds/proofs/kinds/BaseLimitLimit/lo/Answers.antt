@@ -24,3 +24,9 @@ returns-in-Vegas-clause-value c = search rules
 
 pub returns-in-Vegas-clause-within : goal.returns-in-Vegas-clause-within
 returns-in-Vegas-clause-within c = search rules
+
+pub returns-in-Auto-clause-value : goal.returns-in-Auto-clause-value
+returns-in-Auto-clause-value c = search rules
+
+pub returns-in-Auto-clause-within : goal.returns-in-Auto-clause-within
+returns-in-Auto-clause-within c = search rules

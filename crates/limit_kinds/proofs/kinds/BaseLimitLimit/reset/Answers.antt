@@ -12,3 +12,6 @@ returns-in-Aimd c = search rules
 
 pub returns-in-Vegas : goal.returns-in-Vegas
 returns-in-Vegas c = search rules
+
+pub returns-in-Auto : goal.returns-in-Auto
+returns-in-Auto c = search rules

@@ -36,3 +36,12 @@ returns-in-Vegas-clause-refused c = search rules
 
 pub returns-in-Vegas-clause-unchanged : goal.returns-in-Vegas-clause-unchanged
 returns-in-Vegas-clause-unchanged c = search rules
+
+pub returns-in-Auto-clause-taken : goal.returns-in-Auto-clause-taken
+returns-in-Auto-clause-taken c = search rules
+
+pub returns-in-Auto-clause-refused : goal.returns-in-Auto-clause-refused
+returns-in-Auto-clause-refused c = search rules
+
+pub returns-in-Auto-clause-unchanged : goal.returns-in-Auto-clause-unchanged
+returns-in-Auto-clause-unchanged c = search rules

@@ -1,5 +1,5 @@
 use Rattle.std.proofs.Common.{rules}
-use Rattle.script.proofs.limit_line.read_settable.Goals as goal
+use Rattle.script.proofs.limit_line.read_limits.Goals as goal
 
 pub returns-in_err-limits : goal.returns-in_err-limits
 returns-in_err-limits c = search rules
