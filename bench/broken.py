@@ -32,7 +32,8 @@ def limits(slots: int, takes: int) -> dict[str, list[str]]:
     least, most = (16, 53) if large else (3, 32)
     return {
         "fixed at the slots": [f"limit fixed {slots}"],
-        "packaged: Vegas over windows": [f"limit {vegas}", f"window {window}"],
+        "as packaged: auto": ["limit auto 1 4 53"],
+        "Vegas over windows": [f"limit {vegas}", f"window {window}"],
         "Vegas over windows of a quarter of an answer": [
             f"limit {vegas}",
             f"window 1 {takes // 4} {takes // 4} 3000000",

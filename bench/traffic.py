@@ -24,10 +24,10 @@ STARTING = 10
 # Two classes, told apart by a header.
 CLASSES = """[[class]]
 name = "live"
-percent = 60
+share = 600
 [[class]]
 name = "batch"
-percent = 30
+share = 300
 [[resolver]]
 kind = "header"
 header = "X-Class"
@@ -41,7 +41,7 @@ def allow_many_sockets() -> None:
 
 
 def tables_of(file: str) -> str:
-    """What a configuration of version 2 of the repository says below its addresses."""
+    """What a configuration of version 2 or 3 of the repository says below its addresses."""
     text = (TOP / file).read_text(encoding="utf-8")
     return re.sub(r"^(version|listen|backend) *=.*\n", "", text, flags=re.MULTILINE)
 
@@ -121,7 +121,7 @@ class Gateway:
         tables: str,
         workers: int = 64,
         report_seconds: int | None = None,
-        version: int = 1,
+        version: int = 3,
     ) -> None:
         self.port = free_port()
         self.room = tempfile.TemporaryDirectory(prefix="admission-")

@@ -3,6 +3,7 @@ import asyncio
 import collections
 import concurrent.futures
 import multiprocessing
+import os
 import random
 import signal
 import time
@@ -13,11 +14,30 @@ from programs import free_port
 from traffic import ANSWER, STARTING, Call, allow_many_sockets, offer
 
 BUSY = b"HTTP/1.1 503 Service Unavailable\r\nContent-Length: 0\r\nConnection: close\r\n\r\n"
+TOO_MANY = BUSY.replace(b"503 Service Unavailable", b"429 Too Many Requests")
 # What `ahead` says: serve all, answer all of them 503 at once, or serve the next one at once or in a tenth of its time.
 AS_EVER, REFUSING, ONE_AT_ONCE, ONE_IN_A_TENTH = range(4)
 # A process that makes more calls a second is late with them.
 CALLS_A_PROCESS = 300
 WATCH = 0.02
+
+
+class Times(typing.NamedTuple):
+    """How the times of answers vary about the backend's own: evenly by a part of it more or less; as a lognormal
+    distribution of this sigma, whose mean it is; or so that a part of them takes so many times as long."""
+
+    spread: float = 0.0
+    sigma: float = 0.0
+    slow: tuple[float, float] = (0.0, 1.0)
+
+    def mean(self) -> float:
+        return 1 + self.slow[0] * (self.slow[1] - 1)
+
+    def draw(self, draw: random.Random) -> float:
+        factor = 1 + self.spread * (2 * draw.random() - 1)
+        if self.sigma:
+            factor *= draw.lognormvariate(-self.sigma * self.sigma / 2, self.sigma)
+        return factor * (self.slow[1] if draw.random() < self.slow[0] else 1)
 
 
 class Exchange(asyncio.Protocol):
@@ -42,18 +62,29 @@ class Exchange(asyncio.Protocol):
 
 class Wayward:
     """A backend in a process of its own: it serves `slots` requests at a time, first come first served, each in
-    `seconds` divided by its speed, with up to `spread` of that more or less, and slower by `drag` of it where as many
-    wait as it has slots. Its slots, its speed and what is ahead can be changed while it serves, and it can be killed.
+    `seconds` divided by its speed, as `times` vary, and slower by `drag` of it where as many wait as it has slots. A
+    part of its answers is cut off, and where more than `most` are inside it refuses the next at once by a 429 of its
+    own. Its slots, its speed and what is ahead can be changed while it serves, and it can be killed or stopped.
     """
 
     process: multiprocessing.Process
     loop: asyncio.AbstractEventLoop
 
-    def __init__(self, slots: int, seconds: float, drag: float, spread: float = 0.0) -> None:
-        self.seconds, self.drag, self.spread, self.port = seconds, drag, spread, free_port()
+    def __init__(
+        self,
+        slots: int,
+        seconds: float,
+        drag: float,
+        times: Times = Times(),
+        cut: float = 0.0,
+        most: int | None = None,
+    ) -> None:
+        self.seconds, self.drag, self.times, self.port = seconds, drag, times, free_port()
+        self.cut, self.most = cut, most
         self.slots: typing.Any = multiprocessing.Value("i", slots)
         self.speed: typing.Any = multiprocessing.Value("d", 1.0)
         self.ahead: typing.Any = multiprocessing.Value("i", AS_EVER)
+        self.refused: typing.Any = multiprocessing.Value("i", 0)
         self.served = 0
         self.queue: collections.deque[Exchange] = collections.deque()
         self.draw = random.Random(1)
@@ -78,6 +109,15 @@ class Wayward:
         self.process.kill()
         self.process.join()
 
+    def stop(self) -> None:
+        """Has it hang, with all that it serves."""
+        if self.process.pid:
+            os.kill(self.process.pid, signal.SIGSTOP)
+
+    def resume(self) -> None:
+        if self.process.pid:
+            os.kill(self.process.pid, signal.SIGCONT)
+
     def run(self, is_up: Event) -> None:
         signal.signal(signal.SIGINT, signal.SIG_IGN)
         allow_many_sockets()
@@ -95,6 +135,9 @@ class Wayward:
         ahead = self.ahead.value
         if ahead == REFUSING:
             exchange.answer(BUSY)
+        elif self.most is not None and self.served + len(self.queue) >= self.most:
+            self.refused.value += 1
+            exchange.answer(TOO_MANY)
         elif ahead in (ONE_AT_ONCE, ONE_IN_A_TENTH):
             self.ahead.value = AS_EVER
             self.loop.call_later(0 if ahead == ONE_AT_ONCE else self.seconds / 10, exchange.answer, ANSWER)
@@ -106,13 +149,13 @@ class Wayward:
         """Begins to serve as many as there are slots for."""
         while self.queue and self.served < self.slots.value:
             exchange, self.served = self.queue.popleft(), self.served + 1
-            varied = 1 + self.spread * (2 * self.draw.random() - 1)
+            varied = self.times.draw(self.draw)
             slower = 1 + self.drag * len(self.queue) / self.slots.value
             self.loop.call_later(self.seconds / self.speed.value * varied * slower, self.end, exchange)
 
     def end(self, exchange: Exchange) -> None:
         self.served -= 1
-        exchange.answer(ANSWER)
+        exchange.answer(ANSWER[:-1] if self.draw.random() < self.cut else ANSWER)
         self.fill()
 
 

@@ -1,5 +1,5 @@
 """Rows of `tests/keys`: what `check --explain` says of configurations without a fault."""
-from config_texts import AIMD, BY_METHOD, BYPASS, FIXED, LIVE_OF_TWO, PLAIN, SETTABLE, VEGAS
+from config_texts import AIMD, AUTO, BY_METHOD, BYPASS, FIXED, LIVE_OF_TWO, PLAIN, SETTABLE, VEGAS
 
 # Lines behind the version and the addresses, and what it says of them.
 OF_NO_FAULT = [
@@ -114,4 +114,25 @@ OF_ONE_ADDRESS = [
     ("127.0.0.1:8080", "127.0.0.1:8080", "backend is listen: each request comes back to this gateway\n"),
     ("127.0.0.1:8080", "127.0.0.1:8081", ""),
     ("127.0.0.1:8080", "127.0.0.2:8080", ""),
+]
+WITHOUT_EFFECT = (
+    "serve it with --workers 64 or more, at most 64\n"
+    "wait = false: nobody waits, so backlog = 10 has no effect\n"
+)
+# Of a limit without numbers, behind the addresses of version 3.
+OF_AUTO = [
+    (
+        lines,
+        'limit.kind = "auto": it goes up to what the workers leave over, at most limit.max; with --workers 64 to '
+        f"{most}\ngreatest limit {most}, shares of it {shares} and backlog {waiting} are {most + shares + waiting} "
+        f"together\n" + on_workers,
+    )
+    for lines, most, shares, waiting, on_workers in [
+        ("backlog = 10\n" + AUTO, 53, 0, 10, "serve it with --workers 64 or more, at most 64\n"),
+        ("backlog = 10\n" + AUTO + "max = 20\n", 20, 0, 10, "serve it with --workers 31 or more, at most 64\n"),
+        ("backlog = 10\n" + AUTO + LIVE_OF_TWO, 32, 20, 10, "serve it with --workers 63 or more, at most 64\n"),
+        ("backlog = 10\nwait = false\n" + AUTO, 63, 0, 0, WITHOUT_EFFECT),
+        ("backlog = 40\n" + AUTO, 32, 0, 40, TOO_FEW),
+        ("backlog = 10\n" + AUTO + "min = 60\n", 60, 0, 10, TOO_FEW),
+    ]
 ]

@@ -135,6 +135,7 @@ def random_settings(seed: object) -> list[str]:
             f"settable {low} {first} {high}",
             f"aimd {low} {first} {high} {draw.choice([500, 501, 900, 999])} {draw.choice(TIMES)}",
             f"vegas {low} {first} {high} {alpha} {beta} {draw.choice([0, 0, 1, 2, 10, 1_000_000])}",
+            f"auto {low} {first} {high}",
         ]
     )
     size, threshold = draw.choice([1, 1, 2, 3, 10, 1_000_000]), draw.choice([0, 0, 0, *TIMES])

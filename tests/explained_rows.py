@@ -1,6 +1,7 @@
 """Rows of `tests/keys`: what `check --explain` says of configurations at fault."""
 from config_texts import (
     AIMD,
+    AUTO,
     BY_METHOD,
     BY_ROUTE,
     BYPASS,
@@ -37,14 +38,15 @@ OF_FAULTS = [
         "",
         "[limit]\ninitial = 1\n",
         "",
-        'line 4: [limit]\nlimit.kind isn\'t there: "fixed", "settable", "aimd" or "vegas"; required\n',
+        'line 4: [limit]\nlimit.kind isn\'t there: "fixed", "settable", "aimd", "vegas" or, in version 3, "auto"; '
+        "required\n",
         "missing limit.kind",
     ),
     (
         SETTABLE,
         "min = 9\nmax = 8\n",
         "",
-        "line 7: max = 8\nlimit.max: permits, min to 10000; default 200\nhere from 9 to 10000\n",
+        "line 7: max = 8\nlimit.max: permits, min to 10000; default 200, of auto what the workers leave over\nhere from 9 to 10000\n",
         "value limit.max",
     ),
     (
@@ -58,7 +60,7 @@ OF_FAULTS = [
         PLAIN,
         "initial = 0\n",
         "",
-        "line 6: initial = 0\nlimit.initial: permits, min to max, of fixed 1 to 10000; default 20\n"
+        "line 6: initial = 0\nlimit.initial: permits, min to max, of fixed 1 to 10000; default 20, of auto 4\n"
         "here from 1 to 10000\n",
         "value limit.initial",
     ),
@@ -74,7 +76,8 @@ OF_FAULTS = [
         "",
         'limit = { kind = "none" }\n',
         "",
-        'line 4: limit = { kind = "none" }\nlimit.kind: "fixed", "settable", "aimd" or "vegas"; required\n',
+        'line 4: limit = { kind = "none" }\nlimit.kind: "fixed", "settable", "aimd", "vegas" or, in version 3, '
+        '"auto"; required\n',
         "value limit.kind",
     ),
     (
@@ -185,14 +188,14 @@ OF_FAULTS += [
         SETTABLE,
         "max = 0\n",
         "",
-        "line 6: max = 0\nlimit.max: permits, min to 10000; default 200\nhere from 1 to 10000\n",
+        "line 6: max = 0\nlimit.max: permits, min to 10000; default 200, of auto what the workers leave over\nhere from 1 to 10000\n",
         "value limit.max",
     ),
     (
         SETTABLE,
         "initial = 201\n",
         "",
-        "line 6: initial = 201\nlimit.initial: permits, min to max, of fixed 1 to 10000; default 20\n"
+        "line 6: initial = 201\nlimit.initial: permits, min to max, of fixed 1 to 10000; default 20, of auto 4\n"
         "here from 1 to 200\n",
         "value limit.initial",
     ),
@@ -200,7 +203,7 @@ OF_FAULTS += [
         AIMD,
         "min = 7\nmax = 40\ninitial = 41\n",
         "",
-        "line 8: initial = 41\nlimit.initial: permits, min to max, of fixed 1 to 10000; default 20\n"
+        "line 8: initial = 41\nlimit.initial: permits, min to max, of fixed 1 to 10000; default 20, of auto 4\n"
         "here from 7 to 40\n",
         "value limit.initial",
     ),
@@ -384,5 +387,40 @@ OF_FAULTS_OF_ONE = [
         "class.percent: percent, 1 to what the classes before leave of 100; required\n"
         "here from 1 to 100\n",
         "value class.percent",
+    ),
+]
+# The same behind the addresses of version 3.
+OF_FAULTS_OF_THREE = [
+    (
+        AUTO,
+        "[window]\n",
+        "",
+        "line 6: [window]\nwindow isn't a key here; those that are: version listen backend backlog wait timeout_ms keep "
+        "promote limit class resolver bypass\n"
+        'limit.kind = "auto" counts windows of its own, of as many answers as the limit\n',
+        "unknown window",
+    ),
+    (
+        AUTO,
+        "beta = 1\n",
+        "",
+        "line 6: beta = 1\nlimit.beta isn't a key here; those that are: kind min max initial\n",
+        "unknown limit.beta",
+    ),
+    (
+        AUTO,
+        "min = 9\nmax = 8\n",
+        "",
+        "line 7: max = 8\nlimit.max: permits, min to 10000; default 200, of auto what the workers leave over\n"
+        "here from 9 to 10000\n",
+        "value limit.max",
+    ),
+    (
+        AUTO,
+        "max = 9\ninitial = 10\n",
+        "",
+        "line 7: initial = 10\nlimit.initial: permits, min to max, of fixed 1 to 10000; default 20, of auto 4\n"
+        "here from 1 to 9\n",
+        "value limit.initial",
     ),
 ]

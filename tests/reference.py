@@ -129,6 +129,136 @@ class Vegas(Fixed):
         self.base, self.samples = None, 0
 
 
+class Auto(Fixed):
+    """A limit without numbers: by the queue that a window of answers shows above the time of an answer without one."""
+
+    def __init__(self, least: int, first: int, most: int) -> None:
+        super().__init__(first)
+        self.least, self.most = least, most
+        self.forget()
+
+    def forget(self) -> None:
+        """Nothing is known of the backend."""
+        self.top = self.first
+        self.base = self.base_top = 0
+        self.dips, self.calm, self.every = False, 0, 1
+        self.pace, self.rough, self.left_out, self.last = 4, 0, 0, 0
+        self.roof, self.roof_left, self.roof_every = 0, 0, 4
+        self.clear()
+
+    def clear(self) -> None:
+        """A window begins: its answers, each with the step from the one before, and its quick drops."""
+        self.answers: list[tuple[int, int, int]] = []
+        self.drops: list[int] = []
+        self.see()
+
+    def see(self) -> None:
+        """The limit that callers see."""
+        self.limit = within(self.least, self.low() if self.dips else self.top, self.most)
+
+    def headroom(self) -> int:
+        return math.isqrt(self.top)
+
+    def low(self) -> int:
+        """The limit in a dip: a headroom and a half below, or half where the base still moves."""
+        below = max(1, self.top - self.headroom() - -(-self.headroom() // 2))
+        return min(below, max(1, self.top // 2)) if self.every == 1 else below
+
+    def needed(self) -> int:
+        """How many answers a window has."""
+        weight = 16 if self.dips else 8
+        return max(2, self.limit * max(2**20, weight * self.rough**2) // 2**20)
+
+    def learn(self, sample: Sample) -> None:
+        if sample.dropped:
+            if not self.dips and not self.left_out and 2 * sample.rtt < self.base:
+                self.drops.append(sample.inflight)
+                if self.ends_early():
+                    self.look(early=True)
+        elif self.left_out:
+            self.left_out -= 1
+            self.last = sample.rtt
+        else:
+            step = abs(sample.rtt - self.last) if self.last else 0
+            self.answers.append((sample.rtt, sample.inflight, step))
+            self.last = sample.rtt
+            if len(self.answers) >= self.needed():
+                self.look(early=False)
+
+    def sheds(self) -> bool:
+        """Of each four calls the backend sheds more than one, of those that find more in flight than answers do."""
+        count, drops = len(self.answers), len(self.drops)
+        held = sum(it[1] for it in self.answers)
+        return drops >= 3 and 3 * drops > count and sum(self.drops) * count > held * drops
+
+    def ends_early(self) -> bool:
+        count = len(self.answers)
+        if not count or not self.sheds() or 3 * len(self.drops) < self.needed() + 6:
+            return False
+        return sum(it[1] for it in self.answers) // count < self.limit
+
+    def look(self, early: bool) -> None:
+        """The window is over."""
+        answers, sheds = self.answers, self.sheds()
+        count = len(answers)
+        total, held, steps = (sum(part) for part in zip(*answers))
+        mean = total // count
+        self.rough = (7 * self.rough + min(2048, 1024 * steps // total)) // 8
+        if self.dips:
+            self.end_dip(mean)
+        else:
+            self.measure(mean)
+            self.roof_left = max(0, self.roof_left - 1)
+            served = max(self.least, -(-held // count))
+            if sheds and served < self.top:
+                self.shed(served)
+            elif not early:
+                self.move(count, held, max(it[1] for it in answers), mean)
+        self.clear()
+
+    def end_dip(self, mean: int) -> None:
+        """What answers took in the dip is the base."""
+        moved = not self.base or abs(mean - self.base) * self.top > self.base * self.headroom()
+        low, self.every = self.limit, 1 if moved else min(64, 4 * self.every)
+        self.base, self.base_top, self.calm, self.dips = mean, low, 0, False
+
+    def measure(self, mean: int) -> None:
+        """The base is what answers take under a limit as low as when it was measured, or where they take less than half."""
+        if not self.base or self.top <= self.base_top or 2 * mean < self.base:
+            self.base_top = min(self.base_top or self.top, self.top)
+            self.base, self.every, self.calm = mean, 1, 0
+
+    def shed(self, served: int) -> None:
+        """Half way to what was served, and no raise above it for some windows."""
+        same = served <= self.roof <= served + self.headroom()
+        self.left_out, self.pace = self.top, 0
+        self.top -= -(-(self.top - served) // 2)
+        self.roof = served
+        self.roof_left = self.roof_every = min(64, 4 * self.roof_every) if same else 4
+
+    def move(self, count: int, held: int, most: int, mean: int) -> None:
+        """Up by what is missing to the headroom, or half way down to what was in flight without the queue."""
+        before, room = self.top, self.headroom() * count
+        queue = held * max(0, mean - self.base) // mean
+        if queue >= room:
+            wanted = (held - queue + count // 2) // count + self.headroom()
+            half = self.top - -(-max(0, self.top - wanted) // 2)
+            self.top, self.pace = min(self.top, max(self.least, half)), 0
+            self.left_out = most if self.top < before else self.left_out
+        elif most >= self.top:
+            added = ((room - queue) * 2**self.pace + count // 2) // count
+            roof = max(self.top, self.roof) if self.roof_left else self.most
+            self.top = min(roof, self.most, self.top + min(self.top, added))
+            self.pace = min(4, self.pace + 1) if added else 0
+        if most >= before >= self.top > 1 and 2 * queue >= room:
+            self.calm += 1
+            if self.calm >= self.every:
+                self.calm, self.dips, self.left_out = 0, True, most
+
+    def reset(self) -> None:
+        self.forget()
+
+
 class Windows:
     """A limit that learns the means of windows."""
 
@@ -170,7 +300,13 @@ class Windows:
         self.window, self.due = [], 0
 
 
-KINDS: dict[str, Callable[..., Fixed]] = {"fixed": Fixed, "settable": Settable, "aimd": Aimd, "vegas": Vegas}
+KINDS: dict[str, Callable[..., Fixed]] = {
+    "fixed": Fixed,
+    "settable": Settable,
+    "aimd": Aimd,
+    "vegas": Vegas,
+    "auto": Auto,
+}
 
 
 def limit_of(limit: Sequence[str], window: Sequence[str] | None) -> Fixed | Windows:
