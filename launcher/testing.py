@@ -32,15 +32,15 @@ WHAT = {
 }
 # What is tried side by side, each list one script after the other.
 SCRIPTS = (
-    ("program", "lines", "keys", "limits", "load", "manual"),
+    ("program", "lines", "keys", "limits", "load", "manual", "documents", "page"),
     ("messages", "exchanges", "classes", "serve", "memory"),
     ("model", "launcher", "install", "hosts", "alerts"),
 )
 # What the program without proofs passes, and those scripts whose long cases are left out then.
 QUICK = (
     ("program", "load", "lines", "keys"),
-    ("messages", "exchanges"),
-    ("serve", "classes", "limits", "manual", "alerts"),
+    ("messages", "exchanges", "page"),
+    ("serve", "classes", "limits", "manual", "documents", "alerts"),
 )
 SHORT = ("program", "load", "messages", "serve")
 # Scripts that take no program.

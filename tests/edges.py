@@ -13,7 +13,7 @@ from collections.abc import Callable, Iterator
 
 from beside import Beside
 from ending import is_between
-from large import LONG_TIME, MEGABYTE, post
+from large import LONG_TIME, MEGABYTE, answer, post
 from loopback import BODY, Backend, Gateway, Later, Scripted, read_all, read_head
 from operating import HELD, Operated
 from operator_rows import DONE, request, told
@@ -311,21 +311,24 @@ class Edges(Beside):
         """A backend that rests in its early answer is told behind two seconds that no more comes, and not before; what
         it then still answers is passed on."""
         rested: list[float] = []
+        whole = answer(8 * MEGABYTE, False)
 
         def rests(client: socket.socket) -> None:
             read_head(client)
+            # The gateway reads this once it writes no more.
+            client.sendall(whole[:-2])
             begun = time.monotonic()
-            client.sendall(HEAD + b"Content-Length: 9\r\n\r\nfirst")
+            client.sendall(whole[-2:-1])
             read_all(client)
             rested.append(time.monotonic() - begun)
-            client.sendall(b"last")
+            client.sendall(whole[-1:])
 
         scripted = Scripted(rests)
         gate = self.gateway(scripted, words=LONG_TIME)
         with socket.create_connection(("127.0.0.1", gate.port), timeout=3 * PATIENCE) as client:
-            client.sendall(post(3 * MEGABYTE, False))
-            self.judge("an early answer with a rest", passed_on(b"firstlast"), read_all(client))
-        self.judge("how long it had", True, [it >= 2 for it in rested] == [True] or rested)
+            client.sendall(post(8 * MEGABYTE, False))
+            told_whole = read_all(client) == passed_on(whole.partition(b"\r\n\r\n")[2])
+        self.judge("an early answer with a rest, and how long that was", (True, [True]), (told_whole, [it >= 2 for it in rested]))
         self.judge("counters of it", {"admitted": 1, "success": 1}, gate.ending())
         scripted.close()
 

@@ -181,9 +181,9 @@ class Ending(Sockets):
             silent = Later(since, read_all, one)
             time.sleep(0.3)
             answer, seconds = since(gate.ask, PLAIN)
-            self.judge("one behind both", (passed_on(BODY), True), (answer, is_between(seconds, (0.9, 4.0))))
+            self.judge("one behind both", (passed_on(BODY), True), (answer, is_between(seconds, (0.9, 12.0))))
             told, seconds = silent.result() or (None, 0.0)
-            self.judge("the silent one gets nothing, in time", (b"", True), (told, is_between(seconds, (0.9, 4.0))))
+            self.judge("the silent one gets nothing, in time", (b"", True), (told, is_between(seconds, (0.9, 12.0))))
             begun.sendall(PLAIN[1:])
             self.judge("who had begun", passed_on(BODY), read_all(begun))
         for _ in range(3):
