@@ -1,8 +1,8 @@
 //! Tests of exchanges by public calls, over devices, clocks, backends and a gate of their own: of
-//! their moments, of ends that fail once, and of what a backend answers; of a port over a gate that
-//! threads share; of loads over devices that fail; and of counts of reads and writes, of the time
-//! of a connection, and of a clock. What clients and backends see of exchanges, `tests/messages`
-//! and `tests/exchanges` try by the program.
+//! their moments, of ends that fail once, and of what a backend answers; of loads over devices that
+//! fail; and of counts of reads and writes, of the time of a connection, and of a clock. What
+//! clients and backends see of exchanges, `tests/messages` and `tests/exchanges` try by the
+//! program.
 #![tactic(auto)]
 
 #[cfg(test)]
@@ -21,7 +21,5 @@ mod load;
 mod moment_tests;
 #[cfg(test)]
 mod once_tests;
-#[cfg(test)]
-mod shared_tests;
 #[cfg(test)]
 mod timed_io_tests;

@@ -1,15 +1,16 @@
-// Callers of a gate who keep their receipts.
+// Callers of a gate who keep their receipts, and calls that are answered in one way.
 use crate::gates::next_of;
-use crate::threads::{Work, both_done};
-use gate_history::{Naming, Permit, Receipt};
+use crate::test_clocks::TestClock;
+use gate_history::{Naming, Permit, Receipt, Ticket};
 use limit_kinds::AnyLimit;
 use limiter_core::Outcome;
 use partitions::Part;
-use shared_gate::{GateNaming, Got, Pass, SharedGate};
+use shared_gate::{GateNaming, Got, Pass, SharedGate, Waited};
 use std::alloc::Global;
 use std::process::Abort;
 use std::sync::Wait;
-use std::thread::Threads;
+use std::thread::{Threads, join};
+use std::time::Clock as SystemClock;
 
 /// Who calls: by its pass, with the receipts so far.
 #[derive(Drop)]
@@ -63,22 +64,72 @@ pub(crate) fn acquire_and_end<M: GateNaming, R: Wait + Abort>(
     from: u64,
     to: u64,
 ) {
-    let got = gate.acquire(rt, &mut caller.pass, Part::Unknown, false, false, from);
-    let (receipt, permit) = admitted(rt, got);
+    let (receipt, permit) = acquired(rt, gate, &mut caller.pass, from);
     caller.keep(rt, receipt);
     let receipt = gate.end(rt, &mut caller.pass, permit, Outcome::Success, to);
     caller.keep(rt, receipt);
 }
 
-/// The receipt and the permit of an acquire that is admitted.
-fn admitted<M: Naming, R: Abort>(rt: &R, got: Got<M>) -> (Receipt<M>, Permit<M>) {
-    match got {
+/// The receipt and the permit of an acquire that is admitted at once.
+pub(crate) fn acquired<M: GateNaming, R: Wait + Abort>(
+    rt: &R,
+    gate: &SharedGate<AnyLimit, M>,
+    pass: &mut Pass<M>,
+    now: u64,
+) -> (Receipt<M>, Permit<M>) {
+    match gate.acquire(rt, pass, Part::Unknown, false, false, now) {
         Got::Admitted(receipt, permit) => (receipt, permit),
         Got::Bypassed(_receipt) => rt.abort(),
         Got::Full(_receipt) => rt.abort(),
         Got::BacklogFull(_receipt) => rt.abort(),
         Got::Waiting(_receipt, _ticket) => rt.abort(),
         Got::Exhausted(_spent) => rt.abort(),
+    }
+}
+
+/// The ticket of an acquire that waits.
+pub(crate) fn queued<M: GateNaming, R: Wait + Abort>(
+    rt: &R,
+    gate: &SharedGate<AnyLimit, M>,
+    pass: &mut Pass<M>,
+    now: u64,
+) -> Ticket<M> {
+    match gate.acquire(rt, pass, Part::Unknown, false, true, now) {
+        Got::Waiting(_receipt, ticket) => ticket,
+        Got::Admitted(_receipt, _permit) => rt.abort(),
+        Got::Bypassed(_receipt) => rt.abort(),
+        Got::Full(_receipt) => rt.abort(),
+        Got::BacklogFull(_receipt) => rt.abort(),
+        Got::Exhausted(_spent) => rt.abort(),
+    }
+}
+
+/// The permit that who waits gets, by a clock that stands still.
+pub(crate) fn promoted<M: GateNaming, R: Wait + SystemClock + Abort>(
+    rt: &R,
+    gate: &SharedGate<AnyLimit, M>,
+    pass: &mut Pass<M>,
+) -> Permit<M> {
+    let still = TestClock::<R>::Stands(0);
+    match gate.acquire_wait(rt, pass, Part::Unknown, 0, &still, 1 << 62) {
+        Waited::Promoted(_first, _second, permit) => permit,
+        Waited::Admitted(_receipt, _permit) => rt.abort(),
+        Waited::TimedOut(_first, _second) => rt.abort(),
+        Waited::BacklogFull(_receipt) => rt.abort(),
+        Waited::Lost(_first, _second) => rt.abort(),
+        Waited::Exhausted(_spent) => rt.abort(),
+    }
+}
+
+/// The numbers of a wait in vain, and of its giving up.
+pub(crate) fn timed_out<M: Naming, R: Abort>(rt: &R, waited: Waited<M>) -> (u64, u64) {
+    match waited {
+        Waited::TimedOut(first, second) => (first.number(), second.number()),
+        Waited::Admitted(_receipt, _permit) => rt.abort(),
+        Waited::Promoted(_first, _second, _permit) => rt.abort(),
+        Waited::BacklogFull(_receipt) => rt.abort(),
+        Waited::Lost(_first, _second) => rt.abort(),
+        Waited::Exhausted(_spent) => rt.abort(),
     }
 }
 
@@ -99,24 +150,21 @@ pub(crate) fn by_two_threads<M: GateNaming + Send + Sync, R: Threads + Wait + Ab
     one: Caller<M>,
     two: Caller<M>,
 ) -> (Caller<M>, Caller<M>) {
-    let one = Pairs { gate, caller: one };
-    let two = Pairs { gate, caller: two };
-    let (one, two) = both_done(rt, one, two);
-    (one.caller, two.caller)
+    join(
+        rt,
+        || call_often(rt, gate, one),
+        || call_often(rt, gate, two),
+    )
 }
 
 /// 100 acquires with an ending each.
-#[derive(Drop)]
-struct Pairs<'a, M: GateNaming> {
-    gate: &'a SharedGate<AnyLimit, M>,
-    caller: Caller<M>,
-}
-
-impl<'a, M: GateNaming, R: Wait + Abort> Work<R> for Pairs<'a, M> {
-    fn done(mut self, rt: &R) -> Pairs<'a, M> {
-        for now in 0..100 {
-            acquire_and_end(rt, self.gate, &mut self.caller, now, now);
-        }
-        self
+fn call_often<M: GateNaming, R: Wait + Abort>(
+    rt: &R,
+    gate: &SharedGate<AnyLimit, M>,
+    mut caller: Caller<M>,
+) -> Caller<M> {
+    for now in 0..100 {
+        acquire_and_end(rt, gate, &mut caller, now, now);
     }
+    caller
 }

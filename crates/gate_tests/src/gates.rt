@@ -6,6 +6,16 @@ ghost use Rattle.gate_ledgers.specs.Names.{AreNamed, AreWhole};
 ghost use Rattle.gate_history.specs.Book.{made_with};
 ghost use Rattle.shared_gate.specs.Log.{CallsAllLegal};
 
+use crate::closing::{Handing, one_closes, two_threads_close};
+use crate::port_tests::refuses;
+use crate::raised_limit_tests::raises_the_limit;
+use crate::random::told_by_four;
+use crate::rolling_tests::{is_reset, is_seen};
+use crate::seen_tests::{both_call, both_work, one_looks_and_is_told, tells_under_the_lock};
+use crate::shared_gate_tests::{one_waits_for_another, promotes_the_newest};
+use crate::test_clocks::Waiting;
+use crate::waiting_tests::{answers_what_is_owed, waits_in_vain};
+use crate::waking_tests::two_wait_for_a_third;
 use gate_history::{Blanks, Book, GateSettings};
 use limit_kinds::{AnyLimit, BaseLimit};
 use limit_laws::{Fixed, Settable};
@@ -15,16 +25,46 @@ use shared_gate::{GateNaming, Pass, SharedGate, Word};
 use std::alloc::Global;
 use std::marker::Brand;
 use std::process::Abort;
+use std::sync::Wait;
+use std::thread::Threads;
+use std::time::Clock as SystemClock;
 
-/// What is tried at a gate that was just opened, by its passes.
-pub(crate) trait Trial<R> {
-    fn run<M: GateNaming>(
-        self,
-        rt: &R,
-        alloc: Global,
-        gate: SharedGate<AnyLimit, M>,
-        passes: Vec<Pass<M>>,
-    );
+/// What is tried at a gate that was just opened, by its passes. What a thread is sent can't rest on
+/// a bound of a trait's method, so it is told by an enum.
+#[derive(Drop)]
+pub(crate) enum Trial<'t, R> {
+    /// The newer one of two who wait is promoted, and the other one gives up.
+    PromoteTheNewest,
+    /// One waits in vain.
+    WaitInVain(Waiting<'t, R>),
+    /// What an exhausted gate still answers.
+    AnswerWhatIsOwed,
+    /// A limit that was set is seen behind rolls.
+    SetAndSee,
+    /// It is reset behind rolls.
+    SetAndReset,
+    /// One looks, and is told what another has seen.
+    Tell,
+    /// One is told so while the lock is held.
+    TellUnderTheLock,
+    /// One makes two calls, and the gate is closed.
+    Close(Handing),
+    /// Two threads call, and the gate is closed.
+    CallAndClose,
+    /// Two threads call, and what each has seen is looked at.
+    Call,
+    /// Two threads call, tell each other and call again.
+    Work,
+    /// One thread waits for the permit that another one ends.
+    Wait,
+    /// Two wait again and again for the permit that a third one ends.
+    WaitOften,
+    /// One waits until another one raises the limit, by hand or by a reset.
+    Raise { is_reset: bool },
+    /// A port asks a full gate, at once and by a deadline.
+    RefuseByADeadline,
+    /// Four make random calls, at a gate that promotes so.
+    CallAtRandom(Promote),
 }
 
 /// How a gate is made, and how many passes it gives.
@@ -79,37 +119,24 @@ pub(crate) fn settable<R: Abort>(rt: &R, lo: u32, first: u32, hi: u32) -> AnyLim
 }
 
 /// Tries something at a gate that is made so.
-pub(crate) fn try_at<R: Abort, T: Trial<R>>(rt: &R, alloc: Global, making: Making, trial: T) {
+pub(crate) fn try_at<R: Threads + Wait + SystemClock + Abort + Sync>(
+    rt: &R,
+    alloc: Global,
+    making: Making,
+    trial: Trial<'_, R>,
+) {
     let word = Word::new(alloc).expect(rt, "memory for a word");
-    try_at_named::<Brand, R, T>(rt, alloc, Blanks::new(), word, making, trial);
+    try_at_named::<Brand, R>(rt, alloc, Blanks::new(), word, making, trial);
 }
 
-fn try_at_named<M: GateNaming, R: Abort, T: Trial<R>>(
+fn try_at_named<M: GateNaming + Send + Sync, R: Threads + Wait + SystemClock + Abort + Sync>(
     rt: &R,
     alloc: Global,
     blanks: Blanks,
     word: Word,
     making: Making,
-    trial: T,
+    trial: Trial<'_, R>,
 )
-    requires names { AreNamed M.calls M.place blanks }
-    requires parts { AreWhole blanks }
-    requires word { word ≡ M.word }
-    requires legal { CallsAllLegal M.legal }
-    requires making { M.making ≡ made_with any_rules (begun making.settings) }
-{
-    let (gate, passes) = opened::<M, R>(rt, alloc, blanks, word, making);
-    trial.run(rt, alloc, gate, passes);
-}
-
-/// A gate that is made so, and its passes.
-pub(crate) fn opened<M: GateNaming, R: Abort>(
-    rt: &R,
-    alloc: Global,
-    blanks: Blanks,
-    word: Word,
-    making: Making,
-) -> (SharedGate<AnyLimit, M>, Vec<Pass<M>>)
     requires names { AreNamed M.calls M.place blanks }
     requires parts { AreWhole blanks }
     requires word { word ≡ M.word }
@@ -121,7 +148,36 @@ pub(crate) fn opened<M: GateNaming, R: Abort>(
     assert!(rt; 1 <= settings.kept && settings.kept <= 1_000_000);
     let book = Book::<AnyLimit, M>::begin(alloc, settings, blanks);
     let book = book.expect(rt, "memory for a book");
-    SharedGate::open(alloc, word, book, passes).expect(rt, "memory for a gate")
+    let made = SharedGate::open(alloc, word, book, passes);
+    let (gate, passes) = made.expect(rt, "memory for a gate");
+    try_open(rt, alloc, gate, passes, trial);
+}
+
+fn try_open<M: GateNaming + Send + Sync, R: Threads + Wait + SystemClock + Abort + Sync>(
+    rt: &R,
+    alloc: Global,
+    gate: SharedGate<AnyLimit, M>,
+    passes: Vec<Pass<M>>,
+    trial: Trial<'_, R>,
+) {
+    match trial {
+        Trial::PromoteTheNewest => promotes_the_newest(rt, &gate, passes),
+        Trial::WaitInVain(waiting) => waits_in_vain(rt, &gate, passes, waiting),
+        Trial::AnswerWhatIsOwed => answers_what_is_owed(rt, &gate, passes),
+        Trial::SetAndSee => is_seen(rt, &gate, passes),
+        Trial::SetAndReset => is_reset(rt, &gate, passes),
+        Trial::Tell => one_looks_and_is_told(rt, &gate, passes),
+        Trial::TellUnderTheLock => tells_under_the_lock(rt, &gate, passes),
+        Trial::Close(handing) => one_closes(rt, alloc, gate, passes, handing),
+        Trial::CallAndClose => two_threads_close(rt, alloc, gate, passes),
+        Trial::Call => both_call(rt, alloc, &gate, passes),
+        Trial::Work => both_work(rt, alloc, &gate, passes),
+        Trial::Wait => one_waits_for_another(rt, &gate, passes),
+        Trial::WaitOften => two_wait_for_a_third(rt, &gate, passes),
+        Trial::Raise { is_reset } => raises_the_limit(rt, &gate, passes, is_reset),
+        Trial::RefuseByADeadline => refuses(rt, &gate, passes),
+        Trial::CallAtRandom(promote) => told_by_four(rt, alloc, promote, &gate, passes),
+    }
 }
 
 /// The next of some passes.

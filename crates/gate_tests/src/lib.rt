@@ -1,6 +1,6 @@
 //! Tests of a gate by its public calls: its book, calls through the lock by worked rows and by four
-//! threads at random, what a pass has seen, when who waits is woken, how it is closed, and the
-//! windows of its limit. What clients, backends and operators see, the scripts of `tests/` try by
+//! threads at random, what a pass has seen, when who waits is woken, how it is closed, a port over
+//! it, and the windows of its limit. What clients, backends and operators see, the scripts of `tests/` try by
 //! the program.
 #![tactic(auto)]
 
@@ -15,6 +15,8 @@ mod gates;
 #[cfg(test)]
 mod limits;
 #[cfg(test)]
+mod port_tests;
+#[cfg(test)]
 mod raised_limit_tests;
 #[cfg(test)]
 mod random;
@@ -25,9 +27,7 @@ mod seen_tests;
 #[cfg(test)]
 mod shared_gate_tests;
 #[cfg(test)]
-mod threaded;
-#[cfg(test)]
-mod threads;
+mod test_clocks;
 #[cfg(test)]
 mod waiting_tests;
 #[cfg(test)]

@@ -1,14 +1,13 @@
 // A limit that is raised while somebody waits, at a gate that promotes all who have room: by hand,
 // and by a reset. Who waits is woken at once, and doesn't find its permit as it looks by itself.
-use crate::gates::{Making, next_of, settable};
-use crate::shared_gate_tests::{admitted, until_one_waits, waits};
-use crate::threaded::{Threaded, try_by_threads};
-use crate::waking_tests::{SOON, real};
+use crate::callers::acquired;
+use crate::gates::{Making, Trial, next_of, settable, try_at};
+use crate::shared_gate_tests::{until_one_waits, waits};
+use crate::test_clocks::real;
+use crate::waking_tests::SOON;
 use limit_kinds::AnyLimit;
 use limiter_core::{Outcome, Promote};
-use partitions::Part;
 use shared_gate::{GateNaming, Pass, SharedGate};
-use std::alloc::Global;
 use std::process::Abort;
 use std::sync::Wait;
 use std::thread::{Threads, join, sleep};
@@ -16,17 +15,19 @@ use std::time::{Clock as SystemClock, Duration};
 
 #[test]
 fn a_setting_wakes_whoever_it_promotes(rt: HostRuntime) {
-    wakes(&rt, rt.alloc(), false);
+    let making = of_one_or_two(&rt);
+    try_at(&rt, rt.alloc(), making, Trial::Raise { is_reset: false });
 }
 
 #[test]
 fn a_reset_wakes_whoever_it_promotes(rt: HostRuntime) {
-    wakes(&rt, rt.alloc(), true);
+    let making = of_one_or_two(&rt);
+    try_at(&rt, rt.alloc(), making, Trial::Raise { is_reset: true });
 }
 
-fn wakes<R: Threads + Wait + SystemClock + Abort + Sync>(rt: &R, alloc: Global, is_reset: bool) {
-    let making = Making::plain(settable(rt, 1, 2, 10), Promote::All, 1_000_000, false, 2);
-    try_by_threads(rt, alloc, making, Threaded::Raise { is_reset });
+/// A gate whose limit may be set, and is 2 at first.
+fn of_one_or_two<R: Abort>(rt: &R) -> Making {
+    Making::plain(settable(rt, 1, 2, 10), Promote::All, 1_000_000, false, 2)
 }
 
 /// One waits until another one raises the limit.
@@ -54,10 +55,7 @@ fn raises<M: GateNaming, R: Wait + SystemClock + Abort>(
 ) -> Pass<M> {
     let set = gate.set_limit(rt, &mut pass, 1, 0).is_ok();
     assert!(rt; set);
-    let permit = admitted(
-        rt,
-        gate.acquire(rt, &mut pass, Part::Unknown, false, false, 0),
-    );
+    let (_receipt, permit) = acquired(rt, gate, &mut pass, 0);
     until_one_waits(rt, gate, &mut pass);
     sleep(rt, Duration::from_millis(5));
     let began = real(rt);

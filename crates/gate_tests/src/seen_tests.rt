@@ -1,14 +1,12 @@
 // What a pass has seen, over gates that keep one entry: a worked row, calls by two threads, two
 // workers whose receipts are compared by number alone, and a telling while the lock is held.
-use crate::callers::{by_two_threads, two_callers};
+use crate::callers::{acquired, by_two_threads, timed_out, two_callers};
 use crate::gates::{Trial, fixed, next_of, try_at};
-use crate::shared_gate_tests::admitted;
-use crate::threaded::{Threaded, try_by_threads};
 use gate_history::Receipt;
 use limit_kinds::AnyLimit;
 use limiter_core::Outcome;
 use partitions::Part;
-use shared_gate::{Clock, GateNaming, Pass, SharedGate, Waited};
+use shared_gate::{Clock, GateNaming, Pass, SharedGate};
 use std::alloc::Global;
 use std::process::Abort;
 use std::sync::{Mutex, Wait};
@@ -17,35 +15,17 @@ use std::time::Clock as SystemClock;
 
 #[test]
 fn what_is_told_is_seen(rt: HostRuntime) {
-    let trial = LooksAndIsTold {};
-    try_at(&rt, rt.alloc(), fixed(&rt, 2, 1, true, 2), trial);
-}
-
-/// The worked row.
-#[derive(Drop)]
-struct LooksAndIsTold {}
-
-impl<R: Wait + Abort> Trial<R> for LooksAndIsTold {
-    fn run<M: GateNaming>(
-        self,
-        rt: &R,
-        _alloc: Global,
-        gate: SharedGate<AnyLimit, M>,
-        mut passes: Vec<Pass<M>>,
-    ) {
-        let two = next_of(rt, &mut passes);
-        let one = next_of(rt, &mut passes);
-        one_looks_and_is_told(rt, &gate, one, two);
-    }
+    try_at(&rt, rt.alloc(), fixed(&rt, 2, 1, true, 2), Trial::Tell);
 }
 
 /// Looks 0 and 1 by two passes, of which the first is told what the second has seen, and look 2.
-fn one_looks_and_is_told<M: GateNaming, R: Wait + Abort>(
+pub(crate) fn one_looks_and_is_told<M: GateNaming, R: Wait + Abort>(
     rt: &R,
     gate: &SharedGate<AnyLimit, M>,
-    mut one: Pass<M>,
-    mut two: Pass<M>,
+    mut passes: Vec<Pass<M>>,
 ) {
+    let mut two = next_of(rt, &mut passes);
+    let mut one = next_of(rt, &mut passes);
     assert!(rt; have_seen(&one, &two, 0, 0));
     looks(rt, gate, &mut one, 0);
     looks(rt, gate, &mut two, 1);
@@ -74,12 +54,12 @@ fn looks<M: GateNaming, R: Wait + Abort>(
 
 #[test]
 fn two_threads_have_seen_each_call(rt: HostRuntime) {
-    try_by_threads(&rt, rt.alloc(), fixed(&rt, 2, 1, true, 2), Threaded::Call);
+    try_at(&rt, rt.alloc(), fixed(&rt, 2, 1, true, 2), Trial::Call);
 }
 
 #[test]
 fn workers_are_compared_by_number_alone(rt: HostRuntime) {
-    try_by_threads(&rt, rt.alloc(), fixed(&rt, 2, 1, true, 2), Threaded::Work);
+    try_at(&rt, rt.alloc(), fixed(&rt, 2, 1, true, 2), Trial::Work);
 }
 
 /// 100 acquires and endings by each of two threads: each is seen as it comes, and the numbers rise.
@@ -132,27 +112,12 @@ fn go_on_behind<M: GateNaming>(one: &[Receipt<M>], two: &[Receipt<M>]) -> bool {
 
 #[test]
 fn a_telling_takes_no_lock(rt: HostRuntime) {
-    let trial = TellsUnderTheLock {};
-    try_at(&rt, rt.alloc(), fixed(&rt, 1, 1, true, 3), trial);
-}
-
-/// A pass is told of another one while the lock is held.
-#[derive(Drop)]
-struct TellsUnderTheLock {}
-
-impl<R: Wait + SystemClock + Abort> Trial<R> for TellsUnderTheLock {
-    fn run<M: GateNaming>(
-        self,
-        rt: &R,
-        _alloc: Global,
-        gate: SharedGate<AnyLimit, M>,
-        mut passes: Vec<Pass<M>>,
-    ) {
-        let waiter = next_of(rt, &mut passes);
-        let one = next_of(rt, &mut passes);
-        let two = next_of(rt, &mut passes);
-        tells_under_the_lock(rt, &gate, waiter, one, two);
-    }
+    try_at(
+        &rt,
+        rt.alloc(),
+        fixed(&rt, 1, 1, true, 3),
+        Trial::TellUnderTheLock,
+    );
 }
 
 /// Two passes, of which one is told what the other has seen.
@@ -185,35 +150,24 @@ fn tell<M: GateNaming>(gate: &SharedGate<AnyLimit, M>, pair: &mut Pair<M>) {
 }
 
 /// Numbers 0 to 2 are looks and the only permit; then somebody waits in vain, by such a clock.
-fn tells_under_the_lock<M: GateNaming, R: Wait + SystemClock + Abort>(
+pub(crate) fn tells_under_the_lock<M: GateNaming, R: Wait + SystemClock + Abort>(
     rt: &R,
     gate: &SharedGate<AnyLimit, M>,
-    mut waiter: Pass<M>,
-    mut one: Pass<M>,
-    mut two: Pass<M>,
+    mut passes: Vec<Pass<M>>,
 ) {
+    let mut waiter = next_of(rt, &mut passes);
+    let mut one = next_of(rt, &mut passes);
+    let mut two = next_of(rt, &mut passes);
     looks(rt, gate, &mut one, 0);
-    let got = gate.acquire(rt, &mut waiter, Part::Unknown, false, false, 0);
-    let permit = admitted(rt, got);
+    let (_receipt, permit) = acquired(rt, gate, &mut waiter, 0);
     looks(rt, gate, &mut two, 2);
     let pair = Mutex::new(Pair { one, two });
     let clock = Telling { rt, gate, pair };
     let waited = gate.acquire_wait(rt, &mut waiter, Part::Unknown, 0, &clock, 1);
-    is_in_vain(rt, waited);
+    let numbers = timed_out(rt, waited);
+    assert!(rt; numbers.0 == 3);
     let Telling { pair, .. } = clock;
     let Pair { one, two } = pair.into_inner();
     assert!(rt; one.seen() >= two.seen() && two.seen() == 3);
     let _receipt = gate.end(rt, &mut waiter, permit, Outcome::Ignored, 0);
-}
-
-/// A wait of number 3, in vain.
-fn is_in_vain<M: GateNaming, R: Abort>(rt: &R, waited: Waited<M>) {
-    match waited {
-        Waited::TimedOut(first, _second) => assert!(rt; first.number() == 3),
-        Waited::Admitted(_receipt, _permit) => rt.abort(),
-        Waited::Promoted(_first, _second, _permit) => rt.abort(),
-        Waited::BacklogFull(_receipt) => rt.abort(),
-        Waited::Lost(_first, _second) => rt.abort(),
-        Waited::Exhausted(_spent) => rt.abort(),
-    }
 }

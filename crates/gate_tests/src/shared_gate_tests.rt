@@ -1,86 +1,38 @@
 // A shared gate by worked rows, and by two threads of which one waits for the other.
+use crate::callers::{acquired, promoted, queued};
 use crate::gates::{Trial, fixed, next_of, try_at};
-use crate::threaded::{Threaded, try_by_threads};
 use gate_history::{Naming, Permit, Receipt, Spent, Ticket};
 use limit_kinds::AnyLimit;
 use limiter_core::{Outcome, Reply};
 use partitions::Part;
-use shared_gate::{Claimed, Clock, GateNaming, GaveUp, Got, Pass, SharedGate, Waited};
-use std::alloc::Global;
+use shared_gate::{Claimed, GateNaming, GaveUp, Pass, SharedGate};
 use std::process::Abort;
 use std::sync::Wait;
 use std::thread::{Threads, join};
 use std::time::Clock as SystemClock;
 
-/// A clock that stands still.
-pub(crate) struct Still {}
-
-impl Clock for Still {
-    fn now(&self) -> u64 {
-        0
-    }
-}
-
-/// The permit of an acquire that is admitted.
-pub(crate) fn admitted<M: Naming, R: Abort>(rt: &R, got: Got<M>) -> Permit<M> {
-    match got {
-        Got::Admitted(_receipt, permit) => permit,
-        Got::Bypassed(_receipt) => rt.abort(),
-        Got::Full(_receipt) => rt.abort(),
-        Got::BacklogFull(_receipt) => rt.abort(),
-        Got::Waiting(_receipt, _ticket) => rt.abort(),
-        Got::Exhausted(_spent) => rt.abort(),
-    }
-}
-
-/// The ticket of an acquire that waits.
-pub(crate) fn queued<M: Naming, R: Abort>(rt: &R, got: Got<M>) -> Ticket<M> {
-    match got {
-        Got::Waiting(_receipt, ticket) => ticket,
-        Got::Admitted(_receipt, _permit) => rt.abort(),
-        Got::Bypassed(_receipt) => rt.abort(),
-        Got::Full(_receipt) => rt.abort(),
-        Got::BacklogFull(_receipt) => rt.abort(),
-        Got::Exhausted(_spent) => rt.abort(),
-    }
-}
-
 #[test]
 fn one_waits_and_one_is_promoted(rt: HostRuntime) {
-    let trial = PromotesTheNewest {};
-    try_at(&rt, rt.alloc(), fixed(&rt, 1, 1_000_000, false, 1), trial);
+    let making = fixed(&rt, 1, 1_000_000, false, 1);
+    try_at(&rt, rt.alloc(), making, Trial::PromoteTheNewest);
 }
 
 #[test]
 fn a_roll_keeps_who_waits_and_what_lies_granted(rt: HostRuntime) {
-    let trial = PromotesTheNewest {};
-    try_at(&rt, rt.alloc(), fixed(&rt, 1, 1, true, 1), trial);
+    let making = fixed(&rt, 1, 1, true, 1);
+    try_at(&rt, rt.alloc(), making, Trial::PromoteTheNewest);
 }
 
 /// Two wait; the newer one is promoted, and the other one gives up.
-#[derive(Drop)]
-struct PromotesTheNewest {}
-
-impl<R: Wait + Abort> Trial<R> for PromotesTheNewest {
-    fn run<M: GateNaming>(
-        self,
-        rt: &R,
-        _alloc: Global,
-        gate: SharedGate<AnyLimit, M>,
-        mut passes: Vec<Pass<M>>,
-    ) {
-        promotes_the_newest(rt, &gate, next_of(rt, &mut passes));
-    }
-}
-
-fn promotes_the_newest<M: GateNaming, R: Wait + Abort>(
+pub(crate) fn promotes_the_newest<M: GateNaming, R: Wait + Abort>(
     rt: &R,
     gate: &SharedGate<AnyLimit, M>,
-    mut pass: Pass<M>,
+    mut passes: Vec<Pass<M>>,
 ) {
+    let mut pass = next_of(rt, &mut passes);
     let (first, second) = two_wait(rt, gate, &mut pass);
     let first = still_waits(rt, gate, &mut pass, first);
-    let permit = promoted(rt, gate, &mut pass, second);
+    let permit = granted(rt, gate, &mut pass, second);
     let timed_out = times_out(rt, gate, &mut pass, first);
     assert!(rt; timed_out == 7);
     let ended = gate.end(rt, &mut pass, permit, Outcome::Ignored, 9);
@@ -95,9 +47,9 @@ fn two_wait<M: GateNaming, R: Wait + Abort>(
     gate: &SharedGate<AnyLimit, M>,
     pass: &mut Pass<M>,
 ) -> (Ticket<M>, Ticket<M>) {
-    let permit = admitted(rt, gate.acquire(rt, pass, Part::Unknown, false, false, 0));
-    let first = queued(rt, gate.acquire(rt, pass, Part::Unknown, false, true, 1));
-    let second = queued(rt, gate.acquire(rt, pass, Part::Unknown, false, true, 2));
+    let (_receipt, permit) = acquired(rt, gate, pass, 0);
+    let first = queued(rt, gate, pass, 1);
+    let second = queued(rt, gate, pass, 2);
     let ended = gate.end(rt, pass, permit, Outcome::Success, 5);
     assert!(rt; ended.reply() == Reply::Ended { promoted: 1 });
     (first, second)
@@ -119,7 +71,7 @@ fn still_waits<M: GateNaming, R: Wait + Abort>(
 }
 
 /// A giving up gets the permit that the waiter was given.
-fn promoted<M: GateNaming, R: Wait + Abort>(
+fn granted<M: GateNaming, R: Wait + Abort>(
     rt: &R,
     gate: &SharedGate<AnyLimit, M>,
     pass: &mut Pass<M>,
@@ -151,7 +103,7 @@ pub(crate) fn times_out<M: GateNaming, R: Wait + Abort>(
 #[test]
 fn who_waits_gets_the_permit_that_another_ends(rt: HostRuntime) {
     let making = fixed(&rt, 1, 1_000_000, false, 2);
-    try_by_threads(&rt, rt.alloc(), making, Threaded::Wait);
+    try_at(&rt, rt.alloc(), making, Trial::Wait);
 }
 
 /// One holds the only permit until another one waits for it.
@@ -171,10 +123,7 @@ fn holds<M: GateNaming, R: Wait + Abort>(
     gate: &SharedGate<AnyLimit, M>,
     mut pass: Pass<M>,
 ) -> Pass<M> {
-    let permit = admitted(
-        rt,
-        gate.acquire(rt, &mut pass, Part::Unknown, false, false, 0),
-    );
+    let (_receipt, permit) = acquired(rt, gate, &mut pass, 0);
     until_one_waits(rt, gate, &mut pass);
     let _receipt = gate.end(rt, &mut pass, permit, Outcome::Success, 1);
     pass
@@ -201,7 +150,7 @@ fn shows_waiter<M: Naming>(looked: Result<Receipt<M>, Spent<M>>) -> bool {
     }
 }
 
-/// Waits for a permit, once the only one is held, by a clock that stands still.
+/// Waits for a permit, once the only one is held.
 pub(crate) fn waits<M: GateNaming, R: Wait + SystemClock + Abort>(
     rt: &R,
     gate: &SharedGate<AnyLimit, M>,
@@ -212,16 +161,7 @@ pub(crate) fn waits<M: GateNaming, R: Wait + SystemClock + Abort>(
             break;
         }
     }
-    let far = 1 << 62;
-    match gate.acquire_wait(rt, &mut pass, Part::Unknown, 0, &Still {}, far) {
-        Waited::Promoted(_first, _second, permit) => {
-            let _receipt = gate.end(rt, &mut pass, permit, Outcome::Success, 2);
-        }
-        Waited::Admitted(_receipt, _permit) => rt.abort(),
-        Waited::TimedOut(_first, _second) => rt.abort(),
-        Waited::BacklogFull(_receipt) => rt.abort(),
-        Waited::Lost(_first, _second) => rt.abort(),
-        Waited::Exhausted(_spent) => rt.abort(),
-    }
+    let permit = promoted(rt, gate, &mut pass);
+    let _receipt = gate.end(rt, &mut pass, permit, Outcome::Success, 2);
     pass
 }

@@ -1,6 +1,8 @@
 // Waiting at a shared gate by clocks of several kinds, and a gate whose history is exhausted.
+use crate::callers::{acquired, queued, timed_out};
 use crate::gates::{Trial, fixed, next_of, try_at};
-use crate::shared_gate_tests::{Still, admitted, queued, times_out};
+use crate::shared_gate_tests::times_out;
+use crate::test_clocks::{TestClock, Waiting};
 use gate_history::{Naming, Receipt, Spent, Ticket};
 use limit_kinds::AnyLimit;
 use limiter_core::{Counters, Event, Outcome, Reply};
@@ -9,42 +11,21 @@ use shared_gate::{Claimed, Clock, GateNaming, Got, Pass, SharedGate, Waited};
 use std::alloc::Global;
 use std::process::Abort;
 use std::sync::Wait;
-use std::sync::atomic::{AtomicU64, Ordering};
+use std::sync::atomic::AtomicU64;
+use std::thread::Threads;
 use std::time::Clock as SystemClock;
 
 const UNKNOWN: Part = Part::Unknown;
 
-/// A clock that goes on by a step at each look.
-#[derive(Drop)]
-struct GoesOn {
-    nanos: AtomicU64,
-    step: u64,
-}
-
-impl Clock for GoesOn {
-    fn now(&self) -> u64 {
-        self.nanos.fetch_add(self.step, Ordering::SeqCst)
-    }
-}
-
-/// A clock that tells more than the last moment, which is 2^62.
-struct Late {}
-
-impl Clock for Late {
-    fn now(&self) -> u64 {
-        u64::MAX
-    }
-}
-
 /// What a clock tells after a wait in vain, that told `first` before and goes on by `step`.
-fn told_after<R: Wait + SystemClock + Abort>(
+fn told_after<R: Threads + Wait + SystemClock + Abort + Sync>(
     rt: &R,
     alloc: Global,
     first: u64,
     step: u64,
     deadline: u64,
 ) -> u64 {
-    let clock = GoesOn {
+    let clock = TestClock::GoesOn {
         nanos: AtomicU64::new(first),
         step,
     };
@@ -82,107 +63,75 @@ fn a_near_deadline_is_waited_for_in_short_pauses(rt: HostRuntime) {
 
 #[test]
 fn a_clock_may_stand_still_at_the_deadline_or_tell_more_than_the_last_moment(rt: HostRuntime) {
-    waits(&rt, rt.alloc(), 0, &Still {}, 0);
-    waits(&rt, rt.alloc(), u64::MAX, &Late {}, u64::MAX);
+    waits(&rt, rt.alloc(), 0, &TestClock::Stands(0), 0);
+    waits(
+        &rt,
+        rt.alloc(),
+        u64::MAX,
+        &TestClock::Stands(u64::MAX),
+        u64::MAX,
+    );
 }
 
 /// A caller holds the only permit and waits for another, until its clock has reached the deadline.
-pub(crate) fn waits<R: Wait + SystemClock + Abort, C: Clock>(
+pub(crate) fn waits<R: Threads + Wait + SystemClock + Abort + Sync>(
     rt: &R,
     alloc: Global,
     now: u64,
-    clock: &C,
+    clock: &TestClock<'_, R>,
     deadline: u64,
 ) {
-    let trial = Vain {
+    let waiting = Waiting {
         now,
         clock,
         deadline,
     };
-    try_at(rt, alloc, fixed(rt, 1, 1_000, false, 1), trial);
+    try_at(
+        rt,
+        alloc,
+        fixed(rt, 1, 1_000, false, 1),
+        Trial::WaitInVain(waiting),
+    );
 }
 
 /// A wait in vain.
-#[derive(Drop)]
-struct Vain<'c, C> {
-    now: u64,
-    clock: &'c C,
-    deadline: u64,
-}
-
-impl<'c, C: Clock, R: Wait + SystemClock + Abort> Trial<R> for Vain<'c, C> {
-    fn run<M: GateNaming>(
-        self,
-        rt: &R,
-        _alloc: Global,
-        gate: SharedGate<AnyLimit, M>,
-        mut passes: Vec<Pass<M>>,
-    ) {
-        let pass = next_of(rt, &mut passes);
-        waits_in_vain(rt, &gate, pass, self.now, self.clock, self.deadline);
-    }
-}
-
-fn waits_in_vain<M: GateNaming, R: Wait + SystemClock + Abort, C: Clock>(
+pub(crate) fn waits_in_vain<M: GateNaming, R: Wait + SystemClock + Abort>(
     rt: &R,
     gate: &SharedGate<AnyLimit, M>,
-    mut pass: Pass<M>,
-    now: u64,
-    clock: &C,
-    deadline: u64,
+    mut passes: Vec<Pass<M>>,
+    waiting: Waiting<'_, R>,
 ) {
-    let permit = admitted(rt, gate.acquire(rt, &mut pass, UNKNOWN, false, false, now));
+    let mut pass = next_of(rt, &mut passes);
+    let Waiting {
+        now,
+        clock,
+        deadline,
+    } = waiting;
+    let (_receipt, permit) = acquired(rt, gate, &mut pass, now);
     assert!(rt; permit.facts().start == now.min(1 << 62));
     let waited = gate.acquire_wait(rt, &mut pass, UNKNOWN, now, clock, deadline);
-    is_timed_out(rt, waited);
+    let numbers = timed_out(rt, waited);
+    assert!(rt; numbers == (1, 2));
     let ended = gate.end(rt, &mut pass, permit, Outcome::Success, now);
     assert!(rt; ended.reply() == Reply::Ended { promoted: 0 });
     assert!(rt; (ended.number(), pass.count()) == (3, 4));
 }
 
-/// A wait of number 1 that number 2 gave up.
-fn is_timed_out<M: Naming, R: Abort>(rt: &R, waited: Waited<M>) {
-    match waited {
-        Waited::TimedOut(first, second) => {
-            assert!(rt; (first.number(), second.number()) == (1, 2));
-        }
-        Waited::Admitted(_receipt, _permit) => rt.abort(),
-        Waited::Promoted(_first, _second, _permit) => rt.abort(),
-        Waited::BacklogFull(_receipt) => rt.abort(),
-        Waited::Lost(_first, _second) => rt.abort(),
-        Waited::Exhausted(_spent) => rt.abort(),
-    }
-}
-
 #[test]
 fn an_exhausted_gate_answers_what_is_owed(rt: HostRuntime) {
-    try_at(&rt, rt.alloc(), fixed(&rt, 1, 2, false, 1), Owed {});
-}
-
-/// What an exhausted gate still answers.
-#[derive(Drop)]
-struct Owed {}
-
-impl<R: Wait + SystemClock + Abort> Trial<R> for Owed {
-    fn run<M: GateNaming>(
-        self,
-        rt: &R,
-        _alloc: Global,
-        gate: SharedGate<AnyLimit, M>,
-        mut passes: Vec<Pass<M>>,
-    ) {
-        answers_what_is_owed(rt, &gate, next_of(rt, &mut passes));
-    }
+    let making = fixed(&rt, 1, 2, false, 1);
+    try_at(&rt, rt.alloc(), making, Trial::AnswerWhatIsOwed);
 }
 
 /// One is admitted and one waits; then nothing but a giving up and an ending is answered.
-fn answers_what_is_owed<M: GateNaming, R: Wait + SystemClock + Abort>(
+pub(crate) fn answers_what_is_owed<M: GateNaming, R: Wait + SystemClock + Abort>(
     rt: &R,
     gate: &SharedGate<AnyLimit, M>,
-    mut pass: Pass<M>,
+    mut passes: Vec<Pass<M>>,
 ) {
-    let permit = admitted(rt, gate.acquire(rt, &mut pass, UNKNOWN, false, false, 0));
-    let ticket = queued(rt, gate.acquire(rt, &mut pass, UNKNOWN, false, true, 1));
+    let mut pass = next_of(rt, &mut passes);
+    let (_receipt, permit) = acquired(rt, gate, &mut pass, 0);
+    let ticket = queued(rt, gate, &mut pass, 1);
     let ticket = refuses_the_rest(rt, gate, &mut pass, ticket);
     let timed_out = times_out(rt, gate, &mut pass, ticket);
     assert!(rt; timed_out == 2);
@@ -218,7 +167,7 @@ fn refuses_acquires<M: GateNaming, R: Wait + SystemClock + Abort>(
         Got::BacklogFull(_receipt) => rt.abort(),
         Got::Waiting(_receipt, _ticket) => rt.abort(),
     }
-    match gate.acquire_wait(rt, pass, UNKNOWN, 3, &Late {}, 0) {
+    match gate.acquire_wait(rt, pass, UNKNOWN, 3, &TestClock::<R>::Stands(0), 0) {
         Waited::Exhausted(spent) => assert!(rt; is_spent(&spent, acquire(false, true, 3))),
         Waited::Admitted(_receipt, _permit) => rt.abort(),
         Waited::Promoted(_first, _second, _permit) => rt.abort(),

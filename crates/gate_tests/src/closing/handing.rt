@@ -6,9 +6,12 @@ use shared_gate::{AuditFault, Cause, GateNaming, Pass, SharedGate};
 use std::alloc::Global;
 use std::process::Abort;
 
-/// What is handed in of a caller with two receipts, and the cause that is told.
+/// What is handed in of a caller with two receipts, at a gate that rolls or not, and the cause that
+/// is told.
 #[derive(Clone, Copy)]
 pub(crate) struct Handing {
+    /// Whether the gate keeps one entry alone, and rolls.
+    pub(crate) is_rolling: bool,
     has_pass: bool,
     is_turned: bool,
     /// How many receipts, from the first on.
@@ -18,12 +21,14 @@ pub(crate) struct Handing {
 
 impl Handing {
     pub(crate) fn new(
+        is_rolling: bool,
         has_pass: bool,
         is_turned: bool,
         receipts: usize,
         cause: Option<Cause>,
     ) -> Handing {
         Handing {
+            is_rolling,
             has_pass,
             is_turned,
             receipts,

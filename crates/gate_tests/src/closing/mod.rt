@@ -1,7 +1,8 @@
 // How a gate is closed.
 mod handing;
-mod rolled_tests;
+mod one_caller_tests;
 mod threads_tests;
-mod two_calls_tests;
 
+pub(crate) use handing::Handing;
+pub(crate) use one_caller_tests::one_closes;
 pub(crate) use threads_tests::two_threads_close;

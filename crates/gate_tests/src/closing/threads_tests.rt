@@ -1,7 +1,6 @@
 // Two threads make 100 acquires and 100 endings each, and their gate is accepted.
 use crate::callers::{Caller, by_two_threads, two_callers};
-use crate::gates::fixed;
-use crate::threaded::{Threaded, try_by_threads};
+use crate::gates::{Trial, fixed, try_at};
 use gate_history::{Entry, History, Naming};
 use limit_kinds::AnyLimit;
 use shared_gate::{AuditFault, GateNaming, Pass, SharedGate};
@@ -13,7 +12,7 @@ use std::thread::Threads;
 #[test]
 fn four_hundred_calls_of_two_threads_are_accepted(rt: HostRuntime) {
     let making = fixed(&rt, 10, 1_000, false, 2);
-    try_by_threads(&rt, rt.alloc(), making, Threaded::Close);
+    try_at(&rt, rt.alloc(), making, Trial::CallAndClose);
 }
 
 pub(crate) fn two_threads_close<M: GateNaming + Send + Sync, R: Threads + Wait + Abort + Sync>(

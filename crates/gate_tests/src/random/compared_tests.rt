@@ -3,6 +3,7 @@
 use super::dice::Dice;
 use super::drawn_events::drawn;
 use super::four_threads_tests::reply_of;
+use super::plain_counters::counters_of;
 use super::plain_limiter::{PlainLimiter, ROOM, few};
 use crate::limits::LEARNING;
 use aimd::{Aimd, AimdNumbers};
@@ -122,7 +123,7 @@ fn shows_the_same(core: &Core<Aimd>, plain: &PlainLimiter) -> bool {
 
 /// The same of the counters, and of all numbers.
 fn shows_all(core: &Core<Aimd>, plain: &PlainLimiter) -> bool {
-    core.counters() == plain.counters() && shows_numbers_from(core, plain, 0)
+    core.counters() == counters_of(&plain.entries) && shows_numbers_from(core, plain, 0)
 }
 
 fn shows_numbers(core: &Core<Aimd>, plain: &PlainLimiter) -> bool {

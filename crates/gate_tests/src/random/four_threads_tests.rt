@@ -4,10 +4,8 @@ ghost use Rattle.limiter_core.specs.Answer.{granted_at};
 ghost use Rattle.limiter_core.specs.Limiter.{gate_of, stands};
 
 use super::random_calls::{Caller, Told, call_at_random};
-use crate::gates::{Making, next_of};
+use crate::gates::{Making, Trial, next_of, try_at};
 use crate::limits::LEARNING;
-use crate::threaded::{Threaded, try_by_threads};
-use crate::threads::{Work, four_done};
 use aimd::Aimd;
 use gate_history::GateSettings;
 use limit_kinds::{AnyLimit, BaseLimit};
@@ -18,7 +16,7 @@ use shared_gate::{GateNaming, Pass, SharedGate};
 use std::alloc::Global;
 use std::process::Abort;
 use std::sync::{Mutex, Wait};
-use std::thread::Threads;
+use std::thread::{Threads, join};
 
 /// How many may wait.
 const ROOM: u32 = 2;
@@ -42,22 +40,29 @@ fn limiter<R: Abort>(rt: &R, alloc: Global, promote: Promote) -> Core<Aimd> {
 #[test]
 fn four_threads_are_told_what_one_is(rt: HostRuntime) {
     let making = making(&rt, rt.alloc(), Promote::Newest, 1_000_000, false);
-    let threaded = Threaded::CallAtRandom(Promote::Newest);
-    try_by_threads(&rt, rt.alloc(), making, threaded);
+    try_at(
+        &rt,
+        rt.alloc(),
+        making,
+        Trial::CallAtRandom(Promote::Newest),
+    );
 }
 
 #[test]
 fn four_threads_over_a_rolling_gate_are_told_what_one_is(rt: HostRuntime) {
     let making = making(&rt, rt.alloc(), Promote::Newest, 100, true);
-    let threaded = Threaded::CallAtRandom(Promote::Newest);
-    try_by_threads(&rt, rt.alloc(), making, threaded);
+    try_at(
+        &rt,
+        rt.alloc(),
+        making,
+        Trial::CallAtRandom(Promote::Newest),
+    );
 }
 
 #[test]
 fn four_threads_over_a_rolling_gate_of_all_are_told_what_one_is(rt: HostRuntime) {
     let making = making(&rt, rt.alloc(), Promote::All, 100, true);
-    let threaded = Threaded::CallAtRandom(Promote::All);
-    try_by_threads(&rt, rt.alloc(), making, threaded);
+    try_at(&rt, rt.alloc(), making, Trial::CallAtRandom(Promote::All));
 }
 
 /// A gate that promotes so.
@@ -82,7 +87,7 @@ fn making<R: Abort>(
     }
 }
 
-/// Four threads call by four passes, and tell one another by a fifth.
+/// Four threads call by four passes, and tell one another by a fifth, by which nobody calls.
 pub(crate) fn told_by_four<M: GateNaming + Send + Sync, R: Threads + Wait + Abort + Sync>(
     rt: &R,
     alloc: Global,
@@ -91,142 +96,59 @@ pub(crate) fn told_by_four<M: GateNaming + Send + Sync, R: Threads + Wait + Abor
     mut passes: Vec<Pass<M>>,
 ) {
     let common = Mutex::new(next_of(rt, &mut passes));
-    let callers = four_callers(rt, alloc, passes);
-    let callers = by_four_threads(rt, gate, &common, callers);
-    let told = all_told(rt, alloc, &callers);
+    let (one, two) = (next_of(rt, &mut passes), next_of(rt, &mut passes));
+    let (three, four) = (next_of(rt, &mut passes), next_of(rt, &mut passes));
+    let (left, right) = join(
+        rt,
+        || told_by_two(rt, alloc, gate, &common, (one, two), 1),
+        || told_by_two(rt, alloc, gate, &common, (three, four), 3),
+    );
+    let lists = [&left.0, &left.1, &right.0, &right.1];
+    let told = all_told(rt, alloc, lists);
     is_told_to_one(rt, limiter(rt, alloc, promote), &told, gate.counters(rt));
 }
 
-/// Four callers.
-#[derive(Drop)]
-struct Four<M: GateNaming> {
-    first: Caller<M>,
-    second: Caller<M>,
-    third: Caller<M>,
-    fourth: Caller<M>,
-}
-
-fn four_callers<M: GateNaming, R: Abort>(
+/// What two threads are told, each of which makes random calls by a pass, from this seed on.
+fn told_by_two<M: GateNaming + Send + Sync, R: Threads + Wait + Abort + Sync>(
     rt: &R,
     alloc: Global,
-    mut passes: Vec<Pass<M>>,
-) -> Four<M> {
-    Four {
-        first: a_caller(rt, alloc, &mut passes, 1),
-        second: a_caller(rt, alloc, &mut passes, 2),
-        third: a_caller(rt, alloc, &mut passes, 3),
-        fourth: a_caller(rt, alloc, &mut passes, 4),
-    }
-}
-
-fn a_caller<M: GateNaming, R: Abort>(
-    rt: &R,
-    alloc: Global,
-    passes: &mut Vec<Pass<M>>,
-    seed: u64,
-) -> Caller<M> {
-    Caller::new(rt, alloc, next_of(rt, passes), seed)
-}
-
-fn by_four_threads<M: GateNaming + Send + Sync, R: Threads + Wait + Abort + Sync>(
-    rt: &R,
     gate: &SharedGate<AnyLimit, M>,
     common: &Mutex<Pass<M>>,
-    callers: Four<M>,
-) -> Four<M> {
-    let Four {
-        first,
-        second,
-        third,
-        fourth,
-    } = callers;
-    let left = two_calls(gate, common, first, second);
-    let right = two_calls(gate, common, third, fourth);
-    let (left, right) = four_done(rt, left, right);
-    Four {
-        first: left.0.caller,
-        second: left.1.caller,
-        third: right.0.caller,
-        fourth: right.1.caller,
-    }
+    (one, two): (Pass<M>, Pass<M>),
+    seed: u64,
+) -> (Vec<Told>, Vec<Told>) {
+    let one = Caller::new(rt, alloc, one, seed);
+    let two = Caller::new(rt, alloc, two, seed.saturating_add(1));
+    join(
+        rt,
+        || call_at_random(rt, gate, common, one),
+        || call_at_random(rt, gate, common, two),
+    )
 }
 
-/// A caller's random calls.
-#[derive(Drop)]
-struct Calls<'a, M: GateNaming> {
-    gate: &'a SharedGate<AnyLimit, M>,
-    /// A pass that nobody calls by, and by which callers tell one another.
-    common: &'a Mutex<Pass<M>>,
-    caller: Caller<M>,
-}
-
-impl<'a, M: GateNaming, R: Wait + Abort> Work<R> for Calls<'a, M> {
-    fn done(self, rt: &R) -> Calls<'a, M> {
-        let Calls {
-            gate,
-            common,
-            caller,
-        } = self;
-        let caller = call_at_random(rt, gate, common, caller);
-        Calls {
-            gate,
-            common,
-            caller,
-        }
-    }
-}
-
-/// The calls of two callers.
-fn two_calls<'a, M: GateNaming>(
-    gate: &'a SharedGate<AnyLimit, M>,
-    common: &'a Mutex<Pass<M>>,
-    one: Caller<M>,
-    two: Caller<M>,
-) -> (Calls<'a, M>, Calls<'a, M>) {
-    let one = Calls {
-        gate,
-        common,
-        caller: one,
-    };
-    let two = Calls {
-        gate,
-        common,
-        caller: two,
-    };
-    (one, two)
-}
-
-/// What all four were told, in order of number.
-fn all_told<M: GateNaming, R: Abort>(rt: &R, alloc: Global, callers: &Four<M>) -> Vec<Told> {
+/// What all were told, in order of number.
+fn all_told<R: Abort>(rt: &R, alloc: Global, lists: [&Vec<Told>; 4]) -> Vec<Told> {
     let mut told = Vec::new(alloc);
-    for caller in [
-        &callers.first,
-        &callers.second,
-        &callers.third,
-        &callers.fourth,
-    ] {
-        told.extend_from_slice(&caller.told)
+    for list in lists {
+        told.extend_from_slice(list)
             .expect(rt, "memory for what is told");
     }
     told.sort_unstable_by_key(|told| told.number);
     told
 }
 
-/// One limiter, which is asked the same in order of number, answers the same and counts the same.
-fn is_told_to_one<R: Abort>(rt: &R, mut core: Core<Aimd>, told: &[Told], counters: Counters) {
+/// One limiter, which is asked the same in order of number, answers the same and counts the same;
+/// nothing is left in flight.
+fn is_told_to_one<L: Limit, R: Abort>(
+    rt: &R,
+    mut core: Core<L>,
+    told: &[Told],
+    counters: Counters,
+) {
     assert!(rt; told.len() >= 20_000);
-    replay_all(rt, &mut core, told);
-    has_ended(rt, &core, counters);
-}
-
-fn replay_all<L: Limit, R: Abort>(rt: &R, core: &mut Core<L>, told: &[Told]) {
     for told in told {
-        replay(rt, core, *told);
+        replay(rt, &mut core, *told);
     }
-}
-
-/// Nothing is left in flight, and all that was told is counted.
-fn has_ended<L: Limit, R: Abort>(rt: &R, core: &Core<L>, counters: Counters) {
     assert!(rt; core.counters() == counters);
     assert!(rt; core.total() == 0 && core.waiting() == 0 && core.granted() == 0);
 }

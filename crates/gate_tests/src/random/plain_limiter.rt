@@ -1,8 +1,7 @@
 // A limiter over plain lists: each number is counted where it is asked for, by the words of the
 // rule, and nothing is shared with the limiter that it is compared with.
-use super::plain_counters::counters_of;
 use limit_laws::SetFault;
-use limiter_core::{Counters, Entry, Event, Outcome, PermitFacts, Promotion, Reply};
+use limiter_core::{Entry, Event, Outcome, PermitFacts, Promotion, Reply};
 use partitions::Part;
 use std::alloc::Global;
 use std::process::Abort;
@@ -56,10 +55,6 @@ impl PlainLimiter {
         self.entries.len() as u64
     }
 
-    pub(crate) fn counters(&self) -> Counters {
-        counters_of(&self.entries)
-    }
-
     /// How many permits aren't ended.
     pub(crate) fn total(&self) -> u32 {
         few(self.open.len()).saturating_add(few(self.granted.len()))
@@ -72,7 +67,10 @@ impl PlainLimiter {
 
     /// The permit of a number that is granted.
     pub(crate) fn granted_permit(&self, number: u64) -> Option<PermitFacts> {
-        find(&self.granted, number)
+        self.granted
+            .iter()
+            .copied()
+            .find(|permit| permit.number == number)
     }
 
     pub(crate) fn is_waiting(&self, number: u64) -> bool {
@@ -99,7 +97,15 @@ impl PlainLimiter {
         let reply = self.reply_to(rt, event);
         let call = Entry::Call { event, reply };
         self.entries.push(call).expect(rt, "memory for an entry");
-        enter_promotions(rt, &mut self.entries, &self.promotions);
+        for promotion in &self.promotions {
+            let entry = Entry::Promotion {
+                waiter: promotion.waiter,
+                part: promotion.part,
+                start: promotion.start,
+                inflight: promotion.inflight,
+            };
+            self.entries.push(entry).expect(rt, "memory for an entry");
+        }
         reply
     }
 
@@ -254,19 +260,6 @@ impl PlainLimiter {
     }
 }
 
-/// Enters promotions behind the call that caused them.
-fn enter_promotions<R: Abort>(rt: &R, entries: &mut Vec<Entry>, promotions: &[Promotion]) {
-    for promotion in promotions {
-        let entry = Entry::Promotion {
-            waiter: promotion.waiter,
-            part: promotion.part,
-            start: promotion.start,
-            inflight: promotion.inflight,
-        };
-        entries.push(entry).expect(rt, "memory for an entry");
-    }
-}
-
 /// A length of a short list.
 pub(crate) fn few(length: usize) -> u32 {
     length.min(1_000_000) as u32
@@ -274,13 +267,6 @@ pub(crate) fn few(length: usize) -> u32 {
 
 fn count_of(permits: &[PermitFacts], part: Part) -> usize {
     permits.iter().filter(|permit| permit.part == part).count()
-}
-
-fn find(permits: &[PermitFacts], number: u64) -> Option<PermitFacts> {
-    permits
-        .iter()
-        .copied()
-        .find(|permit| permit.number == number)
 }
 
 /// Puts a permit into a list, whose order stays that of the numbers.

@@ -29,7 +29,7 @@ pub(crate) struct Caller<M: GateNaming> {
     /// What the pass has seen so far.
     seen: u64,
     /// What it was told, in the order of its calls.
-    pub(crate) told: Vec<Told>,
+    told: Vec<Told>,
 }
 
 impl<M: GateNaming> Caller<M> {
@@ -83,13 +83,13 @@ struct Both<M: Naming> {
     two: Held<M>,
 }
 
-/// Makes random calls and tellings, and gives back what it holds in the end.
+/// Makes random calls and tellings, gives back what it holds in the end, and says what it was told.
 pub(crate) fn call_at_random<M: GateNaming, R: Wait + Abort>(
     rt: &R,
     gate: &SharedGate<AnyLimit, M>,
     common: &Mutex<Pass<M>>,
     mut caller: Caller<M>,
-) -> Caller<M> {
+) -> Vec<Told> {
     let mut both = Both {
         one: Held::Nothing,
         two: Held::Nothing,
@@ -101,7 +101,7 @@ pub(crate) fn call_at_random<M: GateNaming, R: Wait + Abort>(
     let Both { one, two } = both;
     leave(rt, gate, &mut caller, one);
     leave(rt, gate, &mut caller, two);
-    caller
+    caller.told
 }
 
 /// Now and then the pass that all share is told what the caller has seen, or the caller what that

@@ -1,0 +1,133 @@
+// A gate of two calls is closed: each fault of what is handed in is told, and history and lists come
+// back. The calls are an acquire and its ending, or two looks at a gate that rolls, of which one
+// entry is kept: it isn't accepted.
+use super::handing::{Handing, are_handed_back, closed};
+use crate::callers::{Caller, acquire_and_end, look};
+use crate::gates::{Trial, fixed, next_of, try_at};
+use gate_history::{Entry, History, Naming};
+use limit_kinds::AnyLimit;
+use limiter_core::{Event, Outcome, PermitFacts, Reply};
+use partitions::Part;
+use shared_gate::{AuditFault, Cause, GateNaming, Pass, SharedGate};
+use std::alloc::Global;
+use std::process::Abort;
+use std::sync::Wait;
+
+/// Missing passes come before the order.
+fn of_two_calls() -> [Handing; 7] {
+    let turned = Cause::Order { list: 1, place: 1 };
+    let first = Cause::Uncovered { number: 0 };
+    let second = Cause::Uncovered { number: 1 };
+    let missing = Cause::PassesMissing { book: 2, sum: 0 };
+    [
+        Handing::new(false, true, false, 2, None),
+        Handing::new(false, true, true, 2, Some(turned)),
+        Handing::new(false, true, false, 1, Some(second)),
+        Handing::new(false, true, true, 1, Some(first)),
+        Handing::new(false, true, false, 0, Some(first)),
+        Handing::new(false, false, false, 2, Some(missing)),
+        Handing::new(false, false, true, 2, Some(missing)),
+    ]
+}
+
+/// Missing passes come before the base, and that before the order.
+fn of_a_roll() -> [Handing; 3] {
+    let rolled = Cause::Rolled { base: 1 };
+    let missing = Cause::PassesMissing { book: 2, sum: 0 };
+    [
+        Handing::new(true, true, false, 2, Some(rolled)),
+        Handing::new(true, true, true, 2, Some(rolled)),
+        Handing::new(true, false, false, 2, Some(missing)),
+    ]
+}
+
+#[test]
+fn each_fault_of_two_calls_is_told(rt: HostRuntime) {
+    for handing in &of_two_calls() {
+        let making = fixed(&rt, 10, 1_000, false, 1);
+        try_at(&rt, rt.alloc(), making, Trial::Close(*handing));
+    }
+}
+
+#[test]
+fn a_gate_that_rolled_is_not_accepted(rt: HostRuntime) {
+    for handing in &of_a_roll() {
+        let making = fixed(&rt, 10, 1, true, 1);
+        try_at(&rt, rt.alloc(), making, Trial::Close(*handing));
+    }
+}
+
+/// One makes two calls, and the gate is closed.
+pub(crate) fn one_closes<M: GateNaming, R: Wait + Abort>(
+    rt: &R,
+    alloc: Global,
+    gate: SharedGate<AnyLimit, M>,
+    mut passes: Vec<Pass<M>>,
+    handing: Handing,
+) {
+    let mut caller = Caller::of(rt, alloc, next_of(rt, &mut passes), 2);
+    if handing.is_rolling {
+        look(rt, &gate, &mut caller);
+        look(rt, &gate, &mut caller);
+    } else {
+        acquire_and_end(rt, &gate, &mut caller, 0, 5);
+    }
+    let is_told = is_told(closed(rt, alloc, gate, caller, handing), handing);
+    assert!(rt; is_told);
+}
+
+/// The cause is as wanted; history and lists come back.
+fn is_told<M: Naming>(
+    closed: Result<History<AnyLimit>, AuditFault<AnyLimit, M>>,
+    handing: Handing,
+) -> bool {
+    match closed {
+        Ok(history) => handing.cause.is_none() && has_calls(&history, handing),
+        Err(fault) => {
+            handing.cause == Some(fault.cause)
+                && has_calls(&fault.history, handing)
+                && are_handed_back(&fault.kept, handing)
+        }
+    }
+}
+
+/// The history is that of an acquire and of its ending, and of nothing else; where the gate rolled
+/// it begins with the second look.
+fn has_calls(history: &History<AnyLimit>, handing: Handing) -> bool {
+    if handing.is_rolling {
+        return history.base == 1 && history.entries.len() == 1;
+    }
+    history.base == 0
+        && history.opening.next_number() == 0
+        && history.entries.as_slice() == [acquired(), ended()].as_slice()
+}
+
+/// An acquire at 0 that was admitted.
+const fn acquired() -> Entry {
+    Entry::Call {
+        event: Event::Acquire {
+            part: Part::Unknown,
+            bypass: false,
+            wait: false,
+            now: 0,
+        },
+        reply: Reply::Admitted { inflight: 1 },
+    }
+}
+
+/// The ending of its permit at 5.
+const fn ended() -> Entry {
+    Entry::Call {
+        event: Event::End {
+            permit: PermitFacts {
+                number: 0,
+                part: Part::Unknown,
+                start: 0,
+                inflight: 1,
+            },
+            outcome: Outcome::Success,
+            now: 5,
+        },
+        reply: Reply::Ended { promoted: 0 },
+    }
+}
