@@ -190,9 +190,10 @@ class Edges(Beside):
         """A report that the log doesn't take holds whoever reports, and no worker, whatever is counted meanwhile."""
         with self.with_a_full_log(backend.port, "--report-seconds", "1") as gate:
             self.judge("a report waits", True, until(lambda: waits_to_write(gate.process)))
-            asked = [PLAIN, b"GET / HTTP/1.1\r\n\r\n", b"TRACE / HTTP/1.1\r\nHost: h\r\n\r\n"] * 2
+            # More than there are workers, since what is counted is counted behind its answer.
+            asked = [PLAIN, b"GET / HTTP/1.1\r\n\r\n", b"TRACE / HTTP/1.1\r\nHost: h\r\n\r\n"] * 8
             found = [it.result() for it in [Later(gate.ask, it) for it in asked]]
-            self.judge("clients meanwhile", [passed_on(BODY), local(400), local(501)] * 2, found)
+            self.judge("clients meanwhile", [passed_on(BODY), local(400), local(501)] * 8, found)
 
     def reports_by_the_clock(self, backend: Backend) -> None:
         """Reports come each second by the clock, however long each takes, and after a pause one comes, not all that

@@ -169,7 +169,14 @@ class Ending(Sockets):
 
     def lets_silent_clients_go(self, backend: Backend) -> None:
         """Where no worker is free, who has sent nothing is let go after a second, and who has sent a byte isn't."""
-        gate = self.gateway(backend, workers=2, each=3, words=("--client-timeout-ms", "15000"))
+        took: list[float] = []
+        while len(took) < TRIES and min(took, default=9) > 2.5:
+            took.append(self.time_of_a_silent_client(backend))
+        self.judge("a silent one is let go after a second", True, is_between(min(took), (0.9, 2.5)))
+
+    def time_of_a_silent_client(self, backend: Backend) -> float:
+        """When a silent client, and one that is served behind it, was told so: the later of both."""
+        gate = self.gateway(backend, workers=2, each=3, words=("--client-timeout-ms", "60000"))
         began = time.monotonic()
 
         def since(ask: Callable[..., bytes], *given: object) -> tuple[bytes, float]:
@@ -181,14 +188,15 @@ class Ending(Sockets):
             silent = Later(since, read_all, one)
             time.sleep(0.3)
             answer, seconds = since(gate.ask, PLAIN)
-            self.judge("one behind both", (passed_on(BODY), True), (answer, is_between(seconds, (0.9, 12.0))))
-            told, seconds = silent.result() or (None, 0.0)
-            self.judge("the silent one gets nothing, in time", (b"", True), (told, is_between(seconds, (0.9, 12.0))))
+            told, later = silent.result() or (None, 0.0)
+            self.judge("one behind both, and the silent one", (passed_on(BODY), b""), (answer, told))
+            self.judge("not before a second is over", True, min(seconds, later) >= 0.9)
             begun.sendall(PLAIN[1:])
             self.judge("who had begun", passed_on(BODY), read_all(begun))
         for _ in range(3):
             self.judge("others behind them", passed_on(BODY), gate.ask(PLAIN))
         self.judge("counters of silent ones", {"admitted": 5, "success": 5}, gate.ending())
+        return max(seconds, later)
 
     def asks_after_its_peers(self, backend: Backend) -> None:
         """The system asks after a client and a backend that are silent, two seconds after their last sign."""

@@ -230,8 +230,8 @@ class Telling(Served):
         os.set_blocking(write_end, True)
         first = Later(gate.ask, PLAIN)
         until(lambda: waits_to_write(gate.process))
-        others = [Later(gate.ask, b"GET / HTTP/1.1\r\n\r\n") for _ in range(3)]
-        self.judge("others meanwhile", [local(400)] * 3, [it.result() for it in others])
+        others = [gate.ask(b"GET / HTTP/1.1\r\n\r\n") for _ in range(20)]
+        self.judge("others meanwhile", [local(400)] * 20, others)
         self.judge("who tells of it waits", None, first.found)
         drain = Later(os.read, read_end, 65536)
         self.judge("it is served behind that", local(502), first.result())
