@@ -16,7 +16,7 @@ from ending import is_between
 from large import LONG_TIME, MEGABYTE, answer, post
 from loopback import BODY, Backend, Gateway, Later, Scripted, read_all, read_head
 from operating import HELD, Operated
-from operator_rows import DONE, request, told
+from operator_rows import DONE, NOTHING, request, told
 from running import PATIENCE, free_port, until
 from sockets import PLAIN, TRIES, passed_on, processor_time, timed, unbroken
 from telling import BROKEN, REPORT, lines_of, troubles, waits_to_write
@@ -332,6 +332,23 @@ class Edges(Beside):
         self.judge("an early answer with a rest, and how long that was", (True, [True]), (told_whole, [it >= 2 for it in rested]))
         self.judge("counters of it", {"admitted": 1, "success": 1}, gate.ending())
         scripted.close()
+
+    def lets_operators_read(self, backend: Backend) -> None:
+        """Who sends more than its request to an address beside that of clients reads its answer to the end."""
+        status = free_port()
+        gate = self.operated(backend, words=("--status", f"127.0.0.1:{status}"))
+        for port in (gate.operator, status):
+            for words, wanted in (
+                (request("GET /health HTTP/1.1", f"Host: 127.0.0.1:{port}"), told(DONE)),
+                (request("GET /nothing HTTP/1.1", f"Host: 127.0.0.1:{port}"), told(NOTHING)),
+                (b"GET /health HTTP/1.1\r\n\r\n", local(400)),
+            ):
+                for more in (b"", b"x", b"x" * 50_000):
+                    with socket.create_connection(("127.0.0.1", port), timeout=PATIENCE) as client:
+                        client.sendall(words + more)
+                        # By now it is answered, and what wasn't lingered for was reset.
+                        time.sleep(0.1)
+                        self.judge(f"{words!r} and {len(more)} bytes", (wanted, None), unbroken(client, b""))
 
     def ends_before_its_operators(self, backend: Backend) -> None:
         """Behind the last connection of its workers it ends, whoever waits at its operator's address."""

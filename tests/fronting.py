@@ -40,6 +40,8 @@ class Origin(Listener):
         if path == b"/held":
             self.held.release()
             self.release.wait(2 * PATIENCE)
+        if path == b"/slowly":
+            time.sleep(4)
         if path == b"/breaks":
             return
         number, more = (429, "Retry-After: 7\r\n") if path == b"/own" else (200, "")

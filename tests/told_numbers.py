@@ -74,6 +74,16 @@ def slowest_upload() -> float:
     return -(-BODY() * 2**20 // 10_000 // 10) * 10
 
 
+def number_of_body() -> int:
+    """The MiB of the largest body."""
+    return int(BODY())
+
+
+def longest_call() -> float:
+    """The seconds that a call may take with its wait for a permit, as the unit and the configuration have it."""
+    return (LIMIT_MS() + packaged(r"(?m)^# timeout_ms = ([\d_]+)$", "packaging/admission.toml")()) / 1_000
+
+
 def of_examples() -> float:
     return sum(1 for it in (TOP / "examples").rglob("*") if it.is_file())
 
