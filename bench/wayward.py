@@ -71,13 +71,7 @@ class Wayward:
     loop: asyncio.AbstractEventLoop
 
     def __init__(
-        self,
-        slots: int,
-        seconds: float,
-        drag: float,
-        times: Times = Times(),
-        cut: float = 0.0,
-        most: int | None = None,
+        self, slots: int, seconds: float, drag: float, times: Times = Times(), cut: float = 0.0, most: int | None = None
     ) -> None:
         self.seconds, self.drag, self.times, self.port = seconds, drag, times, free_port()
         self.cut, self.most = cut, most

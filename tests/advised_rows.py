@@ -116,8 +116,7 @@ OF_ONE_ADDRESS = [
     ("127.0.0.1:8080", "127.0.0.2:8080", ""),
 ]
 WITHOUT_EFFECT = (
-    "serve it with --workers 64 or more, at most 64\n"
-    "wait = false: nobody waits, so backlog = 10 has no effect\n"
+    "serve it with --workers 64 or more, at most 64\n" "wait = false: nobody waits, so backlog = 10 has no effect\n"
 )
 # Of a limit without numbers, behind the addresses of version 3.
 OF_AUTO = [

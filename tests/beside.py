@@ -191,7 +191,9 @@ class Beside(Operating):
         self.judge("health before", True, until(lambda: gate.call("GET /health") == told(CLOSING)))
         later = Later(gate.call, "POST /drain?after-ms=3600000")
         self.judge("the log of both", True, until(lambda: any("after_ms=3600000" in it for it in gate.log)))
-        self.judge("one that isn't put off", ([told(DRAINED)] * 2, {}), ([first.result(), later.result()], gate.ending()))
+        self.judge(
+            "one that isn't put off", ([told(DRAINED)] * 2, {}), ([first.result(), later.result()], gate.ending())
+        )
         self.judge("nor comes before", True, time.monotonic() - begun >= 2)
         gate = Operated(self.program, self.room, backend.port, each=1, workers=1)
         later = Later(gate.call, "POST /drain?after-ms=3600000")

@@ -151,7 +151,9 @@ class Told(Listener):
             return
         status, body = (told, b"") if isinstance(told, int) else (200, told if path == "/" else str(told).encode())
         kind = "text/html; charset=utf-8" if path == "/" else "text/plain; version=0.0.4; charset=utf-8"
-        head = f"HTTP/1.1 {status} X\r\nContent-Type: {kind}\r\nContent-Length: {len(body)}\r\nConnection: close\r\n\r\n"
+        head = (
+            f"HTTP/1.1 {status} X\r\nContent-Type: {kind}\r\nContent-Length: {len(body)}\r\nConnection: close\r\n\r\n"
+        )
         client.sendall(head.encode() + body)
         if path == "/metrics":
             self.moments.append(time.monotonic())

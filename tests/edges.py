@@ -142,7 +142,10 @@ class Edges(Beside):
             ("who stops in its head", ends(PLAIN[:9], read_all)),
             ("who stops in its body", ends(half, read_all)),
             ("who leaves before its answer", ends(HELD, leaves_the_backend)),
-            ("who leaves in its answer", ends(b"GET /five HTTP/1.1\r\nHost: h\r\n\r\n", lambda it: reset(it) or it.recv)),
+            (
+                "who leaves in its answer",
+                ends(b"GET /five HTTP/1.1\r\nHost: h\r\n\r\n", lambda it: reset(it) or it.recv),
+            ),
         ):
             backend.release.clear()
             with contextlib.suppress(OSError):
@@ -254,11 +257,20 @@ class Edges(Beside):
                     read_all(client)
                     return time.monotonic() - begun
 
-            for what, text in (("silent", b""), ("in its head", PLAIN[:9]), ("before its body", head), ("in it", head + b"a")):
+            for what, text in (
+                ("silent", b""),
+                ("in its head", PLAIN[:9]),
+                ("before its body", head),
+                ("in it", head + b"a"),
+            ):
                 took: list[float] = []
                 while len(took) < TRIES and min(took, default=9) > millis / 1000 + 0.4:
                     took.append(cut_off(text))
-                self.judge(f"one of {millis} ms that is {what}", True, is_between(min(took), (millis / 1000, millis / 1000 + 0.4)))
+                self.judge(
+                    f"one of {millis} ms that is {what}",
+                    True,
+                    is_between(min(took), (millis / 1000, millis / 1000 + 0.4)),
+                )
 
     def gives_answers_their_time(self, backend: Backend) -> None:
         """A client that doesn't read its answer has its whole time for it, and then no more."""
@@ -288,7 +300,11 @@ class Edges(Beside):
                     deaf.sendall(PLAIN)
                     deaf.recv(1)
                     took.append(timed(gate.ask, PLAIN)[1])
-            self.judge(f"{body} bytes are waited for", is_waited, any(it >= 1.5 for it in took) if is_waited else min(took) >= 1)
+            self.judge(
+                f"{body} bytes are waited for",
+                is_waited,
+                any(it >= 1.5 for it in took) if is_waited else min(took) >= 1,
+            )
             scripted.close()
 
     def loses_nothing_of_any_size(self, _: Backend) -> None:
@@ -329,7 +345,11 @@ class Edges(Beside):
         with socket.create_connection(("127.0.0.1", gate.port), timeout=3 * PATIENCE) as client:
             client.sendall(post(8 * MEGABYTE, False))
             told_whole = read_all(client) == passed_on(whole.partition(b"\r\n\r\n")[2])
-        self.judge("an early answer with a rest, and how long that was", (True, [True]), (told_whole, [it >= 2 for it in rested]))
+        self.judge(
+            "an early answer with a rest, and how long that was",
+            (True, [True]),
+            (told_whole, [it >= 2 for it in rested]),
+        )
         self.judge("counters of it", {"admitted": 1, "success": 1}, gate.ending())
         scripted.close()
 
