@@ -1,4 +1,6 @@
 // What is worth knowing of a configuration without fault.
+ghost use Rattle.gate_config.specs.Settings.{AreSound};
+
 use crate::callers::explain_callers;
 use crate::limits::explain_limit;
 use config_values::{Key, value_at};
@@ -16,7 +18,9 @@ pub(crate) fn explain_settings(
     out: &mut String,
     table: &Table,
     settings: &Settings,
-) -> Result<(), AllocError> {
+) -> Result<(), AllocError>
+    requires { AreSound settings.now }
+{
     explain_workers(out, settings)?;
     if !settings.wait && settings.backlog > 0 && value_at(table, Key::Backlog).is_some() {
         let backlog = settings.backlog;
@@ -30,12 +34,16 @@ pub(crate) fn explain_settings(
 }
 
 /// The limit before as many workers as there may be.
-fn limit_of(settings: &Settings) -> AnyLimit {
+fn limit_of(settings: &Settings) -> AnyLimit
+    requires { AreSound settings.now }
+{
     settings.limit_for(MOST_WORKERS)
 }
 
 /// Says how many may be inside together, and so how many workers are wanted.
-fn explain_workers(out: &mut String, settings: &Settings) -> Result<(), AllocError> {
+fn explain_workers(out: &mut String, settings: &Settings) -> Result<(), AllocError>
+    requires { AreSound settings.now }
+{
     let (limit, shares, waiting) = most_of(settings);
     if let LimitKind::Auto = settings.limit.kind() {
         write!(
@@ -54,7 +62,9 @@ fn explain_workers(out: &mut String, settings: &Settings) -> Result<(), AllocErr
 }
 
 /// The greatest limit, the most that shares add to it, and the most who wait.
-fn most_of(settings: &Settings) -> (u64, u64, u64) {
+fn most_of(settings: &Settings) -> (u64, u64, u64)
+    requires { AreSound settings.now }
+{
     let hi = limit_of(settings).hi();
     let limit = u64::from(hi);
     let most = settings.table.most(hi);
