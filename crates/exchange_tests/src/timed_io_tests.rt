@@ -73,6 +73,10 @@ impl Connection for Fake {
         false
     }
 
+    fn has_left(&self) -> bool {
+        false
+    }
+
     fn is_behind(&self, _most: Duration) -> bool {
         false
     }

@@ -3,13 +3,13 @@ use crate::desk::GateDesk;
 use crate::watch::DeskWatch;
 use clocks::Clock;
 use limit_laws::Limit;
-use operator_serving::{Operating, OperatorBuffers, operate};
+use operator_serving::{Operating, operate};
 use shared_gate::GateNaming;
 use std::alloc::AllocError;
 use std::sync::Wait;
 use std::time::{Clock as SystemClock, Duration};
 use tasks::Task;
-use timed_io::Listener;
+use timed_io::{ClientBuffers, Listener};
 
 /// Serves one operator after the other at a gateway's desk, until their listener is closed; and
 /// then closes another one too, where there is one.
@@ -17,7 +17,7 @@ use timed_io::Listener;
 pub struct Operator<'a, G: Limit, M: GateNaming, R, L, C, W> {
     common: &'a Operating<'a, L, C>,
     desk: GateDesk<'a, G, M, R, L, C, W>,
-    buffers: OperatorBuffers,
+    buffers: ClientBuffers,
     also: Option<&'a L>,
 }
 
@@ -28,7 +28,7 @@ impl<'a, G: Limit, M: GateNaming, R, L, C, W: Drop> Operator<'a, G, M, R, L, C, 
         desk: GateDesk<'a, G, M, R, L, C, W>,
         also: Option<&'a L>,
     ) -> Result<Operator<'a, G, M, R, L, C, W>, AllocError> {
-        let buffers = OperatorBuffers::new(common.alloc)?;
+        let buffers = ClientBuffers::new(common.alloc)?;
         Ok(Operator {
             common,
             desk,

@@ -1,6 +1,5 @@
 // Whoever made a call.
-use std::io::ErrorKind;
-use timed_io::{Connection, Inlet};
+use timed_io::Connection;
 
 /// Whoever made a call, and may wait for its answer.
 pub trait Caller {
@@ -14,28 +13,18 @@ pub trait Caller {
         ensures { tells self.now result };
 }
 
-/// The other side of a connection, behind a request that was read from this end of it.
+/// The other side of a connection, behind a request that was read from it.
 #[derive(Drop)]
-pub(crate) struct Peer<'s, S, I> {
+pub(crate) struct Peer<'s, S> {
     pub(crate) stream: &'s S,
-    pub(crate) from: I,
 }
 
-impl<S: Connection, I: Inlet<S> + Copy> Caller for Peer<'_, S, I> {
+impl<S: Connection> Caller for Peer<'_, S> {
     ghost use Rattle.std.specs.Prelude.{⊤};
 
     ghost tells = { λ _ _. ⊤ };
 
-    // It has ended what it sends, and nothing of that lies unread; or its connection is broken. A
-    // client that closes its connection and one that only ends what it sends look alike.
     fn has_left(&self) -> bool {
-        if self.stream.has_unread() {
-            return false;
-        }
-        let mut from = self.from;
-        match from.receive_ready(self.stream, &mut [0u8; 1]) {
-            Ok(count) => count == 0,
-            Err(fault) => !matches!(fault.kind(), ErrorKind::WouldBlock | ErrorKind::Interrupted),
-        }
+        self.stream.has_left()
     }
 }

@@ -20,4 +20,4 @@ mod telling;
 pub use attending::{Attended, attend};
 pub use caller::Caller;
 pub use desk::{ChangeFault, Desk};
-pub use operating::{Operating, OperatorBuffers, operate};
+pub use operating::{Operating, operate};

@@ -3,24 +3,19 @@ ghost use Rattle.std.specs.Prelude.{◌≡◌};
 ghost use Rattle.operator_calls.specs.declared.audience.Audience.TheVariants.{Anyone};
 ghost use Rattle.operator_serving.specs.Attending.{AreServed, IsServed};
 
-use crate::attending::{Attended, attend};
+use crate::attending::attend;
 use crate::caller::Peer;
 use crate::desk::Desk;
 use clocks::Clock;
-use counted_io::Counted;
-use lent_io::{BufferedRead, BufferedWrite, ReadBuffer, WriteBuffer};
 use operator_calls::Audience;
-use std::alloc::{AllocError, Global};
+use std::alloc::Global;
 use std::sync::Wait;
 use std::thread;
 use std::time::{Clock as SystemClock, Duration};
 use timed_io::{
-    AcceptedClient, Connection, Inlet, Lent, Listener, Outlet, TimedReader, TimedWriter,
-    Uninterrupted, linger,
+    AcceptedClient, Client, ClientBuffers, ClientTime, Connection, Inlet, Listener, Outlet,
+    Patience,
 };
-
-/// How many bytes are read or written at once.
-const PIECE: usize = 4_096;
 
 /// How long to rest where no connection could be had, in milliseconds.
 const WITHOUT_A_CLIENT_MS: u64 = 10;
@@ -43,29 +38,12 @@ pub struct Operating<'a, L, C> {
     pub alloc: Global,
 }
 
-/// The buffers that are kept for all operators.
-#[derive(Drop)]
-pub struct OperatorBuffers {
-    ahead: ReadBuffer,
-    behind: WriteBuffer,
-}
-
-impl OperatorBuffers {
-    /// New buffers. It fails only out of memory.
-    pub fn new(alloc: Global) -> Result<OperatorBuffers, AllocError> {
-        Ok(OperatorBuffers {
-            ahead: ReadBuffer::new(alloc, PIECE)?,
-            behind: WriteBuffer::new(alloc, PIECE)?,
-        })
-    }
-}
-
 /// Attends to one client after the other, each for one request, until the listener is closed.
 pub fn operate<R: Wait + SystemClock, L: Listener, C: Clock, D: Desk>(
     rt: &R,
     common: &Operating<'_, L, C>,
     desk: &mut D,
-    buffers: &mut OperatorBuffers,
+    buffers: &mut ClientBuffers,
 )
     ensures served { AreServed D.rows D.shows D.does common.now.audience common.now.page.now
         desk.old desk.new }
@@ -90,7 +68,7 @@ fn serve_operator<T, I, O, L, C, D>(
     common: &Operating<'_, L, C>,
     client: AcceptedClient<T, I, O>,
     desk: &mut D,
-    buffers: &mut OperatorBuffers,
+    buffers: &mut ClientBuffers,
 )
 where
     T: Connection + Drop,
@@ -102,45 +80,35 @@ where
         desk.old desk.new }
     ensures looks { common.now.audience ≡ Anyone → desk.new ≡ desk.old }
 {
-    let (clock, time) = (common.clock, common.timeout_ns);
-    let AcceptedClient { stream, from, to } = client;
-    let caller = Peer {
-        stream: &stream,
-        from,
+    let time = ClientTime {
+        clock: common.clock,
+        most_ns: common.timeout_ns,
     };
-    let timed = TimedReader::new(Lent::new(&stream, from), clock, time);
-    let buffered = BufferedRead::new(Uninterrupted::new(timed), &mut buffers.ahead);
-    let mut reader = Counted::new(buffered);
-    let timed = TimedWriter::new(Lent::new(&stream, to), clock, time);
-    let buffered = BufferedWrite::new(Uninterrupted::new(timed), &mut buffers.behind);
-    let mut writer = Counted::new(buffered);
+    let AcceptedClient { stream, ends } = client;
+    let caller = Peer { stream: &stream };
+    let mut client = Client::open(&stream, ends, &Unhurried {}, &time, buffers);
     let attended = attend(
         common.alloc,
         common.audience,
         common.page,
         desk,
         &caller,
-        &mut reader,
-        &mut writer,
+        &mut client.reader,
+        &mut client.writer,
     );
-    let from = reader.inner().inner().inner().inner().end();
-    let sent = writer.inner().inner().inner().inner().sent();
-    linger_behind(&attended, &buffers.ahead, &stream, from, clock, time, sent);
+    let left = client.close();
+    if attended.answer.is_some() && attended.is_written {
+        let is_unread = !attended.is_read || buffers.has_unread();
+        left.ends.linger(&stream, &time, is_unread, left.sent);
+    }
 }
 
-/// Where a client was answered: sees that it gets to read the answer, for so many nanoseconds at
-/// most.
-fn linger_behind<T: Connection, I: Inlet<T> + Copy, C: Clock>(
-    attended: &Attended,
-    ahead: &ReadBuffer,
-    stream: &T,
-    from: I,
-    clock: &C,
-    most_ns: u64,
-    sent: u64,
-) {
-    if attended.answer.is_some() && attended.is_written {
-        let is_unread = !attended.is_read || ahead.left() > 0;
-        linger(stream, from, clock, most_ns, is_unread, sent);
+/// Nobody else is kept waiting by a client that has sent nothing: its own time bounds that.
+#[derive(Drop)]
+struct Unhurried {}
+
+impl Patience for Unhurried {
+    fn may_wait(&self) -> bool {
+        true
     }
 }

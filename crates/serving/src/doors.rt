@@ -4,6 +4,7 @@ ghost use Rattle.std.specs.Prelude.{IfOk, IfSome, OnErr};
 ghost use Rattle.counted_io.specs.Count.{raised, raised_by_err};
 ghost use Rattle.serving.specs.Doors.{failed_of, given_of, is_closed};
 ghost use Rattle.serving.specs.Visits.{Arrives, Closes, Misses};
+ghost use Rattle.timed_io.specs.Client.{from_of, to_of};
 
 use proxy::{Exchange, Watch};
 use std::io::Result;
@@ -40,17 +41,17 @@ pub trait Accepts {
             ≡ (if is_ok result then raised (given self.old) else given self.old) }
         ensures failed { failed self.new ≡ raised_by_err result (failed self.old) }
         ensures arrived { IfOk result (λ client.
-            Arrives (visits self.old) (visits self.new) (Self.From.remaining client.from)) }
+            Arrives (visits self.old) (visits self.new) (Self.From.remaining (from_of client.ends))) }
         ensures unwritten { IfOk result (λ client.
-            IfSome (Self.To.contents client.to) (λ written. written ≡ [])) }
+            IfSome (Self.To.contents (to_of client.ends)) (λ written. written ≡ [])) }
         ensures missed { OnErr result (Misses (visits self.old) (visits self.new)) };
 
     /// Lets the client go, of whom this is told: its connection is closed.
     fn close(&mut self, client: AcceptedClient<Self::Stream, Self::From, Self::To>, told: &Exchange)
         ensures given { given self.new ≡ given self.old }
         ensures failed { failed self.new ≡ failed self.old }
-        ensures closed { Closes (visits self.old) (visits self.new) (Self.To.contents client.to)
-            told.now };
+        ensures closed { Closes (visits self.old) (visits self.new)
+            (Self.To.contents (to_of client.ends)) told.now };
 
     /// Whether it was found closed: nobody comes any more.
     fn is_closed(&self) -> bool
@@ -123,7 +124,7 @@ impl<'a, L: Listener, W: Watch> Accepts for Door<'a, L, W> {
     fn close(&mut self, client: AcceptedClient<L::Stream, L::From, L::To>, told: &Exchange)
         ensures given { given_of self.new ≡ given_of self.old }
         ensures failed { failed_of self.new ≡ failed_of self.old }
-        ensures closed { Closes None None (L.To.contents client.to) told.now }
+        ensures closed { Closes None None (L.To.contents (to_of client.ends)) told.now }
     {
         let _closed = client;
         self.watch.ended(told);

@@ -4,14 +4,14 @@ ghost use Rattle.serving.specs.Workers.{Leaves, Makes};
 
 use crate::doors::Accepts;
 use crate::reporting::ActiveWorkers;
-use crate::working::{ClientBuffers, Source, TurnCounts, WorkerSettings, work};
+use crate::working::{Source, TurnCounts, WorkerSettings, work};
 use clocks::Clock;
 use gate_port::GatePort;
 use proxy::Watch;
 use std::sync::Wait;
 use std::time::{Clock as SystemClock, Duration};
 use tasks::Task;
-use timed_io::Listener;
+use timed_io::{ClientBuffers, Listener};
 use wire::Backend;
 
 /// What a worker owns.

@@ -23,4 +23,4 @@ pub use doors::{Accepts, Door};
 pub use fault::ServeFault;
 pub use jobs::{JobResult, WorkerExit};
 pub use workers::serve;
-pub use working::{ClientBuffers, Source, TurnCounts, WorkerSettings, work};
+pub use working::{Source, TurnCounts, WorkerSettings, work};

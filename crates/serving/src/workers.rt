@@ -10,7 +10,7 @@ use crate::doors::{Accepts, Door};
 use crate::fault::ServeFault;
 use crate::jobs::{Context, Job, JobResult, Worker};
 use crate::reporting::{ActiveWorkers, Reporter};
-use crate::working::{ClientBuffers, Source, WorkerSettings};
+use crate::working::{Source, WorkerSettings};
 use clocks::Clock;
 use gate_config::Settings;
 use gate_port::{GatePort, GateView};
@@ -22,7 +22,7 @@ use std::thread::Threads;
 use std::time::{Clock as SystemClock, Duration};
 use tasks::{Spawner, Task, run_tasks_beside};
 use tcp_backend::{BackendWatch, TcpBackend};
-use timed_io::Listener;
+use timed_io::{ClientBuffers, Listener};
 use wire::Backend;
 
 /// For how long a client takes nothing of its answer, in nanoseconds, before the system ends its

@@ -4,42 +4,23 @@ ghost use Rattle.counted_io.specs.Count.{count_end};
 ghost use Rattle.gate_config.specs.declared.settings.Settings.{Settings as SettingsValue};
 ghost use Rattle.serving.specs.Served.{IsServed, with_flush_result};
 ghost use Rattle.serving.specs.Turns.{IsRun};
+ghost use Rattle.timed_io.specs.Client.{from_of, to_of};
 
 use crate::doors::Accepts;
 use clocks::{Clock, Looks};
-use counted_io::{Counted, PIECE};
 use gate_config::Settings;
 use gate_port::GatePort;
-use lent_io::{BufferedRead, BufferedWrite, ReadBuffer, WriteBuffer};
 use proxy::{Exchange, Watch, exchange};
 use std::alloc::{AllocError, Global};
 use std::thread;
 use std::time::{Clock as SystemClock, Duration};
 use timed_io::{
-    AcceptedClient, Connection, FirstByte, Inlet, Lent, Outlet, Patience, TimedReader, TimedWriter,
-    Uninterrupted, linger,
+    AcceptedClient, Client, ClientBuffers, ClientTime, Connection, Inlet, Outlet, Patience,
 };
 use wire::{Backend, WireFault};
 
 /// How long a worker rests that could have no connection, in milliseconds.
 const WITHOUT_A_CLIENT_MS: u64 = 10;
-
-/// The buffers that a worker keeps for all its clients.
-#[derive(Drop)]
-pub struct ClientBuffers {
-    ahead: ReadBuffer,
-    behind: WriteBuffer,
-}
-
-impl ClientBuffers {
-    /// New buffers. It fails only out of memory.
-    pub fn new(alloc: Global) -> Result<ClientBuffers, AllocError> {
-        Ok(ClientBuffers {
-            ahead: ReadBuffer::new(alloc, PIECE)?,
-            behind: WriteBuffer::new(alloc, PIECE)?,
-        })
-    }
-}
 
 /// Where a worker has its settings from: something that threads may share, such as the text of a
 /// configuration. Each worker makes settings of its own of it: they hold counted pointers, which
@@ -199,8 +180,8 @@ where
     B: Backend,
     C: Clock,
     W: Watch,
-    ensures { IsServed settings.now (I.remaining client.from) (O.contents client.to)
-        (O.contents result.0.to)
+    ensures { IsServed settings.now (I.remaining (from_of client.ends))
+        (O.contents (to_of client.ends)) (O.contents (to_of result.0.ends))
         (record {
           shown = P.shown port.old;
           known = P.known port.old;
@@ -215,35 +196,33 @@ where
         })
         result.1 }
 {
-    let (clock, time) = (common.clock, common.client_timeout_ns);
+    let time = ClientTime {
+        clock: common.clock,
+        most_ns: common.client_timeout_ns,
+    };
     let patience = FreeWorkers {
         watch: common.watch,
     };
-    let AcceptedClient { stream, from, to } = client;
-    let first = FirstByte::new(Lent::new(&stream, from), &patience);
-    let timed = TimedReader::new(first, clock, time);
-    let buffered = BufferedRead::new(Uninterrupted::new(timed), &mut buffers.ahead);
-    let mut reader = Counted::new(buffered);
-    let timed = TimedWriter::new(Lent::new(&stream, to), clock, time);
-    let buffered = BufferedWrite::new(Uninterrupted::new(timed), &mut buffers.behind);
-    let mut writer = Counted::new(buffered);
-    let mut looks = Looks::new(clock);
+    let AcceptedClient { stream, ends } = client;
+    let mut client = Client::open(&stream, ends, &patience, &time, buffers);
+    let mut looks = Looks::new(common.clock);
     let served = exchange(
         common.alloc,
         port,
         backend,
         settings,
         &mut looks,
-        &mut reader,
-        &mut writer,
+        &mut client.reader,
+        &mut client.writer,
     );
-    let from = reader.inner().inner().inner().inner().inner().end();
-    let is_sent = writer.inner().is_sent();
-    let to = writer.inner().inner().inner().inner().end();
-    let sent = writer.inner().inner().inner().inner().sent();
-    let served = with_flush_result(is_sent, served);
-    linger_behind(&served, &buffers.ahead, &stream, from, clock, time, sent);
-    (AcceptedClient { stream, from, to }, served)
+    let left = client.close();
+    let served = with_flush_result(left.is_sent, served);
+    if is_answered(&served) {
+        let is_unread = served.class.is_none() || buffers.has_unread();
+        left.ends.linger(&stream, &time, is_unread, left.sent);
+    }
+    let ends = left.ends;
+    (AcceptedClient { stream, ends }, served)
 }
 
 /// The workers that are free for others than who sends nothing.
@@ -258,21 +237,10 @@ impl<W: Watch> Patience for FreeWorkers<'_, W> {
     }
 }
 
-/// Where a client was answered: sees that it gets to read the answer, for so many nanoseconds at
-/// most, though its request wasn't read whole, or more than it lies in the buffer or comes.
-fn linger_behind<T: Connection, I: Inlet<T> + Copy, C: Clock>(
-    served: &Exchange,
-    ahead: &ReadBuffer,
-    stream: &T,
-    from: I,
-    clock: &C,
-    most_ns: u64,
-    sent: u64,
-) {
-    if served.answer.is_some() && served.written_fault.is_none() {
-        let is_unread = served.class.is_none() || ahead.left() > 0;
-        linger(stream, from, clock, most_ns, is_unread, sent);
-    }
+/// Whether the client was answered, as far as is known, and is to get to read its answer, though its
+/// request wasn't read whole, or more than it lies in the buffer or comes.
+fn is_answered(served: &Exchange) -> bool {
+    served.answer.is_some() && served.written_fault.is_none()
 }
 
 // What is told of an exchange, by whether all that was written was sent. Without a fault of writing

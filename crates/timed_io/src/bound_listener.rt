@@ -1,4 +1,5 @@
 // Clients over TCP.
+use crate::client_ends::ClientEnds;
 use crate::ends::OpaqueEnd;
 use crate::keeping::{ask_after, end_untaken};
 use crate::listener::{AcceptedClient, Listener};
@@ -53,8 +54,7 @@ impl Listener for BoundListener {
         let (stream, _) = self.listener.accept()?;
         Ok(AcceptedClient {
             stream,
-            from: OpaqueEnd {},
-            to: OpaqueEnd {},
+            ends: ClientEnds::new(OpaqueEnd {}, OpaqueEnd {}),
         })
     }
 

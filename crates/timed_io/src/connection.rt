@@ -10,7 +10,7 @@ use libc::net::{
     MSG_DONTWAIT, MSG_PEEK, POLLIN, POLLOUT, SO_SNDBUF, SOL_SOCKET, poll, recv, setsockopt,
 };
 use libc::types::pollfd;
-use std::io::{ErrorKind, Result};
+use std::io::{Error, ErrorKind, Result};
 use std::net::{Shutdown, TcpStream};
 use std::os::fd::{AsRawFd, RawFd};
 use std::time::Duration;
@@ -34,6 +34,11 @@ pub trait Connection {
     /// Whether bytes of the other side lie unread. It waits for none, and reads none.
     fn has_unread(&self) -> bool;
 
+    /// Whether the other side has left: it has ended what it sends, and nothing of that lies unread,
+    /// or the connection is broken. It waits for nothing, and reads none. Who closes the connection
+    /// and who only ends what it sends look alike.
+    fn has_left(&self) -> bool;
+
     /// Whether the other side hasn't acknowledged what was sent, but for a kilobyte or two, and may
     /// lose it where it sends something and the connection is closed. It looks at once whether more
     /// than some kilobytes are left, and where they are waits for so long at most, until they
@@ -55,9 +60,15 @@ impl Connection for TcpStream {
 
     // One system call: std would have to make the socket one that doesn't wait before it looks.
     fn has_unread(&self) -> bool {
-        let mut first = [0u8; 1];
-        let found = unsafe { recv(self.as_raw_fd(), &mut first, MSG_PEEK | MSG_DONTWAIT) };
-        found > 0
+        peek(self.as_raw_fd()) > 0
+    }
+
+    fn has_left(&self) -> bool {
+        match peek(self.as_raw_fd()) {
+            1.. => false,
+            0 => true,
+            _ => !is_transient(&Error::from_raw_os_error(os::errno())),
+        }
     }
 
     fn is_behind(&self, most: Duration) -> bool {
@@ -68,6 +79,19 @@ impl Connection for TcpStream {
     fn finish(&self) -> Result<()> {
         self.shutdown(Shutdown::Write)
     }
+}
+
+// How many bytes lie unread, of one that is looked for: none at the end of what was sent, and below
+// zero where the call failed.
+fn peek(file: RawFd) -> isize {
+    let mut first = [0u8; 1];
+    unsafe { recv(file, &mut first, MSG_PEEK | MSG_DONTWAIT) }
+}
+
+// Whether a call that failed so says nothing of the connection: nothing has come yet, or a signal
+// cut it short.
+fn is_transient(fault: &Error) -> bool {
+    matches!(fault.kind(), ErrorKind::WouldBlock | ErrorKind::Interrupted)
 }
 
 // Whether the system holds more of what was sent, after so long at most. How many bytes weren't

@@ -19,6 +19,8 @@
 
 mod binding;
 mod bound_listener;
+mod client;
+mod client_ends;
 mod connection;
 mod countdown;
 mod ends;
@@ -32,6 +34,10 @@ mod writing;
 
 pub use binding::{Binder, SystemAddresses};
 pub use bound_listener::BoundListener;
+pub use client::{
+    Client, ClientBuffers, ClientReader, ClientTime, ClientWriter, ServedClient,
+};
+pub use client_ends::ClientEnds;
 pub use connection::{Connection, Lent};
 pub use countdown::Countdown;
 pub use ends::{Inlet, OpaqueEnd, Outlet, read_ready};

@@ -1,6 +1,8 @@
 // Where connections come from.
 ghost use Rattle.std.specs.Prelude.{◌≡◌, [], IfOk, IfSome};
+ghost use Rattle.timed_io.specs.Client.{to_of};
 
+use crate::client_ends::ClientEnds;
 use crate::connection::Connection;
 use crate::ends::{Inlet, Outlet};
 use std::io::Result;
@@ -11,10 +13,8 @@ use std::time::{Clock, Duration};
 pub struct AcceptedClient<S, F, T> {
     /// Its connection.
     pub stream: S,
-    /// The end that is read.
-    pub from: F,
-    /// The end that is written.
-    pub to: T,
+    /// The two ends of it.
+    pub ends: ClientEnds<F, T>,
 }
 
 /// Where connections come from. Several threads may ask it at once.
@@ -32,7 +32,7 @@ pub trait Listener {
     /// there was none to be had. Once it is closed, nobody waits.
     fn accept(&self) -> Result<AcceptedClient<Self::Stream, Self::From, Self::To>>
         ensures unwritten { IfOk result (λ client.
-            IfSome (Self.To.contents client.to) (λ written. written ≡ [])) };
+            IfSome (Self.To.contents (to_of client.ends)) (λ written. written ≡ [])) };
 
     /// From now on the system ends the connections of those who come, where for so long nothing is
     /// taken of what was sent to them.

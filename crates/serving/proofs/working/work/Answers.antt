@@ -1,5 +1,6 @@
 use Rattle.std.proofs.Common.{rules, ◌≡◌, ◌∙◌, arith, refl}
 use Rattle.counted_io.specs.Count.{raised}
+use Rattle.timed_io.specs.Client.{from_of, to_of}
 use Rattle.serving.specs.Turns.{Missing, Serving}
 use Rattle.serving.proofs.Runs.{all_failed, all_given, back_of, begins, forwarded_at_most, goes_on}
 use Rattle.serving.proofs.Runs.{missing_shown, run_of, same_back, serving_shown}
@@ -12,11 +13,11 @@ loop-init g c = record { took = begins _ _; turns = refl }
 pub loop-preserved : goal.loop-preserved
 loop-preserved g c = elim c.match-accept.branch [
   | in-Ok w ↦ record {
-    took = goes_on _ _ _ _ _ _ _ (Serving (g.A.From.Inlet.remaining w.in-Ok.client.from)
-        (g.A.To.Outlet.contents w.serve_client-client.result.0.to)
+    took = goes_on _ _ _ _ _ _ _ (Serving (g.A.From.Inlet.remaining (from_of w.in-Ok.client.ends))
+        (g.A.To.Outlet.contents (to_of w.serve_client-client.result.0.ends))
         w.serve_client-client.result.1) c.loop.invariant.took
         (search rules) (search rules) (search rules) (search rules) (
-          g.A.To.Outlet.contents w.in-Ok.client.to,
+          g.A.To.Outlet.contents (to_of w.in-Ok.client.ends),
           back_of g.P.GatePort.shown g.P.GatePort.known g.B.Backend.forwarded g.B.Backend.shown
               w.serve_client-client.new.port w.serve_client-client.new.backend,
           w.in-Ok.ensures.unwritten,

@@ -1,0 +1,129 @@
+// A client while it is served.
+ghost use Rattle.std.specs.Prelude.{◌≡◌, [], IsTrue};
+ghost use Rattle.counted_io.specs.Counted.{inner_of};
+ghost use Rattle.lent_io.specs.Through.{pending_of};
+ghost use Rattle.timed_io.specs.Client.{IsUnused, from_of, outlet_in, to_of, unread_of, written_of};
+
+use crate::client_ends::ClientEnds;
+use crate::connection::{Connection, Lent};
+use crate::ends::{Inlet, Outlet};
+use crate::first_byte::{FirstByte, Patience};
+use crate::reading::TimedReader;
+use crate::uninterrupted::Uninterrupted;
+use crate::writing::TimedWriter;
+use clocks::Clock;
+use counted_io::{Counted, PIECE};
+use lent_io::{BufferedRead, BufferedWrite, ReadBuffer, WriteBuffer};
+use std::alloc::{AllocError, Global};
+
+/// What reads a client: through a buffer, on through interruptions, within its time.
+pub type ClientReader<'s, 'c, 'b, S, I, C, P> =
+    BufferedRead<'b, Uninterrupted<TimedReader<'c, FirstByte<'s, Lent<'s, S, I>, P>, C>>>;
+
+/// What writes to a client: the same, but for the first byte.
+pub type ClientWriter<'s, 'c, 'b, S, O, C> =
+    BufferedWrite<'b, Uninterrupted<TimedWriter<'c, Lent<'s, S, O>, C>>>;
+
+/// The buffers that are kept for one client after another.
+#[derive(Drop)]
+pub struct ClientBuffers {
+    ahead: ReadBuffer,
+    behind: WriteBuffer,
+}
+
+impl ClientBuffers {
+    /// New buffers. It fails only out of memory.
+    pub fn new(alloc: Global) -> Result<ClientBuffers, AllocError> {
+        Ok(ClientBuffers {
+            ahead: ReadBuffer::new(alloc, PIECE)?,
+            behind: WriteBuffer::new(alloc, PIECE)?,
+        })
+    }
+
+    /// Whether bytes lie here that the client sent behind its request.
+    pub fn has_unread(&self) -> bool {
+        self.ahead.left() > 0
+    }
+}
+
+/// How long a client may take.
+#[derive(Drop)]
+pub struct ClientTime<'c, C> {
+    /// The clock of its deadlines.
+    pub clock: &'c C,
+    /// How long it may take to send its request, and again to take its answer, in nanoseconds.
+    pub most_ns: u64,
+}
+
+/// A client that is served: its reader and its writer, each with its counts. They have the two ends
+/// of its connection until it is closed.
+#[derive(Drop)]
+pub struct Client<'s, 'c, 'b, S, I, O, C, P> {
+    /// What it sends.
+    pub reader: Counted<ClientReader<'s, 'c, 'b, S, I, C, P>>,
+    /// What is written to it.
+    pub writer: Counted<ClientWriter<'s, 'c, 'b, S, O, C>>,
+}
+
+/// What a client leaves that was served.
+#[derive(Drop)]
+pub struct ServedClient<I, O> {
+    /// The ends of its connection, as they were left.
+    pub ends: ClientEnds<I, O>,
+    /// Whether all that was written to it was sent.
+    pub is_sent: bool,
+    /// How many bytes were sent to it, up to the greatest u64. No contract says so: it decides how
+    /// closely an answer is looked after, and nothing else.
+    pub sent: u64,
+}
+
+impl<'s, 'c, 'b, S, I, O, C, P> Client<'s, 'c, 'b, S, I, O, C, P>
+where
+    S: Connection,
+    I: Inlet<S> + Copy,
+    O: Outlet<S> + Copy,
+    C: Clock,
+    P: Patience,
+{
+    /// The client at the other side of a connection, by the two ends of it. As long as it has sent
+    /// nothing it is waited for as the patience says.
+    pub fn open(
+        stream: &'s S,
+        ends: ClientEnds<I, O>,
+        patience: &'s P,
+        time: &ClientTime<'c, C>,
+        buffers: &'b mut ClientBuffers,
+    ) -> Client<'s, 'c, 'b, S, I, O, C, P>
+        ensures reader { unread_of I.remaining (inner_of result.reader)
+            ≡ I.remaining (from_of ends) }
+        ensures writer { written_of O.contents (inner_of result.writer)
+            ≡ O.contents (to_of ends) }
+        ensures unread { IsUnused result.reader }
+        ensures unwritten { IsUnused result.writer }
+    {
+        let ClientEnds { from, to } = ends;
+        let first = FirstByte::new(Lent::new(stream, from), patience);
+        let timed = TimedReader::new(first, time.clock, time.most_ns);
+        let reader = BufferedRead::new(Uninterrupted::new(timed), &mut buffers.ahead);
+        let timed = TimedWriter::new(Lent::new(stream, to), time.clock, time.most_ns);
+        let writer = BufferedWrite::new(Uninterrupted::new(timed), &mut buffers.behind);
+        Client {
+            reader: Counted::new(reader),
+            writer: Counted::new(writer),
+        }
+    }
+
+    /// Gives the ends back, as they are now. What lies in the buffers and wasn't sent is lost.
+    pub fn close(&self) -> ServedClient<I, O>
+        ensures to { to_of result.ends ≡ outlet_in self.now.writer }
+        ensures sent { IsTrue result.is_sent → pending_of (inner_of self.now.writer) ≡ [] }
+    {
+        let below = self.writer.inner().inner().inner().inner();
+        let from = self.reader.inner().inner().inner().inner().inner().end();
+        ServedClient {
+            ends: ClientEnds::new(from, below.end()),
+            is_sent: self.writer.inner().is_sent(),
+            sent: below.sent(),
+        }
+    }
+}
