@@ -11,7 +11,7 @@ ghost use Rattle.serve_command.specs.Runs.{AreCountersOfRuns};
 use crate::admin::{AdminAddress, SideAddresses, listener_of};
 use crate::command::Service;
 use crate::config_text::ConfigText;
-use crate::gateway::serve_gateway;
+use crate::gateway::{Gateway, serve_gateway};
 use clocks::ProgramClock;
 use gate_config::Settings;
 use gate_desk::LameDuck;
@@ -51,11 +51,11 @@ pub(crate) struct ServeContext<'a, R: SystemClock, L> {
 }
 
 /// Serves by these settings, which are those of the text, and tells the gate's counters.
-pub(crate) fn serve_in<R, L>(
-    rt: &R,
+pub(crate) fn serve_in<'c, R, L>(
+    rt: &'c R,
     spawner: &mut Spawner<'_, R>,
-    context: &ServeContext<'_, R, L>,
-    settings: &Settings,
+    context: &ServeContext<'c, R, L>,
+    settings: &'c Settings,
     service: &Service<'_>,
 ) -> Result<Counters, ServeFault>
 where
@@ -92,14 +92,14 @@ where
         watch: context.watch,
         alloc,
     };
-    serve_gateway(
+    let gateway = Gateway {
         rt,
-        spawner,
-        &common,
+        common: &common,
         settings,
-        service.workers,
-        &side,
-    )
+        workers: service.workers,
+        side: &side,
+    };
+    serve_gateway(spawner, &gateway)
 }
 
 /// So many milliseconds in nanoseconds.

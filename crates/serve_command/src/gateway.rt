@@ -36,15 +36,26 @@ use std::time::Clock as SystemClock;
 use tasks::Spawner;
 use timed_io::Listener;
 
-/// Serves clients through the gate of the settings, by so many workers, and tells the gate's
-/// counters once all have ended. The settings are those that the workers' source gives.
+/// A gateway that is to serve.
+#[derive(Drop)]
+pub(crate) struct Gateway<'g, R: SystemClock, L, C, S> {
+    /// The system that it runs on.
+    pub(crate) rt: &'g R,
+    /// What its workers share, and what each of them is asked to do.
+    pub(crate) common: &'g WorkerSettings<'g, L, C, S, Watcher<'g, R>>,
+    /// Settings that the workers' source gives.
+    pub(crate) settings: &'g Settings,
+    /// How many workers it has: 1 to 64.
+    pub(crate) workers: u32,
+    /// What serves beside them.
+    pub(crate) side: &'g SideAddresses<'g, L, C>,
+}
+
+/// Serves clients through the gate of the gateway's settings, by its workers, and tells the gate's
+/// counters once all have ended.
 pub(crate) fn serve_gateway<R, L, C, S>(
-    rt: &R,
     spawner: &mut Spawner<'_, R>,
-    common: &WorkerSettings<'_, L, C, S, Watcher<'_, R>>,
-    settings: &Settings,
-    workers: u32,
-    side: &SideAddresses<'_, L, C>,
+    gateway: &Gateway<'_, R, L, C, S>,
 ) -> Result<Counters, ServeFault>
 where
     R: Net + Threads + Wait + SystemClock + Log + Sync,
@@ -56,27 +67,25 @@ where
     L::To: Send + Sync,
     R::Stream: Send + Sync,
     R::Listener: Send + Sync,
-    requires given { S.gives common.now.source.now settings.now }
-    requires sound { AreSound settings.now }
-    requires few { workers ≤ 64 }
-    ensures counted { IfOk result (AreCountersOfRuns any_rules (making_of workers settings.now)
-        (S.gives common.now.source.now) workers common.now.per_worker) }
+    requires given { S.gives gateway.now.common.now.source.now gateway.now.settings.now }
+    requires sound { AreSound gateway.now.settings.now }
+    requires few { gateway.now.workers ≤ 64 }
+    ensures counted { IfOk result (AreCountersOfRuns any_rules
+        (making_of gateway.now.workers gateway.now.settings.now)
+        (S.gives gateway.now.common.now.source.now) gateway.now.workers
+        gateway.now.common.now.per_worker) }
     ensures thread { IsErrOf result ServeFault.Thread →
         refused_of spawner.new ≡ raised (refused_of spawner.old) }
 {
-    let word = Word::new(common.alloc)?;
+    let word = Word::new(gateway.common.alloc)?;
     let blanks = Blanks::new();
-    serve_named::<Brand, R, L, C, S>(rt, spawner, common, settings, workers, side, blanks, word)
+    serve_named::<Brand, R, L, C, S>(spawner, gateway, blanks, word)
 }
 
-/// Serves clients through the gate of the settings, which has these names.
+/// Serves clients through the gate of the gateway's settings, which has these names.
 fn serve_named<M, R, L, C, S>(
-    rt: &R,
     spawner: &mut Spawner<'_, R>,
-    common: &WorkerSettings<'_, L, C, S, Watcher<'_, R>>,
-    settings: &Settings,
-    workers: u32,
-    side: &SideAddresses<'_, L, C>,
+    gateway: &Gateway<'_, R, L, C, S>,
     blanks: Blanks,
     word: Word,
 ) -> Result<Counters, ServeFault>
@@ -94,36 +103,36 @@ where
     requires names { AreNamed M.calls M.place blanks }
     requires parts { AreWhole blanks }
     requires word { word ≡ M.word }
-    requires making { M.making ≡ making_of workers settings.now }
-    requires sound { AreSound settings.now }
-    requires legal { CallsLegal any_rules (journal_of workers settings.now) M.legal }
-    requires few { workers ≤ 64 }
-    ensures counted { IfOk result (AreCountersOfRuns any_rules (making_of workers settings.now)
-        (S.gives common.now.source.now) workers common.now.per_worker) }
+    requires making { M.making ≡ making_of gateway.now.workers gateway.now.settings.now }
+    requires sound { AreSound gateway.now.settings.now }
+    requires legal { CallsLegal any_rules
+        (journal_of gateway.now.workers gateway.now.settings.now) M.legal }
+    requires few { gateway.now.workers ≤ 64 }
+    ensures counted { IfOk result (AreCountersOfRuns any_rules
+        (making_of gateway.now.workers gateway.now.settings.now)
+        (S.gives gateway.now.common.now.source.now) gateway.now.workers
+        gateway.now.common.now.per_worker) }
     ensures thread { IsErrOf result ServeFault.Thread →
         refused_of spawner.new ≡ raised (refused_of spawner.old) }
 {
-    let others = side.count();
+    let (workers, others) = (gateway.workers as usize, gateway.side.count());
     let (gate, mut passes) = open_gate::<M>(
-        common.alloc,
-        settings,
-        workers,
+        gateway.common.alloc,
+        gateway.settings,
+        gateway.workers,
         blanks,
         word,
-        workers as usize + others,
+        workers + others,
     )?;
-    let own = take_own(&mut passes, workers as usize, others)?;
-    serve_through(rt, spawner, common, settings, side, &gate, passes, own)
+    let own = take_own(&mut passes, workers, others)?;
+    serve_through(spawner, gateway, &gate, passes, own)
 }
 
 /// Serves clients through a gate, by one worker for each pass, and those at the addresses beside
 /// theirs by passes of their own. Which limit the gate has isn't told apart here.
 fn serve_through<M, R, G, L, C, S>(
-    rt: &R,
     spawner: &mut Spawner<'_, R>,
-    common: &WorkerSettings<'_, L, C, S, Watcher<'_, R>>,
-    settings: &Settings,
-    side: &SideAddresses<'_, L, C>,
+    gateway: &Gateway<'_, R, L, C, S>,
     gate: &SharedGate<G, M>,
     passes: Vec<Pass<M>>,
     own: Vec<Pass<M>>,
@@ -142,15 +151,25 @@ where
     R::Listener: Send + Sync,
     requires unused { All (λ pass. pass.log ≡ []) passes.items }
     ensures counted { IfOk result (AreCountersOfRuns G.rules M.making
-        (S.gives common.now.source.now) (vec_len passes) common.now.per_worker) }
+        (S.gives gateway.now.common.now.source.now) (vec_len passes)
+        gateway.now.common.now.per_worker) }
     ensures thread { IsErrOf result ServeFault.Thread →
         refused_of spawner.new ≡ raised (refused_of spawner.old) }
 {
-    let operators = make_operators(rt, common, settings, gate, side, own)?;
+    let (rt, common) = (gateway.rt, gateway.common);
+    let operators = make_operators(gateway, gate, own)?;
     let kept = Vec::with_capacity(common.alloc, passes.len())?;
     let ports = make_ports(rt, common.alloc, gate, common.clock, common.watch, passes)?;
     let view = View::new(rt, gate);
-    let lefts = serve(rt, spawner, common, settings, &view, ports, operators)?;
+    let lefts = serve(
+        rt,
+        spawner,
+        common,
+        gateway.settings,
+        &view,
+        ports,
+        operators,
+    )?;
     let passes = passes_of(kept, lefts)?;
     Ok(gate.counters_behind(rt, passes))
 }

@@ -1,46 +1,25 @@
 // Who serves at the addresses beside that of clients.
-use crate::admin::{AT_ONCE, SideAddresses};
+use crate::admin::AT_ONCE;
 use crate::desk_log::DeskLog;
-use gate_config::Settings;
-use gate_desk::{GateDesk, LameDuck, Operator};
+use crate::gateway::Gateway;
+use gate_desk::{GateDesk, Operator};
 use limit_laws::Limit;
 use operator_serving::Operating;
-use serve_reports::Watcher;
-use serving::WorkerSettings;
 use shared_gate::{GateNaming, Pass, SharedGate};
 use std::alloc::AllocError;
 use std::time::{Clock as SystemClock, Duration};
-
-/// What every desk of a gateway stands on.
-#[derive(Drop)]
-struct Ground<'g, 'a, M: GateNaming, R: SystemClock, G: Limit, L, C, S> {
-    rt: &'a R,
-    common: &'g WorkerSettings<'a, L, C, S, Watcher<'a, R>>,
-    settings: &'g Settings,
-    gate: &'a SharedGate<G, M>,
-    lame_duck: &'a LameDuck,
-}
 
 /// One for each pass, each at a desk of its own: at first those for whoever looks, where there is
 /// an address for that, and then the operator's, who close the listener of the former as they end.
 /// So where a thread is refused to one of the latter, none of the former has begun: the last is
 /// begun first. It fails only out of memory.
-pub(crate) fn make_operators<'a, M: GateNaming, R: SystemClock, G: Limit, L, C, S>(
-    rt: &'a R,
-    common: &WorkerSettings<'a, L, C, S, Watcher<'a, R>>,
-    settings: &Settings,
-    gate: &'a SharedGate<G, M>,
-    side: &'a SideAddresses<'a, L, C>,
+pub(crate) fn make_operators<'g, M: GateNaming, R: SystemClock, G: Limit, L, C, S>(
+    gateway: &Gateway<'g, R, L, C, S>,
+    gate: &'g SharedGate<G, M>,
     passes: Vec<Pass<M>>,
-) -> Result<Vec<Operator<'a, G, M, R, L, C, DeskLog<'a, R>>>, AllocError> {
-    let ground = Ground {
-        rt,
-        common,
-        settings,
-        gate,
-        lame_duck: side.lame_duck,
-    };
-    let mut operators = Vec::with_capacity(common.alloc, passes.len())?;
+) -> Result<Vec<Operator<'g, G, M, R, L, C, DeskLog<'g, R>>>, AllocError> {
+    let side = gateway.side;
+    let mut operators = Vec::with_capacity(gateway.common.alloc, passes.len())?;
     for pass in passes {
         let (operating, also) = match (&side.admin, &side.status) {
             (_, Some(status)) if operators.len() < AT_ONCE => (status, None),
@@ -48,7 +27,7 @@ pub(crate) fn make_operators<'a, M: GateNaming, R: SystemClock, G: Limit, L, C, 
             (None, Some(status)) => (status, None),
             (None, None) => return Ok(operators),
         };
-        let desk = make_desk(&ground, operating, pass)?;
+        let desk = make_desk(gateway, gate, operating, pass)?;
         operators.push(Operator::new(operating, desk, also)?)?;
     }
     Ok(operators)
@@ -63,26 +42,27 @@ fn listener_at<'a, L, C>(operating: &Option<Operating<'a, L, C>>) -> Option<&'a 
 }
 
 /// The desk of one who serves at an address, by a pass. It fails only out of memory.
-fn make_desk<'a, M: GateNaming, R: SystemClock, G: Limit, L, C, S>(
-    ground: &Ground<'_, 'a, M, R, G, L, C, S>,
-    operating: &Operating<'a, L, C>,
+fn make_desk<'g, M: GateNaming, R: SystemClock, G: Limit, L, C, S>(
+    gateway: &Gateway<'g, R, L, C, S>,
+    gate: &'g SharedGate<G, M>,
+    operating: &Operating<'g, L, C>,
     pass: Pass<M>,
-) -> Result<GateDesk<'a, G, M, R, L, C, DeskLog<'a, R>>, AllocError> {
-    let Ok(table) = ground.settings.table.copy() else {
+) -> Result<GateDesk<'g, G, M, R, L, C, DeskLog<'g, R>>, AllocError> {
+    let Ok(table) = gateway.settings.table.copy() else {
         return Err(AllocError);
     };
-    let common = ground.common;
+    let common = gateway.common;
     Ok(GateDesk {
-        rt: ground.rt,
-        gate: ground.gate,
+        rt: gateway.rt,
+        gate,
         pass,
         watch: DeskLog {
-            rt: ground.rt,
+            rt: gateway.rt,
             watch: common.watch,
         },
         front: common.listener,
         own: operating.listener,
-        lame_duck: ground.lame_duck,
+        lame_duck: gateway.side.lame_duck,
         clock: common.clock,
         table,
         most: Duration::from_nanos(common.client_timeout_ns),

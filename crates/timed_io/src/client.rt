@@ -17,12 +17,16 @@ use lent_io::{BufferedRead, BufferedWrite, ReadBuffer, WriteBuffer};
 use std::alloc::{AllocError, Global};
 
 /// What reads a client: through a buffer, on through interruptions, within its time.
-pub type ClientReader<'s, 'c, 'b, S, I, C, P> =
-    BufferedRead<'b, Uninterrupted<TimedReader<'c, FirstByte<'s, Lent<'s, S, I>, P>, C>>>;
+pub type ClientReader<'s, 'c, 'b, S, I, C, P> = BufferedRead<
+    'b,
+    Uninterrupted<TimedReader<'c, FirstByte<'s, Lent<'s, S, I>, P>, C>>,
+>;
 
 /// What writes to a client: the same, but for the first byte.
-pub type ClientWriter<'s, 'c, 'b, S, O, C> =
-    BufferedWrite<'b, Uninterrupted<TimedWriter<'c, Lent<'s, S, O>, C>>>;
+pub type ClientWriter<'s, 'c, 'b, S, O, C> = BufferedWrite<
+    'b,
+    Uninterrupted<TimedWriter<'c, Lent<'s, S, O>, C>>,
+>;
 
 /// The buffers that are kept for one client after another.
 #[derive(Drop)]

@@ -34,9 +34,7 @@ mod writing;
 
 pub use binding::{Binder, SystemAddresses};
 pub use bound_listener::BoundListener;
-pub use client::{
-    Client, ClientBuffers, ClientReader, ClientTime, ClientWriter, ServedClient,
-};
+pub use client::{Client, ClientBuffers, ClientReader, ClientTime, ClientWriter, ServedClient};
 pub use client_ends::ClientEnds;
 pub use connection::{Connection, Lent};
 pub use countdown::Countdown;

@@ -9,12 +9,13 @@ abbrev pub ghosts-serve_named-M-Naming : goal.ghosts-serve_named-M-Naming
 ghosts-serve_named-M-Naming g a = record {
   calls = a.blanks.calls.name;
   place = places_of a.blanks;
-  making = making_of a.workers a.settings.now;
+  making = making_of a.gateway.now.workers a.gateway.now.settings.now;
 }
 
 -- and the table of its word; legal is what a limiter of the settings may be asked and answer
 abbrev pub ghosts-serve_named-M-GateNaming : goal.ghosts-serve_named-M-GateNaming
 ghosts-serve_named-M-GateNaming g a = record {
   word = a.word;
-  legal = IsLegalFrom any_rules (journal_of a.workers a.settings.now);
+  legal = IsLegalFrom any_rules
+      (journal_of a.gateway.now.workers a.gateway.now.settings.now);
 }

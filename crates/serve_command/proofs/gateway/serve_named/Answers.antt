@@ -8,11 +8,12 @@ use Rattle.serve_command.proofs.gateway.serve_named.Goals as goal
 -- the counters are those of the gate that was opened, whose names say how it was made
 pub returns-clause-counted : goal.returns-clause-counted
 returns-clause-counted g c =
-    let common = c.args.common.now in
+    let gateway = c.args.gateway.now in
+    let common = gateway.common.now in
     let gives = g.S.Source.gives common.source.now in
-    let all : vec_len c.take_own.new.passes ≡ c.args.workers = c.in_ok-own.ensures.all in
+    let all : vec_len c.take_own.new.passes ≡ gateway.workers = c.in_ok-own.ensures.all in
     subst (λ (n : ℕ). IfOk c.serve_through.result
-    (AreCountersOfRuns any_rules (making_of c.args.workers c.args.settings.now) gives n
+    (AreCountersOfRuns any_rules (making_of gateway.workers gateway.settings.now) gives n
     common.per_worker)) all
     (subst (λ (m : Making). IfOk c.serve_through.result
     (AreCountersOfRuns any_rules m gives (vec_len c.take_own.new.passes) common.per_worker))

@@ -11,7 +11,7 @@ use Rattle.serve_command.proofs.gateway.serve_through.Goals as goal
 -- the passes that were handed back are those of the workers, who began with passes of no call
 pub returns-clause-counted : goal.returns-clause-counted
 returns-clause-counted g c =
-    let common = c.args.common.now in
+    let common = c.args.gateway.now.common.now in
     let gives = g.S.Source.gives in
     let ends = ended_in c.in_ok-lefts.lefts.items in
     let both = all_ran_to _ _ _ _ gives common c.args.passes.items ends c.requires.unused
