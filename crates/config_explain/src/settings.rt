@@ -68,7 +68,11 @@ fn most_of(settings: &Settings) -> (u64, u64, u64)
     let hi = limit_of(settings).hi();
     let limit = u64::from(hi);
     let most = settings.table.most(hi);
-    (limit, most.saturating_sub(limit), u64::from(settings.waiting()))
+    (
+        limit,
+        most.saturating_sub(limit),
+        u64::from(settings.waiting()),
+    )
 }
 
 /// Says how many workers are wanted where so many may be inside together.

@@ -108,7 +108,11 @@ fn read_auto(table: &Table) -> Result<LimitSpec, ConfigFault>
 {
     let lo = read_number(table, Key::LimitMin, range_of!(LimitMin))?;
     let hi = read_number(table, Key::LimitMax, range_of!(LimitMax, of auto, lo))?;
-    let first = read_number(table, Key::LimitInitial, range_of!(LimitInitial, of auto, lo, hi))?;
+    let first = read_number(
+        table,
+        Key::LimitInitial,
+        range_of!(LimitInitial, of auto, lo, hi),
+    )?;
     Ok(LimitSpec::Auto(Limits { lo, first, hi }))
 }
 

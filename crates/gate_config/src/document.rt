@@ -73,10 +73,7 @@ pub fn read_document<'a>(
 }
 
 /// The table `limit` and the limit of its keys in a version.
-fn limit_in<'a>(
-    version: Version,
-    table: &'a Table,
-) -> Result<(&'a Table, LimitSpec), ConfigFault>
+fn limit_in<'a>(version: Version, table: &'a Table) -> Result<(&'a Table, LimitSpec), ConfigFault>
     ensures sound { IfOk result (λ limit. IsOk (limit_made limit.1)) }
     ensures said { result_map limit_member result ≡ limit_of version (table_view table.now) }
 {

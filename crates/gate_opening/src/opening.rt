@@ -15,10 +15,7 @@ use std::alloc::{AllocError, Global};
 
 /// What the gate of a configuration before so many workers is made with. It rolls whenever it holds
 /// as many entries as are kept.
-fn gate_settings(
-    settings: &Settings,
-    workers: u32,
-) -> Result<GateSettings<AnyLimit>, AllocError>
+fn gate_settings(settings: &Settings, workers: u32) -> Result<GateSettings<AnyLimit>, AllocError>
     requires { AreSound settings.now }
     ensures range { IfOk result AreInRange }
     ensures begins { IfOk result (λ made. begun made ≡ journal_of workers settings.now) }
