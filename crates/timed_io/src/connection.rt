@@ -137,16 +137,16 @@ impl<'s, S: Connection, E> Lent<'s, S, E> {
 }
 
 impl<'s, S, E> Lent<'s, S, E> {
-    /// How many bytes were written to it, up to the greatest u64. No contract says so: it decides
-    /// how closely an answer is looked after, and nothing else.
-    pub fn sent(&self) -> u64 {
+    // How many bytes were written to it, up to the greatest u64. No contract says so: it decides
+    // how closely an answer is looked after, and nothing else.
+    pub(crate) fn sent(&self) -> u64 {
         self.sent
     }
 }
 
 impl<'s, S, E: Copy> Lent<'s, S, E> {
-    /// The end, as it is now.
-    pub fn end(&self) -> E
+    // The end, as it is now. Nobody else is handed a copy of it.
+    pub(crate) fn end(&self) -> E
         ensures { result ≡ end_of self.now }
     {
         self.end
