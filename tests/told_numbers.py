@@ -90,7 +90,7 @@ def of_examples() -> float:
 
 # A document, a sentence with a number in each of its groups, and what the numbers are.
 NUMBERS: tuple[tuple[str, str, tuple[Callable[[], float], ...]], ...] = (
-    (OPERATING, r"It lists (\d+) files, (\d+) of them examples", (lambda: of_examples() + 15, of_examples)),
+    (OPERATING, r"It lists (\d+) files, (\d+) of them examples", (lambda: of_examples() + 16, of_examples)),
     (OPERATING, r"runs (\d+) workers as an unprivileged user", (WORKERS,)),
     (OPERATING, r"starts the program again (\w+) seconds after any end", (RESTARTS,)),
     (OPERATING, r"for (\w+) seconds `/health` is 503 while clients", (AFTER,)),
