@@ -22,9 +22,9 @@ WORDS = (
 ).split()
 
 
-def found() -> str | None:
+def command_of() -> str | None:
     """The browser's command, where there is one."""
-    return next((path for path in map(shutil.which, NAMES) if path), None)
+    return next((name for name in NAMES if shutil.which(name)), None)
 
 
 def moved(descriptor: int) -> int:
@@ -149,7 +149,9 @@ class Told(Listener):
         told = self.tells(looks) if path == "/metrics" else self.page if path == "/" else 404
         if told is None:
             return
-        status, body = (told, b"") if isinstance(told, int) else (200, told if path == "/" else str(told).encode())
+        status, body = (
+            (told, b"") if isinstance(told, int) else (200, told if isinstance(told, bytes) else told.encode())
+        )
         kind = "text/html; charset=utf-8" if path == "/" else "text/plain; version=0.0.4; charset=utf-8"
         head = (
             f"HTTP/1.1 {status} X\r\nContent-Type: {kind}\r\nContent-Length: {len(body)}\r\nConnection: close\r\n\r\n"

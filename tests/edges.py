@@ -13,13 +13,14 @@ from collections.abc import Callable, Iterator
 
 from beside import Beside
 from ending import is_between
-from large import LONG_TIME, MEGABYTE, answer, post
+from large import LONG_TIME, MEGABYTE, post
+from large import answer as response
 from loopback import BODY, Backend, Gateway, Later, Scripted, read_all, read_head
 from operating import HELD, Operated
 from operator_rows import DONE, NOTHING, request, told
 from running import PATIENCE, free_port, until
 from sockets import PLAIN, TRIES, passed_on, processor_time, timed, unbroken
-from telling import BROKEN, REPORT, lines_of, troubles, waits_to_write
+from telling import BROKEN, REPORT, fill, lines_of, troubles, waits_to_write
 from wires import local, reset
 
 HEAD = b"HTTP/1.1 200 OK\r\n"
@@ -59,6 +60,15 @@ def answers_of(body: int) -> Callable[[socket.socket], object]:
         client.sendall(HEAD + b"Content-Length: %d\r\n\r\n" % body + b"y" * body)
 
     return script
+
+
+def cut_off(gate: Gateway, text: bytes) -> float:
+    """How long a client has that stops behind this text."""
+    with gate.connect() as client:
+        begun = time.monotonic()
+        client.sendall(text)
+        read_all(client)
+        return time.monotonic() - begun
 
 
 class Edges(Beside):
@@ -142,10 +152,7 @@ class Edges(Beside):
             ("who stops in its head", ends(PLAIN[:9], read_all)),
             ("who stops in its body", ends(half, read_all)),
             ("who leaves before its answer", ends(HELD, leaves_the_backend)),
-            (
-                "who leaves in its answer",
-                ends(b"GET /five HTTP/1.1\r\nHost: h\r\n\r\n", lambda it: reset(it) or it.recv),
-            ),
+            ("who leaves in its answer", ends(b"GET /five HTTP/1.1\r\nHost: h\r\n\r\n", reset)),
         ):
             backend.release.clear()
             with contextlib.suppress(OSError):
@@ -177,11 +184,7 @@ class Edges(Beside):
         text = b""
         while b"] listening " not in text and (piece := os.read(read_end, 4096)):
             text += piece
-        os.set_blocking(write_end, False)
-        with contextlib.suppress(BlockingIOError):
-            while os.write(write_end, b"x" * 4096):
-                pass
-        os.set_blocking(write_end, True)
+        fill(write_end)
         try:
             yield gate
         finally:
@@ -249,14 +252,6 @@ class Edges(Beside):
         for millis in (100, 400):
             words = ("--client-timeout-ms", str(millis))
             gate = self.gateway(backend, workers=4, each=1_000_000, words=words)
-
-            def cut_off(text: bytes) -> float:
-                with gate.connect() as client:
-                    begun = time.monotonic()
-                    client.sendall(text)
-                    read_all(client)
-                    return time.monotonic() - begun
-
             for what, text in (
                 ("silent", b""),
                 ("in its head", PLAIN[:9]),
@@ -265,7 +260,7 @@ class Edges(Beside):
             ):
                 took: list[float] = []
                 while len(took) < TRIES and min(took, default=9) > millis / 1000 + 0.4:
-                    took.append(cut_off(text))
+                    took.append(cut_off(gate, text))
                 self.judge(
                     f"one of {millis} ms that is {what}",
                     True,
@@ -291,7 +286,8 @@ class Edges(Beside):
         """A client that reads nothing of an answer holds its worker for two seconds more where some kilobytes are left
         to be taken, so that none are lost; of a smaller answer nothing is waited for."""
         for body, is_waited in ((6_000, False), (100_000, True)):
-            scripted, took = Scripted(answers_of(body)), []
+            scripted = Scripted(answers_of(body))
+            took: list[float] = []
             gate = self.gateway(scripted, each=1_000_000, words=("--client-timeout-ms", "10000"))
             while len(took) < TRIES and not any(1.5 <= it if is_waited else it < 1 for it in took):
                 with socket.socket() as deaf:
@@ -328,7 +324,7 @@ class Edges(Beside):
         """A backend that rests in its early answer is told behind two seconds that no more comes, and not before; what
         it then still answers is passed on."""
         rested: list[float] = []
-        whole = answer(8 * MEGABYTE, False)
+        whole = response(8 * MEGABYTE, False)
 
         def rests(client: socket.socket) -> None:
             read_head(client)

@@ -66,6 +66,15 @@ def waits_to_write(process: subprocess.Popen[str]) -> bool:
     return False
 
 
+def fill(write_end: int) -> None:
+    """Writes into a pipe until it takes no more."""
+    os.set_blocking(write_end, False)
+    with contextlib.suppress(BlockingIOError):
+        while os.write(write_end, b"x" * 4096):
+            pass
+    os.set_blocking(write_end, True)
+
+
 class Telling(Served):
     """Cases on what the log tells."""
 
@@ -223,11 +232,7 @@ class Telling(Served):
         told = b""
         while b"listening" not in told and (piece := os.read(read_end, 4096)):
             told += piece
-        os.set_blocking(write_end, False)
-        with contextlib.suppress(BlockingIOError):
-            while os.write(write_end, b"x" * 4096):
-                pass
-        os.set_blocking(write_end, True)
+        fill(write_end)
         first = Later(gate.ask, PLAIN)
         until(lambda: waits_to_write(gate.process))
         others = [gate.ask(b"GET / HTTP/1.1\r\n\r\n") for _ in range(20)]

@@ -13,13 +13,13 @@ def number_of(word: str) -> float:
     return WORDS[word.lower()] if word.lower() in WORDS else float(word.replace(",", ""))
 
 
-def constant(file: str, name: str, by: float = 1) -> Callable[[], float]:
+def constant(file: str, name: str, unit: float = 1) -> Callable[[], float]:
     """A constant of a file of the sources, divided by a unit."""
 
     def value() -> float:
         text = (TOP / "crates" / file).read_text(encoding="utf-8")
         found = re.search(rf"const {name}: \w+ = ([\d_]+);", text)
-        return int(found[1]) / by if found else float("nan")
+        return int(found[1]) / unit if found else float("nan")
 
     return value
 
@@ -88,9 +88,14 @@ def of_examples() -> float:
     return sum(1 for it in (TOP / "examples").rglob("*") if it.is_file())
 
 
+def of_installed() -> float:
+    """All that is installed: the examples, and as many more as `tests/install` counts."""
+    return of_examples() + packaged(r"(?m)^all=.*-type f \| wc -l\) \+ (\d+)\)\)$", "tests/install")()
+
+
 # A document, a sentence with a number in each of its groups, and what the numbers are.
 NUMBERS: tuple[tuple[str, str, tuple[Callable[[], float], ...]], ...] = (
-    (OPERATING, r"It lists (\d+) files, (\d+) of them examples", (lambda: of_examples() + 16, of_examples)),
+    (OPERATING, r"It lists (\d+) files, (\d+) of them examples", (of_installed, of_examples)),
     (OPERATING, r"runs (\d+) workers as an unprivileged user", (WORKERS,)),
     (OPERATING, r"starts the program again (\w+) seconds after any end", (RESTARTS,)),
     (OPERATING, r"for (\w+) seconds `/health` is 503 while clients", (AFTER,)),
