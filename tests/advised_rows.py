@@ -115,19 +115,18 @@ OF_ONE_ADDRESS = [
     ("127.0.0.1:8080", "127.0.0.1:8081", ""),
     ("127.0.0.1:8080", "127.0.0.2:8080", ""),
 ]
-WITHOUT_EFFECT = (
-    "serve it with --workers 64 or more, at most 64\n" "wait = false: nobody waits, so backlog = 10 has no effect\n"
-)
+FITTING = "serve it with --workers 64 or more, at most 64\n"
+WITHOUT_EFFECT = FITTING + "wait = false: nobody waits, so backlog = 10 has no effect\n"
 # Of a limit without numbers, behind the addresses of version 3.
 OF_AUTO = [
     (
         lines,
-        'limit.kind = "auto": it goes up to what the workers leave over, at most limit.max; with --workers 64 to '
-        f"{most}\ngreatest limit {most}, shares of it {shares} and backlog {waiting} are {most + shares + waiting} "
-        f"together\n" + on_workers,
+        'limit.kind = "auto": it goes up to what the workers leave over, at most limit.max; '
+        f"with --workers 64 to {most}\ngreatest limit {most}, shares of it {shares} and backlog {waiting} are "
+        f"{most + shares + waiting} together\n" + on_workers,
     )
     for lines, most, shares, waiting, on_workers in [
-        ("backlog = 10\n" + AUTO, 53, 0, 10, "serve it with --workers 64 or more, at most 64\n"),
+        ("backlog = 10\n" + AUTO, 53, 0, 10, FITTING),
         ("backlog = 10\n" + AUTO + "max = 20\n", 20, 0, 10, "serve it with --workers 31 or more, at most 64\n"),
         ("backlog = 10\n" + AUTO + LIVE_OF_TWO, 32, 20, 10, "serve it with --workers 63 or more, at most 64\n"),
         ("backlog = 10\nwait = false\n" + AUTO, 63, 0, 0, WITHOUT_EFFECT),

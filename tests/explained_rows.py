@@ -46,14 +46,17 @@ OF_FAULTS = [
         SETTABLE,
         "min = 9\nmax = 8\n",
         "",
-        "line 7: max = 8\nlimit.max: permits, min to 10000; default 200, of auto what the workers leave over\nhere from 9 to 10000\n",
+        "line 7: max = 8\nlimit.max: permits, min to 10000; default 200, of auto what the workers leave over\n"
+        "here from 9 to 10000\n",
         "value limit.max",
     ),
     (
         SETTABLE,
         "# max = 200\nmin = 9\n#max = 3\n  # min = 1\nmax = 8 # max = 9\n# max = 5\n",
         "",
-        "line 10: max = 8 # max = 9\nlimit.max: permits, min to 10000; default 200\nhere from 9 to 10000\n",
+        "line 10: max = 8 # max = 9\n"
+        "limit.max: permits, min to 10000; default 200, of auto what the workers leave over\n"
+        "here from 9 to 10000\n",
         "value limit.max",
     ),
     (
@@ -188,7 +191,8 @@ OF_FAULTS += [
         SETTABLE,
         "max = 0\n",
         "",
-        "line 6: max = 0\nlimit.max: permits, min to 10000; default 200, of auto what the workers leave over\nhere from 1 to 10000\n",
+        "line 6: max = 0\nlimit.max: permits, min to 10000; default 200, of auto what the workers leave over\n"
+        "here from 1 to 10000\n",
         "value limit.max",
     ),
     (
@@ -395,8 +399,8 @@ OF_FAULTS_OF_THREE = [
         AUTO,
         "[window]\n",
         "",
-        "line 6: [window]\nwindow isn't a key here; those that are: version listen backend backlog wait timeout_ms keep "
-        "promote limit class resolver bypass\n"
+        "line 6: [window]\nwindow isn't a key here; those that are: version listen backend backlog wait timeout_ms "
+        "keep promote limit class resolver bypass\n"
         'limit.kind = "auto" counts windows of its own, of as many answers as the limit\n',
         "unknown window",
     ),

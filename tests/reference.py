@@ -132,24 +132,28 @@ class Vegas(Fixed):
 class Auto(Fixed):
     """A limit without numbers: by the queue that a window of answers shows above the time of an answer without one."""
 
+    # What is known of the backend: nothing at first.
+    top = base = base_top = calm = rough = left_out = last = roof = roof_left = 0
+    every, pace, roof_every, dips = 1, 4, 4, False
+
     def __init__(self, least: int, first: int, most: int) -> None:
         super().__init__(first)
         self.least, self.most = least, most
+        self.answers: list[tuple[int, int, int]] = []
+        self.drops: list[int] = []
         self.forget()
 
     def forget(self) -> None:
         """Nothing is known of the backend."""
         self.top = self.first
-        self.base = self.base_top = 0
-        self.dips, self.calm, self.every = False, 0, 1
-        self.pace, self.rough, self.left_out, self.last = 4, 0, 0, 0
-        self.roof, self.roof_left, self.roof_every = 0, 0, 4
+        self.base = self.base_top = self.calm = self.rough = self.left_out = self.last = 0
+        self.roof = self.roof_left = 0
+        self.every, self.pace, self.roof_every, self.dips = 1, 4, 4, False
         self.clear()
 
     def clear(self) -> None:
         """A window begins: its answers, each with the step from the one before, and its quick drops."""
-        self.answers: list[tuple[int, int, int]] = []
-        self.drops: list[int] = []
+        self.answers, self.drops = [], []
         self.see()
 
     def see(self) -> None:
@@ -223,7 +227,7 @@ class Auto(Fixed):
         self.base, self.base_top, self.calm, self.dips = mean, low, 0, False
 
     def measure(self, mean: int) -> None:
-        """The base is what answers take under a limit as low as when it was measured, or where they take less than half."""
+        """The base is what answers take under a limit as low as when it was measured, or less than half of it."""
         if not self.base or self.top <= self.base_top or 2 * mean < self.base:
             self.base_top = min(self.base_top or self.top, self.top)
             self.base, self.every, self.calm = mean, 1, 0
