@@ -86,16 +86,22 @@ where
     };
     let AcceptedClient { stream, ends } = client;
     let caller = Peer { stream: &stream };
-    let mut client = Client::open(&stream, ends, &Unhurried {}, &time, buffers);
+    let patience = Unhurried {};
+    let client = Client::open(&stream, ends, &patience, &time, buffers);
+    let Client {
+        mut reader,
+        mut writer,
+    } = client;
     let attended = attend(
         common.alloc,
         common.audience,
         common.page,
         desk,
         &caller,
-        &mut client.reader,
-        &mut client.writer,
+        &mut reader,
+        &mut writer,
     );
+    let client = Client { reader, writer };
     let left = client.close();
     if attended.answer.is_some() && attended.is_written {
         let is_unread = !attended.is_read || buffers.has_unread();

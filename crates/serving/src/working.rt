@@ -204,7 +204,11 @@ where
         watch: common.watch,
     };
     let AcceptedClient { stream, ends } = client;
-    let mut client = Client::open(&stream, ends, &patience, &time, buffers);
+    let client = Client::open(&stream, ends, &patience, &time, buffers);
+    let Client {
+        mut reader,
+        mut writer,
+    } = client;
     let mut looks = Looks::new(common.clock);
     let served = exchange(
         common.alloc,
@@ -212,9 +216,10 @@ where
         backend,
         settings,
         &mut looks,
-        &mut client.reader,
-        &mut client.writer,
+        &mut reader,
+        &mut writer,
     );
+    let client = Client { reader, writer };
     let left = client.close();
     let served = with_flush_result(left.is_sent, served);
     if is_answered(&served) {
