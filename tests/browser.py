@@ -55,7 +55,8 @@ class Browser:
         return self
 
     def __exit__(self, *_: object) -> None:
-        self.process.terminate()
+        with contextlib.suppress(OSError, RuntimeError, queue.Empty):
+            self.call("Browser.close")
         with contextlib.suppress(subprocess.TimeoutExpired):
             self.process.wait(PATIENCE)
         self.process.kill()
@@ -111,7 +112,7 @@ class Tab:
         thrown = told.get("exceptionDetails")
         return thrown["exception"]["description"] if thrown else told["result"].get("value")
 
-    def comes_to(self, expression: str, wanted: object, seconds: float = PATIENCE) -> object:
+    def comes_to(self, expression: str, wanted: object, seconds: float = 3 * PATIENCE) -> object:
         """The value of an expression once it is the wanted one, or as it is after so long."""
         until(lambda: self.value(expression) == wanted, seconds=seconds)
         return self.value(expression)
