@@ -1,5 +1,5 @@
 -- What `check` answers a configuration.
-use Rattle.std.specs.Prelude.{◌≡◌, ◌⊎◌, ℕ, Bool, true, false, List, Option, Ok}
+use Rattle.std.specs.Prelude.{◌≡◌, ◌⊎◌, ℕ, Bool, true, false, List, [], Option, Ok}
 use Rattle.counted_io.specs.declared.counted.Counted.{Counted}
 use Rattle.counted_io.specs.Causes.{IsWriteCause}
 use Rattle.counted_io.specs.Counted.{failures_of, inner_of, is_flushed}
@@ -9,6 +9,7 @@ use Rattle.config_check.specs.declared.check_fault.CheckFault.{CheckFault}
 use Rattle.config_check.specs.declared.check_fault.CheckFault.TheVariants as Check
 use Rattle.config_check.specs.Accepted.{accepted_line}
 use Rattle.config_check.specs.CheckFault.{check_fault_text}
+use Rattle.config_explain.specs.Explained.{IsExplained}
 use Rattle.config_file.specs.declared.file_fault.FileFault.{FileFault}
 use Rattle.config_file.specs.Reading.{Held, IsFaultOf, IsUnreadFile, Says}
 use Rattle.fault_lines.specs.FaultLine.{IsTold, fault_line}
@@ -26,19 +27,23 @@ abbrev pub IsWhy : {W : Type 0} → Counted W → Counted W → List ℕ → Che
 IsWhy old new bytes (Check.File fault) = (new ≡ old) × IsFaultOf bytes fault
 IsWhy old new bytes Check.Write = IsWriteCause old new × (s : Settings) × Says bytes (Ok s)
 
--- WORDS FIRST: if an explanation is asked for, words are written, and behind them all that `P`
--- says; else `P` says it from the start
-abbrev pub AfterWords : {W : Type 0} → Bool → (W → Option (List ℕ)) → Counted W
+-- the words explain these bytes; out of memory there are none
+abbrev pub AreWordsOn : List ℕ → List ℕ → Type 0
+AreWordsOn bytes words = (words ≡ []) ⊎ IsExplained bytes words
+
+-- WORDS FIRST: if an explanation is asked for, words on these bytes are written, and behind them
+-- all that `P` says; else `P` says it from the start
+abbrev pub AfterWords : {W : Type 0} → Bool → (W → Option (List ℕ)) → List ℕ → Counted W
     → (Counted W → Type 0) → Type 0
-AfterWords false contents old P = P old
-AfterWords true contents old P =
-    (between : Counted _) × (words : List ℕ) × Wrote contents old between words × P between
+AfterWords false contents bytes old P = P old
+AfterWords true contents bytes old P = (between : Counted _) × (words : List ℕ)
+    × AreWordsOn bytes words × Wrote contents old between words × P between
 
 -- ACCEPTED: the line of the settings is written, behind the words
 abbrev pub IsAcceptedAfter : {W : Type 0} → Bool → (W → Option (List ℕ)) → Counted W → Counted W
     → List ℕ → Type 0
 IsAcceptedAfter explain contents old new bytes =
-    AfterWords explain contents old (λ between. IsAccepted contents between new bytes)
+    AfterWords explain contents bytes old (λ between. IsAccepted contents between new bytes)
 
 -- WHY NOT: behind the words it is why the bytes aren't accepted; or the words weren't written
 abbrev pub IsWhyAfter : {W : Type 0} → Bool → (W → Option (List ℕ)) → Counted W → Counted W
@@ -46,7 +51,7 @@ abbrev pub IsWhyAfter : {W : Type 0} → Bool → (W → Option (List ℕ)) → 
 IsWhyAfter false contents old new bytes fault = IsWhy old new bytes fault
 IsWhyAfter true contents old new bytes fault =
     ((fault ≡ Check.Write) × IsWriteCause old new)
-    ⊎ AfterWords true contents old (λ between. IsWhy between new bytes fault)
+    ⊎ AfterWords true contents bytes old (λ between. IsWhy between new bytes fault)
 
 -- why the configuration of a file isn't accepted, which couldn't be opened, or was: its bytes were
 -- not had, and then nothing but an explanation is written; or no read failed, and it is why its

@@ -1,7 +1,8 @@
 // The words of an explanation, written.
-ghost use Rattle.std.specs.Prelude.{◌≡◌, false, ℕ, List, OnErr, OnOk};
+ghost use Rattle.std.specs.Prelude.{◌≡◌, false, ℕ, List, OnErr, OnOk, string_bytes};
 ghost use Rattle.counted_io.specs.Effects.{Wrote};
 ghost use Rattle.counted_io.specs.Causes.{IsWriteCause};
+ghost use Rattle.config_check.specs.Check.{AreWordsOn};
 
 use config_explain::explanation;
 use config_file::why_unread;
@@ -16,14 +17,22 @@ pub(crate) fn write_explanation<W: Write>(
     bytes: &[u8],
     writer: &mut Counted<W>,
 ) -> Result<(), WriteFault>
-    ensures all { OnOk result ((words : List ℕ) × Wrote W.contents writer.old writer.new words) }
+    ensures all { OnOk result ((words : List ℕ) × AreWordsOn bytes.now words
+        × Wrote W.contents writer.old writer.new words) }
     ensures failed { OnErr result (IsWriteCause writer.old writer.new) }
 {
-    let words = match explanation(alloc, bytes) {
+    let words = words_on(alloc, bytes);
+    write_and_flush(writer, words.as_bytes())
+}
+
+/// What there is to say of the bytes of a configuration; nothing where it is out of memory.
+fn words_on(alloc: Global, bytes: &[u8]) -> String
+    ensures { AreWordsOn bytes.now (string_bytes result) }
+{
+    match explanation(alloc, bytes) {
         Ok(words) => words,
         Err(_) => String::new(alloc),
-    };
-    write_and_flush(writer, words.as_bytes())
+    }
 }
 
 /// Writes why a file can't be read, if that is asked for, and if it can be.

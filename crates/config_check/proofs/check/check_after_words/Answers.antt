@@ -7,14 +7,14 @@ pub returns-in-Ok-clause-accepted : goal.returns-in-Ok-clause-accepted
 returns-in-Ok-clause-accepted g c =
     let words = c.in-Ok.ensures.all in
     accepted_behind g.W.Write.contents c.args.writer.now c.write_explanation.new.writer
-    c.check_bytes.new.writer words.0 c.args.bytes.now c.check_bytes.result words.1
+    c.check_bytes.new.writer words.0 c.args.bytes.now c.check_bytes.result words.1 words.2
     c.check_bytes.ensures.accepted
 
 pub returns-in-Ok-clause-refused : goal.returns-in-Ok-clause-refused
 returns-in-Ok-clause-refused g c =
     let words = c.in-Ok.ensures.all in
     why_behind g.W.Write.contents c.args.writer.now c.write_explanation.new.writer
-    c.check_bytes.new.writer words.0 c.args.bytes.now c.check_bytes.result words.1
+    c.check_bytes.new.writer words.0 c.args.bytes.now c.check_bytes.result words.1 words.2
     c.check_bytes.ensures.refused
 
 pub returns-in-Err-clause-accepted : goal.returns-in-Err-clause-accepted
