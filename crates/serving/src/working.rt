@@ -15,7 +15,8 @@ use std::alloc::{AllocError, Global};
 use std::thread;
 use std::time::{Clock as SystemClock, Duration};
 use timed_io::{
-    AcceptedClient, Client, ClientBuffers, ClientTime, Connection, Inlet, Outlet, Patience,
+    AcceptedClient, Client, ClientBuffers, ClientEnds, ClientTime, Connection, Inlet, Outlet,
+    Patience,
 };
 use wire::{Backend, WireFault};
 
@@ -196,15 +197,56 @@ where
         })
         result.1 }
 {
-    let time = ClientTime {
-        clock: common.clock,
-        most_ns: common.client_timeout_ns,
-    };
     let patience = FreeWorkers {
         watch: common.watch,
     };
     let AcceptedClient { stream, ends } = client;
-    let client = Client::open(&stream, ends, &patience, &time, buffers);
+    let (ends, served) = serve_over(
+        common, settings, &stream, ends, &patience, port, backend, buffers,
+    );
+    (AcceptedClient { stream, ends }, served)
+}
+
+/// The same over a connection and its ends, by somebody's patience with who sends nothing.
+fn serve_over<'s, T, I, O, P, B, C, L, S, W, A>(
+    common: &WorkerSettings<'_, L, C, S, W>,
+    settings: &Settings,
+    stream: &'s T,
+    ends: ClientEnds<I, O>,
+    patience: &'s A,
+    port: &mut P,
+    backend: &mut B,
+    buffers: &mut ClientBuffers,
+) -> (ClientEnds<I, O>, Exchange)
+where
+    T: Connection,
+    I: Inlet<T> + Copy,
+    O: Outlet<T> + Copy,
+    P: GatePort,
+    B: Backend,
+    C: Clock,
+    A: Patience,
+    ensures { IsServed settings.now (I.remaining (from_of ends)) (O.contents (to_of ends))
+        (O.contents (to_of result.0))
+        (record {
+          shown = P.shown port.old;
+          known = P.known port.old;
+          count = B.forwarded backend.old;
+          log = B.shown backend.old;
+        })
+        (record {
+          shown = P.shown port.new;
+          known = P.known port.new;
+          count = B.forwarded backend.new;
+          log = B.shown backend.new;
+        })
+        result.1 }
+{
+    let time = ClientTime {
+        clock: common.clock,
+        most_ns: common.client_timeout_ns,
+    };
+    let client = Client::open(stream, ends, patience, &time, buffers);
     let Client {
         mut reader,
         mut writer,
@@ -224,10 +266,9 @@ where
     let served = with_flush_result(left.is_sent, served);
     if is_answered(&served) {
         let is_unread = served.class.is_none() || buffers.has_unread();
-        left.ends.linger(&stream, &time, is_unread, left.sent);
+        left.ends.linger(stream, &time, is_unread, left.sent);
     }
-    let ends = left.ends;
-    (AcceptedClient { stream, ends }, served)
+    (left.ends, served)
 }
 
 /// The workers that are free for others than who sends nothing.

@@ -2,7 +2,7 @@ use Rattle.std.proofs.Common.{rules, ◌≡◌, ◌∙◌, [], true, ap, sym}
 use Rattle.counted_io.specs.Counted.{inner_of}
 use Rattle.lent_io.specs.Through.{pending_of}
 use Rattle.serving.proofs.Told.{is_fresh, sent_all, served}
-use Rattle.serving.proofs.working.serve_client.Goals as goal
+use Rattle.serving.proofs.working.serve_over.Goals as goal
 
 pub returns : goal.returns
 returns g c =
