@@ -89,7 +89,8 @@ class Ending(Sockets):
                 client.sendall(WHOLE["length"])
 
         stopping = Scripted(first_stops)
-        gate = self.gateway(stopping, ONE, each=3, words=("--backend-timeout-ms", str(LIMIT)))
+        # The call between two late ones is in time on a machine with other work too.
+        gate = self.gateway(stopping, ONE, each=3, words=("--backend-timeout-ms", "3000"))
         held = b"GET /held HTTP/1.1\r\nHost: h\r\n\r\n"
         found = [gate.ask(it) for it in (held, PLAIN, held)]
         self.judge("a late call, another and a late one", [local(504), passed_on(BODY), local(504)], found)

@@ -42,17 +42,21 @@ class Lingering(Served):
 
     def lingers_through_a_stop(self, backend: Backend) -> None:
         """A gateway that is stopped and goes on while it lingers goes on lingering."""
-        gate = self.gateway(backend)
-        with gate.connect() as client:
-            client.sendall(NO_HOST)
-            self.judge("a request without a host", local(400), read_all(client))
-            for _ in range(3):
-                time.sleep(0.1)
-                gate.process.send_signal(signal.SIGSTOP)
-                time.sleep(0.1)
-                gate.process.send_signal(signal.SIGCONT)
-            self.judge("it may send more behind a stop", None, breaks_behind(client))
-        self.judge("counters of who was answered early", {}, gate.ending())
+        broke: list[str | None] = []
+        # On a machine with other work the two seconds may be over by then.
+        while len(broke) < TRIES and None not in broke:
+            gate = self.gateway(backend)
+            with gate.connect() as client:
+                client.sendall(NO_HOST)
+                self.judge("a request without a host", local(400), read_all(client))
+                for _ in range(3):
+                    time.sleep(0.1)
+                    gate.process.send_signal(signal.SIGSTOP)
+                    time.sleep(0.1)
+                    gate.process.send_signal(signal.SIGCONT)
+                broke.append(breaks_behind(client))
+            self.judge("counters of who was answered early", {}, gate.ending())
+        self.judge("it may send more behind a stop", True, None in broke or broke)
 
     def lingers_no_longer_than_a_client_may(self, backend: Backend) -> None:
         """The client's own time bounds how long it holds a worker, where that is less than two seconds."""
