@@ -44,7 +44,7 @@ macro_rules! key_row {
     } };
     (LimitMax [$($row:tt)*] $($given:tt)*) => { $($row)*! { $($given)*
         LimitMax "  max           " "permits, "
-            [min to 10000; default 200, of auto what the workers leave over] help ". Not of fixed";
+            [min to 10000; default 200, of auto what the workers leave over] help ". Not fixed";
     } };
     (LimitInitial [$($row:tt)*] $($given:tt)*) => { $($row)*! { $($given)*
         LimitInitial "  initial       " "permits, "
