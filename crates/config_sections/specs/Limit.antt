@@ -70,7 +70,8 @@ limit_behind kind t = result_map limit_from (values_behind kind number_rows t)
 -- the kind
 abbrev pub limit_names : LimitSpec → List (List ℕ)
 limit_names spec =
-    names_of (limit_rows Three) ((codes "kind", text_is (kind_word (base_kind (first_limit spec)))) ∷ [])
+    names_of (limit_rows Three)
+    ((codes "kind", text_is (kind_word (base_kind (first_limit spec)))) ∷ [])
 
 -- the kind and the limits of a limit that moves by numbers, as values
 abbrev pub moving_values : LimitKind → Limits → Values

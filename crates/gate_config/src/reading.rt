@@ -34,12 +34,12 @@ const MILLI: u64 = 1_000_000;
 /// The settings that a text of version 1, 2 or 3 holds.
 ///
 /// The faults, of which the first is reported: [`ConfigFault::Toml`] for a text that isn't TOML in
-/// UTF-8; [`ConfigFault::Version`] unless `version` is 1, 2 or 3; then key by key in the order of the
-/// keys, an array's members one after the other, [`ConfigFault::Missing`], [`ConfigFault::Kind`]
-/// and [`ConfigFault::Value`]; [`ConfigFault::Unknown`] for the least path that isn't allowed;
-/// [`ConfigFault::Route`] for patterns that can't stand together. [`ConfigFault::Memory`] comes
-/// where it is out of memory for the table of the text, and otherwise as [`settings_in`] says; a
-/// text of white space and comments alone never asks for any.
+/// UTF-8; [`ConfigFault::Version`] unless `version` is 1, 2 or 3; then key by key in the order of
+/// the keys, an array's members one after the other, [`ConfigFault::Missing`],
+/// [`ConfigFault::Kind`] and [`ConfigFault::Value`]; [`ConfigFault::Unknown`] for the least path
+/// that isn't allowed; [`ConfigFault::Route`] for patterns that can't stand together.
+/// [`ConfigFault::Memory`] comes where it is out of memory for the table of the text, and otherwise
+/// as [`settings_in`] says; a text of white space and comments alone never asks for any.
 pub fn read(alloc: Global, bytes: &[u8]) -> Result<Settings, ConfigFault>
     ensures settings { (t : Members) → Reads bytes.now t →
         Answers (λ settings. settings) (settings_of t) result }

@@ -34,8 +34,8 @@ fn gate_settings(settings: &Settings, workers: u32) -> Result<GateSettings<AnyLi
 }
 
 /// The gate of these settings before so many workers, which rolls, with so many passes, by which no
-/// call was made yet. A book gives at most a million; where it gives fewer than are asked for, that is out of memory
-/// too.
+/// call was made yet. A book gives at most a million; where it gives fewer than are asked for, that
+/// is out of memory too.
 pub fn open_gate<M: GateNaming>(
     alloc: Global,
     settings: &Settings,

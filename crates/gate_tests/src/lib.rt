@@ -1,7 +1,7 @@
 //! Tests of a gate by its public calls: its book, calls through the lock by worked rows and by four
 //! threads at random, what a pass has seen, when who waits is woken, how it is closed, a port over
-//! it, and the windows of its limit. What clients, backends and operators see, the scripts of `tests/` try by
-//! the program.
+//! it, and the windows of its limit. What clients, backends and operators see, the scripts of
+//! `tests/` try by the program.
 #![tactic(auto)]
 
 #[cfg(test)]

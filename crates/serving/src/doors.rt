@@ -41,7 +41,8 @@ pub trait Accepts {
             ≡ (if is_ok result then raised (given self.old) else given self.old) }
         ensures failed { failed self.new ≡ raised_by_err result (failed self.old) }
         ensures arrived { IfOk result (λ client.
-            Arrives (visits self.old) (visits self.new) (Self.From.remaining (from_of client.ends))) }
+            Arrives (visits self.old) (visits self.new)
+            (Self.From.remaining (from_of client.ends))) }
         ensures unwritten { IfOk result (λ client.
             IfSome (Self.To.contents (to_of client.ends)) (λ written. written ≡ [])) }
         ensures missed { OnErr result (Misses (visits self.old) (visits self.new)) };

@@ -283,8 +283,8 @@ impl<W: Watch> Patience for FreeWorkers<'_, W> {
     }
 }
 
-/// Whether the client was answered, as far as is known, and is to get to read its answer, though its
-/// request wasn't read whole, or more than it lies in the buffer or comes.
+/// Whether the client was answered, as far as is known, and is to get to read its answer, though
+/// its request wasn't read whole, or more than it lies in the buffer or comes.
 fn is_answered(served: &Exchange) -> bool {
     served.answer.is_some() && served.written_fault.is_none()
 }

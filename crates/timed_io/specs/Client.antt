@@ -27,7 +27,8 @@ abbrev pub unread_of : {S I C P : Type 0} → (I → Option (List ℕ))
 unread_of remaining reader =
     left_of (λ below. remaining (end_of (first_in (reader_in (uninterrupted_in below))))) reader
 
--- what was written to a client, where its end tells that: what was sent, and what lies in the buffer
+-- what was written to a client, where its end tells that: what was sent, and what lies in the
+-- buffer
 abbrev pub written_of : {S O C : Type 0} → (O → Option (List ℕ))
     → BufferedWrite (Uninterrupted (TimedWriter (Lent S O) C)) → Option (List ℕ)
 written_of contents writer =

@@ -34,9 +34,9 @@ pub trait Connection {
     /// Whether bytes of the other side lie unread. It waits for none, and reads none.
     fn has_unread(&self) -> bool;
 
-    /// Whether the other side has left: it has ended what it sends, and nothing of that lies unread,
-    /// or the connection is broken. It waits for nothing, and reads none. Who closes the connection
-    /// and who only ends what it sends look alike.
+    /// Whether the other side has left: it has ended what it sends, and nothing of that lies
+    /// unread, or the connection is broken. It waits for nothing, and reads none. Who closes the
+    /// connection and who only ends what it sends look alike.
     fn has_left(&self) -> bool;
 
     /// Whether the other side hasn't acknowledged what was sent, but for a kilobyte or two, and may

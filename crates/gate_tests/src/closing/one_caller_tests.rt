@@ -1,6 +1,6 @@
-// A gate of two calls is closed: each fault of what is handed in is told, and history and lists come
-// back. The calls are an acquire and its ending, or two looks at a gate that rolls, of which one
-// entry is kept: it isn't accepted.
+// A gate of two calls is closed: each fault of what is handed in is told, and history and lists
+// come back. The calls are an acquire and its ending, or two looks at a gate that rolls, of which
+// one entry is kept: it isn't accepted.
 use super::handing::{Handing, are_handed_back, closed};
 use crate::callers::{Caller, acquire_and_end, look};
 use crate::gates::{Trial, fixed, next_of, try_at};
