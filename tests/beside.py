@@ -159,8 +159,8 @@ class Beside(Operating):
         """Clients come until a drain's delay is over, though it isn't healthy, and other operators are served."""
         gate = self.operated(backend)
         begun = time.monotonic()
-        later = Later(gate.call, "POST /drain?after-ms=3000")
-        self.judge("health at once", True, until(lambda: gate.call("GET /health") == told(CLOSING), seconds=2))
+        later = Later(gate.call, "POST /drain?after-ms=6000")
+        self.judge("health at once", True, until(lambda: gate.call("GET /health") == told(CLOSING), seconds=3))
         served = 0
         while time.monotonic() - begun < 2.5:
             self.judge("a client meanwhile", passed_on(BODY), gate.ask(PLAIN))
@@ -168,11 +168,11 @@ class Beside(Operating):
             self.judge("health meanwhile", told(CLOSING), gate.call("GET /health"))
             time.sleep(0.1)
         self.judge("metrics meanwhile", served, gate.metrics()["decisions_total"]["admitted"])
-        self.judge("the drain's answer", (told(DRAINED), True), (later.result(), time.monotonic() - begun >= 3))
+        self.judge("the drain's answer", (told(DRAINED), True), (later.result(), time.monotonic() - begun >= 6))
         self.judge("who comes then", "refused", or_refused(gate.ask, PLAIN))
         self.judge("counters of a drain", {"admitted": served, "success": served}, gate.ending())
         lines = [it for it in gate.log if "drains" in it]
-        self.judge("the log", ["[WARN  admission] the operator drains the gateway after_ms=3000"], lines)
+        self.judge("the log", ["[WARN  admission] the operator drains the gateway after_ms=6000"], lines)
 
     def drains_before_its_delay(self, backend: Backend) -> None:
         """A drain that is to come is brought forward by another one, and by the end of all workers."""
