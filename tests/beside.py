@@ -160,7 +160,7 @@ class Beside(Operating):
         gate = self.operated(backend)
         begun = time.monotonic()
         later = Later(gate.call, "POST /drain?after-ms=6000")
-        self.judge("health at once", True, until(lambda: gate.call("GET /health") == told(CLOSING), seconds=3))
+        self.judge("health at once", True, until(lambda: gate.call("GET /health") == told(CLOSING), seconds=2))
         served = 0
         while time.monotonic() - begun < 2.5:
             self.judge("a client meanwhile", passed_on(BODY), gate.ask(PLAIN))
