@@ -1,5 +1,4 @@
 pub mod Roots
 pub mod Steps
 pub mod Drops
-pub mod Rises
 pub mod Windows
