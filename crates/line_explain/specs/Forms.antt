@@ -4,7 +4,7 @@ use Rattle.std.specs.List.{list_any}
 use Rattle.std.specs.Borrow.{Bor}
 use Rattle.limit_laws.specs.Facts.{hour}
 use Rattle.limit_laws.specs.Algorithm.{greatest_limit}
-use Rattle.sample_window.specs.Totals.{most_samples}
+use Rattle.windowed.specs.Totals.{most_samples}
 use Rattle.aimd.specs.AimdRules.{least_ratio, greatest_ratio}
 use Rattle.vegas.specs.VegasRules.{most_queue, most_probe}
 use Rattle.script.specs.Words.{is_number}
