@@ -2,7 +2,7 @@ use Rattle.std.proofs.Common.{◌∙◌, ap, rules, tests, find, option_map}
 use Rattle.std.proofs.lemmas.Iterator.{YieldsList-from_slice}
 use Rattle.std.proofs.lemmas.Iterator.Search.{find_from_yields_List}
 use Rattle.script.specs.Words.{words}
-use Rattle.line_explain.specs.Forms.{form_of}
+use Rattle.script.specs.Forms.{form_of}
 use Rattle.line_explain.specs.Outside.{is_whole}
 use Rattle.line_explain.proofs.Reaching.{find_of_map}
 use Rattle.line_explain.proofs.value.form_had.Goals as goal

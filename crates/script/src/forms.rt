@@ -1,8 +1,8 @@
 // The forms of lines: the one table of what stands at each place.
 ghost use Rattle.std.specs.Prelude.{◌≡◌, map};
-ghost use Rattle.line_explain.specs.Forms.{form_of, forms_of};
+ghost use Rattle.script.specs.Forms.{form_of, forms_of};
 
-use crate::place::{Bound, Number, WordPlace};
+use crate::place::{NumberPlace, RangeEnd, WordPlace};
 use config_words::key_row;
 use limit_laws::HOUR;
 
@@ -25,11 +25,11 @@ macro_rules! word {
 /// The place of a number in a range.
 macro_rules! number {
     ($name:literal, $held:literal, $low:expr, $high:expr) => {
-        WordPlace::Number(Number {
+        WordPlace::Number(NumberPlace {
             name: $name,
             held: $held,
-            low: Bound::At($low),
-            high: Bound::At($high),
+            low: RangeEnd::At($low),
+            high: RangeEnd::At($high),
         })
     };
 }
@@ -73,11 +73,11 @@ macro_rules! number_of_row {
         $name:literal [$low:literal] $key:ident $start:literal $held:literal
             [$before:ident to $most:literal; $($default:tt)*] $(help $help:literal)?;
     ) => {
-        WordPlace::Number(Number {
+        WordPlace::Number(NumberPlace {
             name: $name,
             held: $held,
-            low: Bound::Of($low),
-            high: Bound::At($most),
+            low: RangeEnd::Of($low),
+            high: RangeEnd::At($most),
         })
     };
 }
@@ -100,11 +100,11 @@ const HELD: WordPlace = number!(
 );
 
 /// The longest time that a window lasts.
-const LONGEST: WordPlace = WordPlace::Number(Number {
+const LONGEST: WordPlace = WordPlace::Number(NumberPlace {
     name: "MAX",
     held: "the longest window in nanoseconds, ",
-    low: Bound::Of(2),
-    high: Bound::At(HOUR),
+    low: RangeEnd::Of(2),
+    high: RangeEnd::At(HOUR),
 });
 
 /// How a permit ends.
@@ -192,7 +192,7 @@ static TRACE: [&[WordPlace]; 15] = with_settings![
 ];
 
 /// The forms that the lines of a text have.
-pub(crate) fn forms(kind: TextKind) -> &'static [&'static [WordPlace]]
+pub fn line_forms(kind: TextKind) -> &'static [&'static [WordPlace]]
     ensures { map form_of result.now ≡ forms_of kind }
 {
     match kind {

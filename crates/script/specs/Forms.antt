@@ -8,19 +8,19 @@ use Rattle.windowed.specs.Totals.{most_samples}
 use Rattle.aimd.specs.AimdRules.{least_ratio, greatest_ratio}
 use Rattle.vegas.specs.VegasRules.{most_queue, most_probe}
 use Rattle.script.specs.Words.{is_number}
-use Rattle.line_explain.specs.declared.forms.TextKind.{TextKind}
-use Rattle.line_explain.specs.declared.forms.TextKind.TheVariants.{Script, Trace}
-use Rattle.line_explain.specs.declared.place.Bound.{Bound}
-use Rattle.line_explain.specs.declared.place.Bound.TheVariants.{At, Of}
-use Rattle.line_explain.specs.declared.place.WordPlace.{WordPlace}
-use Rattle.line_explain.specs.declared.place.WordPlace.TheVariants.{Words, Number, Name, Class}
+use Rattle.script.specs.declared.forms.TextKind.{TextKind}
+use Rattle.script.specs.declared.forms.TextKind.TheVariants.{Script, Trace}
+use Rattle.script.specs.declared.place.RangeEnd.{RangeEnd}
+use Rattle.script.specs.declared.place.RangeEnd.TheVariants.{At, Of}
+use Rattle.script.specs.declared.place.WordPlace.{WordPlace}
+use Rattle.script.specs.declared.place.WordPlace.TheVariants.{Words, Number, Name, Class}
 
 -- what is wanted at a place of a line: one of some words, a number in a range, of which an end may
 -- be the number at an earlier place, the name of a class that the line brings, or that of a class
 -- that is known
 pub data Wanted : Type 0 where
   one_of : List (List ℕ) → Wanted
-  number : Bound → Bound → Wanted
+  number : RangeEnd → RangeEnd → Wanted
   name : Wanted
   class : Wanted
 

@@ -2,7 +2,7 @@
 
 /// An end of a range.
 #[derive(Clone, Copy)]
-pub(crate) enum Bound {
+pub enum RangeEnd {
     /// This number.
     At(u64),
     /// The number at an earlier place of the line, counted from 0.
@@ -11,20 +11,20 @@ pub(crate) enum Bound {
 
 /// A number of a line: what the form calls it, what it counts, and its range.
 #[derive(Clone, Copy)]
-pub(crate) struct Number {
-    pub(crate) name: &'static str,
-    pub(crate) held: &'static str,
-    pub(crate) low: Bound,
-    pub(crate) high: Bound,
+pub struct NumberPlace {
+    pub name: &'static str,
+    pub held: &'static str,
+    pub low: RangeEnd,
+    pub high: RangeEnd,
 }
 
 /// What stands at a place of a line.
 #[derive(Clone, Copy)]
-pub(crate) enum WordPlace {
+pub enum WordPlace {
     /// One of these words.
     Words(&'static [&'static str]),
     /// A number.
-    Number(Number),
+    Number(NumberPlace),
     /// The name of a class that the line brings.
     Name,
     /// The name of a class that is known, or `unknown`.
