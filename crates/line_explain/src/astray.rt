@@ -5,7 +5,7 @@ ghost use Rattle.script.specs.Words.{words};
 ghost use Rattle.script.specs.Forms.{fits, form_of, wanted_at};
 ghost use Rattle.line_explain.specs.Astray.{astray, reach};
 
-use script::{TextKind, WordPlace, forms, read_number};
+use script::{TextKind, WordPlace, line_forms, read_number};
 
 /// Whether a word is this one.
 fn is_word(word: &[u8], wanted: &str) -> bool

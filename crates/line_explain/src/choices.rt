@@ -1,6 +1,6 @@
 // What the forms want at a place.
 use crate::astray::reach;
-use script::{NumberPlace, RangeEnd, TextKind, WordPlace, forms};
+use script::{NumberPlace, RangeEnd, TextKind, WordPlace, line_forms};
 use std::alloc::AllocError;
 
 /// What may stand at a place.
@@ -151,7 +151,7 @@ pub(crate) fn push_held(
 
 /// Says an end of a range.
 fn push_bound(out: &mut String, form: &[WordPlace], end: RangeEnd) -> Result<(), AllocError> {
-    match bound {
+    match end {
         RangeEnd::At(number) => write!(out, "{number}"),
         RangeEnd::Of(place) => match form.get(place) {
             Some(WordPlace::Number(number)) => out.push_str(number.name),

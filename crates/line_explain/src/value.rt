@@ -8,7 +8,7 @@ use crate::astray::{count_words, is_filled, is_space, reach, word_at};
 use crate::choices::push_held;
 use config_words::key_row;
 use partitions::is_name;
-use script::{NumberPlace, RangeEnd, TextKind, WordPlace, forms, read_number};
+use script::{NumberPlace, RangeEnd, TextKind, WordPlace, line_forms, read_number};
 use std::alloc::AllocError;
 
 /// What the key of a row holds.
@@ -68,9 +68,9 @@ fn is_within(line: &[u8], place: WordPlace, word: &[u8]) -> bool
 
 /// The number that an end of a range is in a line.
 fn end_at(line: &[u8], end: RangeEnd) -> u64
-    ensures { result ≡ end_at (words line.now) bound }
+    ensures { result ≡ end_at (words line.now) end }
 {
-    match bound {
+    match end {
         RangeEnd::At(number) => number,
         RangeEnd::Of(place) => number_at(line, place).unwrap_or(0),
     }
