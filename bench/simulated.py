@@ -17,6 +17,7 @@ import sys
 from backends import FURTHER, PLAIN, Backend
 from virtual import DRAG, SECOND, Run
 from virtual import Backend as Plain
+from wayward import Pace
 
 WAY = SECOND // 2000
 AUTO = "limit auto 1 4 53"
@@ -32,7 +33,7 @@ class Simulated(Run):
         self.draw = random.Random(1)
         self.came: dict[int, int] = {}
         self.answers: list[int] = []
-        self.ready, self.since = 0.0, 0
+        self.pace = Pace(backend.faults.pace) if backend.faults.pace is not None else None
 
     def stopped(self, at: int) -> int:
         """The moment, or the end of the stop that it lies in."""
@@ -41,17 +42,9 @@ class Simulated(Run):
         return ten * 10 * SECOND + int(self.it.stops * SECOND) if is_in else at
 
     def is_too_many(self, now: int) -> bool:
-        faults = self.it.faults
-        if faults.most is not None and self.busy + len(self.queue) >= faults.most:
-            return True
-        if faults.pace is None:
-            return False
-        self.ready = min(1 + faults.pace / 10, self.ready + (now - self.since) / SECOND * faults.pace)
-        self.since = now
-        if self.ready < 1:
-            return True
-        self.ready -= 1
-        return False
+        most = self.it.faults.most
+        is_full = most is not None and self.busy + len(self.queue) >= most
+        return is_full or bool(self.pace and not self.pace.takes(now / SECOND))
 
     def forward(self, now: int, number: int) -> None:
         """The backend takes a call, or answers it at once."""

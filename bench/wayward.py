@@ -55,6 +55,21 @@ class Faults(typing.NamedTuple):
         return self.most is not None or self.pace is not None
 
 
+class Pace:
+    """So many calls a second, and a tenth of a second's at once."""
+
+    def __init__(self, rate: float) -> None:
+        self.rate, self.free, self.since = rate, 0.0, 0.0
+
+    def takes(self, now: float) -> bool:
+        """Whether one more is taken at this second."""
+        self.free = min(1 + self.rate / 10, self.free + (now - self.since) * self.rate)
+        self.since = now
+        is_taken = self.free >= 1
+        self.free -= is_taken
+        return is_taken
+
+
 class Exchange(asyncio.Protocol):
     """One connection to the backend, with one request on it, which comes in one piece."""
 
@@ -96,7 +111,7 @@ class Wayward:
         self.served = 0
         self.queue: collections.deque[Exchange] = collections.deque()
         self.draw = random.Random(1)
-        self.ready, self.since = 0.0, 0.0
+        self.pace = Pace(faults.pace) if faults.pace is not None else None
 
     def __enter__(self) -> "Wayward":
         self.start()
@@ -141,18 +156,10 @@ class Wayward:
             self.fill()
 
     def is_too_many(self) -> bool:
-        """Whether it refuses the next call by itself: by those inside, or by the calls of a tenth of a second."""
-        it, now = self.faults, self.loop.time()
-        if it.most is not None and self.served + len(self.queue) >= it.most:
-            return True
-        if it.pace is None:
-            return False
-        self.ready = min(1.0 + it.pace / 10, self.ready + (now - self.since) * it.pace)
-        self.since = now
-        if self.ready < 1:
-            return True
-        self.ready -= 1
-        return False
+        """Whether it refuses the next call by itself."""
+        most = self.faults.most
+        is_full = most is not None and self.served + len(self.queue) >= most
+        return is_full or bool(self.pace and not self.pace.takes(self.loop.time()))
 
     def take(self, exchange: Exchange) -> None:
         ahead = self.ahead.value
