@@ -217,8 +217,14 @@ def percentile(values: Sequence[float], part: float) -> float:
     return ordered[min(len(ordered) - 1, int(len(ordered) * part))] if ordered else float("nan")
 
 
+class Holds(typing.Protocol):
+    """A backend that tells how many requests it holds."""
+
+    held: typing.Any
+
+
 @contextlib.contextmanager
-def watched(origin: Origin, pause: float = 0.1) -> Iterator[list[tuple[float, int]]]:
+def watched(origin: Holds, pause: float = 0.1) -> Iterator[list[tuple[float, int]]]:
     """How many requests the origin holds, sampled every so often: pairs of a time and a number."""
     found: list[tuple[float, int]] = []
     is_done = False

@@ -108,6 +108,7 @@ class Wayward:
         self.speed: typing.Any = multiprocessing.Value("d", 1.0)
         self.ahead: typing.Any = multiprocessing.Value("i", AS_EVER)
         self.refused: typing.Any = multiprocessing.Value("i", 0)
+        self.held: typing.Any = multiprocessing.Value("i", 0)
         self.served = 0
         self.queue: collections.deque[Exchange] = collections.deque()
         self.draw = random.Random(1)
@@ -176,12 +177,13 @@ class Wayward:
             self.fill()
 
     def fill(self) -> None:
-        """Begins to serve as many as there are slots for."""
+        """Begins to serve as many as there are slots for, and tells how many are inside."""
         while self.queue and self.served < self.slots.value:
             exchange, self.served = self.queue.popleft(), self.served + 1
             varied = self.times.draw(self.draw)
             slower = 1 + self.drag * len(self.queue) / self.slots.value
             self.loop.call_later(self.seconds / self.speed.value * varied * slower, self.end, exchange)
+        self.held.value = self.served + len(self.queue)
 
     def end(self, exchange: Exchange) -> None:
         self.served -= 1
