@@ -6,7 +6,7 @@ use Rattle.gate_config.specs.declared.class.ClassKeys.{ClassKeys}
 
 -- a class as a row of the table of partitions
 abbrev pub class_row : ClassKeys → Row
-class_row class = record { name = class.name.now; thousandths = class.thousandths }
+class_row class = record { name = class.name.now; thousandths = class.thousandths; places = 0 }
 
 -- the name of one of the classes
 abbrev pub is_class : List Row → List ℕ → Bool

@@ -107,7 +107,8 @@ with_row s row =
 
 -- the same, of a percentage: ten times as many thousandths
 abbrev pub with_percent : SettingFacts → List ℕ → ℕ → Set
-with_percent s name percent = with_row s (record { name = name; thousandths = 10 * percent })
+with_percent s name percent =
+    with_row s (record { name = name; thousandths = 10 * percent; places = 0 })
 
 -- WHAT A SETTING LEADS TO behind these settings
 abbrev pub with_setting : SettingFacts → Setting (List ℕ) → Set
@@ -115,7 +116,7 @@ with_setting s (Limit spec) = with_limit s spec
 with_setting s (Window numbers) = with_window s numbers
 with_setting s (Class name percent) = with_percent s name percent
 with_setting s (Share name thousandths) =
-    with_row s (record { name = name; thousandths = thousandths })
+    with_row s (record { name = name; thousandths = thousandths; places = 0 })
 with_setting s (Backlog room) = with_backlog s room
 with_setting s (Keep entries is_rolling) = with_keep s entries is_rolling
 with_setting s (Timeout nanos) = with_timeout s nanos

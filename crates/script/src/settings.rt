@@ -224,7 +224,8 @@ impl<'a> Settings<'a> {
         thousandths: u64,
     ) -> Result<Result<(), FaultKind>, AllocError>
         ensures answer { IfOk result (Answers
-            (with_row self.old (record { name = name.now; thousandths = thousandths }))
+            (with_row self.old
+                (record { name = name.now; thousandths = thousandths; places = 0 }))
             self.old self.new) }
         ensures memory { OnErr result (self.new ≡ self.old) }
     {
