@@ -225,7 +225,7 @@ impl<'a> Settings<'a> {
     ) -> Result<Result<(), FaultKind>, AllocError>
         ensures answer { IfOk result (Answers
             (with_row self.old
-                (record { name = name.now; thousandths = thousandths; places = 0 }))
+            (record { name = name.now; thousandths = thousandths; places = 0 }))
             self.old self.new) }
         ensures memory { OnErr result (self.new ≡ self.old) }
     {
