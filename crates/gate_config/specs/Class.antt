@@ -19,6 +19,7 @@ abbrev pub row_from : Version → Values → Row
 row_from version values = record {
   name = text_at (codes "name") values;
   thousandths = thousandths_at version values;
+  places = 0;
 }
 
 -- the keys of a class behind the classes before it

@@ -1,6 +1,6 @@
 -- Rows of which one gets places: names and shares stay, and so does the table.
-use Rattle.std.proofs.Common.{◌≡◌, ℕ, zero, suc, ◌+◌, ◌≤◌, IsTrue, List, [], ◌∷◌, length, map, set, get_or, fold, refl, sym, ap, ◌∙◌, subst, arith}
-use Rattle.partitions.specs.Table.{Row, is_name, is_thousandths, with_places, IsTable}
+use Rattle.std.proofs.Common.{◌≡◌, ℕ, zero, suc, ◌+◌, ◌≤◌, IsTrue, List, [], ◌∷◌, length, map, set, get_or, fold, refl, sym, ap, ◌∙◌, subst, arith, ◌++◌, take, drop, slice_get, ◌<◌}
+use Rattle.partitions.specs.Table.{Row, is_name, is_thousandths, with_places, IsTable, row_places, unplaced}
 use Rattle.partitions.specs.Stored.{row_of}
 use Rattle.partitions.specs.declared.named_share.NamedShare.{NamedShare}
 
@@ -63,3 +63,14 @@ none_placed [] k n beyond = refl
 none_placed (row ∷ rows) zero n beyond = absurd (omega (arith, beyond))
 none_placed (row ∷ rows) (suc k) n beyond =
     ap (λ (rest : List Row). row ∷ rest) (none_placed rows k n (omega (arith, beyond)))
+
+-- one row more that takes over its places
+pub next_placed : (rows rest : List Row) (k n : ℕ) → k < length rows
+    → n ≡ row_places (slice_get rows k)
+    → with_places (take k rows ++ unplaced (drop k rows) ++ rest) k n
+    ≡ take (suc k) rows ++ unplaced (drop (suc k) rows) ++ rest
+next_placed [] rest k n below is = absurd (omega (arith, below))
+next_placed (row ∷ rows) rest zero n below is =
+    ap (λ (places : ℕ). record row { places = places } ∷ (unplaced rows ++ rest)) is
+next_placed (row ∷ rows) rest (suc k) n below is =
+    ap (λ (more : List Row). row ∷ more) (next_placed rows rest k n (omega (arith, below)) is)
