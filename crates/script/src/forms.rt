@@ -150,6 +150,11 @@ macro_rules! with_settings {
             ],
             &[word!("share"), WordPlace::Name, number_of!("THOUSANDTHS", ClassShare)],
             &[word!("class"), WordPlace::Name, number_of!("PERCENT", ClassPercent)],
+            &[
+                word!("places"),
+                WordPlace::Class,
+                number!("N", "places of the backlog, ", 0, 10_000),
+            ],
             &[word!("backlog"), number_of!("N", Backlog)],
             &[word!("keep"), number_of!("K", Keep)],
             &[word!("keep"), number_of!("K", Keep), word!("rolling")],
@@ -161,7 +166,7 @@ macro_rules! with_settings {
 }
 
 /// The forms of a script's lines.
-static SCRIPT: [&[WordPlace]; 21] = with_settings![
+static SCRIPT: [&[WordPlace]; 22] = with_settings![
     &[word!("acquire"), WordPlace::Class, NOW],
     &[word!("acquire"), WordPlace::Class, NOW, word!("wait")],
     &[word!("bypass"), NOW],
@@ -178,7 +183,7 @@ static SCRIPT: [&[WordPlace]; 21] = with_settings![
 ];
 
 /// Those of a trace's.
-static TRACE: [&[WordPlace]; 15] = with_settings![
+static TRACE: [&[WordPlace]; 16] = with_settings![
     &[word!("arrive"), WordPlace::Class, AT, HELD, OUTCOME],
     &[
         word!("arrive"),
