@@ -110,3 +110,17 @@ pub(crate) fn push_names(out: &mut String, table: &PartitionTable) -> Result<(),
     }
     out.push_str("unknown")
 }
+
+/// Says which classes a line may give places, which has to stand behind their lines.
+pub(crate) fn push_names_before(
+    out: &mut String,
+    table: &PartitionTable,
+) -> Result<(), AllocError> {
+    out.push_str("NAME, a class of a line before")?;
+    for row in 0..table.len() {
+        let name = table.name(Part::Known(row as u8));
+        let mark = if row == 0 { ": " } else { ", " };
+        write!(out, "{mark}{name}")?;
+    }
+    Ok(())
+}

@@ -5,12 +5,11 @@ ghost use Rattle.line_explain.specs.Named.{IsExplained, IsNamed, NamesWord, word
 
 use crate::astray::{astray, word_at};
 use crate::choices::push_choices;
-use crate::classes::{place_of, push_names, push_refusal, refusal_of};
+use crate::classes::{place_of, push_names, push_names_before, push_refusal, refusal_of};
 use crate::lines_before::line_at;
-use crate::place::WordPlace;
 use crate::shown::shown;
 use crate::value::{form_had, outside, push_wanted};
-use script::{FaultKind, LineFault, TextKind, next_line, read_settings};
+use script::{FaultKind, LineFault, TextKind, WordPlace, next_line, read_settings};
 use std::alloc::{AllocError, Global};
 
 /// A line at fault of a text.
@@ -89,7 +88,7 @@ fn named(wanted: &mut String, faulty: Faulty<'_>) -> Result<usize, AllocError>
         }
         FaultKind::Value => named_value(wanted, faulty),
         FaultKind::Class => {
-            push_known(wanted, faulty.text)?;
+            push_known(wanted, faulty.text, faulty.line)?;
             Ok(1)
         }
     }
@@ -139,10 +138,14 @@ fn push_twice(wanted: &mut String, text: &[u8], line: &[u8]) -> Result<(), Alloc
     write!(wanted, "this setting stands once, and line {first} has it")
 }
 
-/// Says which classes the text has.
-fn push_known(wanted: &mut String, text: &[u8]) -> Result<(), AllocError> {
+/// Says which classes the text has that the line may name.
+fn push_known(wanted: &mut String, text: &[u8], line: &[u8]) -> Result<(), AllocError> {
     let opening = read_settings(*wanted.allocator(), text)?;
-    push_names(wanted, opening.settings.table())
+    let table = opening.settings.table();
+    match word_at(line, 0) {
+        Some(b"places") => push_names_before(wanted, table),
+        _ => push_names(wanted, table),
+    }
 }
 
 /// Whether two lines give one setting: their first words are the same, and of `places` the classes.

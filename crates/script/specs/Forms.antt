@@ -70,7 +70,7 @@ settings =
     ∷ from_to 0 hour ∷ [])
     ∷ (word (codes "share") ∷ name ∷ from_to 1 1000 ∷ [])
     ∷ (word (codes "class") ∷ name ∷ from_to 1 100 ∷ [])
-    ∷ (word (codes "places") ∷ class ∷ from_to 0 10000 ∷ [])
+    ∷ (word (codes "places") ∷ name ∷ from_to 0 10000 ∷ [])
     ∷ (word (codes "backlog") ∷ from_to 0 10000 ∷ [])
     ∷ (word (codes "keep") ∷ from_to 1 1000000 ∷ [])
     ∷ (word (codes "keep") ∷ from_to 1 1000000 ∷ word (codes "rolling") ∷ [])

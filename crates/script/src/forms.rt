@@ -152,7 +152,7 @@ macro_rules! with_settings {
             &[word!("class"), WordPlace::Name, number_of!("PERCENT", ClassPercent)],
             &[
                 word!("places"),
-                WordPlace::Class,
+                WordPlace::Name,
                 number!("N", "places of the backlog, ", 0, 10_000),
             ],
             &[word!("backlog"), number_of!("N", Backlog)],
