@@ -1,4 +1,4 @@
-use Rattle.std.proofs.Common.{rules, ℕ, List, All, ap, arith, sym, subst}
+use Rattle.std.proofs.Common.{rules, ℕ, List, All, ap, arith, sym, subst, ◌∙◌}
 use mathlib.Core.List.{IsPrefix}
 use Rattle.limiter_core.specs.declared.event.Entry.{Entry}
 use Rattle.audit.specs.Verdict.{audited, IsFirstCause}
@@ -14,7 +14,9 @@ pub returns-clause-legal : goal.returns-clause-legal
 returns-clause-legal g c = search rules
 
 pub returns-clause-counted : goal.returns-clause-counted
-returns-clause-counted g c = search rules
+returns-clause-counted g c =
+    on_ok _ _ (λ history is. sym c.count_calls-calls.ensures.sum ∙ is)
+    c.judge.result c.judge.ensures.counted
 
 pub returns-clause-accepted : goal.returns-clause-accepted
 returns-clause-accepted g c = search rules
