@@ -1,6 +1,9 @@
-use Rattle.std.proofs.Common.{arith, rules}
-use Rattle.std.proofs.lemmas.Grind.{common_steps}
-use Rattle.load_driver.proofs.Unasked.{opens_unasked, begins}
+use Rattle.std.proofs.Common.{rules, ap, refl, subst}
+use Rattle.limiter_core.specs.Bound.{IsSound}
+use Rattle.gate_journal.specs.Journal.{Journal, gate, opening}
+use Rattle.gate_journal.specs.Settings.{begun}
+use Rattle.load_driver.specs.Session.{Session}
+use Rattle.load_driver.proofs.Unasked.{opens_unasked, begins, stands_now}
 use Rattle.load_driver.proofs.session.Session.new.Goals as goal
 
 -- the journal opens with the limiter that was asked nothing
@@ -14,5 +17,16 @@ invariant_of-result g c =
 pub returns-clause-begun : goal.returns-clause-begun
 returns-clause-begun g c = search rules
 
+-- and is that of its own journal
 pub returns-clause-stands : goal.returns-clause-stands
-returns-clause-stands g c = grind (arith, common_steps)
+returns-clause-stands g c =
+    let settings = c.args.settings in
+    let sound : IsSound (gate g.L.Limit.rules (begun settings)) (opening (begun settings)) =
+    subst (λ (j : Journal g.row.L.Denot). IsSound (gate g.L.Limit.rules j) (opening j))
+    c.in_ok-journal.ensures c.entries-entries.ensures.sound in
+    let is = returns-clause-begun g c in
+    stands_now g.L.Limit.rules (begun settings)
+    (opens_unasked settings (begun settings) refl) sound
+    c.open_permits_are_in_flight.ensures.begins _
+    (ap (λ (s : Session g.row.L.Denot). s.journal) is)
+    (ap (λ (s : Session g.row.L.Denot). s.permits) is)
