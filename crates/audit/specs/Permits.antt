@@ -10,6 +10,7 @@ use Rattle.limiter_core.specs.declared.event.Entry.{Entry}
 use Rattle.limiter_core.specs.declared.event.Entry.TheVariants.{Call, Promotion}
 use Rattle.limiter_core.specs.Open.{handed_out}
 
+-- the permit that an event ends, if any
 abbrev pub ended_by : Event → Option PermitFacts
 ended_by (End permit outcome now) = Some permit
 ended_by _ = None
@@ -19,6 +20,7 @@ abbrev pub ended : Entry → Option PermitFacts
 ended (Call event reply) = ended_by event
 ended (Promotion waiter part start inflight) = None
 
+-- a permit of this number
 abbrev pub is_of : ℕ → Option PermitFacts → Bool
 is_of number (Some permit) = permit.number == number
 is_of number None = false
@@ -27,6 +29,7 @@ is_of number None = false
 abbrev pub ends : ℕ → Entry → Bool
 ends number entry = is_of number (ended entry)
 
+-- a reply that a number is lost
 abbrev pub is_lost_reply : Reply → Bool
 is_lost_reply Lost = true
 is_lost_reply _ = false

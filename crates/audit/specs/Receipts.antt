@@ -44,6 +44,7 @@ IsInOrder receipts place receipt =
 abbrev pub IsInOrderIn : ℕ → List Told → ℕ → Told → Type 0
 IsInOrderIn list receipts place receipt = IsInOrder receipts place receipt
 
+-- an entry that is a call, and no promotion
 abbrev pub is_call : Entry → Bool
 is_call (Call event reply) = true
 is_call (Promotion waiter part start inflight) = false

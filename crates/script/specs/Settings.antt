@@ -24,8 +24,8 @@ use Rattle.script.specs.declared.fault_kind.FaultKind.TheVariants.{Twice, Value}
 use Rattle.script.specs.Limits.{usual_backlog, usual_timeout, most_kept}
 
 -- the settings so far: the limit, the windows over it, how many may wait beside the partitions' own
--- places, how many entries are kept, how long a caller waits and which waiters are promoted, where a line gave them, whether the
--- history rolls, and the known partitions
+-- places, how many entries are kept, how long a caller waits and which waiters are promoted, where
+-- a line gave them, whether the history rolls, and the known partitions
 pub record SettingFacts : Type 0 where
   pub limit : Option BaseLimit
   pub window : Option WindowNumbers
@@ -101,8 +101,8 @@ with_promote s rule = once s.promote (Ok (record s { promote = Some rule }))
 abbrev pub table_of : List Row → Option (List Row)
 table_of rows = if is_none (fault_of rows) then Some rows else None
 
--- one more partition: its thousandths fit 32 bits, and the partitions with it make a table, whatever
--- their places
+-- one more partition: its thousandths fit 32 bits, and the partitions with it make a table,
+-- whatever their places
 abbrev pub with_row : SettingFacts → Row → Set
 with_row s row =
     if nat_lt row.thousandths (2 ^ 32) && is_none (fault_of (unplaced s.rows ++ row ∷ []))

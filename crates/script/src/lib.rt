@@ -11,7 +11,7 @@
 //! Where a setting comes too late, and which class has a name, is for the driver to say, which
 //! knows what was asked before. Other formats of lines are read by the same words and numbers.
 //!
-//! [`line_forms`] is the table of what stands at each place of a line, for whoever explains a fault.
+//! [`line_forms`] is the table of what stands at each place of a line, for whoever explains one.
 #![tactic(auto)]
 
 mod arrival;

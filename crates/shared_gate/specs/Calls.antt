@@ -69,6 +69,7 @@ TellsOf before after e (Ok told) got =
     IsTold before after e told × Answers told.number e told.reply got
 TellsOf before after e (Err refusal) got = IsUntold before after e refusal × HandsBack e got
 
+-- a step under the lock, by what the pass knew before and knows now
 abbrev pub Tells : {M : Type 0} → Pass → Pass → Event → Step M → Type 0
 Tells before after e step = TellsOf before after e (told_of step) (given_by step)
 

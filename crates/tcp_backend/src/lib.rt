@@ -1,11 +1,12 @@
 //! A backend over TCP.
 //!
 //! [`TcpBackend`] asks its [`Connector`], a [`Dialer`] over TCP, for one connection for each
-//! request, and for no second one whatever fails: it writes the request, reads one response, also one that came before the whole request was written,
-//! and then the connection to its end, so that the backend closes first and the gateway's own ports
-//! are free again. A backend that keeps the connection open isn't waited for, and one that answers
-//! before it reads isn't written to until it has: where a write stands still and an answer lies
-//! there, the answer is read. Buffers are made once and serve all connections.
+//! request, and for no second one whatever fails. It writes the request, reads one response, even
+//! one that comes before all of the request is written, and then the connection to its end, so that
+//! the backend closes first and the gateway's own ports are free again. A backend that keeps the
+//! connection open isn't waited for, and one that answers before it reads isn't written to until it
+//! has: where a write stands still and an answer lies there, the answer is read. Buffers are made
+//! once and serve all connections.
 #![tactic(auto)]
 
 mod answer_read;
