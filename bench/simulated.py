@@ -100,11 +100,14 @@ class Simulated(Run):
         return len(self.answers) / self.it.length, settled * 3 / 2 / self.it.length
 
 
+def part_of(ours: tuple[float, float], best: tuple[float, float]) -> tuple[float, float]:
+    return ours[0] / best[0], ours[1] / best[1]
+
+
 def row_of(backend: Backend) -> tuple[float, float]:
     """The parts of the best fixed limit's good answers, from the start on and once the limit was found."""
     fixed = [Simulated(f"limit fixed {backend.slots + more}", backend).reached() for more in (0, 1, 2)]
-    best, ours = max(fixed), Simulated(AUTO, backend).reached()
-    return ours[0] / best[0], ours[1] / best[1]
+    return part_of(Simulated(AUTO, backend).reached(), max(fixed))
 
 
 def measured(file: str) -> dict[str, tuple[float, float]]:
@@ -117,8 +120,7 @@ def measured(file: str) -> dict[str, tuple[float, float]]:
     for backend, rows in found.items():
         fixed = [it for name, it in rows.items() if name.startswith("fixed ")]
         if fixed and "packaged" in rows:
-            best, ours = max(fixed), rows["packaged"]
-            parts[backend] = ours[0] / best[0], ours[1] / best[1]
+            parts[backend] = part_of(rows["packaged"], max(fixed))
     return parts
 
 
