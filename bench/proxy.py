@@ -166,33 +166,64 @@ def visit(target: Target, call: typing.Callable[..., Figures], *words: object) -
     }
 
 
-def compared(runs: Sequence[Figures], peers: Sequence[Figures]) -> str:
-    """The ratio of the rates to a peer's, round by round, and its spread."""
-    ratios = [run["rate"] / peer["rate"] for run, peer in zip(runs, peers)]
-    return f"{statistics.median(ratios):.2f} | {min(ratios):.2f} to {max(ratios):.2f}"
+def compared(runs: Sequence[Figures], peers: Sequence[Figures]) -> list[float]:
+    """The ratios of the rates to a peer's, round by round."""
+    return [run["rate"] / peer["rate"] for run, peer in zip(runs, peers)]
 
 
-def tell(head: str, found: Mapping[str, Sequence[Figures]], is_compared: bool) -> None:
-    """The table of one number of clients, or of one part of what each can serve."""
-    peers = [name for name in found if name in PEERS and is_compared]
-    columns = ["Proxy", "requests/s"]
-    for peer in peers:
-        columns += [f"of {peer}'s", "spread"]
-    columns += ["p50", "p99", "user time", "system time", "switches", "resident", "not 200", "overflows"]
-    print(f"\n{head}\n\n| {' | '.join(columns)} |\n{'|---' * len(columns)}|")
-    for name, runs in found.items():
-        middle = {key: statistics.median(run[key] for run in runs) for key in ("rate", "p50", "p99")}
-        summed = {key: sum(run[key] for run in runs) for key in ("requests", "wrong", "overflows")}
-        each = {key: sum(run[key] for run in runs) / summed["requests"] for key in ("user", "system", "switches")}
-        ratios = "".join(compared(runs, found[peer]) + " | " for peer in peers)
-        print(
-            f"| {name} | {middle['rate']:,.0f} | {ratios}{middle['p50']:.2f} ms | {middle['p99']:.2f} ms | "
-            f"{each['user']:.1f} us | {each['system']:.1f} us | {each['switches']:.2f} | "
-            f"{runs[-1]['resident']:.1f} MB | {summed['wrong']} | {summed['overflows']} |",
-            flush=True,
-        )
-        for fault in sorted({run["faults"] for run in runs} - {""}):
-            print(f"  {name}: {fault}", file=sys.stderr)
+def table_of(columns: Sequence[str], rows: Sequence[Sequence[str]]) -> str:
+    lines = [columns, ["---" for _ in columns], *rows]
+    return "\n".join("| " + " | ".join(it) + " |" for it in lines)
+
+
+def row_of(name: str, found: Mapping[str, Sequence[Figures]], peers: Sequence[str]) -> list[str]:
+    """What was found of a proxy: medians, and sums of all rounds by exchange; the spread is of the last ratio."""
+    runs = found[name]
+    middle = {key: statistics.median(run[key] for run in runs) for key in ("rate", "p50", "p99")}
+    requests = sum(run["requests"] for run in runs)
+    each = {key: sum(run[key] for run in runs) / requests for key in ("user", "system", "switches")}
+    ratios = [compared(runs, found[peer]) if peer in found else [] for peer in peers]
+    last = ratios[-1] if ratios else []
+    return [
+        name,
+        f"{middle['rate']:,.0f}",
+        *(f"{statistics.median(it):.2f}" if it else "" for it in ratios),
+        f"{min(last):.2f} to {max(last):.2f}" if last else "",
+        f"{middle['p50']:.2f} ms",
+        f"{middle['p99']:.2f} ms",
+        f"{each['user']:.1f} us",
+        f"{each['system']:.1f} us",
+        f"{each['switches']:.2f}",
+        f"{runs[-1]['resident']:.1f} MB",
+        f"{sum(run['wrong'] for run in runs)}, {sum(run['overflows'] for run in runs)}",
+    ]
+
+
+def tell(heads: Sequence[str], tables: Mapping[str, Mapping[str, Sequence[Figures]]]) -> None:
+    """One table of some numbers of clients."""
+    peers = [it for it in PEERS if any(it in tables[head] for head in heads)]
+    columns = ["Clients", "Proxy", "requests/s", *(f"of {peer}'s" for peer in peers), "spread", "p50", "p99"]
+    columns += ["user time", "system time", "switches", "resident", "not 200, overflows"]
+    rows = [[head.split()[0], *row_of(name, tables[head], peers)] for head in heads for name in tables[head]]
+    print("\n" + table_of(columns, rows), flush=True)
+    for head in heads:
+        for name, runs in tables[head].items():
+            for fault in sorted({run["faults"] for run in runs} - {""}):
+                print(f"  {head}, {name}: {fault}", file=sys.stderr)
+
+
+def tell_open(heads: Sequence[str], tables: Mapping[str, Mapping[str, Sequence[Figures]]]) -> None:
+    """One table of the times where calls come at fixed moments: by the part of what each serves at most."""
+    columns = ["Proxy", "at most", *(f"p50, p99 at {head.split()[0]}" for head in heads if head[0].isdigit())]
+    rows = []
+    for name in tables[heads[0]]:
+        cells = [name]
+        for head in heads:
+            middle = {key: statistics.median(run[key] for run in tables[head][name]) for key in ("rate", "p50", "p99")}
+            late = f"{middle['p50']:.2f}, {middle['p99']:.2f} ms"
+            cells.append(late if head[0].isdigit() else f"{middle['rate']:,.0f}/s")
+        rows.append(cells)
+    print("\n" + table_of(columns, rows), flush=True)
 
 
 class Noted:
@@ -208,8 +239,15 @@ class Noted:
             with self.file.open("a", encoding="utf-8") as file:
                 file.write(json.dumps({"table": head, "proxy": name, **figures}) + "\n")
 
-    def tell(self, head: str) -> None:
-        tell(head, self.tables[head], "clients" in head)
+    def tell(self) -> None:
+        """All tables, by the processors."""
+        for processors in dict.fromkeys(head.rpartition(", ")[2] for head in self.tables):
+            heads = [head for head in self.tables if head.endswith(f", {processors}")]
+            of_clients = [head for head in heads if " client" in head]
+            print(f"\n{processors}")
+            tell(of_clients, self.tables)
+            if rest := [head for head in heads if head not in of_clients]:
+                tell_open(rest, self.tables)
 
     def rate(self, head: str, name: str) -> float:
         return statistics.median(it["rate"] for it in self.tables[head][name])
@@ -240,16 +278,16 @@ def in_turns(names: Sequence[str], turn: int) -> Sequence[str]:
 
 
 def measure(servers: Servers, targets: dict[str, Target], given: argparse.Namespace, noted: Noted) -> None:
-    """All visits to what was started on some processors, and their tables."""
+    """All visits to what was started on some processors."""
     asking, last = asking_of(servers, given.upload), ""
     for clients in given.clients:
-        last = head_of(servers.processors, f"{clients} clients")
+        last = head_of(servers.processors, f"{clients} client" + ("s" if clients > 1 else ""))
         for turn in range(given.rounds):
             for name in in_turns([*targets], turn):
                 it = targets[name]
                 with held(it.port, given.refused):
                     noted.add(last, name, visit(it, by_wrk, servers, it, clients, given.seconds, asking))
-        noted.tell(last)
+        print(f"proxy.py: {last}", file=sys.stderr)
     most = head_of(servers.processors, "at most")
     for name, it in targets.items() if given.open else ():
         noted.add(most, name, visit(it, by_moments, servers, it, 2 * noted.rate(last, name), given.seconds))
@@ -259,7 +297,7 @@ def measure(servers: Servers, targets: dict[str, Target], given: argparse.Namesp
             for name in in_turns([*targets], turn):
                 it, rate = targets[name], part * noted.rate(most, name)
                 noted.add(head, name, visit(it, by_moments, servers, it, rate, given.seconds))
-        noted.tell(head)
+        print(f"proxy.py: {head}", file=sys.stderr)
 
 
 def run(processors: Sequence[int], given: argparse.Namespace, noted: Noted) -> None:
@@ -326,9 +364,7 @@ def given_words() -> argparse.Namespace:
 def main() -> None:
     given = given_words()
     if given.earlier:
-        noted = read_results(given.earlier)
-        for head in noted.tables:
-            noted.tell(head)
+        read_results(given.earlier).tell()
         return
     missing = [package for name, package in PACKAGES.items() if not shutil.which(name)]
     if missing:
@@ -342,6 +378,7 @@ def main() -> None:
         if count > len(may):
             sys.exit(f"proxy.py: there aren't {count} processors")
         run(may[-count:], given, noted)
+    noted.tell()
 
 
 main()
