@@ -332,7 +332,7 @@ class Limiter:
         # How many places of the backlog are each class's own, and everybody's.
         self.places = {rest[0]: int(rest[1]) for kind, *rest in rows if kind == "places" and int(rest[1])}
         usual = min(100, 10_000 - sum(self.places.values()))
-        self.backlog = int(words.get("backlog", [usual])[0])
+        self.backlog = int(words.get("backlog", [str(usual)])[0])
         self.timeout = int(words.get("timeout", ["1000000000"])[0])
         kept, *rolling = words.get("keep", ["100000"])
         self.kept: float = math.inf if rolling else int(kept)
