@@ -119,13 +119,23 @@ class Beside(Operating):
         """The oldest permit that is out is told, in seconds, and none once it has ended; who only waits has none."""
         gate = self.operated(backend, 'timeout_ms = 60_000\n\n[limit]\nkind = "fixed"\ninitial = 1')
         self.judge("with none", 0, gate.metrics()["oldest_permit_seconds"])
+        asked = time.monotonic()
         first = Later(gate.ask, HELD)
         self.judge("one is at the backend", True, backend.held.acquire(timeout=PATIENCE))
-        begun = time.monotonic()
+        got = time.monotonic()
         second = Later(gate.ask, PLAIN)
         self.judge("another one waits", True, gate.shows(waiting=1))
-        self.judge("it is old", True, until(lambda: gate.metrics()["oldest_permit_seconds"] >= 2))
-        self.judge("by the seconds since it was got", True, 1.5 <= time.monotonic() - begun <= 2 + SLOWLY)
+        # Each look with the least and the greatest seconds that it may tell, by when it began and ended.
+        looks: list[tuple[float, int, float]] = []
+
+        def is_old() -> bool:
+            begun = time.monotonic()
+            found = gate.metrics()["oldest_permit_seconds"]
+            looks.append((begun - got - 1.5, found, time.monotonic() - asked))
+            return found >= 2
+
+        self.judge("it is old", True, until(is_old))
+        self.judge("by the seconds since it was got", [], [it for it in looks if not it[0] <= it[1] <= it[2]])
         backend.release.set()
         self.judge("both are served", [passed_on(BODY)] * 2, [first.result(), second.result()])
         self.judge("with none again", True, gate.shows(in_flight=0, oldest_permit_seconds=0))

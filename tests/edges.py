@@ -14,13 +14,13 @@ from collections.abc import Callable, Iterator
 
 from beside import Beside
 from ending import is_between
-from large import LONG_TIME, MEGABYTE, post
+from large import LINGERS, LONG_TIME, MEGABYTE, post
 from large import answer as response
 from loopback import BODY, Backend, Gateway, Later, Scripted, read_all, read_head
 from operating import HELD, Operated
 from operator_rows import DONE, NOTHING, request, told
 from running import PATIENCE, free_port, until
-from sockets import PLAIN, TRIES, passed_on, processor_time, timed, tried, unbroken
+from sockets import AGAIN, PLAIN, TRIES, passed_on, processor_time, timed, tried, unbroken
 from telling import BROKEN, REPORT, fill, lines_of, troubles, waits_to_write
 from wires import local, reset
 
@@ -303,19 +303,28 @@ class Edges(Beside):
     def loses_nothing_of_any_size(self, _: Backend) -> None:
         """A client that sends more while it reads an answer of any size late gets all of it."""
         for body in LATE:
-            scripted = Scripted(answers_of(body))
-            gate = self.gateway(scripted, each=1_000_000, words=("--client-timeout-ms", "60000"))
-            with socket.socket() as client:
-                client.setsockopt(socket.SOL_SOCKET, socket.SO_RCVBUF, 4096)
-                client.connect(("127.0.0.1", gate.port))
-                client.sendall(PLAIN)
-                begun = client.recv(1)
-                # Who doesn't look after it has closed it by then; who does goes on for two seconds.
-                time.sleep(0.7)
-                found, why = unbroken(client, PLAIN)
-                length = len((begun + found).partition(b"\r\n\r\n")[2])
-                self.judge(f"an answer of {body} bytes that is read late", (body, None), (length, why))
-            scripted.close()
+            length, why, took = self.who_reads_late(body)
+            end = time.monotonic() + AGAIN
+            # On a machine with other work it may read on when the two seconds are over, and then loses what is left.
+            while why and took >= LINGERS and time.monotonic() < end:
+                length, why, took = self.who_reads_late(body)
+            self.judge(f"an answer of {body} bytes that is read late", (body, None), (length, why))
+
+    def who_reads_late(self, body: int) -> tuple[int, str | None, float]:
+        """How much such a client gets of an answer, how its connection breaks, and how long it takes."""
+        scripted = Scripted(answers_of(body))
+        gate = self.gateway(scripted, each=1_000_000, words=("--client-timeout-ms", "60000"))
+        begins = time.monotonic()
+        with socket.socket() as client:
+            client.setsockopt(socket.SOL_SOCKET, socket.SO_RCVBUF, 4096)
+            client.connect(("127.0.0.1", gate.port))
+            client.sendall(PLAIN)
+            begun = client.recv(1)
+            # Who doesn't look after it has closed it by then; who does goes on for two seconds.
+            time.sleep(0.7)
+            found, why = unbroken(client, PLAIN)
+        scripted.close()
+        return len((begun + found).partition(b"\r\n\r\n")[2]), why, time.monotonic() - begins
 
     def goes_on_once_it_is_told(self, _: Backend) -> None:
         """A backend that rests in its early answer is told behind two seconds that no more comes, and not before; what

@@ -10,7 +10,7 @@ from concurrent.futures import ThreadPoolExecutor
 from loopback import FIVE, Backend, Gateway, Scripted, read_all, read_head
 from running import until
 from served import Served
-from sockets import PLAIN, passed_on, unbroken
+from sockets import AGAIN, PLAIN, passed_on, unbroken
 from wires import local
 
 MEGABYTE = 1_000_000
@@ -20,6 +20,8 @@ STEPS = range(1, 9)
 HOW = {False: "by a length", True: "in chunks"}
 # How much of a large answer is read at once.
 HALF = 2_500_000
+# For how many seconds a worker looks after an answer that its client hasn't read.
+LINGERS = 2
 INTERIM = b"HTTP/1.1 103 Early Hints\r\nLink: </a>\r\n\r\n"
 
 
@@ -146,9 +148,19 @@ class Large(Served):
 
     def is_read_late(self, backend: Backend) -> None:
         """A client that sends more while it still reads a large answer, which is written by then, gets all of it."""
+        found: list[tuple[int, str | None, float]] = []
+        end = time.monotonic() + AGAIN
+        # On a machine with other work a client may read on when the two seconds are over, and then loses what is left.
+        while not found or (any(it[1] and it[2] >= LINGERS for it in found) and time.monotonic() < end):
+            found = self.who_read_late(backend)
+        self.judge("large answers that are read late", [(FIVE, None)] * 3, [it[:2] for it in found])
+
+    def who_read_late(self, backend: Backend) -> list[tuple[int, str | None, float]]:
+        """Of three such clients at once how much each got, how its connection broke, and how long it took."""
         gate = self.gateway(backend, workers=3, words=LONG_TIME)
 
-        def reads_late(_: int) -> tuple[int, str | None]:
+        def reads_late(_: int) -> tuple[int, str | None, float]:
+            begins = time.monotonic()
             with socket.socket() as client:
                 # What isn't read lies with the gateway's system.
                 client.setsockopt(socket.SOL_SOCKET, socket.SO_RCVBUF, 65_536)
@@ -160,8 +172,9 @@ class Large(Served):
                 # Who doesn't linger has mostly closed it then; who does goes on for two seconds.
                 until(lambda: rests(gate.process), seconds=0.5)
                 found, why = unbroken(client, PLAIN) if is_written else (b"", "it isn't written")
-                return len((begun + found).partition(b"\r\n\r\n")[2]), why
+                return len((begun + found).partition(b"\r\n\r\n")[2]), why, time.monotonic() - begins
 
         with ThreadPoolExecutor(3) as pool:
-            self.judge("large answers that are read late", [(FIVE, None)] * 3, [*pool.map(reads_late, range(3))])
+            read = [*pool.map(reads_late, range(3))]
         self.judge("counters of what is read late", {"admitted": 3, "success": 3}, gate.ending())
+        return read
