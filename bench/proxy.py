@@ -213,10 +213,11 @@ def tell(heads: Sequence[str], tables: Mapping[str, Mapping[str, Sequence[Figure
 
 
 def tell_open(heads: Sequence[str], tables: Mapping[str, Mapping[str, Sequence[Figures]]]) -> None:
-    """One table of the times where calls come at fixed moments: by the part of what each serves at most."""
+    """One table of the times where calls come at fixed moments: by the part of what each serves at most. The origin
+    serves more than the callers can ask for, and isn't in it."""
     columns = ["Proxy", "at most", *(f"p50, p99 at {head.split()[0]}" for head in heads if head[0].isdigit())]
     rows = []
-    for name in tables[heads[0]]:
+    for name in (it for it in tables[heads[0]] if it != "origin alone"):
         cells = [name]
         for head in heads:
             middle = {key: statistics.median(run[key] for run in tables[head][name]) for key in ("rate", "p50", "p99")}
