@@ -3,6 +3,7 @@ import contextlib
 import itertools
 import pathlib
 import socket
+import struct
 import subprocess
 import time
 from concurrent.futures import ThreadPoolExecutor
@@ -20,6 +21,8 @@ STEPS = range(1, 9)
 HOW = {False: "by a length", True: "in chunks"}
 # How much of a large answer is read at once.
 HALF = 2_500_000
+# The protocol of netlink that tells of sockets, and its one kind of message.
+SOCK_DIAG, BY_FAMILY = 4, 20
 # For how many seconds a worker looks after an answer that its client hasn't read.
 LINGERS = 2
 INTERIM = b"HTTP/1.1 103 Early Hints\r\nLink: </a>\r\n\r\n"
@@ -57,15 +60,25 @@ def length_of(request: bytes) -> int:
     return int(request.split(b" ")[1][1:])
 
 
+def queues(here: int, there: int) -> tuple[int, int]:
+    """How many bytes lie at an end of a connection on loopback, by its ports, unread and not yet confirmed: asked of
+    the kernel by socket (sock_diag(7)), since the list of all of them may be long."""
+    ends = struct.pack("!HH", here, there) + 2 * (socket.inet_aton("127.0.0.1") + bytes(12))
+    # a request for one connection (struct inet_diag_req_v2), whatever its state, its device and its cookie
+    which = struct.pack("=BBBBI", socket.AF_INET, socket.IPPROTO_TCP, 0, 0, 0xFFFFFFFF) + ends + bytes(4) + b"\xff" * 8
+    with socket.socket(socket.AF_NETLINK, socket.SOCK_RAW, SOCK_DIAG) as asker:
+        asker.send(struct.pack("=IHHII", 16 + len(which), BY_FAMILY, 1, 0, 0) + which)
+        told = asker.recv(4096)
+    (kind,) = struct.unpack_from("=H", told, 4)
+    # behind a struct nlmsghdr, and the first 56 bytes of a struct inet_diag_msg
+    unread, unconfirmed = struct.unpack_from("=II", told, 16 + 56) if kind == BY_FAMILY else (0, 0)
+    return unread, unconfirmed
+
+
 def on_the_way(port: int, client: socket.socket) -> int:
     """How many bytes of what was sent from a port the system holds, at both ends of a client's connection."""
-    here, held = client.getsockname()[1], 0
-    for line in pathlib.Path("/proc/net/tcp").read_text(encoding="ascii").splitlines()[1:]:
-        local_end, remote_end, _, queues = line.split()[1:5]
-        ends = tuple(int(it.rpartition(":")[2], 16) for it in (local_end, remote_end))
-        if ends in ((port, here), (here, port)):
-            held += int(queues.split(":")[ends[0] == here], 16)
-    return held
+    here = client.getsockname()[1]
+    return queues(here, port)[0] + queues(port, here)[1]
 
 
 def rests(process: subprocess.Popen[str]) -> bool:
