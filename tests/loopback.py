@@ -17,6 +17,8 @@ from running import PATIENCE, free_port
 
 BODY = b"hello, world\n"
 LARGE, FIVE = 8_000_000, 5_000_000
+# Who was silent for less than so many seconds isn't let go for that.
+SILENT = 0.9
 # The same body by a length, and in chunks.
 WHOLE = {
     "length": b"HTTP/1.1 200 OK\r\nContent-Length: 13\r\n\r\nhello, world\n",
@@ -39,6 +41,21 @@ def read_head(client: socket.socket) -> bytes:
     while b"\r\n\r\n" not in text and (piece := client.recv(64)):
         text += piece
     return text
+
+
+def answered(connect: Callable[[], socket.socket], pieces: Sequence[bytes], pause: float = 0.0) -> bytes:
+    """All that comes back over a connection for a text, which is sent in these pieces. Who is silent for a second may
+    be let go without an answer, and a machine with other work can make a caller so: then it asks again."""
+    while True:
+        begun, sent = time.monotonic(), []
+        with connect() as client:
+            for piece in pieces:
+                client.sendall(piece)
+                sent.append(time.monotonic())
+                time.sleep(pause)
+            found = read_all(client)
+        if found or not sent or sent[0] - begun < SILENT:
+            return found
 
 
 class Listener:
@@ -233,11 +250,7 @@ class Gateway:
 
     def ask(self, *pieces: bytes, pause: float = 0.0) -> bytes:
         """All that comes back for a request, which is sent in these pieces."""
-        with self.connect() as client:
-            for piece in pieces:
-                client.sendall(piece)
-                time.sleep(pause)
-            return read_all(client)
+        return answered(self.connect, pieces, pause)
 
     def ending(self) -> typing.Any:
         """The counters that it printed, by name, once it has ended with status 0."""

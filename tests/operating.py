@@ -11,7 +11,7 @@ import time
 import typing
 from collections.abc import Callable, Sequence
 
-from loopback import BODY, Backend, Gateway, Later, Listener, read_all
+from loopback import BODY, Backend, Gateway, Later, Listener, answered, read_all
 from operator_rows import (
     CLOSING,
     DONE,
@@ -79,10 +79,7 @@ class Operated(Gateway):
 
     def tell(self, *pieces: bytes) -> bytes:
         """All that comes back of a text that is sent to the operator's address."""
-        with socket.create_connection((self.loopback, self.operator), timeout=PATIENCE) as client:
-            for piece in pieces:
-                client.sendall(piece)
-            return read_all(client)
+        return answered(lambda: socket.create_connection((self.loopback, self.operator), timeout=PATIENCE), pieces)
 
     def call(self, words: str, body: str | None = None) -> bytes:
         """The answer to a call, with the lines that it needs."""
