@@ -54,8 +54,8 @@ class Backend:
     @property
     def length(self) -> float:
         """How long a run takes, in seconds."""
-        if self.seconds >= 5:
-            return 60 * self.seconds
+        if self.seconds >= 2:
+            return 300
         return 30 if self.seconds <= 0.1 and not self.stops else 60
 
     @property
