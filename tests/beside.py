@@ -2,6 +2,7 @@
 is to come, and what whoever looks may see."""
 
 import contextlib
+import functools
 import pathlib
 import re
 import socket
@@ -14,7 +15,7 @@ from loopback import BODY, Backend, Gateway, Later, Scripted, read_all
 from operating import ALWAYS, HELD, SETTABLE, Operated, Operating, or_refused
 from operator_rows import BUSY, CLOSING, DONE, DRAINED, LEFT, MARK, NOTHING, OTHER, OTHER_QUERY, request, told
 from running import PATIENCE, free_port, until
-from sockets import PLAIN, passed_on, timed
+from sockets import PLAIN, passed_on, timed, tried
 
 # Queries of a drain that aren't a delay of 1 to 3,600,000 milliseconds.
 WRONG_QUERIES = (
@@ -233,14 +234,8 @@ class Beside(Operating):
             answer, took = timed(gate.call, "GET /metrics")
             self.judge(f"metrics beside six silent ones, {turn}", (True, True), (b" 200 OK" in answer, took < SLOWLY))
         self.judge("silent ones get nothing", [b""] * 6, [read_all(it) for it in silent])
-        with socket.create_connection(("127.0.0.1", gate.operator), timeout=PATIENCE) as slow:
-            begun = time.monotonic()
-            with contextlib.suppress(OSError):
-                for byte in b"GET /he":
-                    slow.sendall(bytes([byte]))
-                    time.sleep(0.1)
-            self.judge("who is slow gets nothing", b"", read_all(slow))
-            self.judge("after a second", True, A_SECOND <= time.monotonic() - begun < SLOWLY)
+        slow = tried(functools.partial(self.time_of_a_slow_operator, gate), SLOWLY)
+        self.judge("after a second", True, A_SECOND <= min(slow) < SLOWLY or slow)
         silent = [socket.create_connection(("127.0.0.1", gate.operator), timeout=PATIENCE) for _ in range(6)]
         answer, took = timed(gate.call, "POST /drain")
         self.judge("a drain beside six silent ones", (told(DRAINED), True), (answer, took < SLOWLY))
@@ -249,6 +244,18 @@ class Beside(Operating):
         silent += [socket.create_connection(("127.0.0.1", other.status), timeout=PATIENCE) for _ in range(6)]
         answer, took = timed(other.look, "/health")
         self.judge("a look beside six silent ones", (told(DONE), True), (answer, took < SLOWLY))
+
+    def time_of_a_slow_operator(self, gate: Operated) -> float:
+        """When a caller that sends a byte now and then is cut off. Its time begins as it is accepted, which may be
+        before it knows that it is connected."""
+        begun = time.monotonic()
+        with socket.create_connection(("127.0.0.1", gate.operator), timeout=PATIENCE) as slow:
+            with contextlib.suppress(OSError):
+                for byte in b"GET /he":
+                    slow.sendall(bytes([byte]))
+                    time.sleep(0.1)
+            self.judge("who is slow gets nothing", b"", read_all(slow))
+            return time.monotonic() - begun
 
     def is_looked_at(self, backend: Backend) -> None:
         """Whoever looks sees health and metrics, by whatever name it calls the address, and can change nothing."""
