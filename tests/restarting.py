@@ -2,6 +2,7 @@
 
 import collections
 import contextlib
+import functools
 import http.client
 import itertools
 import re
@@ -19,7 +20,7 @@ from loopback import BODY, Backend, Later, read_all
 from operating import HELD, Operated, Operating, or_refused
 from operator_rows import DRAINED, told
 from running import PATIENCE, free_port, until
-from sockets import PLAIN, TRIES, passed_on, unbroken
+from sockets import PLAIN, TRIES, passed_on, timed, tried, unbroken
 
 # Clients that wait to be accepted as a gateway drains, and callers that come across drains and starts.
 QUEUED, CALLERS = 20, 8
@@ -99,18 +100,23 @@ class Restarting(Operating):
 
     def waits_no_longer_for_its_queue(self, backend: Backend) -> None:
         """For a queue that stays a drain waits as long as a client may take: five seconds by the clock."""
+        took = tried(functools.partial(self.time_of_a_drain, backend), 5.9)
+        self.judge("it waited for five seconds", True, 5 <= min(took) < 5.9 or took)
+
+    def time_of_a_drain(self, backend: Backend) -> float:
+        """How long a drain takes before a queue that stays, where a client may take five seconds."""
         gate = self.operated(backend, workers=1, words=("--client-timeout-ms", "5000"))
         backend.release.clear()
         held = Later(gate.ask, HELD)
         self.judge("one is at the backend", True, backend.held.acquire(timeout=PATIENCE))
         with gate.connect() as queued:
             queued.sendall(PLAIN)
-            begun = time.monotonic()
-            self.judge("a drain before a queue that stays", told(DRAINED), gate.call("POST /drain"))
-            self.judge("it waited for five seconds", True, 5 <= time.monotonic() - begun < 5.9)
+            answer, took = timed(gate.call, "POST /drain")
+            self.judge("a drain before a queue that stays", told(DRAINED), answer)
             backend.release.set()
             self.judge("who was inside then", passed_on(BODY), held.result())
         self.judge("counters behind that", {"admitted": 1, "success": 1}, gate.ending())
+        return took
 
     def takes_who_comes_at_once(self, backend: Backend) -> None:
         """Within the half second that the queue is left alone whoever comes is served; who comes later is refused."""
