@@ -33,14 +33,16 @@ WHAT = {
 # What is tried side by side, each list one script after the other.
 SCRIPTS = (
     ("program", "lines", "keys", "limits", "load", "manual", "documents", "page"),
-    ("messages", "exchanges", "classes", "serve", "memory", "days"),
+    ("messages", "exchanges", "classes", "serve", "memory"),
     ("model", "launcher", "install", "hosts", "alerts"),
+    ("days",),
 )
 # What the program without proofs passes, and those scripts whose long cases are left out then.
 QUICK = (
     ("program", "load", "lines", "keys"),
-    ("messages", "exchanges", "page", "days"),
+    ("messages", "exchanges", "page"),
     ("serve", "classes", "limits", "manual", "documents", "alerts"),
+    ("days",),
 )
 SHORT = ("program", "load", "messages", "serve", "days")
 # Scripts that take no program.
