@@ -40,6 +40,36 @@ class Times(typing.NamedTuple):
         return factor * (self.slow[1] if draw.random() < self.slow[0] else 1)
 
 
+class Faults(typing.NamedTuple):
+    """What a backend does wrong at any time: a part of its answers is cut off, and a part of the calls is answered 503
+    at once; and it refuses the next by a 429 of its own where more than `most` are inside, or above so many a second.
+    """
+
+    cut: float = 0.0
+    broken: float = 0.0
+    most: int | None = None
+    pace: float | None = None
+
+    @property
+    def refuses(self) -> bool:
+        return self.most is not None or self.pace is not None
+
+
+class Pace:
+    """So many calls a second, and a tenth of a second's at once."""
+
+    def __init__(self, rate: float) -> None:
+        self.rate, self.free, self.since = rate, 0.0, 0.0
+
+    def takes(self, now: float) -> bool:
+        """Whether one more is taken at this second."""
+        self.free = min(1 + self.rate / 10, self.free + (now - self.since) * self.rate)
+        self.since = now
+        is_taken = self.free >= 1
+        self.free -= is_taken
+        return is_taken
+
+
 class Exchange(asyncio.Protocol):
     """One connection to the backend, with one request on it, which comes in one piece."""
 
@@ -62,26 +92,27 @@ class Exchange(asyncio.Protocol):
 
 class Wayward:
     """A backend in a process of its own: it serves `slots` requests at a time, first come first served, each in
-    `seconds` divided by its speed, as `times` vary, and slower by `drag` of it where as many wait as it has slots. A
-    part of its answers is cut off, and where more than `most` are inside it refuses the next at once by a 429 of its
-    own. Its slots, its speed and what is ahead can be changed while it serves, and it can be killed or stopped.
+    `seconds` divided by its speed, as `times` vary, and slower by `drag` of it where as many wait as it has slots; and
+    it has its faults. Its slots, its speed and what is ahead can be changed while it serves, and it can be killed or
+    stopped.
     """
 
     process: multiprocessing.Process
     loop: asyncio.AbstractEventLoop
 
     def __init__(
-        self, slots: int, seconds: float, drag: float, times: Times = Times(), cut: float = 0.0, most: int | None = None
+        self, slots: int, seconds: float, drag: float, times: Times = Times(), faults: Faults = Faults()
     ) -> None:
-        self.seconds, self.drag, self.times, self.port = seconds, drag, times, free_port()
-        self.cut, self.most = cut, most
+        self.seconds, self.drag, self.times, self.faults, self.port = seconds, drag, times, faults, free_port()
         self.slots: typing.Any = multiprocessing.Value("i", slots)
         self.speed: typing.Any = multiprocessing.Value("d", 1.0)
         self.ahead: typing.Any = multiprocessing.Value("i", AS_EVER)
         self.refused: typing.Any = multiprocessing.Value("i", 0)
+        self.held: typing.Any = multiprocessing.Value("i", 0)
         self.served = 0
         self.queue: collections.deque[Exchange] = collections.deque()
         self.draw = random.Random(1)
+        self.pace = Pace(faults.pace) if faults.pace is not None else None
 
     def __enter__(self) -> "Wayward":
         self.start()
@@ -125,11 +156,17 @@ class Wayward:
             await asyncio.sleep(WATCH)
             self.fill()
 
+    def is_too_many(self) -> bool:
+        """Whether it refuses the next call by itself."""
+        most = self.faults.most
+        is_full = most is not None and self.served + len(self.queue) >= most
+        return is_full or bool(self.pace and not self.pace.takes(self.loop.time()))
+
     def take(self, exchange: Exchange) -> None:
         ahead = self.ahead.value
-        if ahead == REFUSING:
+        if ahead == REFUSING or self.draw.random() < self.faults.broken:
             exchange.answer(BUSY)
-        elif self.most is not None and self.served + len(self.queue) >= self.most:
+        elif self.is_too_many():
             self.refused.value += 1
             exchange.answer(TOO_MANY)
         elif ahead in (ONE_AT_ONCE, ONE_IN_A_TENTH):
@@ -140,16 +177,17 @@ class Wayward:
             self.fill()
 
     def fill(self) -> None:
-        """Begins to serve as many as there are slots for."""
+        """Begins to serve as many as there are slots for, and tells how many are inside."""
         while self.queue and self.served < self.slots.value:
             exchange, self.served = self.queue.popleft(), self.served + 1
             varied = self.times.draw(self.draw)
             slower = 1 + self.drag * len(self.queue) / self.slots.value
             self.loop.call_later(self.seconds / self.speed.value * varied * slower, self.end, exchange)
+        self.held.value = self.served + len(self.queue)
 
     def end(self, exchange: Exchange) -> None:
         self.served -= 1
-        exchange.answer(ANSWER[:-1] if self.draw.random() < self.cut else ANSWER)
+        exchange.answer(ANSWER[:-1] if self.draw.random() < self.faults.cut else ANSWER)
         self.fill()
 
 

@@ -33,18 +33,18 @@ WHAT = {
 # What is tried side by side, each list one script after the other.
 SCRIPTS = (
     ("program", "lines", "keys", "limits", "load", "manual", "documents", "page"),
-    ("messages", "exchanges", "classes", "serve", "memory"),
+    ("messages", "exchanges", "classes", "serve", "memory", "days"),
     ("model", "launcher", "install", "hosts", "alerts"),
 )
 # What the program without proofs passes, and those scripts whose long cases are left out then.
 QUICK = (
     ("program", "load", "lines", "keys"),
-    ("messages", "exchanges", "page"),
+    ("messages", "exchanges", "page", "days"),
     ("serve", "classes", "limits", "manual", "documents", "alerts"),
 )
-SHORT = ("program", "load", "messages", "serve")
+SHORT = ("program", "load", "messages", "serve", "days")
 # Scripts that take no program.
-ALONE = ("launcher", "install", "alerts")
+ALONE = ("launcher", "install", "alerts", "days")
 
 
 class Failed(Exception):
@@ -146,7 +146,7 @@ def try_scripts(lists: tuple[tuple[str, ...], ...], program: Path, short: tuple[
 
     def try_list(names: tuple[str, ...]) -> None:
         for name in names:
-            words = [] if name in ALONE else [*(["--short"] if name in short else []), str(program)]
+            words = [*(["--short"] if name in short else []), *([] if name in ALONE else [str(program)])]
             if not try_one(name, words):
                 failed.append(name)
 

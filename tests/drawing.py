@@ -150,8 +150,23 @@ def random_settings(seed: object) -> list[str]:
     ]
     lines = [it for it in lines if draw.random() < 0.8 and (it != window or draw.random() < 0.5)]
     promotions: list[list[str]] = [[], ["promote newest"], ["promote all"], ["promote all"]]
-    lines += draw.choice(promotions) + random_shares(draw)
+    lines += draw.choice(promotions)
     draw.shuffle(lines)
+    return with_shares(draw, lines)
+
+
+def with_shares(draw: random.Random, lines: list[str]) -> list[str]:
+    """Setting lines with those of classes among them, in any order, and the places of a class behind its own."""
+    shares = random_shares(draw)
+    lines = [*lines, *shares]
+    draw.shuffle(lines)
+    backlog = next((int(it.split()[1]) for it in lines if it.startswith("backlog")), 0)
+    left = 10_000 - backlog
+    for name in [it.split()[1] for it in shares if draw.random() < 0.5]:
+        behind = next(at for at, it in enumerate(lines) if it.split()[0] in SHARES and it.split()[1] == name)
+        places = min(draw.choice([0, 1, 1, 2, 3, 10_000]), left)
+        left -= places
+        lines.insert(draw.randrange(behind + 1, len(lines) + 1), f"places {name} {places}")
     return lines
 
 

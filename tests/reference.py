@@ -4,6 +4,7 @@ answer to lines without faults.
 It is written to be read: each quantity is counted where it is needed, and nothing is shared with the program. Permits
 and waiters are ordered by number, the newest last.
 """
+import collections
 import math
 import re
 import typing
@@ -12,7 +13,7 @@ from collections.abc import Callable, Sequence
 LAST_MOMENT = 2**62
 HOUR = 3_600_000_000_000
 MOST_SAMPLES = 1_000_000
-SETTINGS = ("limit", "window", "backlog", "keep", "timeout", "promote", "class", "share")
+SETTINGS = ("limit", "window", "backlog", "keep", "timeout", "promote", "class", "share", "places")
 # How many thousandths of the limit are one in the number of such a line.
 SHARES = {"class": 10, "share": 1}
 
@@ -328,7 +329,10 @@ class Limiter:
         words = {kind: rest for kind, *rest in rows}
         self.thousandths = {rest[0]: SHARES[kind] * int(rest[1]) for kind, *rest in rows if kind in SHARES}
         self.limit = limit_of(words.get("limit", ["fixed", "20"]), words.get("window"))
-        self.room = int(words.get("backlog", ["100"])[0])
+        # How many places of the backlog are each class's own, and everybody's.
+        self.places = {rest[0]: int(rest[1]) for kind, *rest in rows if kind == "places" and int(rest[1])}
+        usual = min(100, 10_000 - sum(self.places.values()))
+        self.backlog = int(words.get("backlog", [str(usual)])[0])
         self.timeout = int(words.get("timeout", ["1000000000"])[0])
         kept, *rolling = words.get("keep", ["100000"])
         self.kept: float = math.inf if rolling else int(kept)
@@ -379,10 +383,17 @@ class Limiter:
             return [f"admitted {part} inflight {permit.inflight}"]
         if wait is None:
             return ["refused full"]
-        if len(self.waiting) >= self.room:
+        if not self.has_place(part):
             return ["refused backlog"]
         self.waiting[self.entries] = part
         return ["waiting"]
+
+    def has_place(self, part: str) -> bool:
+        """Whether one of the class's own places of the backlog is free, or one of everybody's: those of each class who
+        are past its own stand there."""
+        waiting = collections.Counter(self.waiting.values())
+        past = sum(max(0, count - self.places.get(it, 0)) for it, count in waiting.items())
+        return waiting[part] < self.places.get(part, 0) or past < self.backlog
 
     def bypass(self, _now: str) -> list[str]:
         return ["bypassed"]

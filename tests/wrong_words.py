@@ -1,7 +1,7 @@
 """Rows of `tests/lines`: which word of a line `--explain` names, and what it says is wanted there."""
 
 HOUR = "3600000000000"
-SETTINGS = "limit, window, share, class, backlog, keep, promote, timeout"
+SETTINGS = "limit, window, share, class, places, backlog, keep, promote, timeout"
 REQUESTS = f"{SETTINGS}, acquire, bypass, end, claim, giveup, set, reset or look"
 CALLS = f"{SETTINGS}, arrive or bypass"
 NAME = "NAME, 1 to 32 of a-z 0-9 - _, not unknown, not given before"
@@ -80,6 +80,14 @@ OF_SCRIPTS = [
     ("share a 995\nclass b 1", '3, "1"', "PERCENT, percent, and the classes before leave none"),
     ("class a 60\n\nshare a 100", '2, "a"', NAME),
     ("".join(f"class {it} 1\n" for it in "abcd") + "class e 1", '1, "class"', "there may be at most four classes"),
+    ("places", "2 isn't there", "NAME, the name of a class"),
+    ("places a x", '3, "x"', "N in digits, places of the backlog, 0 to 10000"),
+    ("places a 10001", '3, "10001"', "N, places of the backlog, 0 to 10000"),
+    ("places a 1", '2, "a"', "NAME, a class of a line before"),
+    ("class a 1\nshare b 9\nplaces c 1", '2, "c"', "NAME, a class of a line before: a, b"),
+    ("class a 1\nbacklog 9990\nplaces a 11", '3, "11"', "N, here 0 to 10, what is left of 10000"),
+    ("class a 1\nplaces a 11\nbacklog 9990", '2, "9990"', "N, here 0 to 9989, what is left of 10000"),
+    ("class a 1\nclass b 1\nplaces b 1\nplaces a 1\nplaces a 2", '1, "places"', TWICE.format(4)),
     ("backlog", "2 isn't there", "N in digits, how many callers may wait for a permit, 0 to 10000"),
     ("backlog 10001", '2, "10001"', "N, how many callers may wait for a permit, 0 to 10000"),
     ("keep rolling", '2, "rolling"', "K in digits, entries of the history that are kept, 1 to 1000000"),

@@ -17,7 +17,7 @@ use Rattle.limiter_core.specs.declared.event.PermitFacts.{PermitFacts}
 use Rattle.limiter_core.specs.declared.event.Reply.{Reply}
 use Rattle.limiter_core.specs.declared.event.Reply.TheVariants as reply
 use Rattle.limiter_core.specs.History.{Gate, Image, total}
-use Rattle.limiter_core.specs.Answer.{counting, granted_of, granted_or, has_room}
+use Rattle.limiter_core.specs.Answer.{counting, granted_of, granted_or, has_room, may_wait}
 use Rattle.limiter_core.specs.Answer.{queued, reply_to, set_reply, waits}
 use Rattle.limiter_core.specs.Bound.{IsSound}
 use Rattle.gate_history.specs.Handing.{IsChange, given, nothing}
@@ -109,10 +109,10 @@ module _ {S : Type 0} (g : Gate S) (i : Image S) (sound : IsSound g i) where
         acquires : (wait : Bool)
             → Fits (Acquire part false wait now)
             (counting told (cond (has_room g i (place_of g.rows part))
-            (reply.Admitted (total i + 1)) (queued g i wait)))
+            (reply.Admitted (total i + 1)) (queued g i (place_of g.rows part) wait)))
         acquires true =
             acquire_fits part true now (has_room g i (place_of g.rows part))
-            (nat_lt (length i.waiters) g.room)
+            (may_wait g i (place_of g.rows part))
         acquires false =
             acquire_fits part false now (has_room g i (place_of g.rows part)) true
     reply_fits (End ended outcome now) = tt

@@ -1,14 +1,14 @@
 // Classes beside those that a text has.
 use crate::astray::word_at;
-use crate::place::{Bound, Number, WordPlace};
 use crate::value::push_name;
 use partitions::{Part, PartitionTable};
+use script::{NumberPlace, RangeEnd, WordPlace};
 use std::alloc::AllocError;
 
 /// The whole limit in thousandths.
 const WHOLE: u32 = 1_000;
 
-/// Why a class of allowed name and share isn't taken.
+/// Why a class of allowed name and share, or as many places as are allowed, isn't taken.
 #[derive(Clone, Copy)]
 pub(crate) enum Refusal {
     /// There are as many as there may be.
@@ -17,6 +17,8 @@ pub(crate) enum Refusal {
     Given,
     /// The shares come to more than the whole; so many thousandths are left.
     Left(u32),
+    /// More than 10,000 could wait; so many places are left.
+    Full { left: u64, place: usize },
 }
 
 /// The place of the word for which a line's class isn't taken.
@@ -25,12 +27,22 @@ pub(crate) fn place_of(refusal: Refusal) -> usize {
         Refusal::TooMany => 0,
         Refusal::Given => 1,
         Refusal::Left(_) => 2,
+        Refusal::Full { place, .. } => place,
     }
 }
 
-/// Why the class of a line isn't taken behind those of a table, where its name and its share are
-/// allowed.
-pub(crate) fn refusal_of(table: &PartitionTable, line: &[u8]) -> Refusal {
+/// Why a line isn't taken behind the classes of a table and where so many places are left, whose
+/// name and numbers are allowed: one that gives a class, or places of the backlog.
+pub(crate) fn refusal_of(table: &PartitionTable, left: u64, line: &[u8]) -> Refusal {
+    match word_at(line, 0) {
+        Some(b"places") => Refusal::Full { left, place: 2 },
+        Some(b"backlog") => Refusal::Full { left, place: 1 },
+        _ => refusal_of_class(table, line),
+    }
+}
+
+/// Why the class of a line isn't taken behind those of a table.
+fn refusal_of_class(table: &PartitionTable, line: &[u8]) -> Refusal {
     let name = word_at(line, 1).unwrap_or(b"");
     if table.find(name).is_some() {
         Refusal::Given
@@ -59,20 +71,24 @@ pub(crate) fn push_refusal(
     match (refusal, form.get(2)) {
         (Refusal::TooMany, _) => out.push_str("there may be at most four classes"),
         (Refusal::Left(left), Some(WordPlace::Number(number))) => push_left(out, *number, left),
+        (Refusal::Full { left, .. }, _) => write!(
+            out,
+            "N, here 0 to {left}, what is left of 10000"
+        ),
         _ => push_name(out),
     }
 }
 
 /// Says what the classes before leave, in the unit of the line.
-fn push_left(out: &mut String, number: Number, left: u32) -> Result<(), AllocError> {
-    let Number {
+fn push_left(out: &mut String, number: NumberPlace, left: u32) -> Result<(), AllocError> {
+    let NumberPlace {
         name,
         held,
         high,
         ..
     } = number;
     let left = match high {
-        Bound::At(100) => left / 10,
+        RangeEnd::At(100) => left / 10,
         _ => left,
     };
     if left == 0 {
@@ -93,4 +109,18 @@ pub(crate) fn push_names(out: &mut String, table: &PartitionTable) -> Result<(),
         write!(out, "{name}, ")?;
     }
     out.push_str("unknown")
+}
+
+/// Says which classes a line may give places, which has to stand behind their lines.
+pub(crate) fn push_names_before(
+    out: &mut String,
+    table: &PartitionTable,
+) -> Result<(), AllocError> {
+    out.push_str("NAME, a class of a line before")?;
+    for row in 0..table.len() {
+        let name = table.name(Part::Known(row as u8));
+        let mark = if row == 0 { ": " } else { ", " };
+        write!(out, "{mark}{name}")?;
+    }
+    Ok(())
 }

@@ -5,12 +5,11 @@ ghost use Rattle.line_explain.specs.Named.{IsExplained, IsNamed, NamesWord, word
 
 use crate::astray::{astray, word_at};
 use crate::choices::push_choices;
-use crate::classes::{place_of, push_names, push_refusal, refusal_of};
-use crate::forms::TextKind;
+use crate::classes::{place_of, push_names, push_names_before, push_refusal, refusal_of};
 use crate::lines_before::line_at;
 use crate::shown::shown;
 use crate::value::{form_had, outside, push_wanted};
-use script::{FaultKind, LineFault, next_line, read_settings};
+use script::{FaultKind, LineFault, TextKind, WordPlace, next_line, read_settings};
 use std::alloc::{AllocError, Global};
 
 /// A line at fault of a text.
@@ -89,7 +88,7 @@ fn named(wanted: &mut String, faulty: Faulty<'_>) -> Result<usize, AllocError>
         }
         FaultKind::Value => named_value(wanted, faulty),
         FaultKind::Class => {
-            push_known(wanted, faulty.text)?;
+            push_known(wanted, faulty.text, faulty.line)?;
             Ok(1)
         }
     }
@@ -107,8 +106,19 @@ fn named_value(wanted: &mut String, faulty: Faulty<'_>) -> Result<usize, AllocEr
         push_wanted(wanted, line, form, place)?;
         return Ok(place);
     }
-    let opening = read_settings(*wanted.allocator(), faulty.text)?;
-    let refusal = refusal_of(opening.settings.table(), line);
+    push_refused(wanted, faulty.text, line, form)
+}
+
+/// Says why a line isn't taken whose name and numbers are allowed, and the place of its word for
+/// which it isn't.
+fn push_refused(
+    wanted: &mut String,
+    text: &[u8],
+    line: &[u8],
+    form: &[WordPlace],
+) -> Result<usize, AllocError> {
+    let settings = read_settings(*wanted.allocator(), text)?.settings;
+    let refusal = refusal_of(settings.table(), settings.places_left(), line);
     push_refusal(wanted, form, refusal)?;
     Ok(place_of(refusal))
 }
@@ -124,22 +134,33 @@ fn push_late(wanted: &mut String, text: &[u8]) -> Result<(), AllocError> {
 
 /// Says that a setting comes twice, and in which line it came first.
 fn push_twice(wanted: &mut String, text: &[u8], line: &[u8]) -> Result<(), AllocError> {
-    let first = first_with(text, word_at(line, 0));
+    let first = first_like(text, line);
     write!(wanted, "this setting stands once, and line {first} has it")
 }
 
-/// Says which classes the text has.
-fn push_known(wanted: &mut String, text: &[u8]) -> Result<(), AllocError> {
+/// Says which classes the text has that the line may name.
+fn push_known(wanted: &mut String, text: &[u8], line: &[u8]) -> Result<(), AllocError> {
     let opening = read_settings(*wanted.allocator(), text)?;
-    push_names(wanted, opening.settings.table())
+    let table = opening.settings.table();
+    match word_at(line, 0) {
+        Some(b"places") => push_names_before(wanted, table),
+        _ => push_names(wanted, table),
+    }
 }
 
-/// The number of the first line with this first word.
-fn first_with(text: &[u8], word: Option<&[u8]>) -> u64 {
+/// Whether two lines give one setting: their first words are the same, and of `places` the classes.
+fn is_like(line: &[u8], setting: &[u8]) -> bool {
+    let first = word_at(setting, 0);
+    word_at(line, 0) == first
+        && (first != Some(b"places") || word_at(line, 1) == word_at(setting, 1))
+}
+
+/// The number of the first line with this one's setting.
+fn first_like(text: &[u8], setting: &[u8]) -> u64 {
     let mut rest = text;
     let mut number = 1u64;
     while let Some((line, after)) = next_line(rest) {
-        if word_at(line, 0) == word {
+        if is_like(line, setting) {
             return number;
         }
         rest = after;

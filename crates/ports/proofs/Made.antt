@@ -17,7 +17,7 @@ use Rattle.limiter_core.specs.declared.event.PermitFacts.{PermitFacts}
 use Rattle.limiter_core.specs.declared.promote.Promote.{Promote}
 use Rattle.limiter_core.specs.declared.promote.Promote.TheVariants as rule
 use Rattle.limiter_core.specs.History.{Gate, Image, image_after, total}
-use Rattle.limiter_core.specs.Answer.{candidates, counting, granted_of, granted_or, has_room}
+use Rattle.limiter_core.specs.Answer.{candidates, counting, granted_of, granted_or, has_room, may_wait}
 use Rattle.limiter_core.specs.Answer.{moment_of, next_waiter, promoted, promotion, promotion_then}
 use Rattle.limiter_core.specs.Answer.{promotions, promotions_at, queued, reply_to, waits}
 use Rattle.gate_journal.specs.Journal.{Journal, answered, gate, image, is_over, opening}
@@ -180,11 +180,11 @@ module _ {S : Type 0} (rules : Algorithm S) (j : Journal S) where
             (counting (length (follow (Acquire part false wait now)))
             (cond (has_room (gate rules j) (image rules j) (place_of j.rows part))
             (reply.Admitted (total (image rules j) + 1))
-            (queued (gate rules j) (image rules j) wait)))
+            (queued (gate rules j) (image rules j) (place_of j.rows part) wait)))
         acquires true =
             acquire_fits (length (follow (Acquire part false true now))) part true now
             (has_room (gate rules j) (image rules j) (place_of j.rows part))
-            (nat_lt (length (image rules j).waiters) j.room)
+            (may_wait (gate rules j) (image rules j) (place_of j.rows part))
         acquires false =
             acquire_fits (length (follow (Acquire part false false now))) part false now
             (has_room (gate rules j) (image rules j) (place_of j.rows part)) true

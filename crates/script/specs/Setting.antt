@@ -4,7 +4,7 @@ use Rattle.std.specs.Borrow.{Bor}
 use Rattle.limiter_core.specs.declared.promote.Promote.{Promote}
 use Rattle.limiter_core.specs.declared.promote.Promote.TheVariants.{Newest, All}
 use Rattle.script.specs.declared.setting.Setting.{Setting}
-use Rattle.script.specs.declared.setting.Setting.TheVariants.{Limit, Window, Class, Share, Backlog, Keep, Timeout, Promotion}
+use Rattle.script.specs.declared.setting.Setting.TheVariants.{Limit, Window, Class, Share, Places, Backlog, Keep, Timeout, Promotion}
 use Rattle.script.specs.Words.{with_number, with_word, lone_number}
 use Rattle.script.specs.LimitLine.{limit_line}
 use Rattle.script.specs.WindowLine.{window_line}
@@ -16,6 +16,10 @@ class_line ws = with_word (λ name rest. option_map (Class name) (lone_number re
 -- what follows `share` is the same
 abbrev pub share_line : List (List ℕ) → Option (Setting (List ℕ))
 share_line ws = with_word (λ name rest. option_map (Share name) (lone_number rest)) ws
+
+-- and what follows `places`
+abbrev pub places_line : List (List ℕ) → Option (Setting (List ℕ))
+places_line ws = with_word (λ name rest. option_map (Places name) (lone_number rest)) ws
 
 -- whether the rest of a line says `rolling`, where it says nothing else
 abbrev pub rolling_of : List (List ℕ) → Option Bool
@@ -44,11 +48,12 @@ setting_of first rest =
     else (if bytes_eq first (codes "window") then option_map Window (window_line rest)
     else (if bytes_eq first (codes "class") then class_line rest
     else (if bytes_eq first (codes "share") then share_line rest
+    else (if bytes_eq first (codes "places") then places_line rest
     else (if bytes_eq first (codes "backlog") then option_map Backlog (lone_number rest)
     else (if bytes_eq first (codes "keep") then keep_line rest
     else (if bytes_eq first (codes "timeout") then option_map Timeout (lone_number rest)
     else (if bytes_eq first (codes "promote") then option_map Promotion (rule_of rest)
-    else None)))))))
+    else None))))))))
 
 -- a setting with the bytes of its class's name
 abbrev pub setting_bytes : Setting (Bor (List ℕ)) → Setting (List ℕ)
@@ -56,6 +61,7 @@ setting_bytes (Limit spec) = Limit spec
 setting_bytes (Window numbers) = Window numbers
 setting_bytes (Class name percent) = Class name.now percent
 setting_bytes (Share name thousandths) = Share name.now thousandths
+setting_bytes (Places name n) = Places name.now n
 setting_bytes (Backlog room) = Backlog room
 setting_bytes (Keep entries is_rolling) = Keep entries is_rolling
 setting_bytes (Timeout nanos) = Timeout nanos

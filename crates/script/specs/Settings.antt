@@ -1,8 +1,9 @@
 -- The settings of a script, line by line.
-use Rattle.std.specs.Prelude.{◌≡◌, ℕ, Bool, false, ◌*◌, ◌^◌, nat_lt, nat_le, ◌&&◌, List, [], ◌∷◌, ◌++◌, Option, None, Some, is_none, unwrap_or, Result, Ok, Err, MatchResult, if◌then◌else◌}
+use Rattle.std.specs.Prelude.{◌≡◌, ℕ, Bool, false, ◌+◌, ◌-◌, min, ◌*◌, ◌^◌, nat_lt, nat_le, ◌&&◌, List, [], ◌∷◌, ◌++◌, Option, None, Some, is_none, unwrap_or, Result, Ok, Err, MatchResult, if◌then◌else◌}
 use Rattle.limit_laws.specs.declared.limit.MakeFault.{MakeFault}
 use Rattle.limit_laws.specs.Facts.{hour}
-use Rattle.partitions.specs.Table.{Row}
+use Rattle.partitions.specs.declared.part.Part.{Part}
+use Rattle.partitions.specs.Table.{Row, find_part, place_of, own_places, placed, with_places, unplaced}
 use Rattle.partitions.specs.Faults.{fault_of}
 use Rattle.lifo_backlog.specs.Waiters.{most_waiters}
 use Rattle.limiter_core.specs.declared.promote.Promote.{Promote}
@@ -16,14 +17,15 @@ use Rattle.limit_kinds.specs.declared.spec.LimitSpec.{LimitSpec}
 use Rattle.limit_kinds.specs.AnyKinds.{any_from}
 use Rattle.limit_kinds.specs.Specs.{limit_made}
 use Rattle.script.specs.declared.setting.Setting.{Setting}
-use Rattle.script.specs.declared.setting.Setting.TheVariants.{Limit, Window, Class, Share, Backlog, Keep, Timeout, Promotion}
+use Rattle.script.specs.declared.setting.Setting.TheVariants.{Limit, Window, Class, Share, Places, Backlog, Keep, Timeout, Promotion}
 use Rattle.script.specs.declared.fault_kind.FaultKind.{FaultKind}
+use Rattle.script.specs.declared.fault_kind.FaultKind.TheVariants as fault
 use Rattle.script.specs.declared.fault_kind.FaultKind.TheVariants.{Twice, Value}
 use Rattle.script.specs.Limits.{usual_backlog, usual_timeout, most_kept}
 
--- the settings so far: the limit, the windows over it, how many may wait, how many entries are
--- kept, how long a caller waits and which waiters are promoted, where a line gave them, whether the
--- history rolls, and the known partitions
+-- the settings so far: the limit, the windows over it, how many may wait beside the partitions'
+-- own places, how many entries are kept, how long a caller waits and which waiters are promoted,
+-- where a line gave them, whether the history rolls, and the known partitions
 pub record SettingFacts : Type 0 where
   pub limit : Option BaseLimit
   pub window : Option WindowNumbers
@@ -68,11 +70,12 @@ abbrev pub with_window : SettingFacts → WindowNumbers → Set
 with_window s numbers =
     once s.window (in_range (windows_made numbers) (λ window. record s { window = Some window }))
 
--- at most 10,000 may wait
+-- at most 10,000 may wait, in own places and in everybody's
 abbrev pub with_backlog : SettingFacts → ℕ → Set
 with_backlog s room =
     once s.backlog
-    (if nat_le room most_waiters then Ok (record s { backlog = Some room }) else Err Value)
+    (if nat_le (room + placed s.rows) most_waiters then Ok (record s { backlog = Some room })
+    else Err Value)
 
 -- 1 to 1,000,000 entries are kept, of a history that rolls or doesn't
 abbrev pub with_keep : SettingFacts → ℕ → Bool → Set
@@ -98,16 +101,32 @@ with_promote s rule = once s.promote (Ok (record s { promote = Some rule }))
 abbrev pub table_of : List Row → Option (List Row)
 table_of rows = if is_none (fault_of rows) then Some rows else None
 
--- one more partition: its thousandths fit 32 bits, and the partitions with it make a table
+-- one more partition: its thousandths fit 32 bits, and the partitions with it make a table,
+-- whatever their places
 abbrev pub with_row : SettingFacts → Row → Set
 with_row s row =
-    if nat_lt row.thousandths (2 ^ 32) && is_none (fault_of (s.rows ++ row ∷ []))
+    if nat_lt row.thousandths (2 ^ 32) && is_none (fault_of (unplaced s.rows ++ row ∷ []))
     then Ok (record s { rows = s.rows ++ row ∷ [] })
     else Err Value
 
 -- the same, of a percentage: ten times as many thousandths
 abbrev pub with_percent : SettingFacts → List ℕ → ℕ → Set
-with_percent s name percent = with_row s (record { name = name; thousandths = 10 * percent })
+with_percent s name percent =
+    with_row s (record { name = name; thousandths = 10 * percent; places = 0 })
+
+-- so many places for a known partition that has none yet: the first fault that applies
+abbrev pub places_for : SettingFacts → ℕ → Option Part → Set
+places_for s n None =
+    if nat_le (n + placed s.rows + unwrap_or s.backlog 0) most_waiters then Err fault.Class
+    else Err Value
+places_for s n (Some part) =
+    if nat_lt 0 (own_places s.rows (place_of s.rows part)) then Err Twice
+    else (if nat_le (n + placed s.rows + unwrap_or s.backlog 0) most_waiters
+    then Ok (record s { rows = with_places s.rows (place_of s.rows part) n })
+    else Err Value)
+
+abbrev pub with_own_places : SettingFacts → List ℕ → ℕ → Set
+with_own_places s name n = places_for s n (find_part s.rows name)
 
 -- WHAT A SETTING LEADS TO behind these settings
 abbrev pub with_setting : SettingFacts → Setting (List ℕ) → Set
@@ -115,7 +134,8 @@ with_setting s (Limit spec) = with_limit s spec
 with_setting s (Window numbers) = with_window s numbers
 with_setting s (Class name percent) = with_percent s name percent
 with_setting s (Share name thousandths) =
-    with_row s (record { name = name; thousandths = thousandths })
+    with_row s (record { name = name; thousandths = thousandths; places = 0 })
+with_setting s (Places name n) = with_own_places s name n
 with_setting s (Backlog room) = with_backlog s room
 with_setting s (Keep entries is_rolling) = with_keep s entries is_rolling
 with_setting s (Timeout nanos) = with_timeout s nanos
@@ -130,9 +150,14 @@ base_or n (Some limit) = limit
 abbrev pub limit_of : ℕ → SettingFacts → AnyLimit
 limit_of n s = any_from (base_or n s.limit) s.window
 
--- how many may wait: 100 where no line says it
+-- how many may wait in everybody's places: 100 where no line says it, or what the own ones leave of
+-- 10,000
+abbrev pub backlog_of : SettingFacts → ℕ
+backlog_of s = unwrap_or s.backlog (min usual_backlog (most_waiters - placed s.rows))
+
+-- and in all
 abbrev pub room_of : SettingFacts → ℕ
-room_of s = unwrap_or s.backlog usual_backlog
+room_of s = backlog_of s + placed s.rows
 
 -- how many entries are kept: the usual number where no line says it
 abbrev pub kept_of : ℕ → SettingFacts → ℕ

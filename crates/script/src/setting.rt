@@ -1,7 +1,7 @@
 // The lines that set.
 ghost use Rattle.std.specs.Prelude.{◌≡◌, option_map};
 ghost use Rattle.script.specs.Words.{words};
-ghost use Rattle.script.specs.Setting.{class_line, share_line, rolling_of, keep_line, rule_of, setting_of, setting_bytes};
+ghost use Rattle.script.specs.Setting.{class_line, share_line, places_line, rolling_of, keep_line, rule_of, setting_of, setting_bytes};
 
 use super::limit_line::read_limit;
 use super::numbers::{next_number, read_lone_number};
@@ -23,7 +23,9 @@ pub enum Setting<C> {
     Class { name: C, percent: u64 },
     /// One more class, and its share of the limit in thousandths.
     Share { name: C, thousandths: u64 },
-    /// How many may wait.
+    /// How many places of the backlog are a class's own.
+    Places { name: C, places: u64 },
+    /// How many may wait, beside the classes' own places.
     Backlog { room: u64 },
     /// How many entries of the history are kept, and whether it rolls.
     Keep { entries: u64, is_rolling: bool },
@@ -50,6 +52,15 @@ fn read_share(line: &[u8]) -> Option<Setting<&[u8]>>
     let (name, line) = next_word(line)?;
     let thousandths = read_lone_number(line)?;
     Some(Setting::Share { name, thousandths })
+}
+
+/// What follows `places`: a name, and how many.
+fn read_places(line: &[u8]) -> Option<Setting<&[u8]>>
+    ensures { option_map setting_bytes result ≡ places_line (words line.now) }
+{
+    let (name, line) = next_word(line)?;
+    let places = read_lone_number(line)?;
+    Some(Setting::Places { name, places })
 }
 
 /// Whether the rest of a line says `rolling`; nothing where it says anything else.
@@ -106,6 +117,8 @@ pub(crate) fn read_setting<'a>(first: &[u8], line: &'a [u8]) -> Option<Setting<&
         read_class(line)
     } else if is_word(first, "share") {
         read_share(line)
+    } else if is_word(first, "places") {
+        read_places(line)
     } else if is_word(first, "backlog") {
         let room = read_lone_number(line)?;
         Some(Setting::Backlog { room })

@@ -1,5 +1,7 @@
 // The settings of a script.
-ghost use Rattle.std.specs.Prelude.{◌≡◌, ◌≤◌, ◌∷◌, ◌++◌, [], IfOk, IfErr, IfSome, IfNone};
+ghost use Rattle.std.specs.Prelude.{◌≡◌, ◌+◌, ◌≤◌, ◌∷◌, ◌++◌, [], IfOk, IfErr, IfSome, IfNone};
+ghost use Rattle.std.specs.Prelude.{unwrap_or};
+ghost use Rattle.partitions.specs.Table.{placed};
 ghost use Rattle.std.specs.Prelude.{OnOk, OnErr};
 ghost use Rattle.limit_laws.specs.Algorithm.{greatest_limit};
 ghost use Rattle.partitions.specs.Faults.{given};
@@ -43,7 +45,9 @@ pub struct Settings<'a> {
 
 impl<'a> Model for Settings<'a> {
     ghost use Rattle.std.specs.Prelude.{◌≡◌, ◌≤◌, IfSome};
+    ghost use Rattle.std.specs.Prelude.{◌+◌};
     ghost use Rattle.partitions.specs.Faults.{given};
+    ghost use Rattle.partitions.specs.Table.{placed, unplaced};
     ghost use Rattle.lifo_backlog.specs.Waiters.{most_waiters};
     ghost use Rattle.script.specs.Limits.{most_kept};
     ghost use Rattle.script.specs.Settings.{SettingFacts};
@@ -58,11 +62,12 @@ impl<'a> Model for Settings<'a> {
       is_rolling = s.is_rolling;
       timeout = s.timeout;
       promote = s.promote;
-      rows = given s.rows.items;
+      rows = s.table;
     } };
 
-    ghost invariant = { λ s. (s.table ≡ given s.rows.items)
-        × IfSome s.backlog (λ room. room ≤ most_waiters)
+    ghost invariant = { λ s. (given s.rows.items ≡ unplaced s.table)
+        × (placed s.table ≤ most_waiters)
+        × IfSome s.backlog (λ room. room + placed s.table ≤ most_waiters)
         × IfSome s.keep (λ entries. (1 ≤ entries) × (entries ≤ most_kept)) };
 }
 
@@ -73,7 +78,7 @@ impl<'a> Settings<'a> {
     ghost use Rattle.script.specs.Settings.{no_settings, with_limit, with_window, with_backlog};
     ghost use Rattle.script.specs.Settings.{with_keep, with_percent, with_row, with_setting};
     ghost use Rattle.script.specs.Settings.{Answers, limit_of, room_of, kept_of, with_timeout, timeout_of};
-    ghost use Rattle.script.specs.Settings.{with_promote, promote_of};
+    ghost use Rattle.script.specs.Settings.{with_promote, promote_of, with_own_places};
 
     /// No settings.
     pub fn new(alloc: Global) -> Settings<'a>
@@ -94,8 +99,9 @@ impl<'a> Settings<'a> {
 
     /// Takes a setting, or says why it is at fault; then these settings stay as they are.
     ///
-    /// [`FaultKind::Twice`] where anything but a class was set before, and [`FaultKind::Value`]
-    /// where a number is out of its range, or the classes with this one make no table.
+    /// [`FaultKind::Twice`] where anything but a class was set before, [`FaultKind::Value`] where a
+    /// number is out of its range, the classes with this one make no table, or more than 10,000
+    /// could wait, and [`FaultKind::Class`] where places are given to no class so far.
     pub fn take(&mut self, setting: Setting<&'a [u8]>) -> Result<Result<(), FaultKind>, AllocError>
         ensures answer { IfOk result (Answers
             (with_setting self.old (setting_bytes setting.entry)) self.old self.new) }
@@ -106,6 +112,7 @@ impl<'a> Settings<'a> {
             Setting::Window(numbers) => Ok(self.take_window(numbers)),
             Setting::Class { name, percent } => self.take_class(name, percent),
             Setting::Share { name, thousandths } => self.take_share(name, thousandths),
+            Setting::Places { name, places } => Ok(self.take_places(name, places)),
             Setting::Backlog { room } => Ok(self.take_backlog(room)),
             Setting::Keep {
                 entries,
@@ -151,10 +158,32 @@ impl<'a> Settings<'a> {
         if self.backlog.is_some() {
             return Err(FaultKind::Twice);
         }
-        if room > MOST_WAITING as u64 {
+        if room > self.places_left() {
             return Err(FaultKind::Value);
         }
         self.backlog = Some(room as u32);
+        Ok(())
+    }
+
+    /// Takes the own places of a class.
+    fn take_places(&mut self, name: &[u8], places: u64) -> Result<(), FaultKind>
+        ensures taken { OnOk result (with_own_places self.old name.now places ≡ Ok self.new) }
+        ensures fault { IfErr result (λ why. with_own_places self.old name.now places ≡ Err why) }
+        ensures unchanged { OnErr result (self.new ≡ self.old) }
+    {
+        let part = self.table.find(name);
+        if let Some(part) = part {
+            if self.table.own_places(self.table.place(part)) > 0 {
+                return Err(FaultKind::Twice);
+            }
+        }
+        if places > self.places_left() {
+            return Err(FaultKind::Value);
+        }
+        let Some(part) = part else {
+            return Err(FaultKind::Class);
+        };
+        self.table.set_places(part, places as u32);
         Ok(())
     }
 
@@ -224,7 +253,8 @@ impl<'a> Settings<'a> {
         thousandths: u64,
     ) -> Result<Result<(), FaultKind>, AllocError>
         ensures answer { IfOk result (Answers
-            (with_row self.old (record { name = name.now; thousandths = thousandths }))
+            (with_row self.old
+            (record { name = name.now; thousandths = thousandths; places = 0 }))
             self.old self.new) }
         ensures memory { OnErr result (self.new ≡ self.old) }
     {
@@ -232,7 +262,8 @@ impl<'a> Settings<'a> {
             return Ok(Err(FaultKind::Value));
         };
         match push_row(&mut self.rows, (name, thousandths))? {
-            Some(table) => {
+            Some(mut table) => {
+                table.take_places(&self.table);
                 self.table = table;
                 Ok(Ok(()))
             }
@@ -253,12 +284,26 @@ impl<'a> Settings<'a> {
         AnyLimit::new(base, self.windows)
     }
 
-    /// How many may wait: 0 to 10,000.
+    /// How many may wait in all, in the classes' own places and in everybody's: 0 to 10,000.
     pub fn room(&self) -> u32
         ensures value { result ≡ room_of self.now }
         ensures most { result ≤ most_waiters }
     {
-        self.backlog.unwrap_or(USUAL_BACKLOG)
+        let placed = self.table.placed() as u32;
+        let backlog = match self.backlog {
+            Some(backlog) => backlog,
+            None => USUAL_BACKLOG.min(MOST_WAITING - placed),
+        };
+        backlog + placed
+    }
+
+    /// How many places are left of the 10,000 that there may be, beside the classes' own and those
+    /// that a line gave to everybody.
+    pub fn places_left(&self) -> u64
+        ensures { result + (placed self.now.rows + unwrap_or self.now.backlog 0) ≡ most_waiters }
+    {
+        let given = self.table.placed() + u64::from(self.backlog.unwrap_or(0));
+        u64::from(MOST_WAITING) - given
     }
 
     /// How many entries of the history are kept, 1 to 1,000,000: `usual` where no line says it.

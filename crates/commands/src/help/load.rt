@@ -75,10 +75,12 @@ closes:
   admission: line L: words   no such line: a word too many, too few or misspelt, a number with a
                              sign, a point or a unit, a line of a script
   admission: line L: late    a setting after another line
-  admission: line L: twice   a second limit, window, backlog, keep, timeout or promote
+  admission: line L: twice   a second limit, window, backlog, keep, timeout or promote, or places
+                             for a class that has some
   admission: line L: value   a number out of its range, N outside LO to HI, MIN above MAX, a class
-                             given twice, a fifth class, or shares above the whole together
-  admission: line L: class   no class or share line has this name
+                             given twice, a fifth class, shares above the whole together, or
+                             more than 10000 places
+  admission: line L: class   no class or share line has this name, or none before of places
   admission: read            standard input can't be read, such as a folder, or doesn't end
   admission: too large       the trace has more than 16 MiB
   admission: memory          out of memory: lower K, or the memory that other programs take

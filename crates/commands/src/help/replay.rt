@@ -27,7 +27,10 @@ limit is fixed at the N of --limit.
   share NAME THOUSANDTHS       a class and its share of the limit: 1 to 32 of a-z 0-9 - _ and not
                                unknown, at most four; 1 to 1000 thousandths, together at most 1000
   class NAME PERCENT           the same in percent, 1 to 100; both kinds of lines may stand together
-  backlog N                    how many may wait, 0 to 10000; default 100
+  places NAME N                so many places of the backlog are this class's own, 0 to 10000; the
+                               class stands before, and has none yet
+  backlog N                    how many may wait beside those of their own places, 0 to 10000;
+                               default 100; with all own places at most 10000
   keep K                       how many entries of the history are kept, 1 to 1000000; default
                                100000
   keep K rolling               the same of a history that rolls: it forgets entries to go on
@@ -78,10 +81,12 @@ one line on standard error, which comes after the answers to the lines before it
   admission: line L: words   no such line: a word too many, too few or misspelt, a number with a
                              sign, a point or a unit
   admission: line L: late    a setting after another line
-  admission: line L: twice   a second limit, window, backlog, keep, timeout or promote
+  admission: line L: twice   a second limit, window, backlog, keep, timeout or promote, or places
+                             for a class that has some
   admission: line L: value   a number out of its range, N outside LO to HI, MIN above MAX, a class
-                             given twice, a fifth class, or shares above the whole together
-  admission: line L: class   no class or share line has this name
+                             given twice, a fifth class, shares above the whole together, or
+                             more than 10000 places
+  admission: line L: class   no class or share line has this name, or none before of places
   admission: read            standard input can't be read, such as a folder, or doesn't end
   admission: too large       the script has more than 16 MiB
   admission: memory          out of memory: lower the memory that other programs take

@@ -7,11 +7,11 @@ returns-then-is_word-3 c = search rules
 pub returns-then-is_word-4 : goal.returns-then-is_word-4
 returns-then-is_word-4 c = search rules
 
-pub returns-then-is_word-6 : goal.returns-then-is_word-6
-returns-then-is_word-6 c = search rules
+pub returns-then-is_word-7 : goal.returns-then-is_word-7
+returns-then-is_word-7 c = search rules
 
-pub returns-else-is_word-8 : goal.returns-else-is_word-8
-returns-else-is_word-8 c = search rules
+pub returns-else-is_word-9 : goal.returns-else-is_word-9
+returns-else-is_word-9 c = search rules
 
 pub returns-in_ok-room : goal.returns-in_ok-room
 returns-in_ok-room c = search rules
@@ -30,3 +30,6 @@ returns-in_ok-rule c = search rules
 
 pub returns-in_err-rule : goal.returns-in_err-rule
 returns-in_err-rule c = search rules
+
+pub returns-then-is_word-5 : goal.returns-then-is_word-5
+returns-then-is_word-5 c = search rules
