@@ -1,10 +1,13 @@
 // The thread of an operator.
+ghost use Rattle.std.specs.Prelude.{◌≡◌, IfOk};
+ghost use Rattle.gate_desk.specs.Operator.{pass_at};
+
 use crate::desk::GateDesk;
 use crate::watch::DeskWatch;
 use clocks::Clock;
 use limit_laws::Limit;
 use operator_serving::{Operating, operate};
-use shared_gate::GateNaming;
+use shared_gate::{GateNaming, Pass};
 use std::alloc::AllocError;
 use std::sync::Wait;
 use std::time::{Clock as SystemClock, Duration};
@@ -12,7 +15,7 @@ use tasks::Task;
 use timed_io::{ClientBuffers, Listener};
 
 /// Serves one operator after the other at a gateway's desk, until their listener is closed; and
-/// then closes another one too, where there is one.
+/// then closes another one too, where there is one. It leaves the pass of its desk.
 #[derive(Drop)]
 pub struct Operator<'a, G: Limit, M: GateNaming, R, L, C, W> {
     common: &'a Operating<'a, L, C>,
@@ -27,7 +30,9 @@ impl<'a, G: Limit, M: GateNaming, R, L, C, W: Drop> Operator<'a, G, M, R, L, C, 
         common: &'a Operating<'a, L, C>,
         desk: GateDesk<'a, G, M, R, L, C, W>,
         also: Option<&'a L>,
-    ) -> Result<Operator<'a, G, M, R, L, C, W>, AllocError> {
+    ) -> Result<Operator<'a, G, M, R, L, C, W>, AllocError>
+        ensures { IfOk result (λ operator. pass_at operator ≡ desk.pass) }
+    {
         let buffers = ClientBuffers::new(common.alloc)?;
         Ok(Operator {
             common,
@@ -41,23 +46,23 @@ impl<'a, G: Limit, M: GateNaming, R, L, C, W: Drop> Operator<'a, G, M, R, L, C, 
 impl<'a, G, M, R, L, C, W> Task for Operator<'a, G, M, R, L, C, W>
 where
     G: Limit,
-    M: GateNaming,
+    M: GateNaming + Send,
     R: SystemClock + Wait,
     L: Listener,
     C: Clock,
     W: DeskWatch + Drop,
 {
-    type Done = ();
+    type Done = Pass<M>;
 
     ghost use Rattle.gate_desk.specs.Desk.{DoneBy, ShownBy};
     ghost use Rattle.gate_desk.specs.Operator.{HasOperated};
 
-    ghost makes = { λ operator _. HasOperated operator.desk (λ desk. desk.table)
-        (λ _ sight. ShownBy G.rules M.making sight)
+    ghost makes = { λ operator left. HasOperated operator.desk (λ desk. desk.pass)
+        (λ desk. desk.table) (λ _ sight. ShownBy G.rules M.making sight)
         (λ before after deed. DoneBy before.pass after.pass deed)
-        operator.common.now.audience operator.common.now.page.now };
+        operator.common.now.audience operator.common.now.page.now left };
 
-    fn run(self) {
+    fn run(self) -> Pass<M> {
         let Operator {
             common,
             mut desk,
@@ -68,5 +73,7 @@ where
         if let Some(also) = also {
             also.close(desk.rt, Duration::ZERO);
         }
+        let GateDesk { pass, .. } = desk;
+        pass
     }
 }

@@ -5,8 +5,9 @@ ghost use Rattle.gate_journal.specs.Settings.{AreInRange, begun};
 ghost use Rattle.gate_ledgers.specs.Names.{AreNamed, AreWhole};
 ghost use Rattle.gate_history.specs.Book.{made_with};
 
+use crate::checks::check;
 use gate_history::{Blanks, Book, GateSettings, Journal, JournalFault, Naming};
-use limit_laws::Fixed;
+use limit_laws::{Fixed, Limit};
 use limiter_core::{Core, Promote};
 use partitions::PartitionTable;
 use std::alloc::Global;
@@ -55,12 +56,13 @@ fn gives<N: Naming, R: Abort>(
     requires making { N.making ≡ made_with fixed_rules (begun settings) }
 {
     let begun = Book::<_, N>::begin(alloc, settings, blanks);
-    gives_passes(rt, begun.expect(rt, "memory for a book"), count, is_sealed);
+    let mut book = begun.expect(rt, "memory for a book");
+    gives_passes(rt, &mut book, count, is_sealed);
 }
 
-fn gives_passes<N: Naming, R: Abort>(
+fn gives_passes<L: Limit, N: Naming, R: Abort>(
     rt: &R,
-    mut book: Book<Fixed, N>,
+    book: &mut Book<L, N>,
     count: u64,
     is_sealed: bool,
 ) {
@@ -68,9 +70,14 @@ fn gives_passes<N: Naming, R: Abort>(
         book.seal();
     }
     for _ in 0..count {
-        assert!(rt; book.pass().is_some());
+        check(rt, gives_one(book));
     }
-    assert!(rt; book.pass().is_none());
+    check(rt, !gives_one(book));
+}
+
+/// A book gives a pass more.
+fn gives_one<L: Limit, N: Naming>(book: &mut Book<L, N>) -> bool {
+    book.pass().is_some()
 }
 
 /// Why no journal keeps so many entries.
@@ -83,8 +90,11 @@ fn fault<R: Abort>(rt: &R, alloc: Global, kept: usize) -> Option<JournalFault> {
 
 #[test]
 fn from_one_to_a_million_entries_are_kept(rt: HostRuntime) {
-    assert!(rt; fault(&rt, rt.alloc(), 0) == Some(JournalFault::Places));
-    assert!(rt; fault(&rt, rt.alloc(), 1) == None);
-    assert!(rt; fault(&rt, rt.alloc(), 1_000_000) == None);
-    assert!(rt; fault(&rt, rt.alloc(), 1_000_001) == Some(JournalFault::Places));
+    check(&rt, fault(&rt, rt.alloc(), 0) == Some(JournalFault::Places));
+    check(&rt, fault(&rt, rt.alloc(), 1) == None);
+    check(&rt, fault(&rt, rt.alloc(), 1_000_000) == None);
+    check(
+        &rt,
+        fault(&rt, rt.alloc(), 1_000_001) == Some(JournalFault::Places),
+    );
 }

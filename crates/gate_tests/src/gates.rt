@@ -11,7 +11,7 @@ use crate::port_tests::refuses;
 use crate::raised_limit_tests::raises_the_limit;
 use crate::random::told_by_four;
 use crate::rolling_tests::{is_reset, is_seen};
-use crate::seen_tests::{both_call, both_work, one_looks_and_is_told, tells_under_the_lock};
+use crate::seen_tests::{both_work, one_looks_and_is_told, tells_under_the_lock};
 use crate::shared_gate_tests::{one_waits_for_another, promotes_the_newest};
 use crate::test_clocks::Waiting;
 use crate::waiting_tests::{answers_what_is_owed, waits_in_vain};
@@ -51,9 +51,7 @@ pub(crate) enum Trial<'t, R> {
     Close(Handing),
     /// Two threads call, and the gate is closed.
     CallAndClose,
-    /// Two threads call, and what each has seen is looked at.
-    Call,
-    /// Two threads call, tell each other and call again.
+    /// Two threads call, what each has seen is looked at, and one is told and both call again.
     Work,
     /// One thread waits for the permit that another one ends.
     Wait,
@@ -140,6 +138,7 @@ fn try_at_named<M: GateNaming + Send + Sync, R: Threads + Wait + SystemClock + A
     requires names { AreNamed M.calls M.place blanks }
     requires parts { AreWhole blanks }
     requires word { word ≡ M.word }
+    requires passes { M.passes ≡ making.passes }
     requires legal { CallsAllLegal M.legal }
     requires making { M.making ≡ made_with any_rules (begun making.settings) }
 {
@@ -157,30 +156,60 @@ fn try_open<M: GateNaming + Send + Sync, R: Threads + Wait + SystemClock + Abort
     rt: &R,
     alloc: Global,
     gate: SharedGate<AnyLimit, M>,
-    passes: Vec<Pass<M>>,
+    mut passes: Vec<Pass<M>>,
     trial: Trial<'_, R>,
 ) {
     match trial {
-        Trial::PromoteTheNewest => promotes_the_newest(rt, &gate, passes),
-        Trial::WaitInVain(waiting) => waits_in_vain(rt, &gate, passes, waiting),
-        Trial::AnswerWhatIsOwed => answers_what_is_owed(rt, &gate, passes),
-        Trial::SetAndSee => is_seen(rt, &gate, passes),
-        Trial::SetAndReset => is_reset(rt, &gate, passes),
-        Trial::Tell => one_looks_and_is_told(rt, &gate, passes),
-        Trial::TellUnderTheLock => tells_under_the_lock(rt, &gate, passes),
         Trial::Close(handing) => one_closes(rt, alloc, gate, passes, handing),
         Trial::CallAndClose => two_threads_close(rt, alloc, gate, passes),
-        Trial::Call => both_call(rt, alloc, &gate, passes),
-        Trial::Work => both_work(rt, alloc, &gate, passes),
-        Trial::Wait => one_waits_for_another(rt, &gate, passes),
-        Trial::WaitOften => two_wait_for_a_third(rt, &gate, passes),
-        Trial::Raise { is_reset } => raises_the_limit(rt, &gate, passes, is_reset),
-        Trial::RefuseByADeadline => refuses(rt, &gate, passes),
-        Trial::CallAtRandom(promote) => told_by_four(rt, alloc, promote, &gate, passes),
+        other => try_lent(rt, alloc, &gate, &mut passes, other),
+    }
+}
+
+/// Tries something at a gate that is only lent.
+fn try_lent<M: GateNaming + Send + Sync, R: Threads + Wait + SystemClock + Abort + Sync>(
+    rt: &R,
+    alloc: Global,
+    gate: &SharedGate<AnyLimit, M>,
+    passes: &mut Vec<Pass<M>>,
+    trial: Trial<'_, R>,
+) {
+    match trial {
+        Trial::PromoteTheNewest => promotes_the_newest(rt, gate, first_of(rt, passes)),
+        Trial::WaitInVain(waiting) => waits_in_vain(rt, gate, first_of(rt, passes), waiting),
+        Trial::AnswerWhatIsOwed => answers_what_is_owed(rt, gate, first_of(rt, passes)),
+        Trial::SetAndSee => is_seen(rt, gate, first_of(rt, passes)),
+        Trial::SetAndReset => is_reset(rt, gate, first_of(rt, passes)),
+        Trial::Tell => one_looks_and_is_told(rt, gate, passes),
+        Trial::TellUnderTheLock => tells_under_the_lock(rt, gate, passes),
+        Trial::Work => both_work(rt, alloc, gate, passes),
+        Trial::Wait => one_waits_for_another(rt, gate, passes),
+        Trial::WaitOften => two_wait_for_a_third(rt, gate, passes),
+        Trial::Raise { is_reset } => raises_the_limit(rt, gate, passes, is_reset),
+        Trial::RefuseByADeadline => refuses(rt, gate, next_of(rt, passes)),
+        Trial::CallAtRandom(promote) => told_by_four(rt, alloc, promote, gate, passes),
+        _ => rt.abort(),
     }
 }
 
 /// The next of some passes.
 pub(crate) fn next_of<M: GateNaming, R: Abort>(rt: &R, passes: &mut Vec<Pass<M>>) -> Pass<M> {
     passes.pop().expect(rt, "a pass")
+}
+
+/// The first of some passes.
+pub(crate) fn first_of<'p, M: GateNaming, R: Abort>(
+    rt: &R,
+    passes: &'p mut [Pass<M>],
+) -> &'p mut Pass<M> {
+    passes.first_mut().expect(rt, "a pass")
+}
+
+/// The first two of some passes.
+pub(crate) fn two_of<'p, M: GateNaming, R: Abort>(
+    rt: &R,
+    passes: &'p mut [Pass<M>],
+) -> (&'p mut Pass<M>, &'p mut Pass<M>) {
+    let (one, others) = passes.split_first_mut().expect(rt, "a pass");
+    (one, first_of(rt, others))
 }

@@ -9,6 +9,8 @@ mod book_tests;
 #[cfg(test)]
 mod callers;
 #[cfg(test)]
+mod checks;
+#[cfg(test)]
 mod closing;
 #[cfg(test)]
 mod gates;

@@ -1,7 +1,8 @@
 // A limit that is raised while somebody waits, at a gate that promotes all who have room: by hand,
 // and by a reset. Who waits is woken at once, and doesn't find its permit as it looks by itself.
-use crate::callers::acquired;
-use crate::gates::{Making, Trial, next_of, settable, try_at};
+use crate::callers::admitted;
+use crate::checks::check;
+use crate::gates::{Making, Trial, settable, try_at, two_of};
 use crate::shared_gate_tests::{until_one_waits, waits};
 use crate::test_clocks::real;
 use crate::waking_tests::SOON;
@@ -34,37 +35,35 @@ fn of_one_or_two<R: Abort>(rt: &R) -> Making {
 pub(crate) fn raises_the_limit<
     M: GateNaming + Send + Sync,
     R: Threads + Wait + SystemClock + Abort + Sync,
->(rt: &R, gate: &SharedGate<AnyLimit, M>, mut passes: Vec<Pass<M>>, is_reset: bool) {
-    let two = next_of(rt, &mut passes);
-    let one = next_of(rt, &mut passes);
-    let (one, two) = join(
+>(rt: &R, gate: &SharedGate<AnyLimit, M>, passes: &mut [Pass<M>], is_reset: bool) {
+    let (one, two) = two_of(rt, passes);
+    let counts = join(
         rt,
         || raises(rt, gate, one, is_reset),
         || waits(rt, gate, two),
     );
-    assert!(rt; one.count() >= 4 && two.count() == 3);
+    check(rt, counts.0 >= 4);
+    check(rt, counts.1 == 3);
 }
 
 /// Holds the only permit, and once somebody waits, and a moment longer, makes the limit 2: who
-/// waits gets the other permit then, and ends it soon.
+/// waits gets the other permit then, and ends it soon. Tells how many calls the pass has made.
 fn raises<M: GateNaming, R: Wait + SystemClock + Abort>(
     rt: &R,
     gate: &SharedGate<AnyLimit, M>,
-    mut pass: Pass<M>,
+    pass: &mut Pass<M>,
     is_reset: bool,
-) -> Pass<M> {
-    let set = gate.set_limit(rt, &mut pass, 1, 0).is_ok();
-    assert!(rt; set);
-    let (_receipt, permit) = acquired(rt, gate, &mut pass, 0);
-    until_one_waits(rt, gate, &mut pass);
+) -> u64 {
+    check(rt, gate.set_limit(rt, pass, 1, 0).is_ok());
+    let permit = admitted(rt, gate, pass, 0);
+    until_one_waits(rt, gate, pass);
     sleep(rt, Duration::from_millis(5));
     let began = real(rt);
-    let raised = makes_it_two(rt, gate, &mut pass, is_reset);
-    assert!(rt; raised);
+    check(rt, makes_it_two(rt, gate, pass, is_reset));
     until_one_succeeds(rt, gate);
-    assert!(rt; real(rt).saturating_sub(began) < SOON);
-    let _receipt = gate.end(rt, &mut pass, permit, Outcome::Ignored, 3);
-    pass
+    check(rt, real(rt).saturating_sub(began) < SOON);
+    let _receipt = gate.end(rt, pass, permit, Outcome::Ignored, 3);
+    pass.count()
 }
 
 /// A limit of 2, by a reset or by hand, and whether that was answered.

@@ -1,6 +1,7 @@
 // Gates whose history rolls, through the lock: the worked rows by one pass.
-use crate::callers::acquired;
-use crate::gates::{Making, Trial, next_of, settable, try_at};
+use crate::callers::admitted;
+use crate::checks::check;
+use crate::gates::{Making, Trial, settable, try_at};
 use gate_history::{Naming, Receipt, Spent};
 use limit_kinds::AnyLimit;
 use limit_laws::SetFault;
@@ -33,13 +34,11 @@ fn rolling<R: Abort>(rt: &R, lo: u32, first: u32, hi: u32) -> Making {
 pub(crate) fn is_seen<M: GateNaming, R: Wait + Abort>(
     rt: &R,
     gate: &SharedGate<AnyLimit, M>,
-    mut passes: Vec<Pass<M>>,
+    pass: &mut Pass<M>,
 ) {
-    let mut pass = next_of(rt, &mut passes);
-    tells(rt, gate.set_limit(rt, &mut pass, 30, 0), 0, Reply::LimitSet);
+    tells(rt, gate.set_limit(rt, pass, 30, 0), 0, Reply::LimitSet);
     for number in 1..4 {
-        let looked = gate.look(rt, &mut pass, Part::Unknown);
-        tells(rt, looked, number, seen(30, 0));
+        tells(rt, gate.look(rt, pass, Part::Unknown), number, seen(30, 0));
     }
 }
 
@@ -47,18 +46,16 @@ pub(crate) fn is_seen<M: GateNaming, R: Wait + Abort>(
 pub(crate) fn is_reset<M: GateNaming, R: Wait + Abort>(
     rt: &R,
     gate: &SharedGate<AnyLimit, M>,
-    mut passes: Vec<Pass<M>>,
+    pass: &mut Pass<M>,
 ) {
-    let mut pass = next_of(rt, &mut passes);
     let refused = Reply::Refused(SetFault::OutOfRange);
-    tells(rt, gate.set_limit(rt, &mut pass, 4, 0), 0, refused);
-    tells(rt, gate.set_limit(rt, &mut pass, 20, 0), 1, Reply::LimitSet);
-    let (_receipt, permit) = acquired(rt, gate, &mut pass, 0);
-    tells(rt, gate.reset(rt, &mut pass, 0), 3, Reply::ResetDone);
-    let looked = gate.look(rt, &mut pass, Part::Unknown);
-    tells(rt, looked, 4, seen(10, 1));
-    let ended = gate.end(rt, &mut pass, permit, Outcome::Ignored, 0);
-    assert!(rt; ended.number() == 5);
+    tells(rt, gate.set_limit(rt, pass, 4, 0), 0, refused);
+    tells(rt, gate.set_limit(rt, pass, 20, 0), 1, Reply::LimitSet);
+    let permit = admitted(rt, gate, pass, 0);
+    tells(rt, gate.reset(rt, pass, 0), 3, Reply::ResetDone);
+    tells(rt, gate.look(rt, pass, Part::Unknown), 4, seen(10, 1));
+    let ended = gate.end(rt, pass, permit, Outcome::Ignored, 0);
+    check(rt, ended.number() == 5);
 }
 
 /// It is told with this number and reply.
@@ -69,7 +66,8 @@ fn tells<M: Naming, R: Abort>(
     reply: Reply,
 ) {
     let receipt = told.ok().expect(rt, "an answer");
-    assert!(rt; receipt.number() == number && receipt.reply() == reply);
+    check(rt, receipt.number() == number);
+    check(rt, receipt.reply() == reply);
 }
 
 /// What a look shows at this limit, with so many in flight.

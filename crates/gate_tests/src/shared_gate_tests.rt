@@ -1,6 +1,7 @@
 // A shared gate by worked rows, and by two threads of which one waits for the other.
-use crate::callers::{acquired, promoted, queued};
-use crate::gates::{Trial, fixed, next_of, try_at};
+use crate::callers::{admitted, promoted, queued};
+use crate::checks::check;
+use crate::gates::{Trial, fixed, try_at, two_of};
 use gate_history::{Naming, Permit, Receipt, Spent, Ticket};
 use limit_kinds::AnyLimit;
 use limiter_core::{Outcome, Reply};
@@ -27,18 +28,24 @@ fn a_roll_keeps_who_waits_and_what_lies_granted(rt: HostRuntime) {
 pub(crate) fn promotes_the_newest<M: GateNaming, R: Wait + Abort>(
     rt: &R,
     gate: &SharedGate<AnyLimit, M>,
-    mut passes: Vec<Pass<M>>,
+    pass: &mut Pass<M>,
 ) {
-    let mut pass = next_of(rt, &mut passes);
-    let (first, second) = two_wait(rt, gate, &mut pass);
-    let first = still_waits(rt, gate, &mut pass, first);
-    let permit = granted(rt, gate, &mut pass, second);
-    let timed_out = times_out(rt, gate, &mut pass, first);
-    assert!(rt; timed_out == 7);
-    let ended = gate.end(rt, &mut pass, permit, Outcome::Ignored, 9);
-    assert!(rt; (ended.number(), pass.count()) == (8, 8));
+    let (first, second) = two_wait(rt, gate, pass);
+    let first = still_waits(rt, gate, pass, first);
+    let permit = granted(rt, gate, pass, second);
+    check(rt, times_out(rt, gate, pass, first) == 7);
+    let ended = gate.end(rt, pass, permit, Outcome::Ignored, 9);
+    check(rt, ended.number() == 8);
+    check(rt, pass.count() == 8);
+    has_one_of_each(rt, gate);
+}
+
+/// One was admitted, one promoted, and one timed out.
+fn has_one_of_each<M: GateNaming, R: Wait + Abort>(rt: &R, gate: &SharedGate<AnyLimit, M>) {
     let counters = gate.counters(rt);
-    assert!(rt; (counters.admitted, counters.promoted, counters.timed_out) == (1, 1, 1));
+    check(rt, counters.admitted == 1);
+    check(rt, counters.promoted == 1);
+    check(rt, counters.timed_out == 1);
 }
 
 /// Numbers 1 and 2 wait, and the ending of number 0 promotes one of them.
@@ -47,11 +54,11 @@ fn two_wait<M: GateNaming, R: Wait + Abort>(
     gate: &SharedGate<AnyLimit, M>,
     pass: &mut Pass<M>,
 ) -> (Ticket<M>, Ticket<M>) {
-    let (_receipt, permit) = acquired(rt, gate, pass, 0);
+    let permit = admitted(rt, gate, pass, 0);
     let first = queued(rt, gate, pass, 1);
     let second = queued(rt, gate, pass, 2);
     let ended = gate.end(rt, pass, permit, Outcome::Success, 5);
-    assert!(rt; ended.reply() == Reply::Ended { promoted: 1 });
+    check(rt, ended.reply() == Reply::Ended { promoted: 1 });
     (first, second)
 }
 
@@ -64,9 +71,7 @@ fn still_waits<M: GateNaming, R: Wait + Abort>(
 ) -> Ticket<M> {
     match gate.claim(rt, pass, ticket) {
         Claimed::StillWaiting(_receipt, ticket) => ticket,
-        Claimed::Granted(_receipt, _permit) => rt.abort(),
-        Claimed::Lost(_receipt) => rt.abort(),
-        Claimed::Exhausted(_spent, _ticket) => rt.abort(),
+        _ => rt.abort(),
     }
 }
 
@@ -79,9 +84,7 @@ fn granted<M: GateNaming, R: Wait + Abort>(
 ) -> Permit<M> {
     match gate.give_up(rt, pass, ticket) {
         GaveUp::Granted(_receipt, permit) => permit,
-        GaveUp::TimedOut(_receipt) => rt.abort(),
-        GaveUp::Lost(_receipt) => rt.abort(),
-        GaveUp::Exhausted(_spent) => rt.abort(),
+        _ => rt.abort(),
     }
 }
 
@@ -94,9 +97,7 @@ pub(crate) fn times_out<M: GateNaming, R: Wait + Abort>(
 ) -> u64 {
     match gate.give_up(rt, pass, ticket) {
         GaveUp::TimedOut(receipt) => receipt.number(),
-        GaveUp::Granted(_receipt, _permit) => rt.abort(),
-        GaveUp::Lost(_receipt) => rt.abort(),
-        GaveUp::Exhausted(_spent) => rt.abort(),
+        _ => rt.abort(),
     }
 }
 
@@ -110,23 +111,23 @@ fn who_waits_gets_the_permit_that_another_ends(rt: HostRuntime) {
 pub(crate) fn one_waits_for_another<
     M: GateNaming + Send + Sync,
     R: Threads + Wait + SystemClock + Abort + Sync,
->(rt: &R, gate: &SharedGate<AnyLimit, M>, mut passes: Vec<Pass<M>>) {
-    let two = next_of(rt, &mut passes);
-    let one = next_of(rt, &mut passes);
-    let (one, two) = join(rt, || holds(rt, gate, one), || waits(rt, gate, two));
-    assert!(rt; one.count() >= 2 && two.count() == 3);
+>(rt: &R, gate: &SharedGate<AnyLimit, M>, passes: &mut [Pass<M>]) {
+    let (one, two) = two_of(rt, passes);
+    let counts = join(rt, || holds(rt, gate, one), || waits(rt, gate, two));
+    check(rt, counts.0 >= 2);
+    check(rt, counts.1 == 3);
 }
 
-/// Holds the only permit until somebody waits for it.
+/// Holds the only permit until somebody waits for it. Tells how many calls the pass has made.
 fn holds<M: GateNaming, R: Wait + Abort>(
     rt: &R,
     gate: &SharedGate<AnyLimit, M>,
-    mut pass: Pass<M>,
-) -> Pass<M> {
-    let (_receipt, permit) = acquired(rt, gate, &mut pass, 0);
-    until_one_waits(rt, gate, &mut pass);
-    let _receipt = gate.end(rt, &mut pass, permit, Outcome::Success, 1);
-    pass
+    pass: &mut Pass<M>,
+) -> u64 {
+    let permit = admitted(rt, gate, pass, 0);
+    until_one_waits(rt, gate, pass);
+    let _receipt = gate.end(rt, pass, permit, Outcome::Success, 1);
+    pass.count()
 }
 
 /// Looks until one waits.
@@ -150,18 +151,18 @@ fn shows_waiter<M: Naming>(looked: Result<Receipt<M>, Spent<M>>) -> bool {
     }
 }
 
-/// Waits for a permit, once the only one is held.
+/// Waits for a permit, once the only one is held. Tells how many calls the pass has made.
 pub(crate) fn waits<M: GateNaming, R: Wait + SystemClock + Abort>(
     rt: &R,
     gate: &SharedGate<AnyLimit, M>,
-    mut pass: Pass<M>,
-) -> Pass<M> {
+    pass: &mut Pass<M>,
+) -> u64 {
     for _ in rt.forever() {
         if gate.counters(rt).admitted == 1 {
             break;
         }
     }
-    let permit = promoted(rt, gate, &mut pass);
-    let _receipt = gate.end(rt, &mut pass, permit, Outcome::Success, 2);
-    pass
+    let permit = promoted(rt, gate, pass);
+    let _receipt = gate.end(rt, pass, permit, Outcome::Success, 2);
+    pass.count()
 }

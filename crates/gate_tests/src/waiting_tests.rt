@@ -1,6 +1,7 @@
 // Waiting at a shared gate by clocks of several kinds, and a gate whose history is exhausted.
-use crate::callers::{acquired, queued, timed_out};
-use crate::gates::{Trial, fixed, next_of, try_at};
+use crate::callers::{admitted, queued, timed_out};
+use crate::checks::check;
+use crate::gates::{Trial, fixed, try_at};
 use crate::shared_gate_tests::times_out;
 use crate::test_clocks::{TestClock, Waiting};
 use gate_history::{Naming, Receipt, Spent, Ticket};
@@ -38,27 +39,27 @@ const SECOND: u64 = 1_000_000_000;
 #[test]
 fn who_waits_gives_up_at_the_deadline(rt: HostRuntime) {
     let told = told_after(&rt, rt.alloc(), 0, SECOND, 3 * SECOND);
-    assert_eq!(rt; told, 4 * SECOND);
+    check(&rt, told == 4 * SECOND);
 }
 
 #[test]
 fn after_the_deadline_one_look_at_the_clock_is_enough(rt: HostRuntime) {
     let told = told_after(&rt, rt.alloc(), 9 * SECOND, SECOND, 3 * SECOND);
-    assert_eq!(rt; told, 10 * SECOND);
+    check(&rt, told == 10 * SECOND);
 }
 
 // Whoever slept until the deadline would sleep for an hour, and a test has a minute.
 #[test]
 fn a_far_deadline_is_looked_for_meanwhile(rt: HostRuntime) {
     let told = told_after(&rt, rt.alloc(), 0, 1_000 * SECOND, 3_000 * SECOND);
-    assert_eq!(rt; told, 4_000 * SECOND);
+    check(&rt, told == 4_000 * SECOND);
 }
 
 // A thousand pauses of 100 ms would take 100 seconds, and a test has a minute.
 #[test]
 fn a_near_deadline_is_waited_for_in_short_pauses(rt: HostRuntime) {
     let told = told_after(&rt, rt.alloc(), 0, 1_000, 1_000_000);
-    assert_eq!(rt; told, 1_001_000);
+    check(&rt, told == 1_001_000);
 }
 
 #[test]
@@ -98,23 +99,29 @@ pub(crate) fn waits<R: Threads + Wait + SystemClock + Abort + Sync>(
 pub(crate) fn waits_in_vain<M: GateNaming, R: Wait + SystemClock + Abort>(
     rt: &R,
     gate: &SharedGate<AnyLimit, M>,
-    mut passes: Vec<Pass<M>>,
+    pass: &mut Pass<M>,
     waiting: Waiting<'_, R>,
 ) {
-    let mut pass = next_of(rt, &mut passes);
-    let Waiting {
-        now,
-        clock,
-        deadline,
-    } = waiting;
-    let (_receipt, permit) = acquired(rt, gate, &mut pass, now);
-    assert!(rt; permit.facts().start == now.min(1 << 62));
-    let waited = gate.acquire_wait(rt, &mut pass, UNKNOWN, now, clock, deadline);
-    let numbers = timed_out(rt, waited);
-    assert!(rt; numbers == (1, 2));
-    let ended = gate.end(rt, &mut pass, permit, Outcome::Success, now);
-    assert!(rt; ended.reply() == Reply::Ended { promoted: 0 });
-    assert!(rt; (ended.number(), pass.count()) == (3, 4));
+    let now = waiting.now;
+    let permit = admitted(rt, gate, pass, now);
+    check(rt, permit.facts().start == now.min(1 << 62));
+    let waited = gate.acquire_wait(rt, pass, UNKNOWN, now, waiting.clock, waiting.deadline);
+    are_one_and_two(rt, timed_out(rt, waited));
+    let ended = gate.end(rt, pass, permit, Outcome::Success, now);
+    check(rt, ended.reply() == Reply::Ended { promoted: 0 });
+    is_the_fourth(rt, &ended, pass);
+}
+
+/// An acquire's number and that of its giving up, right behind a first acquire.
+fn are_one_and_two<R: Abort>(rt: &R, (first, second): (u64, u64)) {
+    check(rt, first == 1);
+    check(rt, second == 2);
+}
+
+/// A pass has made four calls, of which this was the last, and nobody else has called.
+fn is_the_fourth<M: GateNaming, R: Abort>(rt: &R, receipt: &Receipt<M>, pass: &Pass<M>) {
+    check(rt, receipt.number() == 3);
+    check(rt, pass.count() == 4);
 }
 
 #[test]
@@ -127,16 +134,14 @@ fn an_exhausted_gate_answers_what_is_owed(rt: HostRuntime) {
 pub(crate) fn answers_what_is_owed<M: GateNaming, R: Wait + SystemClock + Abort>(
     rt: &R,
     gate: &SharedGate<AnyLimit, M>,
-    mut passes: Vec<Pass<M>>,
+    pass: &mut Pass<M>,
 ) {
-    let mut pass = next_of(rt, &mut passes);
-    let (_receipt, permit) = acquired(rt, gate, &mut pass, 0);
-    let ticket = queued(rt, gate, &mut pass, 1);
-    let ticket = refuses_the_rest(rt, gate, &mut pass, ticket);
-    let timed_out = times_out(rt, gate, &mut pass, ticket);
-    assert!(rt; timed_out == 2);
-    let ended = gate.end(rt, &mut pass, permit, Outcome::Success, 3);
-    assert!(rt; (ended.number(), pass.count()) == (3, 4));
+    let permit = admitted(rt, gate, pass, 0);
+    let ticket = queued(rt, gate, pass, 1);
+    let ticket = refuses_the_rest(rt, gate, pass, ticket);
+    check(rt, times_out(rt, gate, pass, ticket) == 2);
+    let ended = gate.end(rt, pass, permit, Outcome::Success, 3);
+    is_the_fourth(rt, &ended, pass);
 }
 
 /// No acquire, no change and no claim is answered, and the claim's ticket comes back.
@@ -160,20 +165,12 @@ fn refuses_acquires<M: GateNaming, R: Wait + SystemClock + Abort>(
     pass: &mut Pass<M>,
 ) {
     match gate.acquire(rt, pass, UNKNOWN, true, false, 2) {
-        Got::Exhausted(spent) => assert!(rt; is_spent(&spent, acquire(true, false, 2))),
-        Got::Admitted(_receipt, _permit) => rt.abort(),
-        Got::Bypassed(_receipt) => rt.abort(),
-        Got::Full(_receipt) => rt.abort(),
-        Got::BacklogFull(_receipt) => rt.abort(),
-        Got::Waiting(_receipt, _ticket) => rt.abort(),
+        Got::Exhausted(spent) => check(rt, is_spent(&spent, acquire(true, false, 2))),
+        _ => rt.abort(),
     }
     match gate.acquire_wait(rt, pass, UNKNOWN, 3, &TestClock::<R>::Stands(0), 0) {
-        Waited::Exhausted(spent) => assert!(rt; is_spent(&spent, acquire(false, true, 3))),
-        Waited::Admitted(_receipt, _permit) => rt.abort(),
-        Waited::Promoted(_first, _second, _permit) => rt.abort(),
-        Waited::TimedOut(_first, _second) => rt.abort(),
-        Waited::BacklogFull(_receipt) => rt.abort(),
-        Waited::Lost(_first, _second) => rt.abort(),
+        Waited::Exhausted(spent) => check(rt, is_spent(&spent, acquire(false, true, 3))),
+        _ => rt.abort(),
     }
 }
 
@@ -209,19 +206,17 @@ fn handed_back<M: GateNaming, R: Wait + Abort>(
 ) -> Ticket<M> {
     match gate.claim(rt, pass, ticket) {
         Claimed::Exhausted(spent, ticket) => {
-            assert!(rt; is_spent(&spent, Event::Claim { number: 1 }));
+            check(rt, is_spent(&spent, Event::Claim { number: 1 }));
             ticket
         }
-        Claimed::Granted(_receipt, _permit) => rt.abort(),
-        Claimed::StillWaiting(_receipt, _ticket) => rt.abort(),
-        Claimed::Lost(_receipt) => rt.abort(),
+        _ => rt.abort(),
     }
 }
 
 /// The call of this event isn't answered.
 fn is_refused<M: Naming, R: Abort>(rt: &R, told: Result<Receipt<M>, Spent<M>>, event: Event) {
     let spent = told.err().expect(rt, "no answer");
-    assert!(rt; is_spent(&spent, event));
+    check(rt, is_spent(&spent, event));
 }
 
 /// It tells this event, that two entries are held of two that are kept, and that the next number
@@ -245,6 +240,6 @@ fn is_as_before<M: GateNaming, R: Wait + Abort>(
         waiting: 1,
         ..Counters::default()
     };
-    assert!(rt; gate.counters(rt) == two);
-    assert!(rt; pass.count() == 2);
+    check(rt, gate.counters(rt) == two);
+    check(rt, pass.count() == 2);
 }

@@ -1,7 +1,8 @@
 // When who waits is woken, and how often it looks at its clock meanwhile. Real time is looked at
 // here, so each bound has room to spare.
-use crate::callers::{acquired, promoted};
-use crate::gates::{Trial, fixed, next_of, try_at};
+use crate::callers::{admitted, promoted};
+use crate::checks::check;
+use crate::gates::{Trial, fixed, try_at, two_of};
 use crate::test_clocks::{Counts, TestClock, real};
 use crate::waiting_tests::waits;
 use gate_history::Permit;
@@ -52,17 +53,17 @@ impl<'g, M: GateNaming> Watched<'g, M> {
 fn holds<M: GateNaming, R: Wait + SystemClock + Abort>(
     rt: &R,
     watched: &Watched<'_, M>,
-    mut pass: Pass<M>,
+    pass: &mut Pass<M>,
 ) {
     for turn in 0..TURNS {
-        let permit = takes(rt, watched, &mut pass);
+        let permit = takes(rt, watched, pass);
         for _ in rt.forever() {
             if watched.gate.counters(rt).waiting >= 2 * turn + 2 {
                 break;
             }
         }
         sleep(rt, Duration::from_millis(5));
-        watched.end(rt, &mut pass, permit);
+        watched.end(rt, pass, permit);
     }
 }
 
@@ -78,14 +79,14 @@ fn takes<M: GateNaming, R: Wait + SystemClock + Abort>(
             break;
         }
     }
-    acquired(rt, watched.gate, pass, 0).1
+    admitted(rt, watched.gate, pass, 0)
 }
 
 /// Waits each time that the permit is held, by a clock that stands still.
 fn waits_often<M: GateNaming, R: Wait + SystemClock + Abort>(
     rt: &R,
     watched: &Watched<'_, M>,
-    mut pass: Pass<M>,
+    pass: &mut Pass<M>,
 ) {
     for turn in 0..TURNS {
         for _ in rt.forever() {
@@ -93,9 +94,9 @@ fn waits_often<M: GateNaming, R: Wait + SystemClock + Abort>(
                 break;
             }
         }
-        let permit = promoted(rt, watched.gate, &mut pass);
+        let permit = promoted(rt, watched.gate, pass);
         watched.goes_on(rt);
-        watched.end(rt, &mut pass, permit);
+        watched.end(rt, pass, permit);
     }
 }
 
@@ -112,10 +113,9 @@ fn an_ending_wakes_whoever_it_promotes(rt: HostRuntime) {
 pub(crate) fn two_wait_for_a_third<
     M: GateNaming + Send + Sync,
     R: Threads + Wait + SystemClock + Abort + Sync,
->(rt: &R, gate: &SharedGate<AnyLimit, M>, mut passes: Vec<Pass<M>>) {
-    let one = next_of(rt, &mut passes);
-    let two = next_of(rt, &mut passes);
-    let three = next_of(rt, &mut passes);
+>(rt: &R, gate: &SharedGate<AnyLimit, M>, passes: &mut [Pass<M>]) {
+    let (one, others) = passes.split_first_mut().expect(rt, "a pass");
+    let (two, three) = two_of(rt, others);
     let watched = Watched {
         gate,
         ended: AtomicU64::new(0),
@@ -127,7 +127,7 @@ pub(crate) fn two_wait_for_a_third<
         || waits_often(rt, &watched, three),
     );
     let _done = join(rt, || holds(rt, &watched, one), waiting);
-    assert!(rt; watched.soon.load(Ordering::SeqCst) > TURNS + TURNS / 2);
+    check(rt, watched.soon.load(Ordering::SeqCst) > TURNS + TURNS / 2);
 }
 
 /// How often who waits in vain looks at a clock, and for how many nanoseconds it waits.
@@ -164,11 +164,11 @@ fn looks_at<R>(clock: &TestClock<'_, R>) -> u64 {
 #[test]
 fn who_waits_looks_three_times_in_a_second(rt: HostRuntime) {
     let (looks, time) = looked(&rt, rt.alloc(), (3, 0), 0, 3_600 * SECOND);
-    assert!(rt; looks == 4 && time < SECOND);
+    check(&rt, looks == 4 && time < SECOND);
 }
 
 #[test]
 fn who_waits_keeps_no_processor_busy(rt: HostRuntime) {
     let (looks, _time) = looked(&rt, rt.alloc(), (0, SECOND / 10), SECOND - 1, SECOND);
-    assert!(rt; looks <= 300);
+    check(&rt, looks <= 300);
 }

@@ -1,5 +1,6 @@
 // A window of as many samples as it holds; and AIMD over windows of windows, and over a window of a
 // million samples, by worked numbers.
+use crate::checks::check;
 use crate::limits::LEARNING;
 use aimd::{Aimd, AimdNumbers};
 use limit_laws::{Limit, Sample};
@@ -53,10 +54,10 @@ fn windows_over_windows_hand_on_means_of_means(rt: HostRuntime) {
     let before = [(0, 5), (5, 200), (6, 200), (396, 10), (397, 10), (597, 10)];
     for (start, rtt) in before {
         outer.on_sample(&sample(start, rtt));
-        assert!(rt; outer.limit() == 20);
+        check(&rt, outer.limit() == 20);
     }
     outer.on_sample(&sample(598, 10));
-    assert!(rt; outer.limit() == 21);
+    check(&rt, outer.limit() == 21);
 }
 
 /// Windows of an hour that have to have a million samples, all within the hour after the first: the
@@ -68,9 +69,9 @@ fn a_window_ends_at_its_millionth_sample(rt: HostRuntime) {
     for _ in 0..1_000_000 {
         windowed.on_sample(&sample(0, 5));
     }
-    assert!(rt; windowed.limit() == 20);
+    check(&rt, windowed.limit() == 20);
     windowed.on_sample(&sample(0, 5));
-    assert!(rt; windowed.limit() == 21);
+    check(&rt, windowed.limit() == 21);
 }
 
 #[test]
@@ -79,9 +80,12 @@ fn a_window_holds_a_million_samples_of_an_hour(rt: HostRuntime) {
     let sample = Sample::of_rtt(0, hour, 1, false);
     let mut window = Window::empty();
     for _ in 0..1_000_000 {
-        assert!(rt; window.count() < 1_000_000);
+        check(&rt, window.count() < 1_000_000);
         window.add(&sample);
     }
-    assert!(rt; window.count() == 1_000_000 && window.sum() == 1_000_000 * hour);
-    assert!(rt; window.count() > 0 && window.mean() == hour);
+    check(
+        &rt,
+        window.count() == 1_000_000 && window.sum() == 1_000_000 * hour,
+    );
+    check(&rt, window.count() > 0 && window.mean() == hour);
 }

@@ -1,9 +1,8 @@
 -- What is written of a run.
-use Rattle.std.proofs.Common.{◌≡◌, ℕ, ◌≤◌, List, [], None, Result, Err, IfErr, length, drop}
+use Rattle.std.proofs.Common.{◌≡◌, ℕ, ◌≤◌, List, All, None, Result, Err, IfErr, length, drop}
 use Rattle.std.proofs.Common.{ap, subst, sym, arith}
 use Rattle.std.specs.Prelude.{Vec}
 use Rattle.std.specs.declared.alloc.Global.{Global}
-use Rattle.std.proofs.lemmas.List.Elements.{All-nil}
 use mathlib.Core.List.{IsPrefix}
 use Rattle.limit_kinds.specs.declared.kinds.AnyLimit.{AnyLimit}
 use Rattle.limit_kinds.specs.AnyKinds.{any_rules}
@@ -11,11 +10,12 @@ use Rattle.limiter_core.specs.declared.event.Entry.{Entry}
 use Rattle.gate_journal.specs.Image.{Standing}
 use Rattle.gate_ledgers.specs.Making.{Making}
 use Rattle.gate_ledgers.specs.Told.{Told}
+use Rattle.gate_history.specs.Book.{calls_of}
 use Rattle.gate_history.specs.Refusal.{Refusal}
 use Rattle.audit.specs.declared.cause.Cause.{Cause}
 use Rattle.audit.specs.declared.cause.Cause.TheVariants as cause
 use Rattle.shared_gate.specs.Calls.{Pass}
-use Rattle.shared_gate.specs.Closing.{IsKept}
+use Rattle.shared_gate.specs.Closing.{FailsBy, IsKept, calls_by}
 use Rattle.script.specs.Settings.{SettingFacts}
 use Rattle.load_driver.specs.Limits.{most_script}
 use Rattle.trace.specs.declared.arrival.Arrival.{Arrival}
@@ -69,15 +69,17 @@ is_unaccepted workers n settings arrivals kept spent m cause made many work reje
   rejected = subst (λ (x : Making). IsRejected x kept cause) made rejected;
 }
 
--- an audit without memory says nothing of its history
+-- an audit without memory says nothing of its history, but for its calls
 pub is_rejected_unread : (m : Making) (opening : Standing AnyLimit) (base : ℕ)
-    (entries : List Entry) (kept : List (Vec Told Global)) → base ≡ 0
-    → IsKept any_rules m opening base entries → IsRejected m kept cause.Memory
-is_rejected_unread m opening base entries kept zero_base legal = record {
+    (entries : List Entry) (kept : List (Vec Told Global)) (passes : List Pass) → base ≡ 0
+    → IsKept any_rules m opening base entries
+    → All (λ (pass : Pass). IsPrefix pass.log entries) passes
+    → calls_by passes ≡ calls_of entries → IsRejected m kept cause.Memory
+is_rejected_unread m opening base entries kept passes zero_base legal begun counted = record {
   opening = opening;
   base = base;
   entries = entries;
-  passes = [];
+  passes = passes;
   legal = legal;
   fails = record {
     log = entries;
@@ -88,10 +90,26 @@ is_rejected_unread m opening base entries kept zero_base legal = record {
       long = omega (arith, zero_base);
       ends = ap (λ (n : ℕ). drop n entries) zero_base;
     };
-    begun = All-nil (λ (pass : Pass). IsPrefix pass.log entries);
-    enough = omega arith;
+    begun = begun;
+    enough = omega (arith, counted);
+    all = λ whole. counted;
     first = tt;
   };
+}
+
+-- where all passes of a gate were handed in none is missing
+pub is_rejected_by : (m : Making) (opening : Standing AnyLimit) (base : ℕ) (entries : List Entry)
+    (kept : List (Vec Told Global)) (passes : List Pass) (count : ℕ) (cause : Cause)
+    → length passes ≡ count → IsKept any_rules m opening base entries
+    → FailsBy any_rules m count passes base entries kept cause → IsRejected m kept cause
+is_rejected_by m opening base entries kept passes count cause all legal fails = record {
+  opening = opening;
+  base = base;
+  entries = entries;
+  passes = passes;
+  legal = legal;
+  fails =
+      subst (λ (n : ℕ). FailsBy any_rules m n passes base entries kept cause) (sym all) fails;
 }
 
 -- a run that isn't accepted stops by its cause

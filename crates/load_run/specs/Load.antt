@@ -47,14 +47,14 @@ pub record IsRun (workers n : ℕ) (settings : SettingFacts) (arrivals : List Ar
   pub accepted : IsAccepted (making_of n settings) kept spent summary
 
 -- a history of a gate that isn't that of just these receipts: the audit fails by this cause, the
--- first that applies
+-- first that applies. No pass is missing: these made all calls
 pub record IsRejected (m : Making) (kept : List (Vec Told Global)) (cause : Cause) : Type 0 where
   pub opening : Standing AnyLimit
   pub base : ℕ
   pub entries : List Entry
   pub passes : List Pass
   pub legal : IsKept any_rules m opening base entries
-  pub fails : FailsBy any_rules m passes base entries kept cause
+  pub fails : FailsBy any_rules m (length passes) passes base entries kept cause
 
 -- a run that isn't accepted: the workers made such lists
 pub record IsUnaccepted (workers n : ℕ) (settings : SettingFacts) (arrivals : List Arrival)

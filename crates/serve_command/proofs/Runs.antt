@@ -1,11 +1,11 @@
 -- What the workers of a gateway did, by what their ports know in the end.
-use Rattle.std.proofs.Common.{◌≡◌, refl, ap, ℕ, suc, false, List, [], ◌∷◌, All, Option, None, Some}
+use Rattle.std.proofs.Common.{◌≡◌, refl, ap, ℕ, suc, false, List, [], ◌∷◌, All, None, Some}
 use Rattle.std.specs.List.{AllZip}
-use Rattle.std.proofs.Common.{◌++◌, ◌∙◌, length, map, option_to_list, subst, sym}
+use Rattle.std.proofs.Common.{◌++◌, ◌∙◌, length, map, subst, sym}
 use mathlib.Core.List.{map-append}
 use Rattle.std.proofs.lemmas.List.Elements.{All-nil, All-cons, All-head, All-tail}
 use Rattle.limiter_core.specs.declared.event.Entry.{Entry}
-use Rattle.shared_gate.specs.Calls.{Pass}
+use Rattle.shared_gate.specs.Calls.{Pass, pass_of}
 use Rattle.ports.specs.declared.asked.Asked.TheVariants.{Nothing}
 use Rattle.ports.specs.Asked.{Shared, port_in}
 use Rattle.gate_config.specs.declared.settings.Settings.{Settings}
@@ -18,7 +18,8 @@ use Rattle.serving.specs.declared.jobs.JobResult.TheVariants as left
 use Rattle.serving.specs.declared.working.WorkerSettings.{WorkerSettings}
 use Rattle.serving.specs.Doors.{failed_of, given_of, is_closed}
 use Rattle.serving.specs.Turns.{IsRun}
-use Rattle.serving.specs.Workers.{HasRun, ended_in}
+use Rattle.serving.specs.Workers.{HasRun, ended_in, made_in}
+use Rattle.gate_desk.specs.Operator.{AreChanges}
 use Rattle.serve_command.specs.Runs.{HasRunTo, stood_at}
 
 module _ {L C S W : Type 0} (R T V M : Type 0) (gives : S → Settings → Type 0)
@@ -76,25 +77,60 @@ module _ {L C S W : Type 0} (R T V M : Type 0) (gives : S → Settings → Type 
         ap suc rest.1,
       )
 
+-- who serves beside them, by passes of no call: the limit alone was changed by these
+pub all_changed : {O : Type 0} (pass_at : O → Pass) (Made : O → Pass → Type 0)
+    → ((operator : O) (left : Pass) → Made operator left → AreChanges (pass_at operator) left)
+    → (operators : List O) (lefts : List Pass)
+    → All (λ pass. pass ≡ pass_of 0) (map pass_at operators) → AllZip Made operators lefts
+    → All (AreChanges (pass_of 0)) lefts × (length lefts ≡ length (map pass_at operators))
+all_changed pass_at Made changed [] [] fresh all = (All-nil (AreChanges (pass_of 0)), refl)
+all_changed pass_at Made changed [] (l ∷ ls) fresh all = absurd all
+all_changed pass_at Made changed (o ∷ os) [] fresh all = absurd all
+all_changed pass_at Made changed (o ∷ os) (l ∷ ls) fresh all =
+    let is_new : Pass → Type 0 = λ pass. pass ≡ pass_of 0 in
+    let rest =
+    all_changed pass_at Made changed os ls (All-tail is_new (pass_at o) (map pass_at os) fresh)
+    all.1 in (
+      All-cons (AreChanges (pass_of 0)) l ls
+          (subst (λ (pass : Pass). AreChanges pass l)
+          (All-head is_new (pass_at o) (map pass_at os) fresh) (changed o l all.0)) rest.0,
+      ap suc rest.1,
+    )
+
 -- who served among some, and one more
-ended_more : {A P B : Type 0} (lefts : List (JobResult A P B)) (l : JobResult A P B)
+ended_more : {A P B D : Type 0} (lefts : List (JobResult A P B D)) (l : JobResult A P B D)
     → ended_in (lefts ++ l ∷ []) ≡ ended_in lefts ++ ended_in (l ∷ [])
 ended_more [] l = refl
 ended_more (left.Unbegun ∷ lefts) l = ended_more lefts l
-ended_more (left.SideTask ∷ lefts) l = ended_more lefts l
+ended_more (left.SideTask made ∷ lefts) l = ended_more lefts l
 ended_more {A} {P} {B} (left.Worked ended ∷ lefts) l =
     ap (λ (es : List (WorkerExit A P B)). ended ∷ es) (ended_more lefts l)
 
--- their passes, and that of one more, which served, or didn't
-pub one_pass_more : {A B M : Type 0} (lefts : List (JobResult A (Shared M) B))
-    (l : JobResult A (Shared M) B) (pass : Option Pass) (passes more : List Pass)
+-- their passes, and those of one more, which served, or didn't
+pub passes_more : {A B D M : Type 0} (lefts : List (JobResult A (Shared M) B D))
+    (l : JobResult A (Shared M) B D) (passes more own : List Pass)
     → passes ≡ map (λ ended. ended.port.pass) (ended_in lefts)
-    → option_to_list pass ≡ map (λ ended. ended.port.pass) (ended_in (l ∷ []))
-    → more ≡ passes ++ option_to_list pass
+    → own ≡ map (λ ended. ended.port.pass) (ended_in (l ∷ [])) → more ≡ passes ++ own
     → more ≡ map (λ ended. ended.port.pass) (ended_in (lefts ++ l ∷ []))
-one_pass_more {A} {B} {M} lefts l pass passes more same own is =
+passes_more {A} {B} {D} {M} lefts l passes more own same is joined =
     let pass_of : WorkerExit A (Shared M) B → Pass = λ ended. ended.port.pass in
-    is ∙ ap (λ (ps : List Pass). ps ++ option_to_list pass) same
-    ∙ ap (λ (ps : List Pass). map pass_of (ended_in lefts) ++ ps) own
+    joined ∙ ap (λ (ps : List Pass). ps ++ own) same
+    ∙ ap (λ (ps : List Pass). map pass_of (ended_in lefts) ++ ps) is
     ∙ sym (map-append pass_of (ended_in lefts) (ended_in (l ∷ [])))
     ∙ ap (λ (es : List (WorkerExit A (Shared M) B)). map pass_of es) (sym (ended_more lefts l))
+
+made_more : {A P B D : Type 0} (lefts : List (JobResult A P B D)) (l : JobResult A P B D)
+    → made_in (lefts ++ l ∷ []) ≡ made_in lefts ++ made_in (l ∷ [])
+made_more [] l = refl
+made_more (left.Unbegun ∷ lefts) l = made_more lefts l
+made_more {A} {P} {B} {D} (left.SideTask made ∷ lefts) l =
+    ap (λ (ds : List D). made ∷ ds) (made_more lefts l)
+made_more (left.Worked ended ∷ lefts) l = made_more lefts l
+
+-- what was made beside them, and that of one more, which made something, or didn't
+pub others_more : {A P B D : Type 0} (lefts : List (JobResult A P B D)) (l : JobResult A P B D)
+    (others more own : List D) → others ≡ made_in lefts → own ≡ made_in (l ∷ [])
+    → more ≡ others ++ own → more ≡ made_in (lefts ++ l ∷ [])
+others_more {A} {P} {B} {D} lefts l others more own same is joined =
+    joined ∙ ap (λ (ds : List D). ds ++ own) same
+    ∙ ap (λ (ds : List D). made_in lefts ++ ds) is ∙ sym (made_more lefts l)

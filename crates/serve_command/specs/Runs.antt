@@ -1,11 +1,12 @@
 -- What the workers of a gateway did, and what its gate counted of them.
-use Rattle.std.specs.Prelude.{◌≡◌, ◌≤◌, ◌+◌, ℕ, Bool, false, List, [], All, Some, None, length}
+use Rattle.std.specs.Prelude.{◌≡◌, ◌≤◌, ◌+◌, ℕ, Bool, false, List, [], ◌++◌, All, Some, None, length}
 use Rattle.limit_laws.specs.Algorithm.{Algorithm}
 use Rattle.limiter_core.specs.declared.counters.Counters.{Counters}
 use Rattle.limiter_core.specs.declared.event.Entry.{Entry}
 use Rattle.gate_ledgers.specs.Making.{Making}
-use Rattle.shared_gate.specs.Calls.{Pass}
-use Rattle.shared_gate.specs.Reported.{AreCountersBehind}
+use Rattle.shared_gate.specs.Calls.{Pass, pass_of}
+use Rattle.shared_gate.specs.Reported.{AreCountersOfAll}
+use Rattle.gate_desk.specs.Operator.{AreChanges}
 use Rattle.gate_config.specs.declared.settings.Settings.{Settings}
 use Rattle.serving.specs.declared.working.TurnCounts.{TurnCounts}
 use Rattle.serving.specs.Turns.{IsRun, Place}
@@ -40,11 +41,14 @@ pub record HasRunTo (Gives : Settings → Type 0) (most : ℕ) (pass : Pass) : T
   pub turns : tally.accepted + tally.unaccepted ≤ most
   pub whole : closed ≡ false → tally.accepted + tally.unaccepted ≡ most
 
--- THE COUNTERS OF RUNS: so many workers ran, and these are the counters of a log of the gate that
--- begins with what the pass of each of them knows
+-- THE COUNTERS OF RUNS: so many workers ran, by other passes the limit was changed and nothing else
+-- was called, and these are the counters of a log of the gate that begins with what each of these
+-- passes knows, and whose calls were all made by them
 pub record AreCountersOfRuns {S : Type 0} (rules : Algorithm S) (m : Making)
     (Gives : Settings → Type 0) (workers most : ℕ) (counters : Counters) : Type 0 where
   pub passes : List Pass
   pub all : length passes ≡ workers
   pub ran : All (HasRunTo Gives most) passes
-  pub behind : AreCountersBehind rules m passes counters
+  pub others : List Pass
+  pub changed : All (AreChanges (pass_of 0)) others
+  pub behind : AreCountersOfAll rules m (passes ++ others) counters

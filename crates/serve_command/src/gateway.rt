@@ -1,6 +1,6 @@
 // The gate of a configuration, and its workers.
-ghost use Rattle.std.specs.Prelude.{◌≡◌, ◌≤◌, ◌+◌, [], ◌∷◌, map, replicate, vec_len};
-ghost use Rattle.std.specs.Prelude.{All, IfOk, IsErrOf, OnOk, option_to_list};
+ghost use Rattle.std.specs.Prelude.{◌≡◌, ◌≤◌, ◌+◌, [], map, replicate, vec_len};
+ghost use Rattle.std.specs.Prelude.{All, IfOk, IsErrOf, OnOk};
 ghost use Rattle.counted_io.specs.Count.{raised};
 ghost use Rattle.tasks.specs.Refused.{refused_of};
 ghost use Rattle.limit_kinds.specs.AnyKinds.{any_rules};
@@ -11,7 +11,8 @@ ghost use Rattle.shared_gate.specs.Log.{CallsLegal};
 ghost use Rattle.gate_opening.specs.Opening.{journal_of, making_of};
 ghost use Rattle.ports.specs.declared.asked.Asked.TheVariants.{Nothing};
 ghost use Rattle.ports.specs.Asked.{port_in};
-ghost use Rattle.serving.specs.Workers.{ended_in};
+ghost use Rattle.serving.specs.Workers.{ended_in, made_in};
+ghost use Rattle.serve_command.specs.Beside.{count_beside};
 ghost use Rattle.serve_command.specs.Runs.{AreCountersOfRuns};
 
 use crate::admin::SideAddresses;
@@ -79,15 +80,18 @@ where
 {
     let word = Word::new(gateway.common.alloc)?;
     let blanks = Blanks::new();
-    serve_named::<Brand, R, L, C, S>(spawner, gateway, blanks, word)
+    let others = gateway.side.count();
+    serve_named::<Brand, R, L, C, S>(spawner, gateway, blanks, word, others)
 }
 
-/// Serves clients through the gate of the gateway's settings, which has these names.
+/// Serves clients through the gate of the gateway's settings, which has these names, with so many
+/// passes beside those of workers.
 fn serve_named<M, R, L, C, S>(
     spawner: &mut Spawner<'_, R>,
     gateway: &Gateway<'_, R, L, C, S>,
     blanks: Blanks,
     word: Word,
+    others: usize,
 ) -> Result<Counters, ServeFault>
 where
     M: GateNaming + Send + Sync,
@@ -103,6 +107,9 @@ where
     requires names { AreNamed M.calls M.place blanks }
     requires parts { AreWhole blanks }
     requires word { word ≡ M.word }
+    requires passes { M.passes ≡ gateway.now.workers + others }
+    requires beside { others ≡ count_beside gateway.now.side.now }
+    requires least { others ≤ 8 }
     requires making { M.making ≡ making_of gateway.now.workers gateway.now.settings.now }
     requires sound { AreSound gateway.now.settings.now }
     requires legal { CallsLegal any_rules
@@ -115,7 +122,7 @@ where
     ensures thread { IsErrOf result ServeFault.Thread →
         refused_of spawner.new ≡ raised (refused_of spawner.old) }
 {
-    let (workers, others) = (gateway.workers as usize, gateway.side.count());
+    let workers = gateway.workers as usize;
     let (gate, mut passes) = open_gate::<M>(
         gateway.common.alloc,
         gateway.settings,
@@ -129,7 +136,8 @@ where
 }
 
 /// Serves clients through a gate, by one worker for each pass, and those at the addresses beside
-/// theirs by passes of their own. Which limit the gate has isn't told apart here.
+/// theirs by passes of their own, which are all others of the gate. Which limit it has isn't told
+/// apart here.
 fn serve_through<M, R, G, L, C, S>(
     spawner: &mut Spawner<'_, R>,
     gateway: &Gateway<'_, R, L, C, S>,
@@ -150,6 +158,9 @@ where
     R::Stream: Send + Sync,
     R::Listener: Send + Sync,
     requires unused { All (λ pass. pass.log ≡ []) passes.items }
+    requires beside { vec_len own ≡ count_beside gateway.now.side.now }
+    requires fresh { All (λ pass. pass ≡ pass_of 0) own.items }
+    requires all { vec_len passes + vec_len own ≡ M.passes }
     ensures counted { IfOk result (AreCountersOfRuns G.rules M.making
         (S.gives gateway.now.common.now.source.now) (vec_len passes)
         gateway.now.common.now.per_worker) }
@@ -157,8 +168,9 @@ where
         refused_of spawner.new ≡ raised (refused_of spawner.old) }
 {
     let (rt, common) = (gateway.rt, gateway.common);
+    let all = Vec::with_capacity(common.alloc, passes.len() + own.len())?;
+    let others = Vec::with_capacity(common.alloc, own.len())?;
     let operators = make_operators(gateway, gate, own)?;
-    let kept = Vec::with_capacity(common.alloc, passes.len())?;
     let ports = make_ports(rt, common.alloc, gate, common.clock, common.watch, passes)?;
     let view = View::new(rt, gate);
     let lefts = serve(
@@ -170,8 +182,12 @@ where
         ports,
         operators,
     )?;
-    let passes = passes_of(kept, lefts)?;
-    Ok(gate.counters_behind(rt, passes))
+    let (mut passes, mut others) = passes_of(all, others, lefts)?;
+    passes.append(&mut others)?;
+    match gate.counters_of_all(rt, passes) {
+        Ok(counters) => Ok(counters),
+        Err(_) => unreachable!(),
+    }
 }
 
 /// The passes behind the first ones, so many of them. It fails only out of memory.
@@ -183,6 +199,8 @@ fn take_own<M: GateNaming>(
     requires { passes.old.items ≡ replicate (first + others) (pass_of 0) }
     ensures all { OnOk result (vec_len passes.new ≡ first) }
     ensures unused { OnOk result (All (λ pass. pass.log ≡ []) passes.new.items) }
+    ensures own { IfOk result (λ own. vec_len own ≡ others) }
+    ensures fresh { IfOk result (λ own. All (λ pass. pass ≡ pass_of 0) own.items) }
 {
     passes.split_off(first)
 }
@@ -223,31 +241,25 @@ fn noting<'a, M: GateNaming, R: SystemClock, G: Limit, C>(
     }
 }
 
-/// The passes of the workers that served, in their order, into a list that is empty.
+/// The passes of the workers that served, in their order, and those that were left beside them,
+/// into lists that are empty.
 fn passes_of<M: GateNaming, R, G: Limit, C, A: Drop, B: Drop>(
     mut passes: Vec<Pass<M>>,
-    lefts: Vec<JobResult<A, Port<'_, G, M, R, C>, B>>,
-) -> Result<Vec<Pass<M>>, AllocError>
-    requires { passes.items ≡ [] }
-    ensures { IfOk result (λ passes.
-        passes.items ≡ map (λ ended. ended.port.pass) (ended_in lefts.entry.items)) }
+    mut others: Vec<Pass<M>>,
+    lefts: Vec<JobResult<A, Port<'_, G, M, R, C>, B, Pass<M>>>,
+) -> Result<(Vec<Pass<M>>, Vec<Pass<M>>), AllocError>
+    requires none { passes.items ≡ [] }
+    requires no_others { others.items ≡ [] }
+    ensures workers { IfOk result (λ both.
+        both.0.items ≡ map (λ ended. ended.port.pass) (ended_in lefts.entry.items)) }
+    ensures beside { IfOk result (λ both. both.1.items ≡ made_in lefts.entry.items) }
 {
     for left in lefts {
-        if let Some(pass) = pass_in(left) {
-            passes.push(pass)?;
+        match left {
+            JobResult::Worked(ended) => passes.push(ended.port.into_pass())?,
+            JobResult::SideTask(pass) => others.push(pass)?,
+            JobResult::Unbegun => {}
         }
     }
-    Ok(passes)
-}
-
-/// The pass of whoever left this, if it served.
-fn pass_in<M: GateNaming, R, G: Limit, C, A: Drop, B: Drop>(
-    left: JobResult<A, Port<'_, G, M, R, C>, B>,
-) -> Option<Pass<M>>
-    ensures { option_to_list result ≡ map (λ ended. ended.port.pass) (ended_in (left.entry ∷ [])) }
-{
-    match left {
-        JobResult::Worked(ended) => Some(ended.port.into_pass()),
-        JobResult::Unbegun | JobResult::SideTask => None,
-    }
+    Ok((passes, others))
 }

@@ -1,4 +1,8 @@
 // Who serves at the addresses beside that of clients.
+ghost use Rattle.std.specs.Prelude.{◌≡◌, ◌++◌, IfOk, map, vec_len};
+ghost use Rattle.gate_desk.specs.Operator.{pass_at};
+ghost use Rattle.serve_command.specs.Beside.{count_beside};
+
 use crate::admin::AT_ONCE;
 use crate::desk_log::DeskLog;
 use crate::gateway::Gateway;
@@ -16,29 +20,42 @@ use std::time::{Clock as SystemClock, Duration};
 pub(crate) fn make_operators<'g, M: GateNaming, R: SystemClock, G: Limit, L, C, S>(
     gateway: &Gateway<'g, R, L, C, S>,
     gate: &'g SharedGate<G, M>,
+    mut passes: Vec<Pass<M>>,
+) -> Result<Vec<Operator<'g, G, M, R, L, C, DeskLog<'g, R>>>, AllocError>
+    requires { vec_len passes ≡ count_beside gateway.now.side.now }
+    ensures { IfOk result (λ operators. map pass_at operators.items ≡ passes.items) }
+{
+    let operators = Vec::with_capacity(gateway.common.alloc, passes.len())?;
+    match (&gateway.side.admin, &gateway.side.status) {
+        (None, None) => Ok(operators),
+        (None, Some(status)) => add_at(operators, gateway, gate, status, None, passes),
+        (Some(admin), None) => add_at(operators, gateway, gate, admin, None, passes),
+        (Some(admin), Some(status)) => {
+            let rest = passes.split_off(AT_ONCE)?;
+            let operators = add_at(operators, gateway, gate, status, None, passes)?;
+            add_at(operators, gateway, gate, admin, Some(status.listener), rest)
+        }
+    }
+}
+
+/// These, and one more for each pass, at an address, who close another listener as they end. It
+/// fails only out of memory.
+fn add_at<'g, M: GateNaming, R: SystemClock, G: Limit, L, C, S>(
+    mut operators: Vec<Operator<'g, G, M, R, L, C, DeskLog<'g, R>>>,
+    gateway: &Gateway<'g, R, L, C, S>,
+    gate: &'g SharedGate<G, M>,
+    operating: &'g Operating<'g, L, C>,
+    also: Option<&'g L>,
     passes: Vec<Pass<M>>,
-) -> Result<Vec<Operator<'g, G, M, R, L, C, DeskLog<'g, R>>>, AllocError> {
-    let side = gateway.side;
-    let mut operators = Vec::with_capacity(gateway.common.alloc, passes.len())?;
+) -> Result<Vec<Operator<'g, G, M, R, L, C, DeskLog<'g, R>>>, AllocError>
+    ensures { IfOk result (λ all.
+        map pass_at all.items ≡ map pass_at operators.items ++ passes.items) }
+{
     for pass in passes {
-        let (operating, also) = match (&side.admin, &side.status) {
-            (_, Some(status)) if operators.len() < AT_ONCE => (status, None),
-            (Some(admin), status) => (admin, listener_at(status)),
-            (None, Some(status)) => (status, None),
-            (None, None) => return Ok(operators),
-        };
         let desk = make_desk(gateway, gate, operating, pass)?;
         operators.push(Operator::new(operating, desk, also)?)?;
     }
     Ok(operators)
-}
-
-/// Where those come from who are served at an address, where there is one.
-fn listener_at<'a, L, C>(operating: &Option<Operating<'a, L, C>>) -> Option<&'a L> {
-    match operating {
-        Some(operating) => Some(operating.listener),
-        None => None,
-    }
 }
 
 /// The desk of one who serves at an address, by a pass. It fails only out of memory.
@@ -47,7 +64,9 @@ fn make_desk<'g, M: GateNaming, R: SystemClock, G: Limit, L, C, S>(
     gate: &'g SharedGate<G, M>,
     operating: &Operating<'g, L, C>,
     pass: Pass<M>,
-) -> Result<GateDesk<'g, G, M, R, L, C, DeskLog<'g, R>>, AllocError> {
+) -> Result<GateDesk<'g, G, M, R, L, C, DeskLog<'g, R>>, AllocError>
+    ensures { IfOk result (λ desk. desk.pass ≡ pass) }
+{
     let Ok(table) = gateway.settings.table.copy() else {
         return Err(AllocError);
     };

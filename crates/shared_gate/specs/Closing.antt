@@ -45,14 +45,17 @@ pub record IsEndOf {S : Type 0} (rules : Algorithm S) (m : Making) (log : List E
   pub long : length log ≡ base + length entries
   pub ends : drop base log ≡ entries
 
--- why an audit fails, where these passes were handed in: the cause is the first that applies to the
--- history and the lists, by the calls of the gate's log. Of that each pass knew a beginning, the
--- history is its end, and it has no fewer calls than were made by the passes
-pub record FailsBy {S : Type 0} (rules : Algorithm S) (m : Making) (passes : List Pass) (base : ℕ)
-    (entries : List Entry) (kept : List (Vec Told Global)) (cause : Cause) : Type 0 where
+-- why the audit of a gate with so many passes fails, where these were handed in: the cause is the
+-- first that applies to the history and the lists, by the calls of the gate's log. Of that each pass
+-- knew a beginning, the history is its end, and it has no fewer calls than were made by the passes,
+-- and as many where these are all
+pub record FailsBy {S : Type 0} (rules : Algorithm S) (m : Making) (count : ℕ) (passes : List Pass)
+    (base : ℕ) (entries : List Entry) (kept : List (Vec Told Global)) (cause : Cause)
+    : Type 0 where
   pub log : List Entry
   pub end : IsEndOf rules m log base entries
   pub begun : All (λ pass. IsPrefix pass.log log) passes
   pub enough : calls_by passes ≤ calls_of log
+  pub all : length passes ≡ count → calls_by passes ≡ calls_of log
   pub first : IsFirstCause
       (audited (record { book = calls_of log; sum = calls_by passes }) base entries kept) cause

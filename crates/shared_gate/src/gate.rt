@@ -1,5 +1,5 @@
 // A gate that threads share.
-ghost use Rattle.std.specs.Prelude.{◌≡◌, true, All, IfOk, IfErr, map};
+ghost use Rattle.std.specs.Prelude.{◌≡◌, true, All, IfOk, IfErr, is_ok, map, vec_len};
 ghost use mathlib.Core.List.{IsPrefix};
 ghost use Rattle.limiter_core.specs.declared.event.Event.TheVariants.{SetLimit, Reset, Look};
 ghost use Rattle.audit.specs.Accepted.{IsHistoryOf};
@@ -65,6 +65,7 @@ impl<L: Limit, M: GateNaming> SharedGate<L, M> {
         requires word { word ≡ M.word }
         requires sealed { book.is_sealed ≡ true }
         requires unasked { next_number book.journal ≡ 0 }
+        requires few { book.tally.passes ≡ M.passes }
         requires legal { CallsLegal L.rules book.journal M.legal }
         ensures passes { IfOk result (λ made. made.1.items ≡ map pass_of passes.items) }
     {
@@ -103,10 +104,12 @@ impl<L: Limit, M: GateNaming> SharedGate<L, M> {
         sealed.report().counters
     }
 
-    /// The same where nobody else has called: these are counters of their calls alone. Else how
-    /// many calls there were, and how many of them by these passes.
+    /// The same where nobody else has called: these are counters of their calls alone, as they are
+    /// where these are all passes of the gate. Else how many calls there were, and how many of them
+    /// by these passes.
     pub fn counters_of_all(&self, rt: &impl Wait, passes: Vec<Pass<M>>) -> Result<Counters, Calls>
         ensures all { IfOk result (AreCountersOfAll L.rules M.making passes.items) }
+        ensures whole { vec_len passes ≡ M.passes → is_ok result ≡ true }
         ensures missing { IfErr result (ArePassesMissing L.rules M.making passes.items) }
     {
         let mut sealed = self.book.lock(rt);
@@ -293,7 +296,7 @@ impl<L: Limit, M: GateNaming> SharedGate<L, M> {
     /// receipts were kept, one list for each caller, each call once and each list in order.
     ///
     /// Else the first [`Cause`](audit::Cause) that applies, with the history and the lists; the
-    /// passes are spent. It takes memory for three marks an entry before all else, and goes over
+    /// passes are spent. None is missing where these are all passes of the gate. It takes memory for three marks an entry before all else, and goes over
     /// the receipts twice and over the entries three times.
     pub fn close(
         self,
@@ -310,7 +313,7 @@ impl<L: Limit, M: GateNaming> SharedGate<L, M> {
             IsHistoryOf history.entries.items kept.items) }
         ensures begun { IfOk result (λ history.
             All (λ pass. IsPrefix pass.log history.entries.items) passes.items) }
-        ensures first { IfErr result (λ fault. FailsBy L.rules M.making passes.items
+        ensures first { IfErr result (λ fault. FailsBy L.rules M.making M.passes passes.items
             fault.history.base fault.history.entries.items fault.kept.items fault.cause) }
         ensures history { IfErr result (λ fault. IsKept L.rules M.making
             fault.history.opening.standing fault.history.base fault.history.entries.items) }

@@ -1,8 +1,6 @@
 // What is handed in of one caller as a gate is closed, and what is told of it.
-use crate::callers::Caller;
-use gate_history::{History, Naming, Receipt};
-use limit_kinds::AnyLimit;
-use shared_gate::{AuditFault, Cause, GateNaming, Pass, SharedGate};
+use gate_history::{Naming, Receipt};
+use shared_gate::{Cause, GateNaming, Pass};
 use std::alloc::Global;
 use std::process::Abort;
 
@@ -37,36 +35,15 @@ impl Handing {
     }
 }
 
-/// What the closing of a gate answers that is handed this of a caller, in the second of two lists.
-pub(crate) fn closed<M: GateNaming, R: Abort>(
-    rt: &R,
-    alloc: Global,
-    gate: SharedGate<AnyLimit, M>,
-    caller: Caller<M>,
-    handing: Handing,
-) -> Result<History<AnyLimit>, AuditFault<AnyLimit, M>> {
-    let Caller { pass, receipts, .. } = caller;
-    let passes = passes_of(rt, alloc, pass, handing);
-    let kept = lists_of(rt, alloc, receipts, handing);
-    gate.close(alloc, passes, kept)
-}
-
 /// The pass, or none.
-fn passes_of<M: GateNaming, R: Abort>(
-    rt: &R,
-    alloc: Global,
-    pass: Pass<M>,
-    handing: Handing,
-) -> Vec<Pass<M>> {
-    let mut passes = Vec::new(alloc);
-    if handing.has_pass {
-        passes.push(pass).expect(rt, "memory for a pass");
+pub(crate) fn hand_in<M: GateNaming>(passes: &mut Vec<Pass<M>>, handing: Handing) {
+    if !handing.has_pass {
+        passes.clear();
     }
-    passes
 }
 
 /// An empty list, and that of these receipts.
-fn lists_of<M: Naming, R: Abort>(
+pub(crate) fn lists_of<M: Naming, R: Abort>(
     rt: &R,
     alloc: Global,
     mut receipts: Vec<Receipt<M>>,
@@ -76,9 +53,19 @@ fn lists_of<M: Naming, R: Abort>(
         receipts.reverse();
     }
     receipts.truncate(handing.receipts);
+    two_lists(rt, alloc, Vec::new(alloc), receipts)
+}
+
+/// Two lists of receipts.
+pub(crate) fn two_lists<M: Naming, R: Abort>(
+    rt: &R,
+    alloc: Global,
+    one: Vec<Receipt<M>>,
+    two: Vec<Receipt<M>>,
+) -> Vec<Vec<Receipt<M>>> {
     let mut kept = Vec::new(alloc);
-    kept.push(Vec::new(alloc)).expect(rt, "memory for a list");
-    kept.push(receipts).expect(rt, "memory for a list");
+    kept.push(one).expect(rt, "memory for a list");
+    kept.push(two).expect(rt, "memory for a list");
     kept
 }
 

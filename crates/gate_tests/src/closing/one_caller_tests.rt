@@ -1,10 +1,11 @@
 // A gate of two calls is closed: each fault of what is handed in is told, and history and lists
 // come back. The calls are an acquire and its ending, or two looks at a gate that rolls, of which
 // one entry is kept: it isn't accepted.
-use super::handing::{Handing, are_handed_back, closed};
-use crate::callers::{Caller, acquire_and_end, look};
-use crate::gates::{Trial, fixed, next_of, try_at};
-use gate_history::{Entry, History, Naming};
+use super::handing::{Handing, are_handed_back, hand_in, lists_of};
+use crate::callers::{acquire_and_end, look, no_receipts};
+use crate::checks::check;
+use crate::gates::{Trial, first_of, fixed, try_at};
+use gate_history::{Entry, History, Naming, Receipt};
 use limit_kinds::AnyLimit;
 use limiter_core::{Event, Outcome, PermitFacts, Reply};
 use partitions::Part;
@@ -65,15 +66,27 @@ pub(crate) fn one_closes<M: GateNaming, R: Wait + Abort>(
     mut passes: Vec<Pass<M>>,
     handing: Handing,
 ) {
-    let mut caller = Caller::of(rt, alloc, next_of(rt, &mut passes), 2);
+    let mut receipts = no_receipts(rt, alloc, 2);
+    calls_twice(rt, &gate, first_of(rt, &mut passes), &mut receipts, handing);
+    hand_in(&mut passes, handing);
+    let kept = lists_of(rt, alloc, receipts, handing);
+    check(rt, is_told(gate.close(alloc, passes, kept), handing));
+}
+
+/// Two looks at a gate that rolls, or else an acquire and its ending.
+fn calls_twice<M: GateNaming, R: Wait + Abort>(
+    rt: &R,
+    gate: &SharedGate<AnyLimit, M>,
+    pass: &mut Pass<M>,
+    receipts: &mut Vec<Receipt<M>>,
+    handing: Handing,
+) {
     if handing.is_rolling {
-        look(rt, &gate, &mut caller);
-        look(rt, &gate, &mut caller);
+        look(rt, gate, pass, receipts);
+        look(rt, gate, pass, receipts);
     } else {
-        acquire_and_end(rt, &gate, &mut caller, 0, 5);
+        acquire_and_end(rt, gate, pass, receipts, (0, 5));
     }
-    let is_told = is_told(closed(rt, alloc, gate, caller, handing), handing);
-    assert!(rt; is_told);
 }
 
 /// The cause is as wanted; history and lists come back.

@@ -1,9 +1,12 @@
 // Two threads make 100 acquires and 100 endings each, and their gate is accepted.
-use crate::callers::{Caller, by_two_threads, two_callers};
+use super::handing::two_lists;
+use crate::callers::{by_two_threads, no_receipts};
+use crate::checks::check;
 use crate::gates::{Trial, fixed, try_at};
-use gate_history::{Entry, History, Naming};
+use gate_history::{Entry, History};
 use limit_kinds::AnyLimit;
-use shared_gate::{AuditFault, GateNaming, Pass, SharedGate};
+use limit_laws::Limit;
+use shared_gate::{GateNaming, Pass, SharedGate};
 use std::alloc::Global;
 use std::process::Abort;
 use std::sync::Wait;
@@ -19,49 +22,29 @@ pub(crate) fn two_threads_close<M: GateNaming + Send + Sync, R: Threads + Wait +
     rt: &R,
     alloc: Global,
     gate: SharedGate<AnyLimit, M>,
-    passes: Vec<Pass<M>>,
+    mut passes: Vec<Pass<M>>,
 ) {
-    let (one, two) = two_callers(rt, alloc, passes, 200);
-    let (one, two) = by_two_threads(rt, &gate, one, two);
-    is_whole(rt, closed(rt, alloc, gate, one, two));
-}
-
-/// What the closing answers that is handed all of both callers.
-fn closed<M: GateNaming, R: Abort>(
-    rt: &R,
-    alloc: Global,
-    gate: SharedGate<AnyLimit, M>,
-    one: Caller<M>,
-    two: Caller<M>,
-) -> Result<History<AnyLimit>, AuditFault<AnyLimit, M>> {
-    let mut passes = Vec::new(alloc);
-    passes.push(one.pass).expect(rt, "memory for a pass");
-    passes.push(two.pass).expect(rt, "memory for a pass");
-    let mut kept = Vec::new(alloc);
-    kept.push(one.receipts).expect(rt, "memory for a list");
-    kept.push(two.receipts).expect(rt, "memory for a list");
-    gate.close(alloc, passes, kept)
+    let mut one = no_receipts(rt, alloc, 200);
+    let mut two = no_receipts(rt, alloc, 200);
+    by_two_threads(rt, &gate, &mut passes, &mut one, &mut two);
+    let kept = two_lists(rt, alloc, one, two);
+    let closed = gate.close(alloc, passes, kept);
+    is_whole(rt, &closed.ok().expect(rt, "an accepted history"));
 }
 
 /// The history has the 400 calls, and nothing else.
-fn is_whole<M: Naming, R: Abort>(
-    rt: &R,
-    closed: Result<History<AnyLimit>, AuditFault<AnyLimit, M>>,
-) {
-    match closed {
-        Ok(history) => {
-            assert!(rt; (history.base, history.entries.len()) == (0, 400));
-            for entry in history.entries.iter() {
-                assert!(rt; is_call(entry));
-            }
-        }
-        Err(_fault) => rt.abort(),
-    }
+fn is_whole<L: Limit, R: Abort>(rt: &R, history: &History<L>) {
+    check(rt, history.base == 0);
+    check(rt, history.entries.len() == 400);
+    check(rt, are_calls(&history.entries));
 }
 
-fn is_call(entry: &Entry) -> bool {
-    match entry {
-        Entry::Call { .. } => true,
-        Entry::Promotion { .. } => false,
+/// None of the entries is a promotion.
+fn are_calls(entries: &[Entry]) -> bool {
+    for entry in entries {
+        if let Entry::Promotion { .. } = entry {
+            return false;
+        }
     }
+    true
 }

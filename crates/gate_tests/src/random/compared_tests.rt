@@ -5,6 +5,7 @@ use super::drawn_events::drawn;
 use super::four_threads_tests::reply_of;
 use super::plain_counters::counters_of;
 use super::plain_limiter::{PlainLimiter, ROOM, few};
+use crate::checks::check;
 use crate::limits::LEARNING;
 use aimd::{Aimd, AimdNumbers};
 use limiter_core::{Core, Counters, Event, Promote};
@@ -17,12 +18,15 @@ const EVENTS: u64 = 2_000;
 
 #[test]
 fn a_limiter_that_promotes_the_newest_is_as_a_plain_one(rt: HostRuntime) {
-    assert!(rt; is_as_a_plain_one(&rt, rt.alloc(), Promote::Newest, false));
+    check(
+        &rt,
+        is_as_a_plain_one(&rt, rt.alloc(), Promote::Newest, false),
+    );
 }
 
 #[test]
 fn a_limiter_that_promotes_all_is_as_a_plain_one(rt: HostRuntime) {
-    assert!(rt; is_as_a_plain_one(&rt, rt.alloc(), Promote::All, true));
+    check(&rt, is_as_a_plain_one(&rt, rt.alloc(), Promote::All, true));
 }
 
 /// A limiter of three classes, whose limit is one that learns.

@@ -4,6 +4,7 @@ ghost use Rattle.limiter_core.specs.Answer.{granted_at};
 ghost use Rattle.limiter_core.specs.Limiter.{gate_of, stands};
 
 use super::random_calls::{Caller, Told, call_at_random};
+use crate::checks::check;
 use crate::gates::{Making, Trial, next_of, try_at};
 use crate::limits::LEARNING;
 use aimd::Aimd;
@@ -93,71 +94,73 @@ pub(crate) fn told_by_four<M: GateNaming + Send + Sync, R: Threads + Wait + Abor
     alloc: Global,
     promote: Promote,
     gate: &SharedGate<AnyLimit, M>,
-    mut passes: Vec<Pass<M>>,
+    passes: &mut Vec<Pass<M>>,
 ) {
-    let common = Mutex::new(next_of(rt, &mut passes));
-    let (one, two) = (next_of(rt, &mut passes), next_of(rt, &mut passes));
-    let (three, four) = (next_of(rt, &mut passes), next_of(rt, &mut passes));
+    let common = Mutex::new(next_of(rt, passes));
+    let one = Caller::new(rt, alloc, next_of(rt, passes), 1);
+    let two = Caller::new(rt, alloc, next_of(rt, passes), 2);
+    let three = Caller::new(rt, alloc, next_of(rt, passes), 3);
+    let four = Caller::new(rt, alloc, next_of(rt, passes), 4);
     let (left, right) = join(
         rt,
-        || told_by_two(rt, alloc, gate, &common, (one, two), 1),
-        || told_by_two(rt, alloc, gate, &common, (three, four), 3),
+        || told_by_two(rt, gate, &common, one, two),
+        || told_by_two(rt, gate, &common, three, four),
     );
-    let lists = [&left.0, &left.1, &right.0, &right.1];
-    let told = all_told(rt, alloc, lists);
-    is_told_to_one(rt, limiter(rt, alloc, promote), &told, gate.counters(rt));
+    let mut told = both_told(rt, left, right);
+    told.sort_unstable_by_key(|told| told.number);
+    let mut core = limiter(rt, alloc, promote);
+    is_told_to_one(rt, &mut core, &told, gate.counters(rt));
 }
 
-/// What two threads are told, each of which makes random calls by a pass, from this seed on.
+/// What two threads are told, each of which makes random calls.
 fn told_by_two<M: GateNaming + Send + Sync, R: Threads + Wait + Abort + Sync>(
     rt: &R,
-    alloc: Global,
     gate: &SharedGate<AnyLimit, M>,
     common: &Mutex<Pass<M>>,
-    (one, two): (Pass<M>, Pass<M>),
-    seed: u64,
-) -> (Vec<Told>, Vec<Told>) {
-    let one = Caller::new(rt, alloc, one, seed);
-    let two = Caller::new(rt, alloc, two, seed.saturating_add(1));
-    join(
+    one: Caller<M>,
+    two: Caller<M>,
+) -> Vec<Told> {
+    let (left, right) = join(
         rt,
         || call_at_random(rt, gate, common, one),
         || call_at_random(rt, gate, common, two),
-    )
+    );
+    both_told(rt, left, right)
 }
 
-/// What all were told, in order of number.
-fn all_told<R: Abort>(rt: &R, alloc: Global, lists: [&Vec<Told>; 4]) -> Vec<Told> {
-    let mut told = Vec::new(alloc);
-    for list in lists {
-        told.extend_from_slice(list)
-            .expect(rt, "memory for what is told");
-    }
-    told.sort_unstable_by_key(|told| told.number);
-    told
+/// What one was told, and another.
+fn both_told<R: Abort>(rt: &R, mut left: Vec<Told>, right: Vec<Told>) -> Vec<Told> {
+    left.extend_from_slice(&right)
+        .expect(rt, "memory for what is told");
+    left
 }
 
 /// One limiter, which is asked the same in order of number, answers the same and counts the same;
 /// nothing is left in flight.
 fn is_told_to_one<L: Limit, R: Abort>(
     rt: &R,
-    mut core: Core<L>,
+    core: &mut Core<L>,
     told: &[Told],
     counters: Counters,
 ) {
-    assert!(rt; told.len() >= 20_000);
+    check(rt, told.len() >= 20_000);
     for told in told {
-        replay(rt, &mut core, *told);
+        replay(rt, core, *told);
     }
-    assert!(rt; core.counters() == counters);
-    assert!(rt; core.total() == 0 && core.waiting() == 0 && core.granted() == 0);
+    check(rt, core.counters() == counters);
+    check(rt, is_idle(core));
+}
+
+/// Nothing is in flight, nobody waits and nothing lies granted.
+fn is_idle<L: Limit>(core: &Core<L>) -> bool {
+    core.total() == 0 && core.waiting() == 0 && core.granted() == 0
 }
 
 /// A limiter gives an event the number and the reply that its caller was told.
 fn replay<L: Limit, R: Abort>(rt: &R, core: &mut Core<L>, told: Told) {
-    assert!(rt; core.next_number() == told.number);
+    check(rt, core.next_number() == told.number);
     let reply = reply_of(rt, core, told.event);
-    assert!(rt; reply == told.reply);
+    check(rt, reply == told.reply);
 }
 
 /// Asks an event that may come: an ending where more of its place are in flight than are granted.

@@ -1,6 +1,7 @@
 // A caller that makes random calls of a shared gate, keeps what it is told, and lets other callers
 // know what it has seen.
 use super::dice::Dice;
+use crate::checks::check;
 use gate_history::{Naming, Permit, Receipt, Spent, Ticket};
 use limit_kinds::AnyLimit;
 use limiter_core::{Event, Reply};
@@ -47,7 +48,7 @@ impl<M: GateNaming> Caller<M> {
     /// Keeps what a receipt tells, whose number the pass hadn't seen before, and has seen now.
     fn keep<R: Abort>(&mut self, rt: &R, receipt: Receipt<M>) {
         let seen = self.pass.seen();
-        assert!(rt; self.seen <= receipt.number() && receipt.number() < seen);
+        check(rt, self.seen <= receipt.number() && receipt.number() < seen);
         self.seen = seen;
         add(rt, &mut self.told, told_by(&receipt));
     }
@@ -135,8 +136,8 @@ fn is_told<M: GateNaming, R: Abort>(
 ) {
     let (own, others) = (pass.seen(), other.seen());
     gate.told(pass, other);
-    assert!(rt; pass.seen() >= own && pass.seen() >= others);
-    assert!(rt; other.seen() == others);
+    check(rt, pass.seen() >= own && pass.seen() >= others);
+    check(rt, other.seen() == others);
 }
 
 /// One call, for one of the two things.
@@ -200,10 +201,10 @@ fn acquire<M: GateNaming, R: Wait + Abort>(
     let (receipt, held) = match gate.acquire(rt, &mut caller.pass, part, bypass, wait, now) {
         Got::Admitted(receipt, permit) => (receipt, Held::Permit(permit)),
         Got::Waiting(receipt, ticket) => (receipt, Held::Ticket(ticket)),
-        Got::Bypassed(receipt) => (receipt, Held::Nothing),
-        Got::Full(receipt) => (receipt, Held::Nothing),
-        Got::BacklogFull(receipt) => (receipt, Held::Nothing),
-        Got::Exhausted(_spent) => rt.abort(),
+        Got::Bypassed(receipt) | Got::Full(receipt) | Got::BacklogFull(receipt) => {
+            (receipt, Held::Nothing)
+        }
+        _ => rt.abort(),
     };
     caller.keep(rt, receipt);
     held
@@ -251,8 +252,7 @@ fn call_with_ticket<M: GateNaming, R: Wait + Abort>(
     let (receipt, held) = match gate.claim(rt, &mut caller.pass, ticket) {
         Claimed::Granted(receipt, permit) => (receipt, Held::Permit(permit)),
         Claimed::StillWaiting(receipt, ticket) => (receipt, Held::Ticket(ticket)),
-        Claimed::Lost(_receipt) => rt.abort(),
-        Claimed::Exhausted(_spent, _ticket) => rt.abort(),
+        _ => rt.abort(),
     };
     caller.keep(rt, receipt);
     held
@@ -267,8 +267,7 @@ fn give_up<M: GateNaming, R: Wait + Abort>(
     let (receipt, held) = match gate.give_up(rt, &mut caller.pass, ticket) {
         GaveUp::Granted(receipt, permit) => (receipt, Held::Permit(permit)),
         GaveUp::TimedOut(receipt) => (receipt, Held::Nothing),
-        GaveUp::Lost(_receipt) => rt.abort(),
-        GaveUp::Exhausted(_spent) => rt.abort(),
+        _ => rt.abort(),
     };
     caller.keep(rt, receipt);
     held
@@ -288,6 +287,6 @@ fn leave<M: GateNaming, R: Wait + Abort>(
     match held {
         Held::Nothing => {}
         Held::Permit(permit) => end(rt, gate, caller, permit, CALLS),
-        Held::Ticket(_ticket) => rt.abort(),
+        _ => rt.abort(),
     }
 }

@@ -1,9 +1,13 @@
-use Rattle.std.proofs.Common.{rules, ◌≡◌, ℕ, length, subst}
+use Rattle.std.proofs.Common.{rules, ◌≡◌, ◌∙◌, ℕ, length, subst}
+use Rattle.std.specs.Prelude.{Vec, vec_len}
+use Rattle.std.specs.declared.alloc.Global.{Global}
 use Rattle.limit_kinds.specs.AnyKinds.{any_rules}
 use Rattle.shared_gate.specs.Closing.{IsKept}
+use Rattle.gate_ledgers.specs.Told.{Told}
+use Rattle.load_run.specs.Load.{IsRejected}
 use Rattle.load_run.specs.Summary.{summary_of}
 use Rattle.load_run.specs.Workers.{AllOfAllFit}
-use Rattle.load_run.proofs.Runs.{is_rejected_unread}
+use Rattle.load_run.proofs.Runs.{is_rejected_by, is_rejected_unread}
 use Rattle.load_run.proofs.run.close.Goals as goal
 
 pub returns-then-all_fit-clause-accepted : goal.returns-then-all_fit-clause-accepted
@@ -28,4 +32,18 @@ returns-then-all_fit-clause-accepted g c =
 
 pub returns-in-Ok-clause-rejected : goal.returns-in-Ok-clause-rejected
 returns-in-Ok-clause-rejected g c =
-    is_rejected_unread _ _ _ _ _ c.in-Ok.ensures.whole c.in-Ok.ensures.legal
+    is_rejected_unread _ _ _ _ _ _ c.in-Ok.ensures.whole c.in-Ok.ensures.legal
+    c.in-Ok.ensures.begun c.in-Ok.ensures.counted
+
+-- no pass is missing
+pub returns-clause-rejected : goal.returns-clause-rejected
+returns-clause-rejected g c =
+    let m = g.M.Naming.making in
+    let fault = c.in-Err.fault in
+    let passes = c.args.worked.passes in
+    let long : length passes.items ≡ vec_len passes = search rules in
+    subst (λ (kept : Vec (Vec Told Global) Global). IsRejected m kept.items fault.cause)
+    c.in-Err.ensures.kept
+    (is_rejected_by m fault.history.opening.standing fault.history.base
+    fault.history.entries.items fault.kept.items passes.items g.M.GateNaming.passes fault.cause
+    (long ∙ c.requires) c.in-Err.ensures.history c.in-Err.ensures.first)

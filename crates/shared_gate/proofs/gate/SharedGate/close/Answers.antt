@@ -1,4 +1,5 @@
-use Rattle.std.proofs.Common.{rules, ℕ, List, All, ap, arith, sym, subst}
+use Rattle.std.proofs.Common.{rules, ◌≡◌, ◌∙◌, ℕ, List, All, ap, arith, length, sym, subst}
+use Rattle.std.specs.Prelude.{vec_len}
 use mathlib.Core.List.{IsPrefix}
 use Rattle.limiter_core.specs.declared.event.Entry.{Entry}
 use Rattle.audit.specs.Verdict.{audited, IsFirstCause}
@@ -40,6 +41,7 @@ returns-clause-first g c =
     subst (λ k. All (λ (pass : Pass). IsPrefix pass.log k.log) c.args.passes.items)
     (sym counted.keeper) counted.begun in
     let behind = c.book.invariant.2 in
+    let long : length c.args.passes.items ≡ vec_len c.args.passes = search rules in
     on_err _ _ _
     (λ fault end first. record {
       log = log;
@@ -53,6 +55,16 @@ returns-clause-first g c =
         behind.calls,
         ap (λ k. calls_of k.log) counted.keeper,
       );
+      all =
+          λ whole.
+          omega (
+            arith,
+            counted.all (sym long ∙ whole ∙ sym c.book.invariant.3),
+            counted.sum,
+            counted.book,
+            behind.calls,
+            ap (λ k. calls_of k.log) counted.keeper,
+          );
       first =
           subst (λ (sum : ℕ).
           IsFirstCause (audited (record { book = calls_of log; sum = sum }) fault.history.base
