@@ -5,6 +5,7 @@ ghost use Rattle.counted_io.specs.Count.{raised};
 ghost use Rattle.counted_io.specs.Effects.{Wrote};
 ghost use Rattle.counted_io.specs.Causes.{IsWriteCause};
 ghost use Rattle.message_text.specs.Line.{lines_text};
+ghost use Rattle.message_text.specs.Fronts.{WroteFront};
 ghost use Rattle.message_fields.specs.Lengths.{length_digits};
 ghost use Rattle.message_text.specs.Forwarded.{lent};
 ghost use Rattle.message_text.specs.Answer.{seen, is_bodiless, written_body, received_lines, told_lines, answer_lines, status_text, answer_text, local_text};
@@ -52,6 +53,8 @@ fn write_status<W: Write>(writer: &mut Counted<W>, status: u16) -> Result<(), Wr
     requires three_digits { (100 ≤ status) × (status ≤ 999) }
     ensures all { OnOk result (Wrote W.contents writer.old writer.new (status_text status)) }
     ensures unfailing { OnOk result (failures_of writer.new ≡ failures_of writer.old) }
+    ensures front { OnErr result (WroteFront W.contents writer.old writer.new
+        (status_text status)) }
     ensures failed { OnErr result (IsWriteCause writer.old writer.new) }
     ensures flushes { flushes_of writer.new ≡ flushes_of writer.old }
 {
@@ -90,6 +93,8 @@ impl Answer<'_> {
         ensures all { OnOk result (Wrote W.contents writer.old writer.new
             (lines_text (received_lines (length_digits self.now.headers.now)))) }
         ensures unfailing { OnOk result (failures_of writer.new ≡ failures_of writer.old) }
+        ensures front { OnErr result (WroteFront W.contents writer.old writer.new
+            (lines_text (received_lines (length_digits self.now.headers.now)))) }
         ensures failed { OnErr result (IsWriteCause writer.old writer.new) }
         ensures flushes { flushes_of writer.new ≡ flushes_of writer.old }
     {
@@ -106,6 +111,8 @@ impl Answer<'_> {
         ensures all { OnOk result (Wrote W.contents writer.old writer.new
             (lines_text (told_lines (seen self.now)) ++ codes "Connection: close\r\n\r\n")) }
         ensures unfailing { OnOk result (failures_of writer.new ≡ failures_of writer.old) }
+        ensures front { OnErr result (WroteFront W.contents writer.old writer.new
+            (lines_text (told_lines (seen self.now)) ++ codes "Connection: close\r\n\r\n")) }
         ensures failed { OnErr result (IsWriteCause writer.old writer.new) }
         ensures flushes { flushes_of writer.new ≡ flushes_of writer.old }
     {
@@ -128,6 +135,8 @@ impl Answer<'_> {
             (Wrote W.contents writer.old writer.new
             (lines_text (answer_lines (seen self.now)) ++ codes "\r\n")) }
         ensures unfailing { OnOk result (failures_of writer.new ≡ failures_of writer.old) }
+        ensures front { OnErr result (WroteFront W.contents writer.old writer.new
+            (lines_text (answer_lines (seen self.now)) ++ codes "\r\n")) }
         ensures failed { OnErr result (IsWriteCause writer.old writer.new) }
         ensures flushes { flushes_of writer.new ≡ flushes_of writer.old }
     {
@@ -137,7 +146,7 @@ impl Answer<'_> {
 
     /// Writes the answer, and flushes once.
     ///
-    /// The one fault comes where the writer failed; then nothing is said of how much was written.
+    /// The one fault comes where the writer failed; then a beginning of the text was written.
     pub fn write<W: Write>(&self, writer: &mut Counted<W>) -> Result<(), WriteFault>
         requires three_digits { (100 ≤ self.now.status) × (self.now.status ≤ 999) }
         ensures all { OnOk result
@@ -145,6 +154,8 @@ impl Answer<'_> {
         ensures unfailing { OnOk result (failures_of writer.new ≡ failures_of writer.old) }
         ensures flushed { OnOk result (is_flushed writer.new ≡ true) }
         ensures flushes { OnOk result (flushes_of writer.new ≡ raised (flushes_of writer.old)) }
+        ensures front { OnErr result (WroteFront W.contents writer.old writer.new
+            (answer_text (seen self.now))) }
         ensures failed { OnErr result (IsWriteCause writer.old writer.new) }
     {
         write_status(writer, self.status)?;
@@ -155,13 +166,15 @@ impl Answer<'_> {
 
 /// Writes the gateway's own answer of a status: no body, and the connection ends. It flushes once.
 ///
-/// The one fault comes where the writer failed; then nothing is said of how much was written.
+/// The one fault comes where the writer failed; then a beginning of the text was written.
 pub fn write_local_answer<W: Write>(writer: &mut Counted<W>, status: u16) -> Result<(), WriteFault>
     requires three_digits { (100 ≤ status) × (status ≤ 999) }
     ensures all { OnOk result (Wrote W.contents writer.old writer.new (local_text status)) }
     ensures unfailing { OnOk result (failures_of writer.new ≡ failures_of writer.old) }
     ensures flushed { OnOk result (is_flushed writer.new ≡ true) }
     ensures flushes { OnOk result (flushes_of writer.new ≡ raised (flushes_of writer.old)) }
+    ensures front { OnErr result (WroteFront W.contents writer.old writer.new
+        (local_text status)) }
     ensures failed { OnErr result (IsWriteCause writer.old writer.new) }
 {
     write_status(writer, status)?;

@@ -3,6 +3,7 @@ ghost use Rattle.std.specs.Prelude.{◌≡◌, ◌≤◌, None, OnOk, OnErr, IfO
 ghost use Rattle.counted_io.specs.Causes.{IsWriteCause};
 ghost use Rattle.counted_io.specs.Counted.{failures_of, is_flushed};
 ghost use Rattle.counted_io.specs.Effects.{Wrote};
+ghost use Rattle.message_text.specs.Fronts.{WroteFront};
 ghost use Rattle.proxy.specs.Table.{fault_status, is_own, reply_of, reply_status, reply_text};
 
 use counted_io::{Counted, WriteFault};
@@ -60,6 +61,8 @@ pub(crate) fn reply<W: Write>(
 ) -> Option<WireFault>
     ensures all { result ≡ None →
         Wrote W.contents writer.old writer.new (reply_text method.now answer.now) }
+    ensures begun { WroteFront W.contents writer.old writer.new
+        (reply_text method.now answer.now) }
     ensures flushed { result ≡ None → is_flushed writer.new ≡ true }
     ensures unfailing { result ≡ None → failures_of writer.new ≡ failures_of writer.old }
     ensures failed { IfSome result (λ fault.
@@ -82,6 +85,8 @@ fn write_reply<W: Write>(
         (Wrote W.contents writer.old writer.new (reply_text method.now answer.now)) }
     ensures flushed { OnOk result (is_flushed writer.new ≡ true) }
     ensures unfailing { OnOk result (failures_of writer.new ≡ failures_of writer.old) }
+    ensures front { OnErr result (WroteFront W.contents writer.old writer.new
+        (reply_text method.now answer.now)) }
     ensures failed { OnErr result (IsWriteCause writer.old writer.new) }
 {
     match reply_of(answer) {
