@@ -4,8 +4,9 @@
 Usage: bench/messages.py [FOLDER]. The product's side is messages/, a program over `wire`; the peer is
 plain_messages.rs over the crate `httparse`, whose sources are in FOLDER, or where Debian's
 `librust-httparse-dev` puts them. Both read the same request from memory over and over, and must find
-bodies of the same length. It prints the median time of a reading on both sides, the median ratio of the
-turns, and that of the processor time. Needs rt and rustc.
+bodies of the same length; the parts of a head share its bytes at the peer, as hyper's do. It prints the
+median time of a reading on both sides, the median ratio of the turns, and that of the processor time.
+Needs rt and rustc.
 """
 import argparse
 import pathlib

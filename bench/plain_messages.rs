@@ -2,10 +2,14 @@
 //! and checks what the product does: the limits of a head, the method, the target, Host, both lengths
 //! rules, chunks and what follows the last one, and a client that waits to be asked for its body.
 //!
+//! The parts of a head share its bytes, as hyper's do: nothing of them is copied.
+//!
 //! Its word: how many times. The request comes on standard input. It writes the nanoseconds that all
 //! readings took, then how many bytes their bodies had.
 use std::env;
 use std::io::{self, BufRead, BufReader, Read, Write};
+use std::ops::Range;
+use std::sync::Arc;
 use std::time::Instant;
 
 const MOST_HEAD: usize = 65_536;
@@ -32,13 +36,28 @@ impl From<io::Error> for Fault {
     }
 }
 
+/// A part of a head, which holds the whole of it.
+#[allow(dead_code)]
+struct Shared {
+    head: Arc<Vec<u8>>,
+    place: Range<usize>,
+}
+
+impl Shared {
+    /// These bytes, which stand in the head.
+    fn new(head: &Arc<Vec<u8>>, part: &[u8]) -> Shared {
+        let from = part.as_ptr() as usize - head.as_ptr() as usize;
+        Shared { head: Arc::clone(head), place: from..from + part.len() }
+    }
+}
+
 #[allow(dead_code)]
 struct Request {
-    method: String,
-    target: String,
-    path: String,
+    method: Shared,
+    target: Shared,
+    path: Shared,
     is_old: bool,
-    headers: Vec<(String, Vec<u8>)>,
+    headers: Vec<(Shared, Shared)>,
     body: Option<Vec<u8>>,
 }
 
@@ -135,7 +154,7 @@ fn framing(request: &httparse::Request, headers: &[httparse::Header]) -> Result<
 }
 
 /// The path of a target: what stands before its query, and of an absolute one behind its authority.
-fn path(method: &str, target: &str) -> Result<String, Fault> {
+fn path<'a>(method: &str, target: &'a str) -> Result<&'a str, Fault> {
     let local = match target.get(..7) {
         _ if target.starts_with('/') => target,
         _ if target == "*" && method == "OPTIONS" => target,
@@ -149,7 +168,7 @@ fn path(method: &str, target: &str) -> Result<String, Fault> {
         }
         _ => return Err(Fault::Malformed),
     };
-    Ok(local.split('?').next().unwrap_or("").to_string())
+    Ok(local.split('?').next().unwrap_or(""))
 }
 
 fn read_sized(reader: &mut impl BufRead, body: &mut Vec<u8>, size: u64) -> Result<(), Fault> {
@@ -190,7 +209,7 @@ fn read_chunks(reader: &mut impl BufRead) -> Result<Vec<u8>, Fault> {
 }
 
 fn read_request(reader: &mut impl BufRead, writer: &mut impl Write) -> Result<Request, Fault> {
-    let head = read_head(reader)?;
+    let head = Arc::new(read_head(reader)?);
     let mut room = [httparse::EMPTY_HEADER; MOST_LINES];
     let mut parsed = httparse::Request::new(&mut room);
     match parsed.parse(&head) {
@@ -218,9 +237,11 @@ fn read_request(reader: &mut impl BufRead, writer: &mut impl Write) -> Result<Re
         writer.write_all(b"HTTP/1.1 100 Continue\r\n\r\n")?;
         writer.flush()?;
     }
-    let (method, target) = (method.to_string(), target.to_string());
+    let part = |bytes| Shared::new(&head, bytes);
     let headers =
-        headers.iter().map(|header| (header.name.to_string(), header.value.to_vec())).collect();
+        headers.iter().map(|header| (part(header.name.as_bytes()), part(header.value))).collect();
+    let (method, target, path) = (method.as_bytes(), target.as_bytes(), path.as_bytes());
+    let (method, target, path) = (part(method), part(target), part(path));
     let body = match framing {
         Framing::Bodiless => None,
         Framing::Sized(size) => {

@@ -9,6 +9,7 @@ import pathlib
 import re
 import resource
 import signal
+import socket
 import subprocess
 import tempfile
 import threading
@@ -172,21 +173,26 @@ class Call:
     seconds: float
 
 
+async def answer_of(port: int, text: bytes) -> bytes:
+    """What is answered to a text over a connection of its own, to its end."""
+    loop, said = asyncio.get_running_loop(), b""
+    with socket.socket() as sock:
+        sock.setblocking(False)
+        await loop.sock_connect(sock, ("127.0.0.1", port))
+        await loop.sock_sendall(sock, text)
+        while more := await loop.sock_recv(sock, 65_536):
+            said += more
+    return said
+
+
 async def call(port: int, name: str, patience: float, found: list[Call], begun: float) -> None:
     """Makes one call of a class, and adds it to what was found since a moment."""
     at = time.perf_counter()
-    status, writer = 0, None
-    try:
+    status = 0
+    with contextlib.suppress(OSError, TimeoutError, ValueError):
         async with asyncio.timeout(patience):
-            reader, writer = await asyncio.open_connection("127.0.0.1", port)
-            writer.write(f"GET / HTTP/1.1\r\nHost: h\r\nX-Class: {name}\r\n\r\n".encode())
-            text = await reader.read()
-            status = int(text[9:12]) if text[:5] == b"HTTP/" else 0
-    except (OSError, TimeoutError, ValueError):
-        pass
-    finally:
-        if writer:
-            writer.close()
+            text = await answer_of(port, f"GET / HTTP/1.1\r\nHost: h\r\nX-Class: {name}\r\n\r\n".encode())
+        status = int(text[9:12]) if text[:5] == b"HTTP/" else 0
     found.append(Call(at - begun, name, status, time.perf_counter() - at))
 
 

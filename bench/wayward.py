@@ -40,6 +40,21 @@ class Times(typing.NamedTuple):
         return factor * (self.slow[1] if draw.random() < self.slow[0] else 1)
 
 
+class Faults(typing.NamedTuple):
+    """What a backend does wrong at any time: a part of its answers is cut off, and a part of the calls is answered 503
+    at once; and it refuses the next by a 429 of its own where more than `most` are inside, or above so many a second.
+    """
+
+    cut: float = 0.0
+    broken: float = 0.0
+    most: int | None = None
+    pace: float | None = None
+
+    @property
+    def refuses(self) -> bool:
+        return self.most is not None or self.pace is not None
+
+
 class Exchange(asyncio.Protocol):
     """One connection to the backend, with one request on it, which comes in one piece."""
 
@@ -62,19 +77,18 @@ class Exchange(asyncio.Protocol):
 
 class Wayward:
     """A backend in a process of its own: it serves `slots` requests at a time, first come first served, each in
-    `seconds` divided by its speed, as `times` vary, and slower by `drag` of it where as many wait as it has slots. A
-    part of its answers is cut off, and where more than `most` are inside it refuses the next at once by a 429 of its
-    own. Its slots, its speed and what is ahead can be changed while it serves, and it can be killed or stopped.
+    `seconds` divided by its speed, as `times` vary, and slower by `drag` of it where as many wait as it has slots; and
+    it has its faults. Its slots, its speed and what is ahead can be changed while it serves, and it can be killed or
+    stopped.
     """
 
     process: multiprocessing.Process
     loop: asyncio.AbstractEventLoop
 
     def __init__(
-        self, slots: int, seconds: float, drag: float, times: Times = Times(), cut: float = 0.0, most: int | None = None
+        self, slots: int, seconds: float, drag: float, times: Times = Times(), faults: Faults = Faults()
     ) -> None:
-        self.seconds, self.drag, self.times, self.port = seconds, drag, times, free_port()
-        self.cut, self.most = cut, most
+        self.seconds, self.drag, self.times, self.faults, self.port = seconds, drag, times, faults, free_port()
         self.slots: typing.Any = multiprocessing.Value("i", slots)
         self.speed: typing.Any = multiprocessing.Value("d", 1.0)
         self.ahead: typing.Any = multiprocessing.Value("i", AS_EVER)
@@ -82,6 +96,7 @@ class Wayward:
         self.served = 0
         self.queue: collections.deque[Exchange] = collections.deque()
         self.draw = random.Random(1)
+        self.ready, self.since = 0.0, 0.0
 
     def __enter__(self) -> "Wayward":
         self.start()
@@ -125,11 +140,25 @@ class Wayward:
             await asyncio.sleep(WATCH)
             self.fill()
 
+    def is_too_many(self) -> bool:
+        """Whether it refuses the next call by itself: by those inside, or by the calls of a tenth of a second."""
+        it, now = self.faults, self.loop.time()
+        if it.most is not None and self.served + len(self.queue) >= it.most:
+            return True
+        if it.pace is None:
+            return False
+        self.ready = min(1.0 + it.pace / 10, self.ready + (now - self.since) * it.pace)
+        self.since = now
+        if self.ready < 1:
+            return True
+        self.ready -= 1
+        return False
+
     def take(self, exchange: Exchange) -> None:
         ahead = self.ahead.value
-        if ahead == REFUSING:
+        if ahead == REFUSING or self.draw.random() < self.faults.broken:
             exchange.answer(BUSY)
-        elif self.most is not None and self.served + len(self.queue) >= self.most:
+        elif self.is_too_many():
             self.refused.value += 1
             exchange.answer(TOO_MANY)
         elif ahead in (ONE_AT_ONCE, ONE_IN_A_TENTH):
@@ -149,7 +178,7 @@ class Wayward:
 
     def end(self, exchange: Exchange) -> None:
         self.served -= 1
-        exchange.answer(ANSWER[:-1] if self.draw.random() < self.cut else ANSWER)
+        exchange.answer(ANSWER[:-1] if self.draw.random() < self.faults.cut else ANSWER)
         self.fill()
 
 

@@ -12,7 +12,7 @@ import subprocess
 import sys
 import tempfile
 import time
-from collections.abc import Iterator
+from collections.abc import Iterable, Iterator
 from pathlib import Path
 from typing import IO
 
@@ -98,9 +98,9 @@ def all_rows() -> dict[str, str]:
     return {it[1]: it[0] for it in re.finditer(r"^(\w+):.*\n?", text, re.M)}
 
 
-def program_rows() -> dict[str, str]:
-    """Those of the crates that the program stands on, and its own, in the file's order."""
-    rows, found, rest = all_rows(), set(), [PROGRAM]
+def program_rows(names: Iterable[str] = (PROGRAM,)) -> dict[str, str]:
+    """Those of the crates that the program stands on, or other crates, and their own, in the file's order."""
+    rows, found, rest = all_rows(), set(), [*names]
     while rest:
         name = rest.pop()
         if name in rows and name not in found:

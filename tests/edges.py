@@ -2,6 +2,7 @@
 that run out, how each exchange ends, what each trouble is called, and how long each part may take."""
 import contextlib
 import fcntl
+import functools
 import os
 import pathlib
 import resource
@@ -19,7 +20,7 @@ from loopback import BODY, Backend, Gateway, Later, Scripted, read_all, read_hea
 from operating import HELD, Operated
 from operator_rows import DONE, NOTHING, request, told
 from running import PATIENCE, free_port, until
-from sockets import PLAIN, TRIES, passed_on, processor_time, timed, unbroken
+from sockets import PLAIN, TRIES, passed_on, processor_time, timed, tried, unbroken
 from telling import BROKEN, REPORT, fill, lines_of, troubles, waits_to_write
 from wires import local, reset
 
@@ -63,9 +64,10 @@ def answers_of(body: int) -> Callable[[socket.socket], object]:
 
 
 def cut_off(gate: Gateway, text: bytes) -> float:
-    """How long a client has that stops behind this text."""
+    """How long a client has that stops behind this text. Its time begins as it is accepted, which may be before it
+    knows that it is connected."""
+    begun = time.monotonic()
     with gate.connect() as client:
-        begun = time.monotonic()
         client.sendall(text)
         read_all(client)
         return time.monotonic() - begun
@@ -258,14 +260,9 @@ class Edges(Beside):
                 ("before its body", head),
                 ("in it", head + b"a"),
             ):
-                took: list[float] = []
-                while len(took) < TRIES and min(took, default=9) > millis / 1000 + 0.4:
-                    took.append(cut_off(gate, text))
-                self.judge(
-                    f"one of {millis} ms that is {what}",
-                    True,
-                    is_between(min(took), (millis / 1000, millis / 1000 + 0.4)),
-                )
+                least, most = millis / 1000, millis / 1000 + 0.4
+                took = tried(functools.partial(cut_off, gate, text), most)
+                self.judge(f"one of {millis} ms that is {what}", True, is_between(min(took), (least, most)) or took)
 
     def gives_answers_their_time(self, backend: Backend) -> None:
         """A client that doesn't read its answer has its whole time for it, and then no more."""

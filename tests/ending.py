@@ -8,7 +8,7 @@ from collections.abc import Callable
 
 from loopback import BODY, WHOLE, Backend, Gateway, Later, Scripted, read_all, read_head
 from running import PATIENCE, free_port, until
-from sockets import MUCH, PLAIN, TRIES, Sockets, drips, passed_on, timed
+from sockets import MUCH, PLAIN, TRIES, Sockets, drips, passed_on, timed, tried
 from telling import reports
 from wires import local
 
@@ -170,10 +170,8 @@ class Ending(Sockets):
 
     def lets_silent_clients_go(self, backend: Backend) -> None:
         """Where no worker is free, who has sent nothing is let go after a second, and who has sent a byte isn't."""
-        took: list[float] = []
-        while len(took) < TRIES and min(took, default=9) > 2.5:
-            took.append(self.time_of_a_silent_client(backend))
-        self.judge("a silent one is let go after a second", True, is_between(min(took), (0.9, 2.5)))
+        took = tried(lambda: self.time_of_a_silent_client(backend), 2.5)
+        self.judge("a silent one is let go after a second", True, is_between(min(took), (0.9, 2.5)) or took)
 
     def time_of_a_silent_client(self, backend: Backend) -> float:
         """When a silent client, and one that is served behind it, was told so: the later of both."""

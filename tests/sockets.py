@@ -1,4 +1,5 @@
 """Cases of `tests/serve` on connections: early answers, resets, signals, descriptors and slow ends."""
+import functools
 import os
 import resource
 import signal
@@ -10,7 +11,7 @@ import typing
 from collections.abc import Callable
 from concurrent.futures import ThreadPoolExecutor
 
-from loopback import BODY, FIVE, LARGE, WHOLE, Backend, Later, Scripted, read_all, read_head
+from loopback import BODY, FIVE, LARGE, WHOLE, Backend, Gateway, Later, Scripted, read_all, read_head
 from running import PATIENCE
 from served import Served
 from wires import CONTINUE, local
@@ -28,6 +29,8 @@ FLOOD = b"x" * 20_000_000
 STOPS = 12
 # How often a case is tried whose mistake shows in most of its tries.
 TRIES = 5
+# For how many seconds a case is tried again that other work on the machine may make late.
+AGAIN = 3 * PATIENCE
 
 
 def passed_on(body: bytes, status: bytes = b"200 OK") -> bytes:
@@ -39,6 +42,20 @@ def timed(call: Callable, *given: object) -> tuple[typing.Any, float]:
     """What a call gives, and how many seconds it took."""
     begun = time.monotonic()
     return call(*given), time.monotonic() - begun
+
+
+def time_of_one(gate: Gateway) -> float:
+    """How many seconds one takes to be served."""
+    return timed(gate.ask, PLAIN)[1]
+
+
+def tried(measure: Callable[[], float], most: float) -> list[float]:
+    """The seconds that a measure gives, taken again until they are below this: other work on the machine may make any
+    one of them late. What is late each time is late for as long as it is tried."""
+    end, found = time.monotonic() + AGAIN, [measure()]
+    while found[-1] >= most and time.monotonic() < end:
+        found.append(measure())
+    return found
 
 
 def unbroken(client: socket.socket, text: bytes) -> tuple[bytes, str | None]:
@@ -179,18 +196,26 @@ class Sockets(Served):
 
     def lingers_a_while(self, backend: Backend) -> None:
         """Whoever is answered early sees the end of its answer, and holds a worker for two seconds; others for none."""
-        gate = self.gateway(backend, each=4, words=("--client-timeout-ms", "60000"))
-        with gate.connect() as early, gate.connect() as served:
-            early.sendall(b"GET /plain HTTP/1.1\r\n\r\n")
-            answer, took = timed(read_all, early)
-            self.judge("an early answer and its end", (local(400), True), (answer, took < 1))
-            served.sendall(PLAIN)
-            answer, took = timed(read_all, served)
-            self.judge("one behind a client that stays", (passed_on(BODY), True), (answer, took < 4))
-            answer, took = timed(gate.ask, PLAIN)
-            self.judge("one behind a client that was served and stays", (passed_on(BODY), True), (answer, took < 1))
-        self.judge("another one", passed_on(BODY), gate.ask(PLAIN))
-        self.judge("counters of who lingers", {"admitted": 3, "success": 3}, gate.ending())
+        found: list[tuple[float, ...]] = []
+
+        def lingers() -> float:
+            """The greatest of three times, each as a part of what it may be."""
+            gate = self.gateway(backend, each=4, words=("--client-timeout-ms", "60000"))
+            with gate.connect() as early, gate.connect() as served:
+                early.sendall(b"GET /plain HTTP/1.1\r\n\r\n")
+                answer, ended = timed(read_all, early)
+                self.judge("an early answer and its end", local(400), answer)
+                served.sendall(PLAIN)
+                answer, waited = timed(read_all, served)
+                self.judge("one behind a client that stays", passed_on(BODY), answer)
+                answer, took = timed(gate.ask, PLAIN)
+                self.judge("one behind a client that was served and stays", passed_on(BODY), answer)
+            self.judge("another one", passed_on(BODY), gate.ask(PLAIN))
+            self.judge("counters of who lingers", {"admitted": 3, "success": 3}, gate.ending())
+            found.append((ended, waited, took))
+            return max(ended, waited / 4, took)
+
+        self.judge("an end, a wait of two seconds, and none", True, tried(lingers, 1)[-1] < 1 or found)
 
     def ends_with_its_backend(self, _: Backend) -> None:
         """A backend's end is waited for after its answer, for a moment; behind a fault it isn't."""
@@ -238,11 +263,14 @@ class Sockets(Served):
                 then(client)
 
             backend = Scripted(answers)
-            gate = self.gateway(backend, each=TRIES)
+            gate = self.gateway(backend, each=1_000_000)
             wanted = passed_on(BODY) if said == whole else local(502)
             found = [timed(gate.ask, PLAIN) for _ in range(TRIES)]
             self.judge(f"answers of a backend that {what}", [wanted] * TRIES, [it[0] for it in found])
-            self.judge(f"in less than {most} seconds where it {what}", True, min(it[1] for it in found) < most)
+            took = [it[1] for it in found]
+            if min(took) >= most:
+                took += tried(functools.partial(time_of_one, gate), most)
+            self.judge(f"in less than {most} seconds where it {what}", True, min(took) < most or took)
             backend.close()
         done.set()
         self.judge("a backend that closes first", True, None in seen)

@@ -126,7 +126,7 @@ NUMBERS: tuple[tuple[str, str, tuple[Callable[[], float], ...]], ...] = (
     (OPERATING, r"\[\[class\]\]`, at most (\w+)", (constant("partitions/src/table.rt", "MOST_KNOWN"),)),
     (OPERATING, r"\[\[resolver\]\]`, at most (\w+)", (constant("gate_config/src/document.rt", "MOST_RULES"),)),
     (OPERATING, r"\[\[bypass\]\]`, at most (\w+)", (constant("gate_config/src/document.rt", "MOST_RULES"),)),
-    (OPERATING, r"a table of at most (\d+) patterns", (constant("config_sections/src/resolver.rt", "MOST_ROUTES"),)),
+    (OPERATING, r"a table of at most (\d+) patterns", (constant("gate_config/src/resolver.rt", "MOST_ROUTES"),)),
     (OPERATING, r"a limit above (\d+) is never reached", (constant("config_explain/src/settings.rt", "MOST_WORKERS"),)),
     (FORMATS, r"at most one line comes in (\w+) seconds", (SPELL,)),
     (

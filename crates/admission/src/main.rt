@@ -5,9 +5,9 @@
 
 use commands::{Run, words};
 use config_check::check_file;
+use config_file::SystemFiles;
 use counted_io::Counted;
 use fault_lines::tell_unread_words;
-use file_opening::SystemFiles;
 use line_explain::Kept;
 use log_lines::{LineStart, LogLines};
 use serve_command::{Service, serve_file};

@@ -4,3 +4,4 @@ pub mod AutoState
 pub mod AutoRules
 pub mod AutoLaws
 pub mod Moves
+pub mod Rises

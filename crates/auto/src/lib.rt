@@ -21,4 +21,7 @@ mod shedding;
 mod window;
 
 pub use auto::Auto;
-pub use laws::{drops_never_raise, moves_by_twice_at_most, rises_only_where_met, windows_end};
+pub use laws::{
+    dips_end, drops_never_raise, moves_by_twice_at_most, rises_at_the_base, rises_only_where_met,
+    roofs_end, windows_end,
+};

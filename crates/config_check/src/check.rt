@@ -10,10 +10,9 @@ ghost use Rattle.fault_lines.specs.FaultLine.{IsTold, fault_line};
 use super::accepted::write_accepted;
 use super::check_fault::{CheckFault, report_check_fault};
 use super::explained::{write_explanation, write_why_unread};
-use config_file::{read_bytes, read_file_text};
+use config_file::{Opener, read_bytes, read_file_text};
 use counted_io::Counted;
 use fault_lines::{DONE, FAULT};
-use file_opening::Opener;
 use std::alloc::Global;
 use std::io::Write;
 

@@ -5,9 +5,8 @@ ghost use Rattle.counted_io.specs.Causes.{IsWriteCause};
 ghost use Rattle.config_check.specs.Check.{AreWordsOn};
 
 use config_explain::explanation;
-use config_file::why_unread;
+use config_file::{Opener, why_unread};
 use counted_io::{Counted, WriteFault, write_and_flush};
-use file_opening::Opener;
 use std::alloc::{AllocError, Global};
 use std::io::Write;
 

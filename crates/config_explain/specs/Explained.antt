@@ -2,16 +2,16 @@
 use Rattle.std.specs.List.{list_any}
 use Rattle.std.specs.Prelude.{◌≡◌, ◌++◌, ◌+◌, ◌-◌, ◌^◌, ℕ, min, Bool, true, false, ◌&&◌, ◌||◌, List, [], Option, Some, None, option_map, Err, bytes_eq, codes, decimal, if◌then◌else◌}
 use Rattle.toml.specs.Data.{Members}
-use Rattle.config_values.specs.declared.fault.ConfigFault.{ConfigFault}
-use Rattle.config_values.specs.declared.fault.ConfigFault.TheVariants as Fault
-use Rattle.config_values.specs.declared.fault.KeyAtFault.{KeyAtFault}
-use Rattle.config_values.specs.declared.key.Key.{Key}
-use Rattle.config_values.specs.declared.key.Section.{Section}
-use Rattle.config_values.specs.declared.key.Section.TheVariants as In
-use Rattle.config_values.specs.declared.number.Range.{Range}
-use Rattle.config_values.specs.Fault.{plain}
-use Rattle.config_values.specs.Key.{path_of, section_of}
-use Rattle.config_sections.specs.Rows.{Bound, Holds, all_rows, left_of_hundred, left_of_thousand, number, of}
+use Rattle.gate_config.specs.declared.fault.ConfigFault.{ConfigFault}
+use Rattle.gate_config.specs.declared.fault.ConfigFault.TheVariants as Fault
+use Rattle.gate_config.specs.declared.fault.KeyAtFault.{KeyAtFault}
+use Rattle.gate_config.specs.declared.key.Key.{Key}
+use Rattle.gate_config.specs.declared.key.Section.{Section}
+use Rattle.gate_config.specs.declared.key.Section.TheVariants as In
+use Rattle.gate_config.specs.declared.number.Range.{Range}
+use Rattle.gate_config.specs.Fault.{plain}
+use Rattle.gate_config.specs.Key.{path_of, section_of}
+use Rattle.gate_config.specs.Rows.{Bound, Holds, all_rows, left_of_hundred, left_of_thousand, number, of}
 use Rattle.gate_config.specs.Settings.{IsOfKey, Reads, settings_of}
 use Rattle.config_explain.specs.declared.members.Member.{Member}
 

@@ -2,8 +2,8 @@
 ghost use Rattle.std.specs.Prelude.{◌≡◌};
 ghost use Rattle.config_explain.specs.Explained.{hangs_on_others};
 
-use config_values::Key;
 use config_words::{key_rows, range_hangs};
+use gate_config::Key;
 
 /// The words of the key's row.
 macro_rules! words_of {

@@ -1,7 +1,6 @@
 // What is worth knowing of the addresses, and of how callers are told apart.
 use crate::members::items_at;
-use config_values::{Address, Key, read_text};
-use gate_config::Settings;
+use gate_config::{Address, Key, Settings, read_text};
 use std::alloc::AllocError;
 use toml::{Table, Value};
 

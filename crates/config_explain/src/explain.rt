@@ -1,7 +1,7 @@
 // What is said of the bytes of a configuration.
 ghost use Rattle.std.specs.Prelude.{◌≡◌, Err, IfOk, OnOk, string_bytes};
 ghost use Rattle.toml.specs.View.{table_view};
-ghost use Rattle.config_values.specs.declared.fault.ConfigFault.{ConfigFault as FaultValue};
+ghost use Rattle.gate_config.specs.declared.fault.ConfigFault.{ConfigFault as FaultValue};
 ghost use Rattle.gate_config.specs.Settings.{IsOfKey, settings_of};
 ghost use Rattle.config_explain.specs.Explained.{ExplainsFault, IsExplained};
 

@@ -7,7 +7,7 @@ use crate::finding::{Line, Wanted, find_line, section_name};
 use crate::members::{Member, member_of};
 use crate::routes::explain_route;
 use crate::unknown::explain_unknown;
-use config_values::{ConfigFault, Key, KeyAtFault, Range, Section};
+use gate_config::{ConfigFault, Key, KeyAtFault, Range, Section};
 use std::alloc::{AllocError, Global};
 use toml::Table;
 

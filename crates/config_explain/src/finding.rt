@@ -2,7 +2,7 @@
 ghost use Rattle.std.specs.Prelude.{◌≡◌};
 ghost use Rattle.config_explain.specs.Explained.{table_name};
 
-use config_values::Section;
+use gate_config::Section;
 
 /// A line, counted from 1.
 #[derive(Clone, Copy)]

@@ -1,8 +1,6 @@
 // What is worth knowing of a limit that learns.
 use crate::settings::MOST_WORKERS;
-use config_sections::{read_limit, read_window};
-use config_values::{Key, read_table};
-use gate_config::version_of;
+use gate_config::{Key, read_limit, read_table, read_window, version_of};
 use limit_kinds::LimitSpec;
 use std::alloc::AllocError;
 use toml::Table;

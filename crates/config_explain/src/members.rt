@@ -1,7 +1,7 @@
 // The tables of arrays.
 ghost use Rattle.std.specs.Prelude.{◌≡◌, option_map};
 
-use config_values::{Key, Section, value_at};
+use gate_config::{Key, Section, value_at};
 use toml::{Table, Value};
 
 /// A member of an array, counted from 0, and how many there are.

@@ -1,7 +1,7 @@
 // Which pattern can't be read or can't stand beside those before it.
 use crate::faults::{Source, show_place};
 use crate::members::{Member, items_at};
-use config_values::{Key, Section, value_at};
+use gate_config::{Key, Section, value_at};
 use matchit::{InsertError, Router};
 use std::alloc::{AllocError, Global};
 use toml::{Table, Value};

@@ -3,8 +3,7 @@ ghost use Rattle.gate_config.specs.Settings.{AreSound};
 
 use crate::callers::explain_callers;
 use crate::limits::explain_limit;
-use config_values::{Key, value_at};
-use gate_config::{AnyLimit, Settings};
+use gate_config::{AnyLimit, Key, Settings, value_at};
 use limit_kinds::LimitKind;
 use limit_laws::Limit;
 use std::alloc::AllocError;

@@ -1,7 +1,7 @@
 // Which key isn't allowed where it stands.
 use crate::faults::{Source, show_place};
 use crate::members::member_of;
-use config_values::{Section, UnknownAtFault};
+use gate_config::{Section, UnknownAtFault};
 use std::alloc::AllocError;
 
 /// Says where the key stands that isn't allowed, and which are.

@@ -2,9 +2,9 @@
 use Rattle.std.specs.Prelude.{ℕ, List, ◌++◌, codes}
 use Rattle.counted_io.specs.declared.reading.ReadFault.{ReadFault}
 use Rattle.counted_io.specs.declared.reading.ReadFault.TheVariants as Reading
-use Rattle.config_values.specs.Fault.{fault_text}
-use Rattle.config_values.specs.declared.fault.ConfigFault.{ConfigFault}
-use Rattle.config_values.specs.declared.fault.ConfigFault.TheVariants as Config
+use Rattle.gate_config.specs.Fault.{fault_text}
+use Rattle.gate_config.specs.declared.fault.ConfigFault.{ConfigFault}
+use Rattle.gate_config.specs.declared.fault.ConfigFault.TheVariants as Config
 use Rattle.config_file.specs.declared.file_fault.FileFault.{FileFault}
 use Rattle.config_file.specs.declared.file_fault.FileFault.TheVariants as File
 

@@ -6,8 +6,8 @@ use Rattle.counted_io.specs.declared.counted.Counted.{Counted}
 use Rattle.counted_io.specs.Causes.{IsMemoryCause, IsReadCause}
 use Rattle.counted_io.specs.Counted.{failures_of, inner_of}
 use Rattle.counted_io.specs.Effects.{IfLeft}
-use Rattle.config_values.specs.declared.fault.ConfigFault.{ConfigFault}
-use Rattle.config_values.specs.declared.fault.ConfigFault.TheVariants as Config
+use Rattle.gate_config.specs.declared.fault.ConfigFault.{ConfigFault}
+use Rattle.gate_config.specs.declared.fault.ConfigFault.TheVariants as Config
 use Rattle.gate_config.specs.declared.settings.Settings.{Settings}
 use Rattle.gate_config.specs.Settings.{Reads, settings_of}
 use Rattle.config_file.specs.declared.file_fault.FileFault.{FileFault}

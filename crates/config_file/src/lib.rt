@@ -6,9 +6,11 @@
 #![tactic(auto)]
 
 mod file_fault;
+mod opening;
 mod reading;
 mod unread;
 
 pub use file_fault::{FileFault, report_file_fault};
+pub use opening::{Opener, SystemFiles};
 pub use reading::{read_bytes, read_file_text, read_text};
 pub use unread::why_unread;

@@ -7,8 +7,8 @@ ghost use Rattle.gate_config.specs.Settings.{AreSound};
 ghost use Rattle.config_file.specs.Reading.{Held, IsFaultOf, IsUnread, IsUnreadFile, Says, most_reads};
 
 use super::file_fault::FileFault;
+use crate::opening::Opener;
 use counted_io::{Counted, read_all};
-use file_opening::Opener;
 use gate_config::{Settings, read};
 use std::alloc::Global;
 use std::io::Read;

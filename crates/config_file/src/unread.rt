@@ -1,5 +1,5 @@
 // Why a file can't be read.
-use file_opening::Opener;
+use crate::opening::Opener;
 use std::alloc::{AllocError, Global};
 use std::io::Read;
 

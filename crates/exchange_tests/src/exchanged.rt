@@ -4,7 +4,7 @@ use clocks::Looks;
 use counted_io::Counted;
 use gate_config::{Settings, read};
 use limiter_core::Outcome;
-use proxy::{Exchange, exchange};
+use proxy::{ExchangeSummary, exchange};
 use std::alloc::Global;
 use std::process::Abort;
 
@@ -56,7 +56,7 @@ impl<'a> Case<'a> {
 /// What came of an exchange.
 #[derive(Drop)]
 pub(crate) struct Came {
-    pub(crate) told: Exchange,
+    pub(crate) told: ExchangeSummary,
     /// How often the client's end was read and written.
     pub(crate) reads: u64,
     pub(crate) writes: u64,
@@ -112,7 +112,7 @@ fn came_by(alloc: Global, case: Case, settings: &Settings) -> Came {
         &mut Counted::new(&mut sink),
     );
     Came {
-        told,
+        told: told.end(),
         reads: source.calls,
         writes: sink.calls,
         sent: sink.taken,

@@ -4,13 +4,13 @@ use Rattle.toml.specs.Data.{Members}
 use Rattle.partitions.specs.Table.{Row}
 use Rattle.windowed.specs.declared.numbers.WindowNumbers.{WindowNumbers}
 use Rattle.limit_kinds.specs.declared.spec.LimitSpec.{LimitSpec}
-use Rattle.config_values.specs.declared.fault.ConfigFault.{ConfigFault}
-use Rattle.config_values.specs.Outcomes.{◌>>=◌, result_map}
-use Rattle.config_sections.specs.declared.top.TopKeys.{TopKeys}
-use Rattle.config_sections.specs.declared.version.Version.{Version}
-use Rattle.config_sections.specs.Rows.{top_rows}
-use Rattle.config_sections.specs.Section.{Values, section_values}
-use Rattle.config_sections.specs.Top.{top_values}
+use Rattle.gate_config.specs.declared.fault.ConfigFault.{ConfigFault}
+use Rattle.gate_config.specs.Outcomes.{◌>>=◌, result_map}
+use Rattle.gate_config.specs.declared.top.TopKeys.{TopKeys}
+use Rattle.gate_config.specs.declared.version.Version.{Version}
+use Rattle.gate_config.specs.Rows.{top_rows}
+use Rattle.gate_config.specs.Section.{Values, section_values}
+use Rattle.gate_config.specs.Top.{top_values}
 use Rattle.gate_config.specs.Document.{DocumentValues, RuleValues, TableRef, bypasses_of, classes_in, document_of, limit_member, limit_of, resolvers_of, rules_of, window_member, window_of}
 
 -- what stands before the rules was read

@@ -1,5 +1,6 @@
+mod Lists
+mod Addresses
 mod Blank
 mod Documents
-mod Lists
 mod Made
 mod Told

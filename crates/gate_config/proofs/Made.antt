@@ -3,7 +3,7 @@ use Rattle.std.proofs.Common.{◌≡◌, List, [], ◌∷◌, ◌++◌, Some}
 use Rattle.toml.specs.Data.{Members}
 use Rattle.partitions.specs.Table.{Row}
 use Rattle.classifier.specs.declared.resolver.Resolver.{Resolver}
-use Rattle.config_sections.specs.Section.{Values}
+use Rattle.gate_config.specs.Section.{Values}
 use Rattle.gate_config.specs.Rules.{resolver_from, resolvers_after}
 
 -- the next of them

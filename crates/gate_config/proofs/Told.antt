@@ -1,11 +1,11 @@
 -- Faults that are reported before any memory is taken.
 use Rattle.std.proofs.Common.{◌≡◌, sym, subst, Option, Some, None, Result, Ok, Err, ok_or}
 use Rattle.toml.specs.Data.{Members}
-use Rattle.config_values.specs.declared.fault.ConfigFault.{ConfigFault}
-use Rattle.config_values.specs.declared.fault.ConfigFault.TheVariants as Fault
-use Rattle.config_values.specs.Outcomes.{◌>>=◌}
-use Rattle.config_values.specs.Unknown.{UnknownKey, least}
-use Rattle.config_sections.specs.declared.version.Version.{Version}
+use Rattle.gate_config.specs.declared.fault.ConfigFault.{ConfigFault}
+use Rattle.gate_config.specs.declared.fault.ConfigFault.TheVariants as Fault
+use Rattle.gate_config.specs.Outcomes.{◌>>=◌}
+use Rattle.gate_config.specs.Unknown.{UnknownKey, least}
+use Rattle.gate_config.specs.declared.version.Version.{Version}
 use Rattle.gate_config.specs.declared.settings.Settings.{Settings}
 use Rattle.gate_config.specs.Document.{DocumentValues}
 use Rattle.gate_config.specs.Settings.{IsOfKey, known, made_of}

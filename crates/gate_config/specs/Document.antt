@@ -10,21 +10,21 @@ use Rattle.arrayvec.specs.ArrayVec.{ArrayVec}
 use Rattle.partitions.specs.Table.{Row}
 use Rattle.windowed.specs.declared.numbers.WindowNumbers.{WindowNumbers}
 use Rattle.limit_kinds.specs.declared.spec.LimitSpec.{LimitSpec}
-use Rattle.config_values.specs.declared.fault.ConfigFault.{ConfigFault}
-use Rattle.config_values.specs.declared.key.Key.TheVariants as Key
-use Rattle.config_values.specs.Outcomes.{◌>>=◌}
-use Rattle.config_values.specs.Table.{optional_from, table_from, tables_among, tables_from}
-use Rattle.config_sections.specs.declared.class.ClassKeys.{ClassKeys}
-use Rattle.config_sections.specs.declared.version.Version.{Version}
-use Rattle.config_sections.specs.Bypass.{bypass_after, bypass_member}
-use Rattle.config_sections.specs.Class.{classes_of}
-use Rattle.config_sections.specs.ClassRows.{class_row}
-use Rattle.config_sections.specs.Limit.{limit_in}
-use Rattle.config_sections.specs.Resolver.{resolver_after, resolver_member}
-use Rattle.config_sections.specs.Rows.{top_rows}
-use Rattle.config_sections.specs.Section.{Values, read_each, section_values}
-use Rattle.config_sections.specs.Top.{top_values}
-use Rattle.config_sections.specs.Window.{window_in}
+use Rattle.gate_config.specs.declared.fault.ConfigFault.{ConfigFault}
+use Rattle.gate_config.specs.declared.key.Key.TheVariants as Key
+use Rattle.gate_config.specs.Outcomes.{◌>>=◌}
+use Rattle.gate_config.specs.Table.{optional_from, table_from, tables_among, tables_from}
+use Rattle.gate_config.specs.declared.class.ClassKeys.{ClassKeys}
+use Rattle.gate_config.specs.declared.version.Version.{Version}
+use Rattle.gate_config.specs.Bypass.{bypass_after, bypass_member}
+use Rattle.gate_config.specs.Class.{classes_of}
+use Rattle.gate_config.specs.ClassRows.{class_row}
+use Rattle.gate_config.specs.Limit.{limit_in}
+use Rattle.gate_config.specs.Resolver.{resolver_after, resolver_member}
+use Rattle.gate_config.specs.Rows.{top_rows}
+use Rattle.gate_config.specs.Section.{Values, read_each, section_values}
+use Rattle.gate_config.specs.Top.{top_values}
+use Rattle.gate_config.specs.Window.{window_in}
 use Rattle.gate_config.specs.declared.document.Document.{Document}
 use Rattle.gate_config.specs.declared.document.RuleKeys.{RuleKeys}
 

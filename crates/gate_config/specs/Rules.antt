@@ -13,9 +13,9 @@ use Rattle.classifier.specs.declared.bypass.Bypass.{Bypass}
 use Rattle.classifier.specs.declared.bypass.Bypass.TheVariants as Rule
 use Rattle.classifier.specs.declared.resolver.Resolver.{Resolver}
 use Rattle.classifier.specs.declared.resolver.Resolver.TheVariants as Read
-use Rattle.config_values.specs.declared.fault.ConfigFault.{ConfigFault}
-use Rattle.config_values.specs.declared.fault.ConfigFault.TheVariants as Fault
-use Rattle.config_sections.specs.Section.{Values, routes_at, text_at}
+use Rattle.gate_config.specs.declared.fault.ConfigFault.{ConfigFault}
+use Rattle.gate_config.specs.declared.fault.ConfigFault.TheVariants as Fault
+use Rattle.gate_config.specs.Section.{Values, routes_at, text_at}
 
 -- the partition of a name, or unknown
 abbrev pub part_named : List Row → List ℕ → Part

@@ -7,14 +7,14 @@ use Rattle.limit_kinds.specs.Specs.{first_limit}
 use Rattle.limiter_core.specs.declared.promote.Promote.{Promote}
 use Rattle.limiter_core.specs.declared.promote.Promote.TheVariants.{Newest, All}
 use Rattle.classifier.specs.declared.resolver.Resolver.{Resolver}
-use Rattle.config_values.specs.declared.fault.ConfigFault.{ConfigFault}
-use Rattle.config_values.specs.declared.fault.ConfigFault.TheVariants as Fault
-use Rattle.config_values.specs.Outcomes.{◌>>=◌}
-use Rattle.config_values.specs.Unknown.{UnknownKey, least, unknown_key_text}
-use Rattle.config_sections.specs.declared.version.Version.{Version}
-use Rattle.config_sections.specs.declared.version.Version.TheVariants.{One, Two, Three}
-use Rattle.config_sections.specs.Rows.{all}
-use Rattle.config_sections.specs.Section.{flag_at, number_at, text_at}
+use Rattle.gate_config.specs.declared.fault.ConfigFault.{ConfigFault}
+use Rattle.gate_config.specs.declared.fault.ConfigFault.TheVariants as Fault
+use Rattle.gate_config.specs.Outcomes.{◌>>=◌}
+use Rattle.gate_config.specs.Unknown.{UnknownKey, least, unknown_key_text}
+use Rattle.gate_config.specs.declared.version.Version.{Version}
+use Rattle.gate_config.specs.declared.version.Version.TheVariants.{One, Two, Three}
+use Rattle.gate_config.specs.Rows.{all}
+use Rattle.gate_config.specs.Section.{flag_at, number_at, text_at}
 use Rattle.gate_config.specs.declared.settings.Settings.{Settings}
 use Rattle.gate_config.specs.Document.{DocumentValues, document_of}
 use Rattle.gate_config.specs.Rules.{bypass_from, resolvers_after}

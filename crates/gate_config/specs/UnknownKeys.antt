@@ -4,14 +4,14 @@ use Rattle.toml.specs.Data.{Members}
 use Rattle.windowed.specs.declared.numbers.WindowNumbers.{WindowNumbers}
 use Rattle.limit_kinds.specs.declared.spec.LimitSpec.{LimitSpec}
 use Rattle.limit_kinds.specs.declared.spec.LimitSpec.TheVariants.{Auto}
-use Rattle.config_values.specs.declared.key.Key.{Key}
-use Rattle.config_values.specs.declared.key.Section.TheVariants as In
-use Rattle.config_values.specs.Key.{name_of}
-use Rattle.config_values.specs.Unknown.{UnknownKey, unknown_keys_in}
-use Rattle.config_sections.specs.declared.version.Version.{Version}
-use Rattle.config_sections.specs.Limit.{limit_names}
-use Rattle.config_sections.specs.Rows.{bypass_rows, class_rows, resolver_rows, top_rows, window_rows}
-use Rattle.config_sections.specs.Section.{Values, names_of}
+use Rattle.gate_config.specs.declared.key.Key.{Key}
+use Rattle.gate_config.specs.declared.key.Section.TheVariants as In
+use Rattle.gate_config.specs.Key.{name_of}
+use Rattle.gate_config.specs.Unknown.{UnknownKey, unknown_keys_in}
+use Rattle.gate_config.specs.declared.version.Version.{Version}
+use Rattle.gate_config.specs.Limit.{limit_names}
+use Rattle.gate_config.specs.Rows.{bypass_rows, class_rows, resolver_rows, top_rows, window_rows}
+use Rattle.gate_config.specs.Section.{Values, names_of}
 use Rattle.gate_config.specs.Document.{DocumentValues}
 
 -- the table of windows, which a limit may have but for one without numbers: that has its own

@@ -4,22 +4,22 @@ ghost use Rattle.std.specs.Prelude.{◌≡◌, [], Err, IfErr, IfOk, IsErrOf, Is
 ghost use Rattle.toml.specs.View.{table_view};
 ghost use Rattle.windowed.specs.WindowedRules.{windows_made};
 ghost use Rattle.limit_kinds.specs.Specs.{limit_made};
-ghost use Rattle.config_values.specs.declared.fault.ConfigFault.{ConfigFault as FaultValue};
-ghost use Rattle.config_values.specs.Outcomes.{Answers, result_map};
-ghost use Rattle.config_values.specs.Table.{tables_among};
-ghost use Rattle.config_sections.specs.Bypass.{bypass_after};
-ghost use Rattle.config_sections.specs.ClassRows.{class_row};
-ghost use Rattle.config_sections.specs.Resolver.{resolver_after};
-ghost use Rattle.config_sections.specs.Section.{read_each};
-ghost use Rattle.config_sections.specs.Top.{IsTop};
+ghost use Rattle.gate_config.specs.declared.fault.ConfigFault.{ConfigFault as FaultValue};
+ghost use Rattle.gate_config.specs.Outcomes.{Answers, result_map};
+ghost use Rattle.gate_config.specs.Table.{tables_among};
+ghost use Rattle.gate_config.specs.Bypass.{bypass_after};
+ghost use Rattle.gate_config.specs.ClassRows.{class_row};
+ghost use Rattle.gate_config.specs.Resolver.{resolver_after};
+ghost use Rattle.gate_config.specs.Section.{read_each};
+ghost use Rattle.gate_config.specs.Top.{IsTop};
 ghost use Rattle.gate_config.specs.Document.{bypasses_of, classes_in, document_of, document_values, limit_member, limit_of, resolvers_of, rule_values, rules_of, tables_and_rows, window_member, window_of};
 
-use arrayvec::ArrayVec;
-use config_sections::{
-    BypassKeys, ClassKeys, ResolverKeys, TopKeys, Version, check_bypasses, check_resolvers,
-    read_bypasses, read_classes, read_limit, read_resolvers, read_top, read_window,
+use crate::{
+    BypassKeys, ClassKeys, ConfigFault, Key, ResolverKeys, TopKeys, Version, check_bypasses,
+    check_resolvers, read_bypasses, read_classes, read_limit, read_optional_table, read_resolvers,
+    read_table, read_tables, read_top, read_window,
 };
-use config_values::{ConfigFault, Key, read_optional_table, read_table, read_tables};
+use arrayvec::ArrayVec;
 use limit_kinds::LimitSpec;
 use std::alloc::Global;
 use toml::{Table, Value};

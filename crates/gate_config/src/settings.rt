@@ -1,6 +1,6 @@
 // What a configuration says.
+use crate::Address;
 use classifier::Rules;
-use config_values::Address;
 use limit_kinds::AnyLimit;
 use limiter_core::Promote;
 use partitions::PartitionTable;

@@ -1,19 +1,19 @@
 // The keys that aren't allowed where they stand.
 ghost use Rattle.std.specs.Prelude.{◌≡◌, flat_map, fold, map, option_map};
 ghost use Rattle.toml.specs.View.{table_view};
-ghost use Rattle.config_values.specs.Key.{name_of};
-ghost use Rattle.config_values.specs.Table.{tables_among};
-ghost use Rattle.config_values.specs.Unknown.{least, lesser, unknown_key_of};
-ghost use Rattle.config_sections.specs.Bypass.{bypass_member};
-ghost use Rattle.config_sections.specs.Resolver.{resolver_member};
+ghost use Rattle.gate_config.specs.Key.{name_of};
+ghost use Rattle.gate_config.specs.Table.{tables_among};
+ghost use Rattle.gate_config.specs.Unknown.{least, lesser, unknown_key_of};
+ghost use Rattle.gate_config.specs.Bypass.{bypass_member};
+ghost use Rattle.gate_config.specs.Resolver.{resolver_member};
 ghost use Rattle.gate_config.specs.Document.{document_values};
 ghost use Rattle.gate_config.specs.UnknownKeys.{bypass_unknown_keys, class_unknown_keys, resolver_unknown_keys, top_names, unknown_keys_of};
 
 use crate::document::Document;
-use config_sections::{
-    BypassKeys, NO_WINDOW, ResolverKeys, TOP_KEYS, Version, WINDOW_KEYS, class_keys, limit_keys,
+use crate::{
+    BypassKeys, Key, NO_WINDOW, ResolverKeys, Section, TOP_KEYS, UnknownKey, Version, WINDOW_KEYS,
+    class_keys, least_unknown, limit_keys,
 };
-use config_values::{Key, Section, UnknownKey, least_unknown};
 use limit_kinds::LimitSpec;
 use toml::{Table, Value};
 

@@ -3,9 +3,8 @@
 use crate::limits::LEARNING;
 use aimd::{Aimd, AimdNumbers};
 use limit_laws::{Limit, Sample};
-use sample_window::Window;
 use std::process::Abort;
-use windowed::Windowed;
+use windowed::{Window, Windowed};
 
 /// Windows of at least so many samples and this length, and of round trips of so long at least.
 fn over<L: Limit>(rt: &impl Abort, inner: L, size: u32, length: u64, min_rtt: u64) -> Windowed<L> {

@@ -2,7 +2,7 @@
 use Rattle.std.proofs.Common.{◌≡◌, ◌∙◌, ◌++◌, ap, ℕ, List, [], Option}
 use Rattle.std.specs.Prelude.{slice_get}
 use Rattle.script.specs.declared.fault_kind.FaultKind.{FaultKind}
-use Rattle.line_explain.specs.declared.forms.TextKind.{TextKind}
+use Rattle.script.specs.declared.forms.TextKind.{TextKind}
 use Rattle.line_explain.specs.Named.{IsNamed, NamesWord, number_at, shown_as, word_line}
 
 pub names_word : (kind : TextKind) (why : FaultKind) (ws : List (List ℕ)) (place number : ℕ)

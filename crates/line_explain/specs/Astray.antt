@@ -1,8 +1,8 @@
 -- Which word of a line no form can go on with.
 use Rattle.std.specs.Prelude.{ℕ, max, List, fold}
 use Rattle.std.specs.List.{common_prefix_len}
-use Rattle.line_explain.specs.declared.forms.TextKind.{TextKind}
-use Rattle.line_explain.specs.Forms.{Wanted, fits, forms_of}
+use Rattle.script.specs.declared.forms.TextKind.{TextKind}
+use Rattle.script.specs.Forms.{Wanted, fits, forms_of}
 
 -- how many words of a line stand where a form wants them, from the first one on
 abbrev pub reach : List (List ℕ) → List Wanted → ℕ

@@ -1,4 +1,3 @@
-pub mod Forms
 pub mod Astray
 pub mod Outside
 pub mod Named

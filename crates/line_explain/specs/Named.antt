@@ -5,7 +5,7 @@ use Rattle.script.specs.declared.fault_kind.FaultKind.{FaultKind}
 use Rattle.script.specs.declared.fault_kind.FaultKind.TheVariants as Fault
 use Rattle.script.specs.declared.line_fault.LineFault.{LineFault}
 use Rattle.script.specs.Words.{words}
-use Rattle.line_explain.specs.declared.forms.TextKind.{TextKind}
+use Rattle.script.specs.declared.forms.TextKind.{TextKind}
 use Rattle.line_explain.specs.Astray.{astray}
 use Rattle.line_explain.specs.Outside.{form_had, outside}
 

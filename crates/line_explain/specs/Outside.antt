@@ -4,14 +4,14 @@ use Rattle.std.specs.List.{common_prefix_len}
 use Rattle.std.specs.Option.{option_map_or}
 use Rattle.partitions.specs.Table.{is_name}
 use Rattle.script.specs.Words.{number_of}
-use Rattle.line_explain.specs.declared.forms.TextKind.{TextKind}
-use Rattle.line_explain.specs.declared.place.Bound.{Bound}
-use Rattle.line_explain.specs.declared.place.Bound.TheVariants.{At, Of}
-use Rattle.line_explain.specs.Forms.{Wanted, number, name, forms_of}
+use Rattle.script.specs.declared.forms.TextKind.{TextKind}
+use Rattle.script.specs.declared.place.RangeEnd.{RangeEnd}
+use Rattle.script.specs.declared.place.RangeEnd.TheVariants.{At, Of}
+use Rattle.script.specs.Forms.{Wanted, number, name, forms_of}
 use Rattle.line_explain.specs.Astray.{reach}
 
 -- the number that an end of a range is in a line
-abbrev pub end_at : List (List ℕ) → Bound → ℕ
+abbrev pub end_at : List (List ℕ) → RangeEnd → ℕ
 end_at words (At n) = n
 end_at words (Of place) = unwrap_or (option_and_then number_of (slice_get words place)) 0
 

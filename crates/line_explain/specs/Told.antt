@@ -3,7 +3,7 @@ use Rattle.std.specs.Prelude.{ℕ, Bool, true, false, List, Option}
 use Rattle.counted_io.specs.declared.counted.Counted.{Counted}
 use Rattle.fault_lines.specs.FaultLine.{IsTold}
 use Rattle.script.specs.declared.line_fault.LineFault.{LineFault}
-use Rattle.line_explain.specs.declared.forms.TextKind.{TextKind}
+use Rattle.script.specs.declared.forms.TextKind.{TextKind}
 use Rattle.line_explain.specs.Named.{IsExplainedBy}
 
 -- the line is explained by the text that was kept

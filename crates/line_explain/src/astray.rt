@@ -2,12 +2,10 @@
 ghost use Rattle.std.specs.Prelude.{◌≡◌, ◌==◌, bytes_eq, length, map, nat_lt, option_map, slice_get, take_while, zip};
 ghost use Rattle.std.specs.List.{list_any};
 ghost use Rattle.script.specs.Words.{words};
-ghost use Rattle.line_explain.specs.Forms.{fits, form_of, wanted_at};
+ghost use Rattle.script.specs.Forms.{fits, form_of, wanted_at};
 ghost use Rattle.line_explain.specs.Astray.{astray, reach};
 
-use crate::forms::{TextKind, forms};
-use crate::place::WordPlace;
-use script::read_number;
+use script::{TextKind, WordPlace, line_forms, read_number};
 
 /// Whether a word is this one.
 fn is_word(word: &[u8], wanted: &str) -> bool
@@ -72,7 +70,7 @@ fn count_fitting(line: &[u8], form: &[WordPlace]) -> usize
 pub(crate) fn astray(kind: TextKind, line: &[u8]) -> usize
     ensures { result ≡ astray kind (words line.now) }
 {
-    forms(kind)
+    line_forms(kind)
         .iter()
         .fold(0, |furthest, form| furthest.max(reach(line, form)))
 }

@@ -1,7 +1,6 @@
 // What the forms want at a place.
 use crate::astray::reach;
-use crate::forms::{TextKind, forms};
-use crate::place::{Bound, Number, WordPlace};
+use script::{NumberPlace, RangeEnd, TextKind, WordPlace, line_forms};
 use std::alloc::AllocError;
 
 /// What may stand at a place.
@@ -10,7 +9,7 @@ enum Choice<'a> {
     /// This word.
     Word(&'a str),
     /// A number of this form.
-    Number(&'a [WordPlace], Number),
+    Number(&'a [WordPlace], NumberPlace),
     /// The name of a class that the line brings.
     Name,
     /// That of a class that is known.
@@ -41,7 +40,7 @@ pub(crate) fn push_choices(
         count: 0,
     };
     let mut before = None;
-    for form in forms(kind) {
+    for form in line_forms(kind) {
         if reach(line, form) == place {
             let wanted = form.get(place).copied();
             if !is_same(before, wanted) {
@@ -133,16 +132,16 @@ fn push_choice(out: &mut String, choice: Choice<'_>) -> Result<(), AllocError> {
 pub(crate) fn push_held(
     out: &mut String,
     form: &[WordPlace],
-    number: Number,
+    number: NumberPlace,
 ) -> Result<(), AllocError> {
-    let Number {
+    let NumberPlace {
         held,
         low,
         high,
         ..
     } = number;
     out.push_str(held)?;
-    if let Bound::At(u64::MAX) = high {
+    if let RangeEnd::At(u64::MAX) = high {
         return Ok(());
     }
     push_bound(out, form, low)?;
@@ -151,10 +150,10 @@ pub(crate) fn push_held(
 }
 
 /// Says an end of a range.
-fn push_bound(out: &mut String, form: &[WordPlace], bound: Bound) -> Result<(), AllocError> {
-    match bound {
-        Bound::At(number) => write!(out, "{number}"),
-        Bound::Of(place) => match form.get(place) {
+fn push_bound(out: &mut String, form: &[WordPlace], end: RangeEnd) -> Result<(), AllocError> {
+    match end {
+        RangeEnd::At(number) => write!(out, "{number}"),
+        RangeEnd::Of(place) => match form.get(place) {
             Some(WordPlace::Number(number)) => out.push_str(number.name),
             _ => Ok(()),
         },

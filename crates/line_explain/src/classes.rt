@@ -1,8 +1,8 @@
 // Classes beside those that a text has.
 use crate::astray::word_at;
-use crate::place::{Bound, Number, WordPlace};
 use crate::value::push_name;
 use partitions::{Part, PartitionTable};
+use script::{NumberPlace, RangeEnd, WordPlace};
 use std::alloc::AllocError;
 
 /// The whole limit in thousandths.
@@ -64,15 +64,15 @@ pub(crate) fn push_refusal(
 }
 
 /// Says what the classes before leave, in the unit of the line.
-fn push_left(out: &mut String, number: Number, left: u32) -> Result<(), AllocError> {
-    let Number {
+fn push_left(out: &mut String, number: NumberPlace, left: u32) -> Result<(), AllocError> {
+    let NumberPlace {
         name,
         held,
         high,
         ..
     } = number;
     let left = match high {
-        Bound::At(100) => left / 10,
+        RangeEnd::At(100) => left / 10,
         _ => left,
     };
     if left == 0 {

@@ -6,11 +6,10 @@ ghost use Rattle.line_explain.specs.Named.{IsExplained, IsNamed, NamesWord, word
 use crate::astray::{astray, word_at};
 use crate::choices::push_choices;
 use crate::classes::{place_of, push_names, push_refusal, refusal_of};
-use crate::forms::TextKind;
 use crate::lines_before::line_at;
 use crate::shown::shown;
 use crate::value::{form_had, outside, push_wanted};
-use script::{FaultKind, LineFault, next_line, read_settings};
+use script::{FaultKind, LineFault, TextKind, next_line, read_settings};
 use std::alloc::{AllocError, Global};
 
 /// A line at fault of a text.

@@ -5,10 +5,9 @@ ghost use Rattle.line_explain.specs.Named.{IsExplainedBy};
 ghost use Rattle.line_explain.specs.Told.{IsSaid};
 
 use crate::explain::explanation;
-use crate::forms::TextKind;
 use crate::kept::Kept;
 use counted_io::{Counted, write_and_flush};
-use script::LineFault;
+use script::{LineFault, TextKind};
 use std::alloc::{AllocError, Global};
 use std::io::Write;
 

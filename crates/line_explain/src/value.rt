@@ -1,16 +1,14 @@
 // Which number or name of a line is out of its range.
 ghost use Rattle.std.specs.Prelude.{◌≡◌, length, option_and_then, option_map, slice_get, take_while, zip};
 ghost use Rattle.script.specs.Words.{number_of, words};
-ghost use Rattle.line_explain.specs.Forms.{form_of, wanted_at};
+ghost use Rattle.script.specs.Forms.{form_of, wanted_at};
 ghost use Rattle.line_explain.specs.Outside.{end_at, form_had, is_whole, is_within, outside};
 
 use crate::astray::{count_words, is_filled, is_space, reach, word_at};
 use crate::choices::push_held;
-use crate::forms::{TextKind, forms};
-use crate::place::{Bound, Number, WordPlace};
 use config_words::key_row;
 use partitions::is_name;
-use script::read_number;
+use script::{NumberPlace, RangeEnd, TextKind, WordPlace, line_forms, read_number};
 use std::alloc::AllocError;
 
 /// What the key of a row holds.
@@ -24,7 +22,7 @@ macro_rules! held_of_row {
 pub(crate) fn form_had(kind: TextKind, line: &[u8]) -> Option<&'static [WordPlace]>
     ensures { option_map form_of result ≡ form_had kind (words line.now) }
 {
-    let found = forms(kind).iter().find(|form| is_whole(line, form));
+    let found = line_forms(kind).iter().find(|form| is_whole(line, form));
     found.copied()
 }
 
@@ -69,12 +67,12 @@ fn is_within(line: &[u8], place: WordPlace, word: &[u8]) -> bool
 }
 
 /// The number that an end of a range is in a line.
-fn end_at(line: &[u8], bound: Bound) -> u64
-    ensures { result ≡ end_at (words line.now) bound }
+fn end_at(line: &[u8], end: RangeEnd) -> u64
+    ensures { result ≡ end_at (words line.now) end }
 {
-    match bound {
-        Bound::At(number) => number,
-        Bound::Of(place) => number_at(line, place).unwrap_or(0),
+    match end {
+        RangeEnd::At(number) => number,
+        RangeEnd::Of(place) => number_at(line, place).unwrap_or(0),
     }
 }
 
@@ -114,10 +112,10 @@ pub(crate) fn push_name(out: &mut String) -> Result<(), AllocError> {
 }
 
 /// Says which numbers that are here, where they hang on others.
-fn push_here(out: &mut String, line: &[u8], number: Number) -> Result<(), AllocError> {
+fn push_here(out: &mut String, line: &[u8], number: NumberPlace) -> Result<(), AllocError> {
     match number.low {
-        Bound::At(_) => Ok(()),
-        Bound::Of(_) => {
+        RangeEnd::At(_) => Ok(()),
+        RangeEnd::Of(_) => {
             let (low, high) = (end_at(line, number.low), end_at(line, number.high));
             write!(out, ", here {low} to {high}")
         }

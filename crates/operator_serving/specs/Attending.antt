@@ -1,6 +1,7 @@
 -- What an exchange with an operator is.
 use Rattle.std.specs.Prelude.{◌≡◌, ◌⊎◌, ⊤, ℕ, Bool, true, false, List, codes, length, bytes_eq, Option, None, Some, Result, Ok, Err, if◌then◌else◌}
 use Rattle.counted_io.specs.declared.counted.Counted.{Counted}
+use Rattle.counted_io.specs.Counted.{inner_of}
 use Rattle.counted_io.specs.Effects.{Wrote}
 use Rattle.partitions.specs.Table.{Row}
 use Rattle.message_text.specs.Answer.{answer_text, local_text}
@@ -82,7 +83,7 @@ module _ {D : Type 0} (rows : D → List Row) (shows : D → Sight → Type 0)
       (reader reader' writer writer' : Counted Bytes) (x : Attended) : Type 0 where
     pub read : Result Request WireFault
     pub asked : Counted Bytes
-    pub reading : IsRead reader reader' writer asked read
+    pub reading : IsRead reader reader' writer writer' (inner_of asked) read
     pub deals : Deals tells audience page old new asked writer' read x
 
   -- SERVED: there was one, over the two ends of a connection

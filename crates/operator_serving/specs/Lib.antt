@@ -1,3 +1,4 @@
+pub mod Attended
 pub mod Attending
 pub mod Desk
 pub mod Telling

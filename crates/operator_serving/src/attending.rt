@@ -4,6 +4,7 @@ ghost use Rattle.counted_io.specs.Effects.{Wrote};
 ghost use Rattle.proxy.specs.Exchanges.{told_by};
 ghost use Rattle.proxy.specs.Table.{fault_status, local_or_nothing};
 ghost use Rattle.operator_calls.specs.declared.audience.Audience.TheVariants.{Anyone};
+ghost use Rattle.operator_serving.specs.Attended.{was_answered, was_read};
 ghost use Rattle.operator_serving.specs.Attending.{IsAttended};
 
 use crate::answering::{answer, write_local};
@@ -16,15 +17,34 @@ use std::alloc::Global;
 use std::io::{BufRead, Write};
 use wire::{WireFault, read_request};
 
-/// What became of an operator's request.
-#[derive(Clone, Copy)]
+/// What became of an operator's request. [`attend`] alone makes one, and nobody can copy it or let
+/// it go.
 pub struct Attended {
+    pub(crate) is_read: bool,
+    pub(crate) answer: Option<u16>,
+    pub(crate) is_written: bool,
+}
+
+impl Attended {
     /// Whether a request was read whole.
-    pub is_read: bool,
-    /// The status of its answer; none where nothing is written after a fault of reading.
-    pub answer: Option<u16>,
-    /// Whether all that was to be written was written and flushed.
-    pub is_written: bool,
+    pub fn is_read(&self) -> bool
+        ensures { result ≡ was_read self.now }
+    {
+        self.is_read
+    }
+
+    /// Ends it, and tells whether its client was answered: with a status, and all of it was written
+    /// and flushed.
+    pub fn end(self) -> bool
+        ensures { result ≡ was_answered self }
+    {
+        let Attended {
+            is_read: _,
+            answer,
+            is_written,
+        } = self;
+        answer.is_some() && is_written
+    }
 }
 
 /// Serves one connection to an address for this audience: reads a request, carries its call out at
@@ -68,6 +88,7 @@ fn unread<W: Write>(fault: WireFault, writer: &mut Counted<W>) -> Attended
     ensures answer { result.answer ≡ fault_status fault }
     ensures text { result.is_written ≡ true → Wrote W.contents writer.old writer.new
         (local_or_nothing (fault_status fault)) }
+    ensures untouched { fault ≡ WireFault.Write → writer.new ≡ writer.old }
 {
     let answer = fault_status(fault);
     let is_written = match answer {

@@ -103,8 +103,8 @@ where
     );
     let client = Client { reader, writer };
     let left = client.close();
-    if attended.answer.is_some() && attended.is_written {
-        let is_unread = !attended.is_read || buffers.has_unread();
+    let is_unread = !attended.is_read() || buffers.has_unread();
+    if attended.end() {
         left.ends.linger(&stream, &time, is_unread, left.sent);
     }
 }

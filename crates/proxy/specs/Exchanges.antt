@@ -1,12 +1,12 @@
 -- What an exchange is.
 use Rattle.std.specs.Prelude.{◌≡◌, ℕ, Bool, false, nat_eq, List, Option, None, Some, Result, Ok, Err}
 use Rattle.std.specs.Prelude.{IsErrOf, OnOk}
+use Rattle.std.specs.Io.KnownBytes.{Appends}
 use Rattle.clocks.specs.Looks.{Looked}
 use Rattle.counted_io.specs.declared.counted.Counted.{Counted}
 use Rattle.counted_io.specs.Count.{raised}
 use Rattle.counted_io.specs.Causes.{HasRead, IsWriteCause}
 use Rattle.counted_io.specs.Counted.{failures_of, inner_of}
-use Rattle.counted_io.specs.Effects.{Wrote}
 use Rattle.limiter_core.specs.declared.event.Entry.{Entry}
 use Rattle.message_reading.specs.Reading.{HasFailed}
 use Rattle.wire.specs.declared.fault.WireFault.{WireFault}
@@ -18,7 +18,7 @@ use Rattle.gate_config.specs.declared.settings.Settings.{Settings}
 use Rattle.gate_port.specs.Shown.{Shown}
 use Rattle.wire.specs.declared.answer.BackendAnswer.{BackendAnswer}
 use Rattle.wire.specs.Forwards.{Forwarded}
-use Rattle.proxy.specs.declared.told.Exchange.{Exchange}
+use Rattle.proxy.specs.declared.told.ExchangeSummary.{ExchangeSummary}
 use Rattle.proxy.specs.declared.told.Verdict.TheVariants as verdict
 use Rattle.proxy.specs.Settling.{IsSettled, class_by}
 use Rattle.proxy.specs.Table.{is_sent_own, outcome_at, sent_status, sent_text}
@@ -53,13 +53,14 @@ pub record World : Type 0 where
   pub log : Option (List Forwarded)
 
 -- READ: the request that the reader's bytes begin with, or the fault that comes first in them,
--- with what was said to the client meanwhile; a fault of the reader, of too many reads, or of the
--- writer has its cause. Whatever it is, a read was made, and for a request no read failed
-pub record IsRead (reader reader' writer writer' : Counted Bytes) (read : Result Request WireFault)
-    : Type 0 where
+-- with what was said to the client meanwhile, behind which its writer has these bytes; a fault of
+-- the reader, of too many reads, or of the writer has its cause, at the end of all. Whatever it is,
+-- a read was made, and for a request no read failed
+pub record IsRead (reader reader' writer writer' : Counted Bytes) (asked : Bytes)
+    (read : Result Request WireFault) : Type 0 where
   pub bytes : Reads known reader reader' (λ (request : Request). request) IsRequest read
   pub said : (IsErrOf read fault.Write → ⊥)
-      → Said (inner_of reader) (inner_of writer) (inner_of writer') read
+      → Said (inner_of reader) (inner_of writer) asked read
   pub failed : IsErrOf read fault.Read → HasFailed reader reader'
   pub used_up : IsErrOf read fault.TurnLimit → IsUsedUp reader reader'
   pub unsaid : IsErrOf read fault.Write → IsWriteCause writer writer'
@@ -69,7 +70,7 @@ pub record IsRead (reader reader' writer writer' : Counted Bytes) (read : Result
 -- after a fault of reading the gate isn't asked, no clock is looked at and nothing is forwarded;
 -- else what was read is settled
 abbrev pub Deals : Settings → World → World → Result Request WireFault
-    → Option BackendAnswer → Exchange → Type 0
+    → Option BackendAnswer → ExchangeSummary → Type 0
 Deals s old new (Err f) answer x =
     (x.class ≡ None) × (x.admission ≡ verdict.NotAsked) × (answer ≡ None)
     × (new.shown ≡ old.shown) × (new.count ≡ old.count) × (new.log ≡ old.log)
@@ -92,15 +93,16 @@ is_unsent (Ok request) before reads = false
 -- AN EXCHANGE: something is read, and dealt with; what is told of it, and without a fault of
 -- writing what is written to the client, is by the table of answers. A fault of writing as
 -- something was read is reported as such
-pub record IsExchange (s : Settings) (old new : World) (x : Exchange) : Type 0 where
+pub record IsExchange (s : Settings) (old new : World) (x : ExchangeSummary) : Type 0 where
   pub read : Result Request WireFault
-  pub asked : Counted Bytes
+  pub asked : Bytes
   pub answer : Option BackendAnswer
-  pub reading : IsRead old.reader new.reader old.writer asked read
+  pub reading : IsRead old.reader new.reader old.writer new.writer asked read
   pub deals : Deals s old new read answer x
   pub status : x.answer ≡ sent_status read answer
   pub own : x.is_own ≡ is_sent_own read answer
   pub empty : x.is_empty ≡ is_unsent read old.reader.calls new.reader.calls
   pub outcome : x.outcome ≡ outcome_at answer
-  pub text : x.written_fault ≡ None → Wrote known asked new.writer (sent_text read answer)
+  pub text : x.written_fault ≡ None
+      → Appends asked (inner_of new.writer) (sent_text read answer)
   pub unasked : IsErrOf read fault.Write → x.written_fault ≡ Some fault.Write

@@ -1,3 +1,4 @@
 pub mod Exchanges
+pub mod Made
 pub mod Settling
 pub mod Table

@@ -1,14 +1,15 @@
 // An exchange.
-ghost use Rattle.std.specs.Prelude.{◌≡◌, ◌⊎◌, None, Some, IfSome, is_some, true};
+ghost use Rattle.std.specs.Prelude.{◌≡◌, ◌⊎◌, None, Some, IfSome, is_some, true, false};
 ghost use Rattle.counted_io.specs.Causes.{IsWriteCause};
 ghost use Rattle.counted_io.specs.Counted.{failures_of, is_flushed};
 ghost use Rattle.counted_io.specs.Effects.{Wrote};
 ghost use Rattle.proxy.specs.Table.{fault_status, local_or_nothing};
 ghost use Rattle.proxy.specs.Exchanges.{IsExchange, is_empty, told_by};
+ghost use Rattle.proxy.specs.Made.{counts_of, is_all_sent, reads_of, summary_of, writes_of};
 
 use crate::replying::{fault_status, is_own, reply, reply_status};
 use crate::settling::{outcome_at, settle};
-use crate::told::{Exchange, Verdict};
+use crate::told::{CallCounts, Exchange, ExchangeSummary, Verdict};
 use clocks::{Clock, Looks};
 use counted_io::Counted;
 use gate_config::Settings;
@@ -54,12 +55,15 @@ pub fn exchange<P: GatePort, B: Backend, C: Clock, R: BufRead, W: Write>(
           count = B.forwarded backend.new;
           log = B.shown backend.new;
         })
-        result }
-    ensures flushed { result.written_fault ≡ None → is_some result.answer ≡ true
-        → is_flushed writer.new ≡ true }
-    ensures unfailing { result.written_fault ≡ None →
+        (summary_of result) }
+    ensures reads { reads_of result ≡ counts_of reader.new }
+    ensures writes { writes_of result ≡ counts_of writer.new }
+    ensures unsent { is_all_sent result ≡ false }
+    ensures flushed { (summary_of result).written_fault ≡ None
+        → is_some (summary_of result).answer ≡ true → is_flushed writer.new ≡ true }
+    ensures unfailing { (summary_of result).written_fault ≡ None →
         failures_of writer.new ≡ failures_of writer.old }
-    ensures written { IfSome result.written_fault (λ fault.
+    ensures written { IfSome (summary_of result).written_fault (λ fault.
         (fault ≡ WireFault.Write) × IsWriteCause writer.old writer.new) }
 {
     let before = reader.calls();
@@ -67,12 +71,18 @@ pub fn exchange<P: GatePort, B: Backend, C: Clock, R: BufRead, W: Write>(
         Ok(request) => request,
         Err(fault) => {
             let is_empty = is_empty(fault, before, reader.calls());
-            return unread(fault, is_empty, writer);
+            let told = unread(fault, is_empty, writer);
+            return Exchange {
+                told,
+                reads: CallCounts::of(reader),
+                writes: CallCounts::of(writer),
+                is_sent: false,
+            };
         }
     };
     let settled = settle(port, backend, settings, looks, &request);
     let written_fault = reply(writer, &settled.answer, &request.method);
-    Exchange {
+    let told = ExchangeSummary {
         class: Some(settled.class),
         admission: settled.admission,
         answer: Some(reply_status(&settled.answer)),
@@ -80,6 +90,12 @@ pub fn exchange<P: GatePort, B: Backend, C: Clock, R: BufRead, W: Write>(
         is_empty: false,
         outcome: outcome_at(&settled.answer),
         written_fault,
+    };
+    Exchange {
+        told,
+        reads: CallCounts::of(reader),
+        writes: CallCounts::of(writer),
+        is_sent: false,
     }
 }
 
@@ -95,7 +111,7 @@ fn is_empty(fault: WireFault, before: u64, reads: u64) -> bool
 }
 
 /// Answers a request that was not read, of which nothing came at all where it is empty.
-fn unread<W: Write>(fault: WireFault, is_empty: bool, writer: &mut Counted<W>) -> Exchange
+fn unread<W: Write>(fault: WireFault, is_empty: bool, writer: &mut Counted<W>) -> ExchangeSummary
     ensures empty { result.is_empty ≡ is_empty }
     ensures class { result.class ≡ None }
     ensures admission { result.admission ≡ Verdict.NotAsked }
@@ -121,7 +137,7 @@ fn unread<W: Write>(fault: WireFault, is_empty: bool, writer: &mut Counted<W>) -
         None if fault == WireFault::Write => Some(fault),
         None => None,
     };
-    Exchange {
+    ExchangeSummary {
         class: None,
         admission: Verdict::NotAsked,
         answer,

@@ -4,7 +4,8 @@
 //! classified and asked for; it is forwarded once where the gate lets it through, and else not at
 //! all; an admitted permit is ended with the outcome of the backend's answer, before anything is
 //! written to the client; and the client gets what the table of answers says
-//! (`specs/Table.antt`). A [`Watch`] hears of what came of exchanges.
+//! (`specs/Table.antt`). An [`Exchange`] is made by that call alone, with the counts that the client's
+//! ends had behind it. A [`Watch`] hears of what came of exchanges.
 #![tactic(auto)]
 
 mod exchanging;
@@ -17,6 +18,6 @@ pub use classifier::Class;
 pub use exchanging::exchange;
 pub use gate_port::{GatePort, Why};
 pub use replying::fault_status;
-pub use told::{Exchange, Verdict};
+pub use told::{CallCounts, Exchange, ExchangeSummary, Verdict};
 pub use watch::Watch;
 pub use wire::{Backend, BackendAnswer};

@@ -1,5 +1,9 @@
 // What is told of an exchange.
+ghost use Rattle.std.specs.Prelude.{◌≡◌};
+ghost use Rattle.proxy.specs.Made.{counts_of, is_all_sent, summary_of, with_sent};
+
 use classifier::Class;
+use counted_io::Counted;
 use gate_port::Why;
 use limiter_core::Outcome;
 use wire::WireFault;
@@ -19,7 +23,7 @@ pub enum Verdict {
 
 /// What became of a connection.
 #[derive(Clone, Copy)]
-pub struct Exchange {
+pub struct ExchangeSummary {
     /// The request's class, where one was read.
     pub class: Option<Class>,
     /// What the gate said.
@@ -35,4 +39,90 @@ pub struct Exchange {
     pub outcome: Option<Outcome>,
     /// `Write` where the writer failed.
     pub written_fault: Option<WireFault>,
+}
+
+/// How a reader or a writer had been called at some moment.
+#[derive(Clone, Copy)]
+pub struct CallCounts {
+    /// How many reads or writes were made.
+    pub calls: u64,
+    /// How many flushes were made.
+    pub flushes: u64,
+    /// How many of all these failed.
+    pub failures: u64,
+    /// Whether a flush succeeded after the last write.
+    pub is_flushed: bool,
+}
+
+impl CallCounts {
+    /// The counts as they are.
+    pub(crate) fn of<T>(counted: &Counted<T>) -> CallCounts
+        ensures { result ≡ counts_of counted.now }
+    {
+        CallCounts {
+            calls: counted.calls(),
+            flushes: counted.flushes(),
+            failures: counted.failures(),
+            is_flushed: counted.is_flushed(),
+        }
+    }
+}
+
+/// An exchange that was carried out, with the counts that its reader and its writer had at its end.
+///
+/// [`exchange`](crate::exchange) alone makes one, and nobody can copy it or let it go: so who has
+/// to hand one over for each client has carried out as many. It ends where it is told.
+pub struct Exchange {
+    pub(crate) told: ExchangeSummary,
+    pub(crate) reads: CallCounts,
+    pub(crate) writes: CallCounts,
+    pub(crate) is_sent: bool,
+}
+
+impl Exchange {
+    /// What became of it.
+    pub fn summary(&self) -> &ExchangeSummary
+        ensures { result.now ≡ summary_of self.now }
+    {
+        &self.told
+    }
+
+    /// Whether its caller tells that all that was written to the client was sent. A new one isn't
+    /// told so: what was written may lie in a buffer.
+    pub fn is_sent(&self) -> bool
+        ensures { result ≡ is_all_sent self.now }
+    {
+        self.is_sent
+    }
+
+    /// The same, of which its caller tells whether all was sent.
+    pub fn with_sent(self, is_sent: bool) -> Exchange
+        ensures { result ≡ with_sent is_sent self }
+    {
+        let Exchange {
+            told,
+            reads,
+            writes,
+            is_sent: _,
+        } = self;
+        Exchange {
+            told,
+            reads,
+            writes,
+            is_sent,
+        }
+    }
+
+    /// Ends it, and tells what became of it.
+    pub fn end(self) -> ExchangeSummary
+        ensures { result ≡ summary_of self }
+    {
+        let Exchange {
+            told,
+            reads: _,
+            writes: _,
+            is_sent: _,
+        } = self;
+        told
+    }
 }

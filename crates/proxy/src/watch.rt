@@ -1,5 +1,5 @@
 // What hears of exchanges.
-use crate::told::Exchange;
+use crate::told::ExchangeSummary;
 use gate_port::Report;
 use partitions::PartitionTable;
 use std::io::Error;
@@ -10,7 +10,7 @@ pub trait Watch {
     fn accepted(&self);
 
     /// That worker's exchange has ended, and it is free for another client.
-    fn ended(&self, exchange: &Exchange);
+    fn ended(&self, exchange: &ExchangeSummary);
 
     /// Whether a worker is free for another client at this moment.
     fn has_free_worker(&self) -> bool;

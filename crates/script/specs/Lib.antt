@@ -11,3 +11,4 @@ pub mod TraceLine
 pub mod Settings
 pub mod Opening
 pub mod Faults
+pub mod Forms

@@ -10,17 +10,21 @@
 //!
 //! Where a setting comes too late, and which class has a name, is for the driver to say, which
 //! knows what was asked before. Other formats of lines are read by the same words and numbers.
+//!
+//! [`line_forms`] is the table of what stands at each place of a line, for whoever explains a fault.
 #![tactic(auto)]
 
 mod arrival;
 mod classes;
 mod fault_kind;
+mod forms;
 mod limit_line;
 mod line;
 mod line_fault;
 mod lines;
 mod numbers;
 mod opening;
+mod place;
 mod request;
 mod setting;
 mod settings;
@@ -31,11 +35,13 @@ mod words;
 pub use arrival::ArrivalLine;
 pub use classes::read_part;
 pub use fault_kind::FaultKind;
+pub use forms::{TextKind, line_forms};
 pub use line::{Line, read_line};
 pub use line_fault::LineFault;
 pub use lines::next_line;
 pub use numbers::read_number;
 pub use opening::{Opening, read_settings};
+pub use place::{NumberPlace, RangeEnd, WordPlace};
 pub use request::Request;
 pub use setting::Setting;
 pub use settings::Settings;

@@ -10,6 +10,7 @@ use Rattle.ports.specs.declared.asked.Asked.TheVariants.{Nothing}
 use Rattle.ports.specs.Asked.{Shared, port_in}
 use Rattle.gate_config.specs.declared.settings.Settings.{Settings}
 use Rattle.tcp_backend.specs.declared.connecting.TcpBackend.{TcpBackend}
+use Rattle.tcp_backend.specs.declared.dialing.Dialer.{Dialer}
 use Rattle.tcp_backend.specs.Connecting.{count_of}
 use Rattle.serving.specs.declared.doors.Door.{Door}
 use Rattle.serving.specs.declared.jobs.WorkerExit.{WorkerExit}
@@ -24,7 +25,7 @@ use Rattle.serve_command.specs.Runs.{HasRunTo, stood_at}
 module _ {L C S W : Type 0} (R T V M : Type 0) (gives : S → Settings → Type 0)
     (common : WorkerSettings L C S W) where
   abbrev End : Type 0
-  End = WorkerExit (Door L W) (Shared M) (TcpBackend R T V C)
+  End = WorkerExit (Door L W) (Shared M) (TcpBackend (Dialer R) T V C)
 
   abbrev Ran : Shared M → End → Type 0
   Ran = HasRun gives (λ port. None) (λ port. Some port.pass.log) common

@@ -27,7 +27,7 @@ use ports::{Port, View};
 use serve_reports::Watcher;
 use serving::{JobResult, ServeFault, Source, WorkerSettings, serve};
 use shared_gate::{GateNaming, Pass, SharedGate, Word};
-use std::alloc::{AllocError, Global};
+use std::alloc::AllocError;
 use std::marker::Brand;
 use std::net::Net;
 use std::sync::Wait;
@@ -159,7 +159,7 @@ where
     let (rt, common) = (gateway.rt, gateway.common);
     let operators = make_operators(gateway, gate, own)?;
     let kept = Vec::with_capacity(common.alloc, passes.len())?;
-    let ports = make_ports(rt, common.alloc, gate, common.clock, common.watch, passes)?;
+    let ports = make_ports(gateway, gate, passes)?;
     let view = View::new(rt, gate);
     let lefts = serve(
         rt,
@@ -188,23 +188,21 @@ fn take_own<M: GateNaming>(
 }
 
 /// A port for each pass.
-fn make_ports<'a, M: GateNaming, R, G: Limit, C>(
-    rt: &'a R,
-    alloc: Global,
-    gate: &'a SharedGate<G, M>,
-    clock: &'a C,
-    watch: &'a Watcher<'a, R>,
+fn make_ports<'g, M: GateNaming, R, G: Limit, L, C, S>(
+    gateway: &Gateway<'g, R, L, C, S>,
+    gate: &'g SharedGate<G, M>,
     passes: Vec<Pass<M>>,
-) -> Result<Vec<Port<'a, G, M, R, C>>, AllocError>
+) -> Result<Vec<Port<'g, G, M, R, C>>, AllocError>
 where
     R: SystemClock,
     ensures { IfOk result (λ ports.
         ports.items ≡ map (λ pass. port_in pass Nothing) passes.items) }
 {
-    let mut ports = Vec::new(alloc);
+    let common = gateway.common;
+    let mut ports = Vec::new(common.alloc);
     for pass in passes {
-        let port = Port::new(rt, gate, pass, clock);
-        ports.push(noting(port, watch, ports.len()))?;
+        let port = Port::new(gateway.rt, gate, pass, common.clock);
+        ports.push(noting(port, common.watch, ports.len()))?;
     }
     Ok(ports)
 }

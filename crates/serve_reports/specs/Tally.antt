@@ -1,7 +1,7 @@
 -- How many exchanges ended in each of the gateway's own answers.
 use Rattle.std.specs.Prelude.{ℕ, Option, None, Some, nat_eq, if◌then◌else◌}
 use Rattle.counted_io.specs.Count.{raised}
-use Rattle.proxy.specs.declared.told.Exchange.{Exchange}
+use Rattle.proxy.specs.declared.told.ExchangeSummary.{ExchangeSummary}
 use Rattle.serve_reports.specs.declared.tally.AnswerTally.{AnswerTally}
 
 -- a tally after one more answer of this status
@@ -22,7 +22,7 @@ counted_answer (Some status) t = counted_at status t
 
 -- A TALLY AFTER AN EXCHANGE: one more who sent nothing, and no answer; or one more of its status,
 -- where the answer is the gateway's own
-abbrev pub counted : Exchange → AnswerTally → AnswerTally
+abbrev pub counted : ExchangeSummary → AnswerTally → AnswerTally
 counted x t =
     if x.is_empty then record t { empty = raised t.empty }
     else (if x.is_own then counted_answer x.answer t else t)

@@ -3,7 +3,7 @@ ghost use Rattle.std.specs.Prelude.{◌≡◌};
 ghost use Rattle.counted_io.specs.Count.{raised};
 ghost use Rattle.serve_reports.specs.Tally.{counted, counted_at};
 
-use proxy::Exchange;
+use proxy::ExchangeSummary;
 
 /// How many exchanges ended in each of the gateway's own answers, by its status. A count stays at
 /// `u64::MAX`.
@@ -32,7 +32,7 @@ pub struct AnswerTally {
 
 impl AnswerTally {
     /// Counts an exchange, where its answer is the gateway's own, or its client sent nothing.
-    pub fn count(&mut self, exchange: &Exchange)
+    pub fn count(&mut self, exchange: &ExchangeSummary)
         ensures { self.new ≡ counted exchange.now self.old }
     {
         if exchange.is_empty {

@@ -13,7 +13,7 @@ use clocks::{Clock, ProgramClock};
 use gate_port::Report;
 use log::{Log, info, warn};
 use partitions::PartitionTable;
-use proxy::{Exchange, Watch};
+use proxy::{ExchangeSummary, Watch};
 use std::alloc::{AllocError, Global};
 use std::io::Error;
 use std::sync::atomic::{AtomicU32, AtomicU64, Ordering};
@@ -206,7 +206,7 @@ impl<R: SystemClock + Log + Wait> Watch for Watcher<'_, R> {
         }
     }
 
-    fn ended(&self, exchange: &Exchange) {
+    fn ended(&self, exchange: &ExchangeSummary) {
         self.busy.fetch_sub(1, Ordering::SeqCst);
         if exchange.is_own {
             self.notes.lock(self.rt).answers.count(exchange);

@@ -9,6 +9,7 @@ use Rattle.limiter_core.specs.declared.event.Entry.{Entry}
 use Rattle.gate_port.specs.Shown.{Shown}
 use Rattle.wire.specs.Forwards.{Forwarded}
 use Rattle.tcp_backend.specs.declared.connecting.TcpBackend.{TcpBackend}
+use Rattle.tcp_backend.specs.declared.dialing.Dialer.{Dialer}
 use Rattle.tcp_backend.specs.Connecting.{count_of}
 use Rattle.serving.specs.declared.doors.Door.{Door}
 use Rattle.serving.specs.declared.jobs.Context.{Context}
@@ -166,15 +167,15 @@ from shown known given failed closed port count = record {
 
 module _ {R T L C S W V P : Type 0} (gives : S → Settings → Type 0) (lacks : S → Type 0)
     (shown : P → Option Shown) (known : P → Option (List Entry))
-    (common : WorkerSettings L C S W) where
-  abbrev Did : Worker (Door L W) P (TcpBackend R T V C)
-      → WorkerExit (Door L W) P (TcpBackend R T V C) → Type 0
+    (common : WorkerSettings L C S W) (address : List ℕ) where
+  abbrev Did : Worker (Door L W) P (TcpBackend (Dialer R) T V C)
+      → WorkerExit (Door L W) P (TcpBackend (Dialer R) T V C) → Type 0
   Did = HasWorked given_of failed_of is_closed (λ _. None) shown known count_of (λ _. None) gives
       lacks common.source.now common.per_worker
 
-  ran : (port : P) (worker : Worker (Door L W) P (TcpBackend R T V C))
-      (ended : WorkerExit (Door L W) P (TcpBackend R T V C))
-      → Begins common.backend_timeout_ns port worker → Did worker ended
+  ran : (port : P) (worker : Worker (Door L W) P (TcpBackend (Dialer R) T V C))
+      (ended : WorkerExit (Door L W) P (TcpBackend (Dialer R) T V C))
+      → Begins common.backend_timeout_ns address port worker → Did worker ended
       → HasRun gives shown known common port ended
   ran port worker ended begins did =
       let s = did.settings in
@@ -214,9 +215,9 @@ module _ {R T L C S W V P : Type 0} (gives : S → Settings → Type 0) (lacks :
         whole = did.whole;
       }
 
-  pub all_ran : (ports : List P) (workers : List (Worker (Door L W) P (TcpBackend R T V C)))
-      (ended : List (WorkerExit (Door L W) P (TcpBackend R T V C)))
-      → AllZip (Begins common.backend_timeout_ns) ports workers
+  pub all_ran : (ports : List P) (workers : List (Worker (Door L W) P (TcpBackend (Dialer R) T V C)))
+      (ended : List (WorkerExit (Door L W) P (TcpBackend (Dialer R) T V C)))
+      → AllZip (Begins common.backend_timeout_ns address) ports workers
       → AllZip Did workers ended → AllZip (HasRun gives shown known common) ports ended
   all_ran [] [] [] p q = tt
   all_ran [] [] (e ∷ es) p q = absurd q

@@ -9,6 +9,7 @@ use Rattle.gate_port.specs.Shown.{Shown}
 use Rattle.wire.specs.Forwards.{Forwarded}
 use Rattle.proxy.specs.declared.told.Exchange.{Exchange}
 use Rattle.proxy.specs.Exchanges.{Bytes}
+use Rattle.proxy.specs.Made.{summary_of}
 use Rattle.proxy.specs.Settling.{is_through}
 use Rattle.serving.specs.declared.working.TurnCounts.{TurnCounts}
 use Rattle.serving.specs.Served.{Back, IsServed}
@@ -182,7 +183,8 @@ once_by n m false same = omega arith
 once : (s : Settings) (sent unwritten written : Bytes) (old new : Back) (x : Exchange)
     → IsServed s sent unwritten written old new x → new.count ≤ old.count + 1
 once s sent unwritten written old new x is =
-    once_by old.count new.count (is_through x.admission) (exchanged_once s _ _ x is.exchanged)
+    once_by old.count new.count (is_through (summary_of x).admission)
+    (exchanged_once s _ _ (summary_of x) is.exchanged)
 
 all_once : (s : Settings) (ts : List Turn) (old new : Back) → AreServed s ts old new
     → new.count ≤ old.count + served ts

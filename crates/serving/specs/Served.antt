@@ -1,7 +1,9 @@
 -- What it is that a client was served, told by the bytes of its two ends.
-use Rattle.std.specs.Prelude.{◌≡◌, ℕ, Bool, true, false, List, Option, Some}
+use Rattle.std.specs.Prelude.{◌≡◌, ℕ, Bool, true, false, List, [], Option, IfSome}
+use Rattle.std.specs.Io.KnownBytes.{append_known}
 use Rattle.clocks.specs.Looks.{Looked, unlooked}
 use Rattle.counted_io.specs.declared.counted.Counted.{Counted}
+use Rattle.counted_io.specs.Causes.{IsWriteCause}
 use Rattle.limiter_core.specs.declared.event.Entry.{Entry}
 use Rattle.gate_config.specs.declared.settings.Settings.{Settings}
 use Rattle.gate_port.specs.Shown.{Shown}
@@ -10,6 +12,7 @@ use Rattle.wire.specs.declared.answer.BackendAnswer.{BackendAnswer}
 use Rattle.wire.specs.Forwards.{Forwarded}
 use Rattle.proxy.specs.declared.told.Exchange.{Exchange}
 use Rattle.proxy.specs.Exchanges.{Bytes, IsExchange, World}
+use Rattle.proxy.specs.Made.{counted_with, is_all_sent, reads_of, summary_of, writes_of}
 
 -- what stands behind a worker: the gate's entries where they are shown, what is known of its log
 -- where that is told, how many requests the worker's backend was given, and which where it shows
@@ -36,26 +39,24 @@ around reader writer looks back = record {
   log = back.log;
 }
 
--- SERVED: there was one exchange, which began with what the client would send and with what had
--- been written to it, before any look at the clock, and ended with what was written to it
+-- what was written is all that the writer was given, but for what it held and didn't send; where
+-- it is told that all was sent, it held nothing
+abbrev pub IsSent : Bytes → Bytes → Bool → Type 0
+IsSent given written sent =
+    (held : List ℕ) × (given ≡ append_known written held) × (sent ≡ true → held ≡ [])
+
+-- SERVED by this exchange: it began with what the client would send and with what had been written
+-- to it, over a reader and a writer that weren't called yet, before any look at the clock; it ended
+-- with just the counts that it has; and what was written to the client is what it gave its writer.
+-- A fault of writing has its cause in these counts
 pub record IsServed (s : Settings) (sent unwritten written : Bytes) (old new : Back) (x : Exchange)
     : Type 0 where
-  pub reader : Counted Bytes
-  pub writer : Counted Bytes
+  pub left : Bytes
+  pub given : Bytes
   pub looks : Looked BackendAnswer
   pub exchanged : IsExchange s (around (fresh sent) (fresh unwritten) unlooked old)
-      (around reader writer looks new) x
-  pub ended : writer.inner ≡ written
-
--- what is told of an exchange, by whether all that was written was sent
-abbrev pub with_flush_result : Bool → Exchange → Exchange
-with_flush_result true x = x
-with_flush_result false x = record {
-  class = x.class;
-  admission = x.admission;
-  answer = x.answer;
-  is_own = x.is_own;
-  is_empty = x.is_empty;
-  outcome = x.outcome;
-  written_fault = Some fault.Write;
-}
+      (around (counted_with left (reads_of x)) (counted_with given (writes_of x)) looks new)
+      (summary_of x)
+  pub broken : IfSome (summary_of x).written_fault (λ f.
+      (f ≡ fault.Write) × IsWriteCause (fresh unwritten) (counted_with given (writes_of x)))
+  pub ended : IsSent given written (is_all_sent x)

@@ -6,7 +6,8 @@ use Rattle.gate_config.specs.declared.settings.Settings.{Settings}
 use Rattle.gate_port.specs.Shown.{Shown}
 use Rattle.wire.specs.Forwards.{Forwarded}
 use Rattle.tcp_backend.specs.declared.connecting.TcpBackend.{TcpBackend}
-use Rattle.tcp_backend.specs.Connecting.{count_of, limit_of}
+use Rattle.tcp_backend.specs.declared.dialing.Dialer.{Dialer}
+use Rattle.tcp_backend.specs.Connecting.{address_of, connector_of, count_of, host_of, limit_of}
 use Rattle.serving.specs.declared.doors.Door.{Door}
 use Rattle.serving.specs.declared.jobs.Context.{Context}
 use Rattle.serving.specs.declared.jobs.WorkerExit.{WorkerExit}
@@ -108,23 +109,25 @@ module _ {A P B S : Type 0} (given failed : A → ℕ) (closed : A → Bool)
   Makes made (job.Worker context worker) left =
       Leaves context.now.common.now.source.now context.now.common.now.per_worker worker left
 
--- a new worker, with this port, a backend that was given nothing and whose calls may take so many
--- nanoseconds, where that is limited, and a door without a visit
-pub record Begins {R T L W V C P : Type 0} (most : Option ℕ) (port : P)
-    (worker : Worker (Door L W) P (TcpBackend R T V C)) : Type 0 where
+-- a new worker, with this port, a backend at an address that was given nothing and whose calls may
+-- take so many nanoseconds, where that is limited, and a door without a visit
+pub record Begins {R T L W V C P : Type 0} (most : Option ℕ) (address : List ℕ) (port : P)
+    (worker : Worker (Door L W) P (TcpBackend (Dialer R) T V C)) : Type 0 where
   pub port_is : worker.port ≡ port
   pub given : given_of worker.door ≡ 0
   pub failed : failed_of worker.door ≡ 0
   pub unclosed : is_closed worker.door ≡ false
   pub unused : count_of worker.backend ≡ 0
   pub limited : limit_of worker.backend ≡ most
+  pub reaches : address_of (connector_of worker.backend) ≡ address
+  pub host : host_of worker.backend ≡ address
 
 -- RAN: a worker of this port, by settings that the source gives, took its turns, or fewer where the
 -- listener was closed; each accept was counted, for each client there was one exchange, and no more
 -- was forwarded than there were clients
 pub record HasRun {R T L C S W V P : Type 0} (gives : S → Settings → Type 0)
     (shown : P → Option Shown) (known : P → Option (List Entry)) (common : WorkerSettings L C S W)
-    (port : P) (ended : WorkerExit (Door L W) P (TcpBackend R T V C)) : Type 0 where
+    (port : P) (ended : WorkerExit (Door L W) P (TcpBackend (Dialer R) T V C)) : Type 0 where
   pub settings : Settings
   pub are_given : gives common.source.now settings
   pub run : IsRun settings common.per_worker

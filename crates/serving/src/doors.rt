@@ -47,12 +47,12 @@ pub trait Accepts {
             IfSome (Self.To.contents (to_of client.ends)) (λ written. written ≡ [])) }
         ensures missed { OnErr result (Misses (visits self.old) (visits self.new)) };
 
-    /// Lets the client go, of whom this is told: its connection is closed.
-    fn close(&mut self, client: AcceptedClient<Self::Stream, Self::From, Self::To>, told: &Exchange)
+    /// Lets the client go that was served by this exchange: its connection is closed.
+    fn close(&mut self, client: AcceptedClient<Self::Stream, Self::From, Self::To>, told: Exchange)
         ensures given { given self.new ≡ given self.old }
         ensures failed { failed self.new ≡ failed self.old }
         ensures closed { Closes (visits self.old) (visits self.new)
-            (Self.To.contents (to_of client.ends)) told.now };
+            (Self.To.contents (to_of client.ends)) told };
 
     /// Whether it was found closed: nobody comes any more.
     fn is_closed(&self) -> bool
@@ -122,13 +122,13 @@ impl<'a, L: Listener, W: Watch> Accepts for Door<'a, L, W> {
         outcome
     }
 
-    fn close(&mut self, client: AcceptedClient<L::Stream, L::From, L::To>, told: &Exchange)
+    fn close(&mut self, client: AcceptedClient<L::Stream, L::From, L::To>, told: Exchange)
         ensures given { given_of self.new ≡ given_of self.old }
         ensures failed { failed_of self.new ≡ failed_of self.old }
-        ensures closed { Closes None None (L.To.contents (to_of client.ends)) told.now }
+        ensures closed { Closes None None (L.To.contents (to_of client.ends)) told }
     {
         let _closed = client;
-        self.watch.ended(told);
+        self.watch.ended(&told.end());
     }
 
     fn is_closed(&self) -> bool {

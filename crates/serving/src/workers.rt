@@ -21,7 +21,7 @@ use std::sync::Wait;
 use std::thread::Threads;
 use std::time::{Clock as SystemClock, Duration};
 use tasks::{Spawner, Task, run_tasks_beside};
-use tcp_backend::{BackendWatch, TcpBackend};
+use tcp_backend::{BackendWatch, Dialer, TcpBackend};
 use timed_io::{ClientBuffers, Listener};
 use wire::Backend;
 
@@ -48,7 +48,7 @@ pub fn serve<'l, R, G, P, T, L, C, S, W>(
     ports: Vec<P>,
     side_tasks: Vec<T>,
 ) -> Result<
-    Vec<JobResult<Door<'l, L, W>, P, TcpBackend<'l, &'l R, R::Stream, &'l W, C>>>,
+    Vec<JobResult<Door<'l, L, W>, P, TcpBackend<'l, Dialer<&'l R>, R::Stream, &'l W, C>>>,
     ServeFault,
 >
 where
@@ -101,9 +101,13 @@ fn make_workers<'l, R: Net, P: Drop, L, C, S, W>(
     common: &WorkerSettings<'l, L, C, S, W>,
     settings: &Settings,
     ports: Vec<P>,
-) -> Result<Vec<Worker<Door<'l, L, W>, P, TcpBackend<'l, &'l R, R::Stream, &'l W, C>>>, ServeFault>
+) -> Result<
+    Vec<Worker<Door<'l, L, W>, P, TcpBackend<'l, Dialer<&'l R>, R::Stream, &'l W, C>>>,
+    ServeFault,
+>
     ensures workers { IfOk result (λ workers.
-        AllZip (Begins common.now.backend_timeout_ns) ports.items workers.items) }
+        AllZip (Begins common.now.backend_timeout_ns settings.now.backend) ports.items
+        workers.items) }
     ensures lacking { OnErr result (IsErrOf result ServeFault.Memory) }
 {
     let (alloc, watch) = (common.alloc, common.watch);
@@ -114,7 +118,7 @@ fn make_workers<'l, R: Net, P: Drop, L, C, S, W>(
         let worker = Worker {
             door: Door::new(common.listener, watch),
             port,
-            backend: TcpBackend::new(rt, alloc, address, watch, clock, most_ns)?,
+            backend: TcpBackend::new(Dialer::new(rt, address), alloc, watch, clock, most_ns)?,
             buffers: ClientBuffers::new(alloc)?,
         };
         workers.push_reserved(worker);

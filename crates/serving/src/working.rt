@@ -2,7 +2,7 @@
 ghost use Rattle.std.specs.Prelude.{◌≡◌, ◌≤◌, ◌+◌, false, IfOk, OnErr};
 ghost use Rattle.counted_io.specs.Count.{count_end};
 ghost use Rattle.gate_config.specs.declared.settings.Settings.{Settings as SettingsValue};
-ghost use Rattle.serving.specs.Served.{IsServed, with_flush_result};
+ghost use Rattle.serving.specs.Served.{IsServed};
 ghost use Rattle.serving.specs.Turns.{IsRun};
 ghost use Rattle.timed_io.specs.Client.{from_of, to_of};
 
@@ -18,7 +18,7 @@ use timed_io::{
     AcceptedClient, Client, ClientBuffers, ClientEnds, ClientTime, Connection, Inlet, Outlet,
     Patience,
 };
-use wire::{Backend, WireFault};
+use wire::Backend;
 
 /// How long a worker rests that could have no connection, in milliseconds.
 const WITHOUT_A_CLIENT_MS: u64 = 10;
@@ -144,7 +144,7 @@ where
                 let (client, served) = serve_client(
                     common, settings, client, port, backend, buffers,
                 );
-                door.close(client, &served);
+                door.close(client, served);
                 backend.leave();
                 tally.accepted += 1;
             }
@@ -263,9 +263,9 @@ where
     );
     let client = Client { reader, writer };
     let left = client.close();
-    let served = with_flush_result(left.is_sent, served);
+    let served = served.with_sent(left.is_sent);
     if is_answered(&served) {
-        let is_unread = served.class.is_none() || buffers.has_unread();
+        let is_unread = served.summary().class.is_none() || buffers.has_unread();
         left.ends.linger(stream, &time, is_unread, left.sent);
     }
     (left.ends, served)
@@ -284,23 +284,9 @@ impl<W: Watch> Patience for FreeWorkers<'_, W> {
 }
 
 /// Whether the client was answered, as far as is known, and is to get to read its answer, though
-/// its request wasn't read whole, or more than it lies in the buffer or comes.
+/// its request wasn't read whole, or more than it lies in the buffer or comes. Without a fault of
+/// writing all was sent, by a flush; but that a flush sends all is in no clause of std's.
 fn is_answered(served: &Exchange) -> bool {
-    served.answer.is_some() && served.written_fault.is_none()
-}
-
-// What is told of an exchange, by whether all that was written was sent. Without a fault of writing
-// it was, by a flush; but that a flush sends all is in no clause of std's.
-fn with_flush_result(is_sent: bool, served: Exchange) -> Exchange
-    ensures { result ≡ with_flush_result is_sent served }
-{
-    let written_fault = if is_sent {
-        served.written_fault
-    } else {
-        Some(WireFault::Write)
-    };
-    Exchange {
-        written_fault,
-        ..served
-    }
+    let told = served.summary();
+    served.is_sent() && told.answer.is_some() && told.written_fault.is_none()
 }

@@ -1,6 +1,5 @@
 // How many descriptors the system gives this program.
-use config_file::read_file_text;
-use file_opening::Opener;
+use config_file::{Opener, read_file_text};
 use std::alloc::Global;
 
 /// Where Linux tells a process its limits, a line each.

@@ -4,8 +4,7 @@ ghost use Rattle.gate_config.specs.Settings.{AreSound};
 ghost use Rattle.startup_log.specs.Inside.{most_inside};
 
 use crate::descriptors::most_descriptors;
-use config_file::why_unread;
-use file_opening::Opener;
+use config_file::{Opener, why_unread};
 use gate_config::Settings;
 use limit_kinds::LimitKind;
 use limit_laws::Limit;

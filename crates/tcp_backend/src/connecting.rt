@@ -4,11 +4,11 @@ ghost use Rattle.std.specs.Net.Text.{socket_v4_text};
 ghost use Rattle.counted_io.specs.Count.{raised};
 ghost use Rattle.wire.specs.declared.answer.BackendAnswer.TheVariants.{Late, NotConnected};
 ghost use Rattle.tcp_backend.specs.CallTime.{call_deadline};
-ghost use Rattle.tcp_backend.specs.Connecting.{count_of, host_of, limit_of};
+ghost use Rattle.tcp_backend.specs.Connecting.{connector_of, host_of, limit_of};
 
 use crate::asking::{Asked, answer_of, ask, read_on};
 use crate::call_time::{CallTime, connect_time};
-use crate::dialing::{Connector, Dialer};
+use crate::dialing::Connector;
 use crate::watch::BackendWatch;
 use arrayvec::ArrayString;
 use clocks::Clock;
@@ -18,7 +18,7 @@ use lent_io::{ReadBuffer, WriteBuffer};
 use message_parts::Request;
 use std::alloc::{AllocError, Global};
 use std::io::Error;
-use std::net::{Net, SocketAddrV4};
+use std::net::SocketAddrV4;
 use wire::{Backend, BackendAnswer};
 
 /// Why a backend was not made.
@@ -34,10 +34,11 @@ impl From<AllocError> for BackendFault {
     }
 }
 
-/// A backend at an address, with one connection for each request, and what hears of its troubles.
+/// A backend at the address of its connector, with one connection for each request, and what hears
+/// of its troubles.
 #[derive(Drop)]
-pub struct TcpBackend<'c, R, S, W, C> {
-    dialer: Dialer<R>,
+pub struct TcpBackend<'c, K, S, W, C> {
+    connector: K,
     watch: W,
     line: Line<S>,
     limit: Limit<'c, C>,
@@ -61,33 +62,31 @@ struct Limit<'c, C> {
     most_ns: Option<u64>,
 }
 
-impl<'c, R: Net + Drop, W: Drop, C> TcpBackend<'c, R, R::Stream, W, C> {
-    /// The backend at this address. A request that names no host is sent with the address as its
-    /// host. A call may take so many nanoseconds of the clock, from its connect to the end of its
-    /// answer, and without a limit as long as the backend takes. Nothing is connected yet, and it
-    /// fails only out of memory for the buffers.
+impl<'c, K: Connector + Drop, W: Drop, C> TcpBackend<'c, K, K::Stream, W, C> {
+    /// The backend at the address of this connector. A request that names no host is sent with the
+    /// address as its host. A call may take so many nanoseconds of the clock, from its connect to
+    /// the end of its answer, and without a limit as long as the backend takes. Nothing is
+    /// connected yet, and it fails only out of memory for the buffers.
     pub fn new(
-        rt: R,
+        connector: K,
         alloc: Global,
-        address: SocketAddrV4,
         watch: W,
         clock: &'c C,
         most_ns: Option<u64>,
-    ) -> Result<TcpBackend<'c, R, R::Stream, W, C>, BackendFault>
-        ensures host { IfOk result (λ backend. host_of backend ≡ socket_v4_text address) }
-        ensures unused { IfOk result (λ backend. count_of backend ≡ 0) }
+    ) -> Result<TcpBackend<'c, K, K::Stream, W, C>, BackendFault>
+        ensures connector { IfOk result (λ backend. connector_of backend ≡ connector) }
+        ensures host { IfOk result (λ backend. host_of backend ≡ K.reaches connector) }
         ensures limit { IfOk result (λ backend. limit_of backend ≡ most_ns) }
     {
         let line = Line {
             alloc,
-            host: host_text(address),
+            host: host_text(connector.address()),
             ahead: ReadBuffer::new(alloc, PIECE)?,
             behind: WriteBuffer::new(alloc, PIECE)?,
             answered: None,
         };
-        let dialer = Dialer::new(rt, address);
         Ok(TcpBackend {
-            dialer,
+            connector,
             watch,
             line,
             limit: Limit { clock, most_ns },
@@ -95,11 +94,11 @@ impl<'c, R: Net + Drop, W: Drop, C> TcpBackend<'c, R, R::Stream, W, C> {
     }
 }
 
-impl<'c, R: Net, W: BackendWatch, C: Clock> Backend for TcpBackend<'c, R, R::Stream, &W, C> {
+impl<'c, K: Connector, W: BackendWatch, C: Clock> Backend for TcpBackend<'c, K, K::Stream, &W, C> {
     ghost use Rattle.std.specs.Prelude.{None};
-    ghost use Rattle.tcp_backend.specs.Connecting.{count_of};
+    ghost use Rattle.tcp_backend.specs.Connecting.{connector_of};
 
-    ghost forwarded = { count_of };
+    ghost forwarded = { λ backend. K.connects (connector_of backend) };
 
     ghost shown = { λ _. None };
 
@@ -109,12 +108,14 @@ impl<'c, R: Net, W: BackendWatch, C: Clock> Backend for TcpBackend<'c, R, R::Str
     /// is read behind a write that failed or stands still, too: the backend may have answered
     /// before it read the whole request. `NotConnected`, `Broken` and `Late` are told.
     fn forward(&mut self, request: &Request) -> BackendAnswer
-        ensures count { count_of self.new ≡ raised (count_of self.old) }
+        ensures count { K.connects (connector_of self.new)
+            ≡ raised (K.connects (connector_of self.old)) }
+        ensures reaches { K.reaches (connector_of self.new) ≡ K.reaches (connector_of self.old) }
         ensures limit { limit_of self.new ≡ limit_of self.old }
         ensures unlimited { limit_of self.old ≡ None → ¬ (result ≡ Late) }
     {
         forward_over(
-            &mut self.dialer,
+            &mut self.connector,
             &mut self.line,
             &self.limit,
             self.watch,
@@ -125,7 +126,9 @@ impl<'c, R: Net, W: BackendWatch, C: Clock> Backend for TcpBackend<'c, R, R::Str
     /// Reads the connection of the last answer to its end, and closes it, so that a backend which
     /// closes it does so first. One that keeps it open isn't waited for.
     fn leave(&mut self)
-        ensures count { count_of self.new ≡ count_of self.old }
+        ensures count { K.connects (connector_of self.new)
+            ≡ K.connects (connector_of self.old) }
+        ensures reaches { K.reaches (connector_of self.new) ≡ K.reaches (connector_of self.old) }
         ensures limit { limit_of self.new ≡ limit_of self.old }
     {
         if let Some(mut stream) = self.line.answered.take() {
@@ -134,7 +137,7 @@ impl<'c, R: Net, W: BackendWatch, C: Clock> Backend for TcpBackend<'c, R, R::Str
     }
 
     fn forwards(&self) -> u64 {
-        self.dialer.connects()
+        self.connector.connects()
     }
 }
 
@@ -147,6 +150,7 @@ fn forward_over<K: Connector, W: BackendWatch, C: Clock>(
     request: &Request,
 ) -> BackendAnswer
     ensures once { K.connects connector.new ≡ raised (K.connects connector.old) }
+    ensures reaches { K.reaches connector.new ≡ K.reaches connector.old }
     ensures unlimited { limit.now.most_ns ≡ None → ¬ (result ≡ Late) }
 {
     line.answered = None;

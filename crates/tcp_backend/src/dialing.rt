@@ -1,7 +1,8 @@
 // Where connections to a backend come from.
 ghost use Rattle.std.specs.Prelude.{◌≡◌};
 ghost use Rattle.counted_io.specs.Count.{raised};
-ghost use Rattle.tcp_backend.specs.Connecting.{dialed_of};
+ghost use Rattle.std.specs.Net.Text.{socket_v4_text};
+ghost use Rattle.tcp_backend.specs.Connecting.{address_of, dialed_of};
 
 use crate::ends::{OpaqueEnd, RequestOutlet};
 use std::io::{Read, Result, Write};
@@ -14,48 +15,56 @@ use timed_io::{ask_after, end_untaken};
 /// the connection.
 const UNTAKEN_MS: u64 = 5_000;
 
-/// What makes connections, and counts how often it was asked to.
-pub(crate) trait Connector {
+/// What makes connections to one address, and counts how often it was asked to. A backend has no
+/// other way to one.
+pub trait Connector {
+    /// A connection, which is closed where its value ends.
     type Stream: Read + Write + OpenStream + AsRawFd + Drop;
 
-    // Where it is written to.
+    /// Where it is written to.
     type End: RequestOutlet<Self::Stream> + Copy;
 
-    ghost use Rattle.std.specs.Prelude.{ℕ};
+    ghost use Rattle.std.specs.Prelude.{ℕ, List};
 
     // How often it was asked to connect.
     ghost connects: { Self → ℕ };
 
-    // A new connection, or why none can be had within this time.
+    // The text of the address that it connects to.
+    ghost reaches: { Self → List ℕ };
+
+    /// A new connection, or why none can be had within this time.
     fn connect(&mut self, most: Duration) -> Result<(Self::Stream, Self::End)>
-        ensures { connects self.new ≡ raised (connects self.old) };
+        ensures connects { connects self.new ≡ raised (connects self.old) }
+        ensures reaches { reaches self.new ≡ reaches self.old };
+
+    /// The address that it connects to.
+    fn address(&self) -> SocketAddrV4
+        ensures { socket_v4_text result ≡ reaches self.now };
+
+    /// How often it was asked to connect; the count stays at `u64::MAX`.
+    fn connects(&self) -> u64
+        ensures { result ≡ connects self.now };
 }
 
 /// Connections over TCP to one address.
 #[derive(Drop)]
-pub(crate) struct Dialer<R> {
+pub struct Dialer<R> {
     rt: R,
     address: SocketAddrV4,
     connects: u64,
 }
 
 impl<R: Net> Dialer<R> {
-    // Nothing is connected yet.
-    pub(crate) fn new(rt: R, address: SocketAddrV4) -> Dialer<R>
-        ensures { dialed_of result ≡ 0 }
+    /// Nothing is connected yet.
+    pub fn new(rt: R, address: SocketAddrV4) -> Dialer<R>
+        ensures unused { dialed_of result ≡ 0 }
+        ensures address { address_of result ≡ socket_v4_text address }
     {
         Dialer {
             rt,
             address,
             connects: 0,
         }
-    }
-
-    // How often it was asked to connect; the count stays at `u64::MAX`.
-    pub(crate) fn connects(&self) -> u64
-        ensures { result ≡ dialed_of self.now }
-    {
-        self.connects
     }
 }
 
@@ -64,9 +73,11 @@ impl<R: Net> Connector for Dialer<R> {
 
     type End = OpaqueEnd;
 
-    ghost use Rattle.tcp_backend.specs.Connecting.{dialed_of};
+    ghost use Rattle.tcp_backend.specs.Connecting.{address_of, dialed_of};
 
     ghost connects = { dialed_of };
+
+    ghost reaches = { address_of };
 
     // The system asks after a backend that is silent, and ends a connection whose backend is gone,
     // or takes nothing of its request.
@@ -76,5 +87,13 @@ impl<R: Net> Connector for Dialer<R> {
         ask_after(&stream);
         end_untaken(&stream, Duration::from_millis(UNTAKEN_MS));
         Ok((stream, OpaqueEnd {}))
+    }
+
+    fn address(&self) -> SocketAddrV4 {
+        self.address
+    }
+
+    fn connects(&self) -> u64 {
+        self.connects
     }
 }

@@ -6,25 +6,25 @@ use std::io::{Result, Write};
 
 /// The end of a connection that is written to. It may show what was written; a stream of std, which
 /// is read and written by one owner, can't.
-pub(crate) trait RequestOutlet<S> {
+pub trait RequestOutlet<S> {
     ghost use Rattle.std.specs.Prelude.{ℕ, List, Option};
 
     // What was written, where that is shown.
     ghost contents: { Self → Option (List ℕ) };
 
-    // One write.
+    /// One write.
     fn send(&mut self, stream: &mut S, buf: &[u8]) -> Result<usize>
         ensures bound { WritesAtMost result buf.now }
         ensures bytes { WriteAppends (contents self.old) (contents self.new) result buf.now };
 
-    // One flush.
+    /// One flush.
     fn flush(&mut self, stream: &mut S) -> Result<()>
         ensures bytes { Keeps (contents self.old) (contents self.new) };
 }
 
 /// The end of a socket. It shows nothing, and takes no room.
 #[derive(Clone, Copy)]
-pub(crate) struct OpaqueEnd {}
+pub struct OpaqueEnd {}
 
 impl<S: Write> RequestOutlet<S> for OpaqueEnd {
     ghost use Rattle.std.specs.Prelude.{None};

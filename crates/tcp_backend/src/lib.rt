@@ -1,7 +1,7 @@
 //! A backend over TCP.
 //!
-//! [`TcpBackend`] makes one connection for each request, and no second one whatever fails: it
-//! writes the request, reads one response, also one that came before the whole request was written,
+//! [`TcpBackend`] asks its [`Connector`], a [`Dialer`] over TCP, for one connection for each
+//! request, and for no second one whatever fails: it writes the request, reads one response, also one that came before the whole request was written,
 //! and then the connection to its end, so that the backend closes first and the gateway's own ports
 //! are free again. A backend that keeps the connection open isn't waited for, and one that answers
 //! before it reads isn't written to until it has: where a write stands still and an answer lies
@@ -19,4 +19,6 @@ mod unanswered;
 mod watch;
 
 pub use connecting::{BackendFault, TcpBackend};
+pub use dialing::{Connector, Dialer};
+pub use ends::{OpaqueEnd, RequestOutlet};
 pub use watch::BackendWatch;

@@ -12,7 +12,7 @@ use Rattle.load_driver.specs.Driver.{IsOutOfMemory}
 use Rattle.load_driver.specs.Limits.{most_reads, most_script}
 use Rattle.load_run.specs.declared.fault.LoadFault.{LoadFault}
 use Rattle.load_run.specs.declared.fault.LoadFault.TheVariants.{Memory, Read, TooLarge, Line, Write, Thread, Audit}
-use Rattle.line_explain.specs.declared.forms.TextKind.TheVariants.{Trace}
+use Rattle.script.specs.declared.forms.TextKind.TheVariants.{Trace}
 use Rattle.line_explain.specs.Told.{IsSaid}
 use Rattle.load_run.specs.Driver.{IfAudit, IfLine, IsAtFault, IsRefused, LacksThread}
 

@@ -10,8 +10,8 @@ use Rattle.load_driver.specs.Driver.{IfLine, IsAnswer, IsOutOfMemory}
 use Rattle.load_driver.specs.Limits.{most_reads, most_script}
 use Rattle.script.specs.declared.line_fault.LineFault.{LineFault}
 use Rattle.virtual_time.specs.Simulation.{IsSimulated}
-use Rattle.line_explain.specs.declared.forms.TextKind.{TextKind}
-use Rattle.line_explain.specs.declared.forms.TextKind.TheVariants.{Script, Trace}
+use Rattle.script.specs.declared.forms.TextKind.{TextKind}
+use Rattle.script.specs.declared.forms.TextKind.TheVariants.{Script, Trace}
 use Rattle.line_explain.specs.Told.{IsSaid}
 use Rattle.commands.specs.declared.command_line.TextTask.{TextTask}
 use Rattle.commands.specs.declared.command_line.TextTask.TheVariants.{Replay, Simulate}

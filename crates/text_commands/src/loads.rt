@@ -16,8 +16,9 @@ ghost use Rattle.text_commands.specs.Loads.{IsLoadStop, IsMore, load_fault_text}
 use crate::line_fault::report_line_fault;
 use counted_io::Counted;
 use fault_lines::{DONE, FAULT, report_fault};
-use line_explain::{Kept, TextKind, tell_explained};
+use line_explain::{Kept, tell_explained};
 use load_run::{LoadFault, load};
+use script::TextKind;
 use shared_gate::Cause;
 use std::alloc::Global;
 use std::io::{Read, Write};

@@ -4,7 +4,7 @@ use Rattle.std.specs.List.{flat_map}
 use Rattle.std.proofs.lemmas.Bool.{cases_lt, cases_Bool, leb-true}
 use Rattle.std.proofs.lemmas.List.Elements.{All-push, All-nil, filter_map-append}
 use Rattle.limit_laws.specs.Facts.{SampleFacts}
-use Rattle.sample_window.specs.Totals.{most_samples}
+use Rattle.windowed.specs.Totals.{most_samples}
 use Rattle.windowed.specs.declared.numbers.WindowNumbers.{WindowNumbers}
 use Rattle.windowed.specs.WindowedRules.{is_kept, end_of}
 use Rattle.windowed.specs.Windows.{Input, Sampled, SetTo, Stretch, samples_of, kept_sample, inputs_of, window_samples, StaysOpen, IsWindow, AreWindows, due_after, due_after_all, CutsIntoWindows}

@@ -6,7 +6,7 @@ use Rattle.std.proofs.lemmas.List.Elements.{All-head, All-tail, filter_map-appen
 use Rattle.std.proofs.lemmas.List.Sums.{fold-append}
 use Rattle.limit_laws.specs.Facts.{SampleFacts, IsSample}
 use Rattle.limit_laws.specs.Algorithm.{Algorithm}
-use Rattle.sample_window.specs.Totals.{most_samples}
+use Rattle.windowed.specs.Totals.{most_samples}
 use Rattle.windowed.specs.declared.numbers.WindowNumbers.{WindowNumbers}
 use Rattle.windowed.specs.WindowedRules.{opened, windowed_rules, windowed_next, is_kept, end_of}
 use Rattle.windowed.specs.Windows.{Input, Sampled, SetTo, after, run, is_setting, kept_sample, Stretch, samples_of, inputs_of, window_samples, handed_on, StaysOpen, IsWindow, AreWindows, due_after, due_after_all, InnerRunsOverWindows}

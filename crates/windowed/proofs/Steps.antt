@@ -5,8 +5,8 @@ use Rattle.std.proofs.lemmas.Bool.{lt-ltb, le-ltb, le-leb, lt-leb}
 use Rattle.limit_laws.specs.declared.limit.SetFault.{SetFault}
 use Rattle.limit_laws.specs.Facts.{SampleFacts, IsSample}
 use Rattle.limit_laws.specs.Algorithm.{Algorithm}
-use Rattle.sample_window.specs.Totals.{totals, with_sample}
-use Rattle.sample_window.specs.Totals.{most_samples}
+use Rattle.windowed.specs.Totals.{totals, with_sample}
+use Rattle.windowed.specs.Totals.{most_samples}
 use Rattle.windowed.specs.declared.numbers.WindowNumbers.{WindowNumbers}
 use Rattle.windowed.specs.WindowedRules.{WindowedState, windowed_rules, windowed_next, is_kept, end_of, update_after, mean_sample, in_range, with_inner, end_window}
 use Rattle.windowed.specs.Windows.{Input, Sampled, SetTo, after, run}

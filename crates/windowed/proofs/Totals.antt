@@ -8,7 +8,7 @@ use Rattle.std.proofs.lemmas.Bool.Decides.{nat_tests}
 use Rattle.std.proofs.lemmas.List.Sums.{sum_by-cons, sum_by-le, fold_push}
 use Rattle.std.proofs.lemmas.List.Elements.{All-weaker, All-head, All-tail, recursion_from_All, All-from_recursion}
 use Rattle.limit_laws.specs.Facts.{SampleFacts, IsSample, hour}
-use Rattle.sample_window.specs.Totals.{totals, with_sample, least_rtt}
+use Rattle.windowed.specs.Totals.{totals, with_sample, least_rtt}
 use Rattle.windowed.specs.WindowedRules.{mean_sample, in_range}
 
 least_rtt_push : (xs : List SampleFacts) (x : SampleFacts) →

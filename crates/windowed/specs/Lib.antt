@@ -1,3 +1,4 @@
+pub mod Totals
 pub mod WindowedRules
 pub mod WindowedLaws
 pub mod Windows

@@ -3,7 +3,7 @@ use Rattle.std.proofs.Common.{ℕ, [], Bool, true, false, Result, Ok, Err, IfOk,
 use Rattle.limit_laws.specs.declared.limit.SetFault.{SetFault}
 use Rattle.limit_laws.specs.Facts.{SampleFacts, IsSample}
 use Rattle.limit_laws.specs.Algorithm.{Algorithm, IsLawful, IsWithin, Follows}
-use Rattle.sample_window.specs.Totals.{WindowTotals, totals, with_sample, most_samples}
+use Rattle.windowed.specs.Totals.{WindowTotals, totals, with_sample, most_samples}
 use Rattle.windowed.specs.WindowedRules.{WindowedState, opened, windowed_rules, is_kept, end_of, update_after, mean_sample, in_range, with_inner}
 
 module _ {S : Type 0} (rules : Algorithm S) where

@@ -5,7 +5,7 @@ use Rattle.limit_laws.specs.declared.limit.MakeFault.TheVariants.{Window}
 use Rattle.limit_laws.specs.declared.limit.SetFault.{SetFault}
 use Rattle.limit_laws.specs.Facts.{SampleFacts, hour}
 use Rattle.limit_laws.specs.Algorithm.{Algorithm}
-use Rattle.sample_window.specs.Totals.{WindowTotals, totals, with_sample, most_samples}
+use Rattle.windowed.specs.Totals.{WindowTotals, totals, with_sample, most_samples}
 use Rattle.windowed.specs.declared.numbers.WindowNumbers.{WindowNumbers}
 
 -- these numbers: how many samples a window must have to be handed on, the least and the most time

@@ -4,7 +4,7 @@ use Rattle.std.specs.List.{filter_map, flat_map}
 use Rattle.std.specs.Result.{result_unwrap_or}
 use Rattle.limit_laws.specs.Facts.{SampleFacts, IsSample}
 use Rattle.limit_laws.specs.Algorithm.{Algorithm}
-use Rattle.sample_window.specs.Totals.{totals, most_samples}
+use Rattle.windowed.specs.Totals.{totals, most_samples}
 use Rattle.windowed.specs.declared.numbers.WindowNumbers.{WindowNumbers}
 use Rattle.windowed.specs.WindowedRules.{opened, windowed_rules, is_kept, end_of, update_after, mean_sample}
 

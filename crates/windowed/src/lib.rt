@@ -14,9 +14,11 @@
 mod laws;
 mod numbers;
 mod settings;
+mod window;
 mod windowed;
 
 pub use laws::{cuts_into_windows, inner_runs_over_windows, learns_from_windows_with_enough};
 pub use numbers::{MOST_SAMPLES, WindowNumbers};
 pub use settings::WindowSettings;
+pub use window::Window;
 pub use windowed::Windowed;

@@ -5,8 +5,8 @@ ghost use Rattle.windowed.specs.WindowedLaws.{IsLawful-windowed};
 
 use crate::numbers::MOST_SAMPLES;
 use crate::settings::WindowSettings;
+use crate::window::Window;
 use limit_laws::{Limit, MakeFault, Sample, SetFault};
-use sample_window::Window;
 use std::marker::Model;
 
 /// Any limit algorithm, learning from the mean samples of windows.
@@ -23,7 +23,7 @@ pub struct Windowed<L: Limit> {
 
 impl<L: Limit> Model for Windowed<L> {
     ghost use Rattle.std.specs.Prelude.{◌<◌};
-    ghost use Rattle.sample_window.specs.Totals.{most_samples};
+    ghost use Rattle.windowed.specs.Totals.{most_samples};
     ghost use Rattle.windowed.specs.WindowedRules.{WindowedState};
 
     ghost Value = { WindowedState L };

@@ -1,9 +1,9 @@
 // From a key to a rule of promotion.
 ghost use Rattle.std.specs.Prelude.{◌≡◌};
-ghost use Rattle.config_sections.specs.Promote.{rule_word};
+ghost use Rattle.gate_config.specs.Promote.{rule_word};
 ghost use Rattle.gate_config.specs.Settings.{promote_named};
 
-use config_sections::PromoteRule;
+use crate::PromoteRule;
 use limiter_core::Promote;
 
 /// The limiter's rule of promotion.

@@ -2,15 +2,14 @@
 ghost use Rattle.std.specs.Prelude.{◌≡◌, ◌≢◌, ◌≤◌, ◌++◌, [], ◌∷◌, length, map, Some, None, IfOk, OnOk, IfErr};
 ghost use Rattle.toml.specs.View.{table_view};
 ghost use Rattle.partitions.specs.Faults.{given};
-ghost use Rattle.config_sections.specs.Bypass.{bypass_values};
-ghost use Rattle.config_sections.specs.ClassRows.{class_row};
-ghost use Rattle.config_sections.specs.Resolver.{resolver_values};
-ghost use Rattle.config_sections.specs.Routes.{routes_of};
+ghost use Rattle.gate_config.specs.Bypass.{bypass_values};
+ghost use Rattle.gate_config.specs.ClassRows.{class_row};
+ghost use Rattle.gate_config.specs.Resolver.{resolver_values};
+ghost use Rattle.gate_config.specs.Routes.{routes_of};
 ghost use Rattle.gate_config.specs.Rules.{Makes, bypass_from, part_named, resolver_from, route_with, router_from};
 
+use crate::{BypassKeys, ClassKeys, ConfigFault, ResolverKeys, string_of};
 use classifier::{Bypass, Resolver};
-use config_sections::{BypassKeys, ClassKeys, ResolverKeys};
-use config_values::{ConfigFault, string_of};
 use matchit::Router;
 use message_parts::{Bytes, Method};
 use partitions::{Part, PartitionTable};

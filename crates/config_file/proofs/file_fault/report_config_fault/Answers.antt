@@ -1,5 +1,5 @@
 use Rattle.std.proofs.Common.{subst, codes}
-use Rattle.config_values.specs.Fault.{fault_text}
+use Rattle.gate_config.specs.Fault.{fault_text}
 use Rattle.fault_lines.specs.FaultLine.{IsTold, fault_line}
 use Rattle.config_file.proofs.Pieces.{word_and_three}
 use Rattle.config_file.proofs.file_fault.report_config_fault.Goals as goal

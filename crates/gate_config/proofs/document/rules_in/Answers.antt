@@ -1,6 +1,6 @@
 use Rattle.std.proofs.Common.{rules, ◌≡◌, sym, ap, ◌∙◌, Ok, Err, IsOk}
 use Rattle.toml.specs.View.{table_view}
-use Rattle.config_values.specs.Outcomes.{result_map}
+use Rattle.gate_config.specs.Outcomes.{result_map}
 use Rattle.gate_config.specs.Document.{classes_in, resolvers_of, rules_of, tables_and_rows}
 use Rattle.gate_config.proofs.Documents.{no_bypasses, no_resolvers, one_fault}
 use Rattle.gate_config.proofs.document.rules_in.Goals as goal

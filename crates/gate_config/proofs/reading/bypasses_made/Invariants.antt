@@ -1,5 +1,5 @@
 use Rattle.std.proofs.Common.{◌≡◌, ◌++◌, drop, map}
-use Rattle.config_sections.specs.Bypass.{bypass_member}
+use Rattle.gate_config.specs.Bypass.{bypass_member}
 use Rattle.gate_config.specs.Rules.{bypass_from}
 use Rattle.gate_config.proofs.reading.bypasses_made.Given as goal
 

@@ -1,7 +1,7 @@
 use Rattle.std.proofs.Common.{rules, ◌≡◌, Err}
 use Rattle.toml.specs.Data.{no_members}
 use Rattle.toml.specs.View.{table_view}
-use Rattle.config_values.specs.declared.fault.ConfigFault.TheVariants as Fault
+use Rattle.gate_config.specs.declared.fault.ConfigFault.TheVariants as Fault
 use Rattle.gate_config.specs.Settings.{settings_of}
 use Rattle.gate_config.proofs.Blank.{blank_table}
 use Rattle.gate_config.proofs.reading.read.Goals as goal

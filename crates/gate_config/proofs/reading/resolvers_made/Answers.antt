@@ -1,6 +1,6 @@
 use Rattle.std.proofs.Common.{rules, arith, ◌≡◌, ◌+◌, Some, drop, map}
 use Rattle.std.proofs.lemmas.Grind.{common_steps}
-use Rattle.config_sections.specs.Resolver.{resolver_member, resolver_values}
+use Rattle.gate_config.specs.Resolver.{resolver_member, resolver_values}
 use Rattle.gate_config.specs.Rules.{resolver_from}
 use Rattle.gate_config.proofs.Made.{next_made}
 use Rattle.gate_config.proofs.reading.resolvers_made.Goals as goal

@@ -1,5 +1,5 @@
 use Rattle.std.proofs.Common.{◌≡◌, [], drop, map}
-use Rattle.config_sections.specs.Resolver.{resolver_member}
+use Rattle.gate_config.specs.Resolver.{resolver_member}
 use Rattle.gate_config.specs.Rules.{resolvers_after}
 use Rattle.gate_config.proofs.reading.resolvers_made.Given as goal
 

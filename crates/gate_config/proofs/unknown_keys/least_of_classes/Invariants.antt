@@ -1,6 +1,6 @@
 use Rattle.std.proofs.Common.{◌≡◌, drop, flat_map, fold, option_map}
-use Rattle.config_values.specs.Table.{tables_among}
-use Rattle.config_values.specs.Unknown.{lesser, unknown_key_of}
+use Rattle.gate_config.specs.Table.{tables_among}
+use Rattle.gate_config.specs.Unknown.{lesser, unknown_key_of}
 use Rattle.gate_config.specs.UnknownKeys.{class_unknown_keys}
 use Rattle.gate_config.proofs.unknown_keys.least_of_classes.Given as goal
 

@@ -1,6 +1,6 @@
 use Rattle.std.proofs.Common.{◌≡◌, drop, flat_map, fold, map, option_map}
-use Rattle.config_values.specs.Unknown.{lesser, unknown_key_of}
-use Rattle.config_sections.specs.Resolver.{resolver_member}
+use Rattle.gate_config.specs.Unknown.{lesser, unknown_key_of}
+use Rattle.gate_config.specs.Resolver.{resolver_member}
 use Rattle.gate_config.specs.UnknownKeys.{resolver_unknown_keys}
 use Rattle.gate_config.proofs.unknown_keys.least_of_resolvers.Given as goal
 

@@ -3,7 +3,7 @@ use Rattle.std.proofs.lemmas.Iterator.{YieldsList-from_slice, YieldsList-from_zi
 use Rattle.std.proofs.lemmas.Iterator.Consumers.{YieldsList-at, YieldsList-from_filter, count_from_yields_List}
 use Rattle.std.proofs.lemmas.Iterator.Search.{YieldsList-from_take_while}
 use Rattle.std.proofs.lemmas.Iterator.Splits.{YieldsList-from_slice_split}
-use Rattle.line_explain.specs.Forms.{fits, wanted_at}
+use Rattle.script.specs.Forms.{fits, wanted_at}
 use Rattle.line_explain.proofs.astray.count_fitting.Goals as goal
 
 -- the words that are split off, beside the places, as long as they fit

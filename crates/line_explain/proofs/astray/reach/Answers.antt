@@ -1,6 +1,6 @@
 use Rattle.std.proofs.Common.{◌∙◌}
 use Rattle.script.specs.Words.{words}
-use Rattle.line_explain.specs.Forms.{fits, wanted_at}
+use Rattle.script.specs.Forms.{fits, wanted_at}
 use Rattle.line_explain.proofs.Reaching.{reaches}
 use Rattle.line_explain.proofs.astray.reach.Goals as goal
 

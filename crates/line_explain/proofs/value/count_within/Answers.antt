@@ -4,7 +4,7 @@ use Rattle.std.proofs.lemmas.Iterator.Consumers.{YieldsList-at, YieldsList-from_
 use Rattle.std.proofs.lemmas.Iterator.Search.{YieldsList-from_take_while}
 use Rattle.std.proofs.lemmas.Iterator.Splits.{YieldsList-from_slice_split}
 use Rattle.script.specs.Words.{words}
-use Rattle.line_explain.specs.Forms.{wanted_at}
+use Rattle.script.specs.Forms.{wanted_at}
 use Rattle.line_explain.specs.Outside.{is_within}
 use Rattle.line_explain.proofs.value.count_within.Goals as goal
 

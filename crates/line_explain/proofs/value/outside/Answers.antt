@@ -1,6 +1,6 @@
 use Rattle.std.proofs.Common.{◌∙◌}
 use Rattle.script.specs.Words.{words}
-use Rattle.line_explain.specs.Forms.{wanted_at}
+use Rattle.script.specs.Forms.{wanted_at}
 use Rattle.line_explain.specs.Outside.{is_within}
 use Rattle.line_explain.proofs.Reaching.{reaches}
 use Rattle.line_explain.proofs.value.outside.Goals as goal

@@ -1,4 +1,9 @@
-use Rattle.std.proofs.Common.{refl, subst, Err, Ok, Result}
+use Rattle.std.proofs.Common.{◌≡◌, ◌<◌, ◌⊎◌, ℕ, ap, is_ok, refl, subst, sym, true≢false, Err, Ok, Result}
+use Rattle.counted_io.specs.Count.{count_end}
+use Rattle.counted_io.specs.Counted.{failures_of}
+use Rattle.message_parts.specs.declared.request.Request.{Request}
+use Rattle.wire.specs.declared.fault.WireFault.{WireFault}
+use Rattle.wire.specs.declared.fault.WireFault.TheVariants.{Write}
 use Rattle.proxy.specs.Exchanges.{known, told_by}
 use Rattle.operator_calls.specs.declared.call.Call.{Call}
 use Rattle.operator_calls.specs.declared.refusal.Refusal.{Refusal}
@@ -6,6 +11,11 @@ use Rattle.operator_calls.specs.Calls.{heard}
 use Rattle.operator_serving.specs.Attending.{IsAnswered}
 use Rattle.operator_serving.proofs.Looks.{desk_stays}
 use Rattle.operator_serving.proofs.attending.attend.Goals as goal
+
+-- the fault of a result that has one
+abbrev fault_in : Result Request WireFault → WireFault
+fault_in (Ok request) = Write
+fault_in (Err fault) = fault
 
 pub returns-in-Err-clause-attended : goal.returns-in-Err-clause-attended
 returns-in-Err-clause-attended g c = record {
@@ -16,7 +26,9 @@ returns-in-Err-clause-attended g c = record {
     said = c.in-Err.ensures.said;
     failed = c.in-Err.ensures.read;
     used_up = c.in-Err.ensures.turns;
-    unsaid = c.in-Err.ensures.write;
+    unsaid = λ same. subst (λ (n : ℕ). (failures_of c.args.writer.now < n) ⊎ (n ≡ count_end))
+        (sym (ap failures_of (c.unread.ensures.untouched (ap fault_in same))))
+        (c.in-Err.ensures.write same);
     reads = c.in-Err.ensures.reads;
     unfailing = c.in-Err.ensures.reads_well;
   };
@@ -32,7 +44,7 @@ returns-clause-attended g c = record {
     said = c.in-Ok.ensures.said;
     failed = c.in-Ok.ensures.read;
     used_up = c.in-Ok.ensures.turns;
-    unsaid = c.in-Ok.ensures.write;
+    unsaid = λ same. absurd (true≢false (ap is_ok same));
     reads = c.in-Ok.ensures.reads;
     unfailing = c.in-Ok.ensures.reads_well;
   };

@@ -1,11 +1,10 @@
 use Rattle.std.proofs.Common.{rules, ◌≡◌, ◌∙◌, ℕ, ◌<◌, ◌⊎◌, IfSome, None, Some, Result, Ok, Err, ap, is_ok}
 use Rattle.std.proofs.Common.{is_some, refl, subst, sym, true≢false}
 use Rattle.counted_io.specs.Count.{count_end}
-use Rattle.counted_io.specs.Counted.{failures_of}
+use Rattle.counted_io.specs.Counted.{failures_of, inner_of}
 use Rattle.message_parts.specs.declared.request.Request.{Request}
 use Rattle.wire.specs.declared.fault.WireFault.{WireFault}
 use Rattle.wire.specs.declared.fault.WireFault.TheVariants.{Write}
-use Rattle.proxy.specs.Exchanges.{told_by}
 use Rattle.proxy.proofs.exchanging.exchange.Goals as goal
 
 -- the fault of a result that has one
@@ -16,37 +15,39 @@ fault_in (Err fault) = fault
 pub returns-in-Err-clause-exchanged : goal.returns-in-Err-clause-exchanged
 returns-in-Err-clause-exchanged g c = record {
   read = Err c.in-Err.fault;
-  asked = told_by g.W.Write.contents c.read_request.new.writer;
+  asked = g.W.Write.contents (inner_of c.read_request.new.writer);
   answer = None;
   reading = record {
     bytes = c.in-Err.ensures.request;
     said = c.in-Err.ensures.said;
     failed = c.in-Err.ensures.read;
     used_up = c.in-Err.ensures.turns;
-    unsaid = c.in-Err.ensures.write;
+    unsaid = λ same. subst (λ (n : ℕ). (failures_of c.args.writer.now < n) ⊎ (n ≡ count_end))
+        (sym (ap failures_of (c.unread-told.ensures.untouched (ap fault_in same))))
+        (c.in-Err.ensures.write same);
     reads = c.in-Err.ensures.reads;
     unfailing = c.in-Err.ensures.reads_well;
   };
-  deals = (c.unread.ensures.class, c.unread.ensures.admission, refl, refl, refl, refl, refl, refl);
-  status = c.unread.ensures.answer;
-  own = c.unread.ensures.own;
+  deals = (c.unread-told.ensures.class, c.unread-told.ensures.admission, refl, refl, refl, refl, refl, refl);
+  status = c.unread-told.ensures.answer;
+  own = c.unread-told.ensures.own;
   empty = search rules;
-  outcome = c.unread.ensures.outcome;
-  text = c.unread.ensures.text;
-  unasked = λ same. c.unread.ensures.told (ap fault_in same);
+  outcome = c.unread-told.ensures.outcome;
+  text = c.unread-told.ensures.text;
+  unasked = λ same. c.unread-told.ensures.told (ap fault_in same);
 }
 
 pub returns-clause-exchanged : goal.returns-clause-exchanged
 returns-clause-exchanged g c = record {
   read = Ok c.in-Ok.request;
-  asked = told_by g.W.Write.contents c.read_request.new.writer;
+  asked = g.W.Write.contents (inner_of c.read_request.new.writer);
   answer = c.settle-settled.result.answer;
   reading = record {
     bytes = c.in-Ok.ensures.request;
     said = c.in-Ok.ensures.said;
     failed = c.in-Ok.ensures.read;
     used_up = c.in-Ok.ensures.turns;
-    unsaid = c.in-Ok.ensures.write;
+    unsaid = λ same. absurd (true≢false (ap is_ok same));
     reads = c.in-Ok.ensures.reads;
     unfailing = c.in-Ok.ensures.reads_well;
   };
@@ -85,8 +86,8 @@ returns-clause-written g c =
 
 pub returns-in-Err-clause-unfailing : goal.returns-in-Err-clause-unfailing
 returns-in-Err-clause-unfailing g c = λ none.
-    c.unread.ensures.unfailing none ∙ c.in-Err.ensures.unfailing (λ same.
-    true≢false (ap is_some (sym (c.unread.ensures.told (ap fault_in same)) ∙ none)))
+    c.unread-told.ensures.unfailing none ∙ c.in-Err.ensures.unfailing (λ same.
+    true≢false (ap is_some (sym (c.unread-told.ensures.told (ap fault_in same)) ∙ none)))
 
 pub returns-clause-unfailing : goal.returns-clause-unfailing
 returns-clause-unfailing g c = λ none.

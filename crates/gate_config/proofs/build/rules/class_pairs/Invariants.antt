@@ -1,6 +1,6 @@
 use Rattle.std.proofs.Common.{◌≡◌, ◌++◌, drop, map}
 use Rattle.partitions.specs.Faults.{given}
-use Rattle.config_sections.specs.ClassRows.{class_row}
+use Rattle.gate_config.specs.ClassRows.{class_row}
 use Rattle.gate_config.proofs.build.rules.class_pairs.Given as goal
 
 -- the pairs so far, and those of the classes to come

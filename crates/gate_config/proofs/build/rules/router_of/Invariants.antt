@@ -1,7 +1,7 @@
 use Rattle.std.proofs.Common.{◌≡◌, map, string_bytes}
 use Rattle.toml.specs.View.{table_view, view}
-use Rattle.config_values.specs.Text.{string_of}
-use Rattle.config_sections.specs.Routes.{routes_of}
+use Rattle.gate_config.specs.Text.{string_of}
+use Rattle.gate_config.specs.Routes.{routes_of}
 use Rattle.gate_config.specs.Rules.{router_after, router_from}
 use Rattle.gate_config.proofs.build.rules.router_of.Given as goal
 

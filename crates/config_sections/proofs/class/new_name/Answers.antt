@@ -1,5 +1,0 @@
-use Rattle.std.proofs.Common.{rules}
-use Rattle.config_sections.proofs.class.new_name.Goals as goal
-
-pub returns-in_err-text : goal.returns-in_err-text
-returns-in_err-text c = search rules

@@ -1,2 +1,0 @@
-mod Addresses
-mod Lists

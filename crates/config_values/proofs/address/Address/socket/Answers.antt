@@ -1,8 +1,0 @@
-use Rattle.std.proofs.Common.{rules}
-use Rattle.config_values.proofs.address.Address.socket.Goals as goal
-
-pub returns-clause-text : goal.returns-clause-text
-returns-clause-text c = search rules
-
-pub returns-clause-port : goal.returns-clause-port
-returns-clause-port c = search rules

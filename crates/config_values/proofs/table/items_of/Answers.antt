@@ -1,6 +1,0 @@
-use Rattle.std.proofs.Common.{rules}
-use Rattle.config_values.proofs.Lists.{items_back}
-use Rattle.config_values.proofs.table.items_of.Goals as goal
-
-pub returns-in-Some : goal.returns-in-Some
-returns-in-Some c = search (rules, items_back)

@@ -1,5 +1,0 @@
-use Rattle.std.proofs.Common.{rules}
-use Rattle.config_values.proofs.unknown.is_called.Goals as goal
-
-pub returns : goal.returns
-returns c = search rules

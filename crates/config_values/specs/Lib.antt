@@ -1,9 +1,0 @@
-pub mod Key
-pub mod KeyText
-pub mod Fault
-pub mod Outcomes
-pub mod Number
-pub mod Text
-pub mod Address
-pub mod Table
-pub mod Unknown

@@ -1,0 +1,15 @@
+use Rattle.std.proofs.Common.{◌≡◌, ◌≤◌, drop, length, map}
+use Rattle.gate_config.specs.Table.{tables_among}
+use Rattle.gate_config.specs.Class.{class_after, classes_of}
+use Rattle.gate_config.specs.ClassRows.{class_row}
+use Rattle.gate_config.specs.Section.{read_each}
+use Rattle.gate_config.proofs.class.read_classes.Given as goal
+
+-- the classes so far, at most one an item, and those of the tables to come
+abbrev pub invariant-loop-item : goal.invariant-loop-item
+invariant-loop-item l = record {
+  few : length l.classes.items ≤ l.item-index;
+  said : classes_of l.version (tables_among l.items)
+      ≡ read_each (class_after l.version) (map class_row l.classes.items)
+      (tables_among (drop l.item-index l.items));
+}

@@ -1,0 +1,166 @@
+-- The table of keys: which keys there are, in the order in which faults are looked for, and what
+-- each may hold. The share of a class is told in percent by version 1, and in thousandths since
+-- version 2; a limit without numbers came with version 3. All else is that of each version.
+use Rattle.std.specs.Prelude.{ℕ, Bool, true, List, [], ◌∷◌, ◌++◌, map, Option, Some, None, codes}
+use Rattle.limit_laws.specs.Algorithm.{greatest_limit}
+use Rattle.aimd.specs.AimdRules.{least_ratio, greatest_ratio}
+use Rattle.vegas.specs.VegasRules.{most_queue, most_probe}
+use Rattle.windowed.specs.Totals.{most_samples}
+use Rattle.limit_kinds.specs.declared.kind.LimitKind.{LimitKind}
+use Rattle.limit_kinds.specs.declared.kind.LimitKind.TheVariants.{Fixed, Settable, Aimd, Vegas, Auto}
+use Rattle.limit_kinds.specs.Kind.{kind_word, kind_words}
+use Rattle.gate_config.specs.declared.key.Key.{Key}
+use Rattle.gate_config.specs.declared.version.Version.{Version}
+use Rattle.gate_config.specs.declared.version.Version.TheVariants.{One, Three}
+
+-- an end of a range: a number, the number of an earlier key of the section, or what the classes so
+-- far leave of a hundred percent, or of a thousand thousandths
+pub data Bound : Type 0 where
+  at : ℕ → Bound
+  of : List ℕ → Bound
+  left_of_hundred : Bound
+  left_of_thousand : Bound
+
+-- what a key holds
+pub data Holds : Type 0 where
+  -- a whole number in a range, with its default, or required
+  number : Bound → Bound → Option ℕ → Holds
+  -- a boolean with its default
+  flag : Bool → Holds
+  -- one of some words, with its default
+  choice : List (List ℕ) → List ℕ → Holds
+  -- a required text: an address, one of some words, a partition's name that no class has yet, a
+  -- class's name, a token, a path's beginning, or any text
+  address : Holds
+  word : List (List ℕ) → Holds
+  new_name : Holds
+  class_name : Holds
+  token : Holds
+  prefix : Holds
+  text : Holds
+  -- a required table of patterns, each with a class's name
+  routes : Holds
+
+-- a key, the kinds of its section that have it (all kinds where none is named), and what it holds
+pub record Row : Type 0 where
+  pub key : Key
+  pub kinds : List (List ℕ)
+  pub holds : Holds
+
+abbrev pub row : Key → Holds → Row
+row key holds = record { key = key; kinds = []; holds = holds }
+
+-- the row of a key that only some kinds have
+abbrev pub row_for : List (List ℕ) → Key → Holds → Row
+row_for kinds key holds = record { key = key; kinds = kinds; holds = holds }
+
+-- the words of the kinds of limit in a version
+abbrev pub kinds_in : Version → List (List ℕ)
+kinds_in Three = kind_words
+kinds_in _ = map kind_word (Fixed ∷ Settable ∷ Aimd ∷ Vegas ∷ [])
+
+-- the words of one kind of limit, of those that move by numbers, and of those that are not fixed
+abbrev pub only : LimitKind → List (List ℕ)
+only kind = kind_word kind ∷ []
+
+abbrev pub moving : List (List ℕ)
+moving = map kind_word (Settable ∷ Aimd ∷ Vegas ∷ [])
+
+abbrev pub unfixed : List (List ℕ)
+unfixed = map kind_word (Settable ∷ Aimd ∷ Vegas ∷ Auto ∷ [])
+
+abbrev pub newest : List ℕ
+newest = codes "newest"
+
+abbrev pub all : List ℕ
+all = codes "all"
+
+-- the rules of promotion
+abbrev pub promote_rules : List (List ℕ)
+promote_rules = newest ∷ all ∷ []
+
+abbrev pub top_rows : List Row
+top_rows =
+    row Key.Listen address
+    ∷ row Key.Backend address
+    ∷ row Key.Backlog (number (at 0) (at 10000) (Some 100))
+    ∷ row Key.Wait (flag true)
+    ∷ row Key.TimeoutMs (number (at 1) (at 3600000) (Some 1000))
+    ∷ row Key.Keep (number (at 1) (at 1000000) (Some 4096))
+    ∷ row Key.Promote (choice promote_rules newest)
+    ∷ []
+
+-- what each limit has that moves by numbers
+abbrev pub moving_rows : List Row
+moving_rows =
+    row_for unfixed Key.LimitMin (number (at 1) (at greatest_limit) (Some 1))
+    ∷ row_for moving Key.LimitMax (number (of (codes "min")) (at greatest_limit) (Some 200))
+    ∷ row_for moving Key.LimitInitial (number (of (codes "min")) (of (codes "max")) (Some 20))
+    ∷ []
+
+-- the numbers of a limit
+abbrev pub number_rows : List Row
+number_rows =
+    moving_rows
+    ++ row_for (only Fixed) Key.LimitInitial (number (at 1) (at greatest_limit) (Some 20))
+    ∷ row_for (only Auto) Key.LimitMax
+    (number (of (codes "min")) (at greatest_limit) (Some greatest_limit))
+    ∷ row_for (only Auto) Key.LimitInitial (number (of (codes "min")) (of (codes "max")) (Some 4))
+    ∷ row_for (only Aimd) Key.LimitRatio (number (at least_ratio) (at greatest_ratio) (Some 900))
+    ∷ row_for (only Aimd) Key.LimitTimeoutUs (number (at 1) (at 3600000000) (Some 5000000))
+    ∷ row_for (only Vegas) Key.LimitAlpha (number (at 1) (at most_queue) (Some 3))
+    ∷ row_for (only Vegas) Key.LimitBeta (number (of (codes "alpha")) (at most_queue) (Some 6))
+    ∷ row_for (only Vegas) Key.LimitProbeEvery (number (at 0) (at most_probe) (Some 0))
+    ∷ []
+
+-- the kind of a limit, and its numbers
+abbrev pub limit_rows : Version → List Row
+limit_rows version = row Key.LimitKind (word (kinds_in version)) ∷ number_rows
+
+abbrev pub window_rows : List Row
+window_rows =
+    row Key.WindowSize (number (at 1) (at most_samples) (Some 10))
+    ∷ row Key.WindowMinUs (number (at 1) (at 3600000000) (Some 1000000))
+    ∷ row Key.WindowMaxUs (number (of (codes "min_us")) (at 3600000000) (Some 1000000))
+    ∷ row Key.WindowMinRttUs (number (at 0) (at 3600000000) (Some 100))
+    ∷ []
+
+abbrev pub share_row : Version → Row
+share_row One = row Key.ClassPercent (number (at 1) left_of_hundred None)
+share_row _ = row Key.ClassShare (number (at 1) left_of_thousand None)
+
+abbrev pub class_rows : Version → List Row
+class_rows version =
+    row Key.ClassName new_name
+    ∷ share_row version
+    ∷ []
+
+abbrev pub resolver_kinds : List (List ℕ)
+resolver_kinds = codes "header" ∷ codes "method" ∷ codes "route" ∷ []
+
+abbrev pub resolver_rows : List Row
+resolver_rows =
+    row Key.ResolverKind (word resolver_kinds)
+    ∷ row_for (codes "header" ∷ []) Key.ResolverHeader token
+    ∷ row_for (codes "method" ∷ []) Key.ResolverMethod token
+    ∷ row_for (codes "method" ∷ []) Key.ResolverClass class_name
+    ∷ row_for (codes "route" ∷ []) Key.ResolverRoutes routes
+    ∷ []
+
+abbrev pub bypass_kinds : List (List ℕ)
+bypass_kinds = codes "method" ∷ codes "prefix" ∷ codes "header" ∷ []
+
+abbrev pub bypass_rows : List Row
+bypass_rows =
+    row Key.BypassKind (word bypass_kinds)
+    ∷ row_for (codes "method" ∷ []) Key.BypassMethod token
+    ∷ row_for (codes "prefix" ∷ []) Key.BypassPrefix prefix
+    ∷ row_for (codes "header" ∷ []) Key.BypassHeader token
+    ∷ row_for (codes "header" ∷ []) Key.BypassEquals text
+    ∷ []
+
+-- all rows, of each version
+abbrev pub all_rows : List Row
+all_rows =
+    top_rows ++ limit_rows Three ++ window_rows ++ class_rows One ++ class_rows Three
+    ++ resolver_rows ++ bypass_rows

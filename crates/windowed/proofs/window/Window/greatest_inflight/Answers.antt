@@ -1,0 +1,5 @@
+use Rattle.std.proofs.Common.{rules}
+use Rattle.windowed.proofs.window.Window.greatest_inflight.Goals as goal
+
+pub returns : goal.returns
+returns c = search rules
