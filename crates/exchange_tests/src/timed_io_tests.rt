@@ -61,14 +61,6 @@ impl Fake {
 }
 
 impl Connection for Fake {
-    fn limit_reads(&self, most: Duration) -> Result<()> {
-        self.limit(most)
-    }
-
-    fn limit_writes(&self, most: Duration) -> Result<()> {
-        self.limit(most)
-    }
-
     fn has_unread(&self) -> bool {
         false
     }
@@ -91,11 +83,19 @@ impl Connection for Fake {
 struct End {}
 
 impl Inlet<Fake> for End {
-    ghost use Rattle.std.specs.Prelude.{None};
+    ghost use Rattle.std.specs.Prelude.{⊤, None};
 
     ghost remaining = { λ _. None };
 
-    fn receive(&mut self, stream: &Fake, buf: &mut [u8]) -> Result<usize> {
+    ghost limited = { λ _ _. ⊤ };
+
+    ghost allowed = { λ _. 0 };
+
+    fn limit_reads(&self, stream: &Fake, most: Duration) -> Result<()> {
+        stream.limit(most)
+    }
+
+    fn receive(&mut self, stream: &Fake, _most: Duration, buf: &mut [u8]) -> Result<usize> {
         stream.call(buf.len()).map(|count| count.min(buf.len()))
     }
 
@@ -107,11 +107,19 @@ impl Inlet<Fake> for End {
 }
 
 impl Outlet<Fake> for End {
-    ghost use Rattle.std.specs.Prelude.{None};
+    ghost use Rattle.std.specs.Prelude.{⊤, None};
 
     ghost contents = { λ _. None };
 
-    fn send(&mut self, stream: &Fake, buf: &[u8]) -> Result<usize> {
+    ghost limited = { λ _ _. ⊤ };
+
+    ghost allowed = { λ _. 0 };
+
+    fn limit_writes(&self, stream: &Fake, most: Duration) -> Result<()> {
+        stream.limit(most)
+    }
+
+    fn send(&mut self, stream: &Fake, _most: Duration, buf: &[u8]) -> Result<usize> {
         stream.call(buf.len()).map(|count| count.min(buf.len()))
     }
 

@@ -25,12 +25,6 @@ const LEAST: i32 = 1;
 /// A connection, as a socket is one: reading and writing it doesn't change its owner's value, so
 /// what is known of its bytes is kept at its two ends.
 pub trait Connection {
-    /// From now on a read waits for no longer than this, which is more than nothing.
-    fn limit_reads(&self, most: Duration) -> Result<()>;
-
-    /// From now on a write waits for no longer than this, which is more than nothing.
-    fn limit_writes(&self, most: Duration) -> Result<()>;
-
     /// Whether bytes of the other side lie unread. It waits for none, and reads none.
     fn has_unread(&self) -> bool;
 
@@ -50,14 +44,6 @@ pub trait Connection {
 }
 
 impl Connection for TcpStream {
-    fn limit_reads(&self, most: Duration) -> Result<()> {
-        self.set_read_timeout(Some(most))
-    }
-
-    fn limit_writes(&self, most: Duration) -> Result<()> {
-        self.set_write_timeout(Some(most))
-    }
-
     // One system call: std would have to make the socket one that doesn't wait before it looks.
     fn has_unread(&self) -> bool {
         peek(self.as_raw_fd()) > 0
@@ -118,7 +104,6 @@ fn is_held(file: RawFd, half: i32, most: Duration) -> bool {
 pub struct Lent<'s, S, E> {
     connection: &'s S,
     end: E,
-    allowed: Duration,
     sent: u64,
 }
 
@@ -130,7 +115,6 @@ impl<'s, S: Connection, E> Lent<'s, S, E> {
         Lent {
             connection,
             end,
-            allowed: Duration::ZERO,
             sent: 0,
         }
     }
@@ -154,43 +138,39 @@ impl<'s, S, E: Copy> Lent<'s, S, E> {
 }
 
 impl<'s, S: Connection, E: Inlet<S>> LimitedRead for Lent<'s, S, E> {
-    ghost use Rattle.std.specs.Duration.{as_nanos};
     ghost use Rattle.timed_io.specs.Lent.{end_of};
 
     ghost remaining = { λ lent. E.remaining (end_of lent) };
 
-    ghost allowed = { λ lent. as_nanos lent.allowed };
+    ghost allowed = { λ lent. E.allowed (end_of lent) };
 
     // What has come is had by one call of the system; a limit on waiting would take another.
     #[tactic(auto, using(crate::proofs::Known::anew))]
     fn read_within(&mut self, most: Duration, buf: &mut [u8]) -> Result<usize> {
-        self.allowed = most;
         match self.end.receive_ready(self.connection, buf) {
             Ok(count) => return Ok(count),
             Err(fault) if fault.kind() == ErrorKind::WouldBlock => {}
             Err(fault) => return Err(fault),
         }
-        self.connection.limit_reads(most)?;
-        self.end.receive(self.connection, buf)
+        self.end.limit_reads(self.connection, most)?;
+        self.end.receive(self.connection, most, buf)
     }
 }
 
 impl<'s, S: Connection, E: Outlet<S>> LimitedWrite for Lent<'s, S, E> {
-    ghost use Rattle.std.specs.Duration.{as_nanos};
     ghost use Rattle.timed_io.specs.Lent.{end_of};
 
     ghost contents = { λ lent. E.contents (end_of lent) };
 
-    ghost allowed = { λ lent. as_nanos lent.allowed };
+    ghost allowed = { λ lent. E.allowed (end_of lent) };
 
     #[tactic(auto, using(crate::proofs::Known::anew))]
     fn write_within(&mut self, most: Duration, buf: &[u8]) -> Result<usize> {
-        self.allowed = most;
         let count = match self.end.send_ready(self.connection, buf) {
             Ok(count) => count,
             Err(fault) if fault.kind() == ErrorKind::WouldBlock => {
-                self.connection.limit_writes(most)?;
-                self.end.send(self.connection, buf)?
+                self.end.limit_writes(self.connection, most)?;
+                self.end.send(self.connection, most, buf)?
             }
             Err(fault) => return Err(fault),
         };

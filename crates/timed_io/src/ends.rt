@@ -1,5 +1,6 @@
 // The two ends of a connection.
-ghost use Rattle.std.specs.Prelude.{◌≡◌, IfOk, pos};
+ghost use Rattle.std.specs.Prelude.{◌≡◌, ◌≤◌, IfOk, OnOk, pos};
+ghost use Rattle.std.specs.Duration.{as_nanos};
 ghost use Rattle.std.specs.Io.{ReadsAtMost, WritesAtMost};
 ghost use Rattle.std.specs.Io.KnownBytes.{ReadConsumes, WriteAppends};
 
@@ -7,6 +8,7 @@ use libc::net::{MSG_DONTWAIT, MSG_NOSIGNAL, recv, send};
 use std::io::{Error, Read, Result, Write};
 use std::net::TcpStream;
 use std::os::fd::AsRawFd;
+use std::time::Duration;
 
 /// What is kept of a connection's bytes where it is read.
 pub trait Inlet<S> {
@@ -15,16 +17,31 @@ pub trait Inlet<S> {
     // What the other side has yet to send, where that is known.
     ghost remaining: { Self → Option (List ℕ) };
 
-    /// Reads the connection once, and waits until something comes or the connection's limit.
-    fn receive(&mut self, stream: &S, buf: &mut [u8]) -> Result<usize>
+    // The connection's reads were given this limit, in nanoseconds.
+    ghost limited: { S → ℕ → Type 0 };
+
+    // For how many nanoseconds the last read was allowed to wait, at most.
+    ghost allowed: { Self → ℕ };
+
+    /// From now on a read of the connection waits for no longer than this, which is more than
+    /// nothing.
+    fn limit_reads(&self, stream: &S, most: Duration) -> Result<()>
+        ensures { OnOk result (limited stream.now (as_nanos most)) };
+
+    /// Reads the connection once, and waits until something comes, or for so long, which is the
+    /// limit that its reads have.
+    fn receive(&mut self, stream: &S, most: Duration, buf: &mut [u8]) -> Result<usize>
+        requires limited { limited stream.now (as_nanos most) }
         ensures bound { ReadsAtMost result buf.new }
-        ensures bytes { ReadConsumes (remaining self.old) (remaining self.new) result buf.new };
+        ensures bytes { ReadConsumes (remaining self.old) (remaining self.new) result buf.new }
+        ensures allowed { allowed self.new ≤ as_nanos most };
 
     /// Reads what has come already. It waits for nothing, and fails with
     /// [`ErrorKind::WouldBlock`](std::io::ErrorKind) where nothing has come.
     fn receive_ready(&mut self, stream: &S, buf: &mut [u8]) -> Result<usize>
         ensures bound { ReadsAtMost result buf.new }
-        ensures bytes { ReadConsumes (remaining self.old) (remaining self.new) result buf.new };
+        ensures bytes { ReadConsumes (remaining self.old) (remaining self.new) result buf.new }
+        ensures allowed { allowed self.new ≡ 0 };
 }
 
 /// What is kept of a connection's bytes where it is written.
@@ -34,16 +51,31 @@ pub trait Outlet<S> {
     // What was written, where that is known.
     ghost contents: { Self → Option (List ℕ) };
 
-    /// Writes to the connection once, and waits for room, or until the connection's limit.
-    fn send(&mut self, stream: &S, buf: &[u8]) -> Result<usize>
+    // The connection's writes were given this limit, in nanoseconds.
+    ghost limited: { S → ℕ → Type 0 };
+
+    // For how many nanoseconds the last write was allowed to wait, at most.
+    ghost allowed: { Self → ℕ };
+
+    /// From now on a write to the connection waits for no longer than this, which is more than
+    /// nothing.
+    fn limit_writes(&self, stream: &S, most: Duration) -> Result<()>
+        ensures { OnOk result (limited stream.now (as_nanos most)) };
+
+    /// Writes to the connection once, and waits for room, or for so long, which is the limit that
+    /// its writes have.
+    fn send(&mut self, stream: &S, most: Duration, buf: &[u8]) -> Result<usize>
+        requires limited { limited stream.now (as_nanos most) }
         ensures bound { WritesAtMost result buf.now }
-        ensures bytes { WriteAppends (contents self.old) (contents self.new) result buf.now };
+        ensures bytes { WriteAppends (contents self.old) (contents self.new) result buf.now }
+        ensures allowed { allowed self.new ≤ as_nanos most };
 
     /// Writes what there is room for already. It waits for nothing, and fails with
     /// [`ErrorKind::WouldBlock`](std::io::ErrorKind) where there is no room.
     fn send_ready(&mut self, stream: &S, buf: &[u8]) -> Result<usize>
         ensures bound { WritesAtMost result buf.now }
-        ensures bytes { WriteAppends (contents self.old) (contents self.new) result buf.now };
+        ensures bytes { WriteAppends (contents self.old) (contents self.new) result buf.now }
+        ensures allowed { allowed self.new ≡ 0 };
 }
 
 /// An end of a socket: it keeps nothing, takes no room, and tells no bytes.
@@ -51,11 +83,19 @@ pub trait Outlet<S> {
 pub struct OpaqueEnd {}
 
 impl Inlet<TcpStream> for OpaqueEnd {
-    ghost use Rattle.std.specs.Prelude.{None};
+    ghost use Rattle.std.specs.Prelude.{⊤, None};
 
     ghost remaining = { λ _. None };
 
-    fn receive(&mut self, stream: &TcpStream, buf: &mut [u8]) -> Result<usize> {
+    ghost limited = { λ _ _. ⊤ };
+
+    ghost allowed = { λ _. 0 };
+
+    fn limit_reads(&self, stream: &TcpStream, most: Duration) -> Result<()> {
+        stream.set_read_timeout(Some(most))
+    }
+
+    fn receive(&mut self, stream: &TcpStream, _most: Duration, buf: &mut [u8]) -> Result<usize> {
         let mut stream = stream;
         Read::read(&mut stream, buf)
     }
@@ -66,11 +106,19 @@ impl Inlet<TcpStream> for OpaqueEnd {
 }
 
 impl Outlet<TcpStream> for OpaqueEnd {
-    ghost use Rattle.std.specs.Prelude.{None};
+    ghost use Rattle.std.specs.Prelude.{⊤, None};
 
     ghost contents = { λ _. None };
 
-    fn send(&mut self, stream: &TcpStream, buf: &[u8]) -> Result<usize> {
+    ghost limited = { λ _ _. ⊤ };
+
+    ghost allowed = { λ _. 0 };
+
+    fn limit_writes(&self, stream: &TcpStream, most: Duration) -> Result<()> {
+        stream.set_write_timeout(Some(most))
+    }
+
+    fn send(&mut self, stream: &TcpStream, _most: Duration, buf: &[u8]) -> Result<usize> {
         let mut stream = stream;
         Write::write(&mut stream, buf)
     }

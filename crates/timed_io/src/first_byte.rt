@@ -1,9 +1,10 @@
 // Who sends nothing.
-ghost use Rattle.std.specs.Prelude.{◌≡◌};
+ghost use Rattle.std.specs.Prelude.{◌≡◌, ◌≤◌};
+ghost use Rattle.std.specs.Duration.{as_nanos};
 ghost use Rattle.timed_io.specs.Timed.{first_in};
 
 use crate::reading::LimitedRead;
-use std::io::{Error, ErrorKind, Result};
+use std::io::{ErrorKind, Result};
 use std::time::Duration;
 
 /// What says whether somebody who has sent nothing may still be waited for.
@@ -18,7 +19,8 @@ const SILENCE_MS: u64 = 1_000;
 /// From then on, for how long at a time, in milliseconds.
 const STEP_MS: u64 = 100;
 
-/// How many waits a read may take: each is a step at least, or the last.
+/// How many waits a read may take: each is a step at least, or the last. Behind them it waits for
+/// what is left at once.
 const MOST_TURNS: u32 = 1 << 24;
 
 /// A reader of somebody who may send nothing. Its first bytes are waited for a second at least, as
@@ -28,7 +30,6 @@ const MOST_TURNS: u32 = 1 << 24;
 pub struct FirstByte<'p, R, P> {
     inner: R,
     patience: &'p P,
-    allowed: Duration,
     waited: Duration,
     has_begun: bool,
 }
@@ -41,7 +42,6 @@ impl<'p, R: LimitedRead, P: Patience> FirstByte<'p, R, P> {
         FirstByte {
             inner,
             patience,
-            allowed: Duration::ZERO,
             waited: Duration::ZERO,
             has_begun: false,
         }
@@ -55,15 +55,17 @@ impl<'p, R: LimitedRead, P: Patience> FirstByte<'p, R, P> {
     }
 
     // How long the next wait is, of so long that is left: up to the second that nobody is denied,
-    // and then a step.
-    fn step(&self, left: Duration) -> Duration {
+    // and then a step. Which of the two is less is had by what is left behind it.
+    fn step(&self, left: Duration) -> Duration
+        ensures { as_nanos result ≤ as_nanos left }
+    {
         let silence = Duration::from_millis(SILENCE_MS);
         let next = if self.waited < silence {
             silence.saturating_sub(self.waited)
         } else {
             Duration::from_millis(STEP_MS)
         };
-        left.min(next)
+        left.saturating_sub(left.saturating_sub(next))
     }
 
     // Whether it was waited for long enough, and others are kept waiting.
@@ -73,16 +75,14 @@ impl<'p, R: LimitedRead, P: Patience> FirstByte<'p, R, P> {
 }
 
 impl<'p, R: LimitedRead, P: Patience> LimitedRead for FirstByte<'p, R, P> {
-    ghost use Rattle.std.specs.Duration.{as_nanos};
     ghost use Rattle.timed_io.specs.Timed.{first_in};
 
     ghost remaining = { λ reader. R.remaining (first_in reader) };
 
-    ghost allowed = { λ reader. as_nanos reader.allowed };
+    ghost allowed = { λ reader. R.allowed (first_in reader) };
 
     #[tactic(auto, using(crate::proofs::Known::anew))]
     fn read_within(&mut self, most: Duration, buf: &mut [u8]) -> Result<usize> {
-        self.allowed = most;
         if self.has_begun {
             return self.inner.read_within(most, buf);
         }
@@ -103,6 +103,6 @@ impl<'p, R: LimitedRead, P: Patience> LimitedRead for FirstByte<'p, R, P> {
                 }
             }
         }
-        Err(Error::new(ErrorKind::TimedOut, "nothing was sent"))
+        self.inner.read_within(left, buf)
     }
 }
