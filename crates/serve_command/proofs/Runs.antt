@@ -23,15 +23,15 @@ use Rattle.serving.specs.Workers.{HasRun, ended_in}
 use Rattle.serve_command.specs.Runs.{HasRunTo, stood_at}
 
 module _ {L C S W : Type 0} (R T V M : Type 0) (gives : S → Settings → Type 0)
-    (common : WorkerSettings L C S W) where
+    (came : L → Option (List ℕ) → Type 0) (common : WorkerSettings L C S W) where
   abbrev End : Type 0
   End = WorkerExit (Door L W) (Shared M) (TcpBackend (Dialer R) T V C)
 
   abbrev Ran : Shared M → End → Type 0
-  Ran = HasRun gives (λ port. None) (λ port. Some port.pass.log) common
+  Ran = HasRun gives came (λ port. None) (λ port. Some port.pass.log) common
 
   abbrev RanTo : Pass → Type 0
-  RanTo = HasRunTo (gives common.source.now) common.per_worker
+  RanTo = HasRunTo (gives common.source.now) (came common.listener.now) common.per_worker
 
   abbrev pass_in : End → Pass
   pass_in ended = ended.port.pass
@@ -51,8 +51,8 @@ module _ {L C S W : Type 0} (R T V M : Type 0) (gives : S → Settings → Type 
     forwarded = count_of ended.backend;
     tally = ended.tally;
     run =
-        subst (λ (log : List Entry). IsRun did.settings common.per_worker
-        (stood_at 0 0 false 0 log)
+        subst (λ (log : List Entry). IsRun did.settings (came common.listener.now)
+        common.per_worker (stood_at 0 0 false 0 log)
         (stood_at (given_of ended.door) (failed_of ended.door) (is_closed ended.door)
         (count_of ended.backend) ended.port.pass.log) ended.tally) empty did.run;
     accepted = did.accepted;

@@ -36,24 +36,31 @@ abbrev pub IsUnboundToo : (List ℕ → Type 0) → Option SocketAddrV4 → Type
 IsUnboundToo Unbound None = ⊥
 IsUnboundToo Unbound (Some address) = Unbound (socket_v4_text address)
 
+-- COUNTED: these are the counters of runs whose clients came to a listener that was bound at the
+-- address of the settings
+abbrev pub AreCountersAt : {L : Type 0} → (List ℕ → L → Type 0)
+    → (L → Option (List ℕ) → Type 0) → (Settings → Type 0) → Settings → ℕ → ℕ → Counters → Type 0
+AreCountersAt {L} Bound came Gives s workers most counters =
+    (listener : L) × Bound s.listen listener
+    × AreCountersOfRuns any_rules (making_of workers s) Gives (came listener) workers most counters
+
 -- SERVED: by settings of the file, at their address, the operator's and that of whoever looks, by
--- so many workers, of which each took its turns; and the line of the counters of these runs is
--- written and flushed, and no write failed
+-- so many workers, of which each took its turns with clients who came to a listener that was bound
+-- there; and the line of the counters of these runs is written and flushed, and no write failed
 pub record HasServed {F L W : Type 0} (Opened : F → Type 0) (remaining : F → Option (List ℕ))
-    (Bound : List ℕ → L → Type 0) (contents : W → Option (List ℕ))
-    (admin status : Option SocketAddrV4) (workers most : ℕ) (old new : Counted W) : Type 0 where
+    (Bound : List ℕ → L → Type 0) (came : L → Option (List ℕ) → Type 0)
+    (contents : W → Option (List ℕ)) (admin status : Option SocketAddrV4) (workers most : ℕ)
+    (old new : Counted W) : Type 0 where
   pub settings : Settings
   pub file : Counted F
   pub bytes : List ℕ
   pub opened : Opened (inner_of file)
   pub held : Held remaining file bytes
   pub says : Says bytes (Ok settings)
-  pub front : IsBound Bound settings.listen
   pub operator : IsBoundToo Bound admin
   pub lookers : IsBoundToo Bound status
   pub counters : Counters
-  pub counted : AreCountersOfRuns any_rules (making_of workers settings)
-      (λ own. Says bytes (Ok own)) workers most counters
+  pub counted : AreCountersAt Bound came (λ own. Says bytes (Ok own)) settings workers most counters
   pub written : Wrote contents old new (counters_line counters)
   pub unfailing : failures_of new ≡ failures_of old
   pub flushed : is_flushed new ≡ true

@@ -1,5 +1,6 @@
 -- What the workers of a gateway did, and what its gate counted of them.
-use Rattle.std.specs.Prelude.{◌≡◌, ◌≤◌, ◌+◌, ℕ, Bool, false, List, [], All, Some, None, length}
+use Rattle.std.specs.Prelude.{◌≡◌, ◌≤◌, ◌+◌, ℕ, Bool, false, List, [], All, Option, Some, None}
+use Rattle.std.specs.Prelude.{length}
 use Rattle.limit_laws.specs.Algorithm.{Algorithm}
 use Rattle.limiter_core.specs.declared.counters.Counters.{Counters}
 use Rattle.limiter_core.specs.declared.event.Entry.{Entry}
@@ -22,9 +23,11 @@ stood_at given failed closed forwarded log = record {
 }
 
 -- RAN: by settings that are given, a worker took its turns, or fewer where the listener was closed,
--- from where its pass knew nothing to what that knows now; each accept was counted, for each client
--- there was one exchange, and no more was forwarded than there were clients
-pub record HasRunTo (Gives : Settings → Type 0) (most : ℕ) (pass : Pass) : Type 0 where
+-- from where its pass knew nothing to what that knows now; each client came where they are to come,
+-- each accept was counted, for each client there was one exchange, and no more was forwarded than
+-- there were clients
+pub record HasRunTo (Gives : Settings → Type 0) (Came : Option (List ℕ) → Type 0) (most : ℕ)
+    (pass : Pass) : Type 0 where
   pub settings : Settings
   pub are_given : Gives settings
   pub given : ℕ
@@ -32,7 +35,7 @@ pub record HasRunTo (Gives : Settings → Type 0) (most : ℕ) (pass : Pass) : T
   pub closed : Bool
   pub forwarded : ℕ
   pub tally : TurnCounts
-  pub run : IsRun settings most (stood_at 0 0 false 0 [])
+  pub run : IsRun settings Came most (stood_at 0 0 false 0 [])
       (stood_at given failed closed forwarded pass.log) tally
   pub accepted : given ≡ tally.accepted
   pub unaccepted : failed ≡ tally.unaccepted
@@ -43,8 +46,9 @@ pub record HasRunTo (Gives : Settings → Type 0) (most : ℕ) (pass : Pass) : T
 -- THE COUNTERS OF RUNS: so many workers ran, and these are the counters of a log of the gate that
 -- begins with what the pass of each of them knows
 pub record AreCountersOfRuns {S : Type 0} (rules : Algorithm S) (m : Making)
-    (Gives : Settings → Type 0) (workers most : ℕ) (counters : Counters) : Type 0 where
+    (Gives : Settings → Type 0) (Came : Option (List ℕ) → Type 0) (workers most : ℕ)
+    (counters : Counters) : Type 0 where
   pub passes : List Pass
   pub all : length passes ≡ workers
-  pub ran : All (HasRunTo Gives most) passes
+  pub ran : All (HasRunTo Gives Came most) passes
   pub behind : AreCountersBehind rules m passes counters

@@ -4,16 +4,13 @@ ghost use Rattle.std.specs.Net.Text.{socket_v4_text};
 ghost use Rattle.counted_io.specs.declared.counted.Counted.{Counted as CountedValue};
 ghost use Rattle.counted_io.specs.Counted.{failures_of, inner_of};
 ghost use Rattle.tasks.specs.Refused.{refused_of};
-ghost use Rattle.limit_kinds.specs.AnyKinds.{any_rules};
 ghost use Rattle.gate_config.specs.Settings.{AreSound};
 ghost use Rattle.fault_lines.specs.FaultLine.{IsTold, fault_line};
 ghost use Rattle.config_file.specs.Reading.{Held, IsUnreadFile, Says};
 ghost use Rattle.serve_command.specs.declared.fault.ServiceFault.TheVariants.{Listen, Memory};
-ghost use Rattle.serve_command.specs.Command.{HasServed, IsBound, IsBoundToo, IsOfAdmin};
+ghost use Rattle.serve_command.specs.Command.{AreCountersAt, HasServed, IsBoundToo, IsOfAdmin};
 ghost use Rattle.serve_command.specs.Command.{IsUnboundToo};
 ghost use Rattle.serve_command.specs.Command.{IsOfServing, IsWhyOfService};
-ghost use Rattle.gate_opening.specs.Opening.{making_of};
-ghost use Rattle.serve_command.specs.Runs.{AreCountersOfRuns};
 ghost use Rattle.serve_command.specs.ServiceFault.{service_fault_text};
 
 use crate::admin::AdminAddress;
@@ -89,7 +86,7 @@ where
     W: Write,
     E: Write,
     B::Bound: Sync,
-    <B::Bound as Listener>::Stream: Send + Sync,
+    <B::Bound as Listener>::Stream: Send + Sync + Drop,
     <B::Bound as Listener>::From: Send + Sync,
     <B::Bound as Listener>::To: Send + Sync,
     R::Stream: Send + Sync,
@@ -100,8 +97,8 @@ where
 
     // The line of counters is written, and nothing else.
     ensures served { result ≡ 0 → HasServed (F.opened service.now.path.now) F.File.remaining
-        B.bound W.contents service.now.admin service.now.status service.now.workers
-        service.now.per_worker writer.old writer.new }
+        B.bound B.Bound.came W.contents service.now.admin service.now.status
+        service.now.workers service.now.per_worker writer.old writer.new }
     ensures quiet { result ≡ 0 → errors.new ≡ errors.old }
 
     // The first fault is reported.
@@ -134,7 +131,7 @@ where
     B: Binder,
     W: Write,
     B::Bound: Sync,
-    <B::Bound as Listener>::Stream: Send + Sync,
+    <B::Bound as Listener>::Stream: Send + Sync + Drop,
     <B::Bound as Listener>::From: Send + Sync,
     <B::Bound as Listener>::To: Send + Sync,
     R::Stream: Send + Sync,
@@ -142,8 +139,8 @@ where
     requires some { 1 ≤ service.now.workers }
     requires few { service.now.workers ≤ 64 }
     ensures served { OnOk result (HasServed (F.opened service.now.path.now) F.File.remaining
-        B.bound W.contents service.now.admin service.now.status service.now.workers
-        service.now.per_worker writer.old writer.new) }
+        B.bound B.Bound.came W.contents service.now.admin service.now.status
+        service.now.workers service.now.per_worker writer.old writer.new) }
     ensures refused { IfErr result (IsWhyOfService (F.unopened service.now.path.now)
         (F.opened service.now.path.now) F.File.remaining
         (λ s. IsOfServing B.bound B.unbound s.listen service.now.admin service.now.status
@@ -197,7 +194,7 @@ where
     F: Opener,
     B: Binder,
     B::Bound: Sync,
-    <B::Bound as Listener>::Stream: Send + Sync,
+    <B::Bound as Listener>::Stream: Send + Sync + Drop,
     <B::Bound as Listener>::From: Send + Sync,
     <B::Bound as Listener>::To: Send + Sync,
     R::Stream: Send + Sync,
@@ -206,12 +203,11 @@ where
     requires sound { AreSound settings.now }
     requires some { 1 ≤ service.now.workers }
     requires few { service.now.workers ≤ 64 }
-    ensures front { OnOk result (IsBound B.bound settings.now.listen) }
     ensures operator { OnOk result (IsBoundToo B.bound service.now.admin) }
     ensures status { OnOk result (IsBoundToo B.bound service.now.status) }
-    ensures counted { IfOk result (AreCountersOfRuns any_rules
-        (making_of service.now.workers settings.now)
-        (λ own. Says text.now.bytes.items (Ok own)) service.now.workers service.now.per_worker) }
+    ensures counted { IfOk result (AreCountersAt B.bound B.Bound.came
+        (λ own. Says text.now.bytes.items (Ok own)) settings.now service.now.workers
+        service.now.per_worker) }
     ensures refused { IfErr result (IsOfServing B.bound B.unbound settings.now.listen
         service.now.admin service.now.status
         (refused_of spawner.old) (refused_of spawner.new)) }

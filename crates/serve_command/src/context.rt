@@ -61,7 +61,7 @@ pub(crate) fn serve_in<'c, R, L>(
 where
     R: Net + Threads + Wait + SystemClock + Log + Sync,
     L: Listener + Sync,
-    L::Stream: Send + Sync,
+    L::Stream: Send + Sync + Drop,
     L::From: Send + Sync,
     L::To: Send + Sync,
     R::Stream: Send + Sync,
@@ -71,7 +71,7 @@ where
     requires few { service.now.workers ≤ 64 }
     ensures counted { IfOk result (AreCountersOfRuns any_rules
         (making_of service.now.workers settings.now)
-        (λ own. Says context.now.text.now.bytes.items (Ok own))
+        (λ own. Says context.now.text.now.bytes.items (Ok own)) (L.came context.now.front.now)
         service.now.workers service.now.per_worker) }
     ensures thread { IsErrOf result ServeFault.Thread →
         refused_of spawner.new ≡ raised (refused_of spawner.old) }

@@ -62,7 +62,7 @@ where
     L: Listener + Sync,
     C: Clock + Sync,
     S: Source + Sync,
-    L::Stream: Send + Sync,
+    L::Stream: Send + Sync + Drop,
     L::From: Send + Sync,
     L::To: Send + Sync,
     R::Stream: Send + Sync,
@@ -72,7 +72,8 @@ where
     requires few { gateway.now.workers ≤ 64 }
     ensures counted { IfOk result (AreCountersOfRuns any_rules
         (making_of gateway.now.workers gateway.now.settings.now)
-        (S.gives gateway.now.common.now.source.now) gateway.now.workers
+        (S.gives gateway.now.common.now.source.now)
+        (L.came gateway.now.common.now.listener.now) gateway.now.workers
         gateway.now.common.now.per_worker) }
     ensures thread { IsErrOf result ServeFault.Thread →
         refused_of spawner.new ≡ raised (refused_of spawner.old) }
@@ -95,7 +96,7 @@ where
     L: Listener + Sync,
     C: Clock + Sync,
     S: Source + Sync,
-    L::Stream: Send + Sync,
+    L::Stream: Send + Sync + Drop,
     L::From: Send + Sync,
     L::To: Send + Sync,
     R::Stream: Send + Sync,
@@ -110,7 +111,8 @@ where
     requires few { gateway.now.workers ≤ 64 }
     ensures counted { IfOk result (AreCountersOfRuns any_rules
         (making_of gateway.now.workers gateway.now.settings.now)
-        (S.gives gateway.now.common.now.source.now) gateway.now.workers
+        (S.gives gateway.now.common.now.source.now)
+        (L.came gateway.now.common.now.listener.now) gateway.now.workers
         gateway.now.common.now.per_worker) }
     ensures thread { IsErrOf result ServeFault.Thread →
         refused_of spawner.new ≡ raised (refused_of spawner.old) }
@@ -144,14 +146,15 @@ where
     L: Listener + Sync,
     C: Clock + Sync,
     S: Source + Sync,
-    L::Stream: Send + Sync,
+    L::Stream: Send + Sync + Drop,
     L::From: Send + Sync,
     L::To: Send + Sync,
     R::Stream: Send + Sync,
     R::Listener: Send + Sync,
     requires unused { All (λ pass. pass.log ≡ []) passes.items }
     ensures counted { IfOk result (AreCountersOfRuns G.rules M.making
-        (S.gives gateway.now.common.now.source.now) (vec_len passes)
+        (S.gives gateway.now.common.now.source.now)
+        (L.came gateway.now.common.now.listener.now) (vec_len passes)
         gateway.now.common.now.per_worker) }
     ensures thread { IsErrOf result ServeFault.Thread →
         refused_of spawner.new ≡ raised (refused_of spawner.old) }

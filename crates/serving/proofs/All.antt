@@ -20,7 +20,9 @@ use Rattle.serving.specs.declared.jobs.JobResult.{JobResult}
 use Rattle.serving.specs.declared.jobs.JobResult.TheVariants as left
 use Rattle.serving.specs.declared.jobs.Worker.{Worker}
 use Rattle.serving.specs.declared.working.WorkerSettings.{WorkerSettings}
-use Rattle.serving.specs.Doors.{failed_of, given_of, is_closed}
+use Rattle.timed_io.specs.Accepted.{listener_of}
+use Rattle.proxy.specs.Exchanges.{Bytes}
+use Rattle.serving.specs.Doors.{counted_in, failed_of, given_of, is_closed}
 use Rattle.serving.specs.Turns.{IsRun, Place}
 use Rattle.serving.specs.Visits.{Visits}
 use Rattle.serving.specs.Workers.{AreWithin, Begins, HasRun, HasWorked, Makes}
@@ -88,11 +90,11 @@ on_ok (Ok v) P Q p f = f v p
 on_ok (Err e) P Q p f = tt
 
 module _ {A P B T S R L C W : Type 0} (given failed : A → ℕ) (closed : A → Bool)
-    (visits : A → Option Visits) (shown : P → Option Shown) (known : P → Option (List Entry))
-    (forwarded : B → ℕ) (log : B → Option (List Forwarded))
+    (visits : A → Option Visits) (came : A → Bytes → Type 0) (shown : P → Option Shown)
+    (known : P → Option (List Entry)) (forwarded : B → ℕ) (log : B → Option (List Forwarded))
     (gives : S → Settings → Type 0) (lacks : S → Type 0) (made : T → Type 0) where
   abbrev Made : Job A P B T (Context R L C S W) → JobResult A P B → Type 0
-  Made = Makes given failed closed visits shown known forwarded log gives lacks made
+  Made = Makes given failed closed visits came shown known forwarded log gives lacks made
 
   made_in : (jobs : List (Job A P B T (Context R L C S W))) (lefts : List (JobResult A P B))
       → AllZip Made jobs lefts → All made (tasks_in jobs)
@@ -113,16 +115,17 @@ module _ {A P B T S R L C W : Type 0} (given failed : A → ℕ) (closed : A →
       subst (λ (ts : List T). All made ts) same (made_in jobs lefts all)
 
 module _ {A P B T S R L C W : Type 0} (given failed : A → ℕ) (closed : A → Bool)
-    (visits : A → Option Visits) (shown : P → Option Shown) (known : P → Option (List Entry))
-    (forwarded : B → ℕ) (log : B → Option (List Forwarded))
+    (visits : A → Option Visits) (came : A → Bytes → Type 0) (shown : P → Option Shown)
+    (known : P → Option (List Entry)) (forwarded : B → ℕ) (log : B → Option (List Forwarded))
     (gives : S → Settings → Type 0) (lacks : S → Type 0) (made : T → Type 0)
     (x : Context R L C S W) where
   abbrev Worked : Worker A P B → WorkerExit A P B → Type 0
-  Worked = HasWorked given failed closed visits shown known forwarded log gives lacks
+  Worked = HasWorked given failed closed visits came shown known forwarded log gives lacks
       x.common.now.source.now x.common.now.per_worker
 
   abbrev AllDone : List (Job A P B T (Context R L C S W)) → List (JobResult A P B) → Type 0
-  AllDone = AllZip (Made given failed closed visits shown known forwarded log gives lacks made)
+  AllDone = AllZip
+      (Made given failed closed visits came shown known forwarded log gives lacks made)
 
   worked_in : (jobs : List (Job A P B T (Context R L C S W))) (lefts : List (JobResult A P B))
       → AllDone jobs lefts → AreWithin x jobs → list_all has_begun lefts ≡ true
@@ -139,7 +142,7 @@ module _ {A P B T S R L C W : Type 0} (given failed : A → ℕ) (closed : A →
   worked_in (job.Worker context worker ∷ hs) (left.SideTask ∷ ls) all within begun =
       absurd all.0
   worked_in (job.Worker context worker ∷ hs) (left.Worked ended ∷ ls) all within begun = (
-    subst (λ (c : Context R L C S W). HasWorked given failed closed visits shown known
+    subst (λ (c : Context R L C S W). HasWorked given failed closed visits came shown known
         forwarded log gives lacks c.common.now.source.now c.common.now.per_worker worker ended)
         within.0 all.0,
     worked_in hs ls all.1 within.1 begun,
@@ -166,17 +169,18 @@ from shown known given failed closed port count = record {
 }
 
 module _ {R T L C S W V P : Type 0} (gives : S → Settings → Type 0) (lacks : S → Type 0)
-    (shown : P → Option Shown) (known : P → Option (List Entry))
+    (came : L → Bytes → Type 0) (shown : P → Option Shown) (known : P → Option (List Entry))
     (common : WorkerSettings L C S W) (address : List ℕ) where
   abbrev Did : Worker (Door L W) P (TcpBackend (Dialer R) T V C)
       → WorkerExit (Door L W) P (TcpBackend (Dialer R) T V C) → Type 0
-  Did = HasWorked given_of failed_of is_closed (λ _. None) shown known count_of (λ _. None) gives
-      lacks common.source.now common.per_worker
+  Did = HasWorked given_of failed_of is_closed (λ _. None)
+      (λ door. came (listener_of (counted_in door))) shown known count_of (λ _. None) gives lacks
+      common.source.now common.per_worker
 
   ran : (port : P) (worker : Worker (Door L W) P (TcpBackend (Dialer R) T V C))
       (ended : WorkerExit (Door L W) P (TcpBackend (Dialer R) T V C))
-      → Begins common.backend_timeout_ns address port worker → Did worker ended
-      → HasRun gives shown known common port ended
+      → Begins common.listener.now common.backend_timeout_ns address port worker
+      → Did worker ended → HasRun gives came shown known common port ended
   ran port worker ended begins did =
       let s = did.settings in
       let most = common.per_worker in
@@ -187,16 +191,17 @@ module _ {R T L C S W V P : Type 0} (gives : S → Settings → Type 0) (lacks :
       let end = from shown known (given_of ended.door) (failed_of ended.door) (is_closed ended.door)
       ended.port (count_of ended.backend) in
       let tally = ended.tally in
-      let run : IsRun s most (from shown known 0 0 false port 0) end tally =
-      subst (λ (n : ℕ). IsRun s most (from shown known 0 0 false port n) end tally) begins.unused
-      (subst (λ (p : P). IsRun s most (from shown known 0 0 false p count) end tally) begins.port_is
-      (subst (λ (b : Bool). IsRun s most (from shown known 0 0 b worker.port count) end tally)
-      begins.unclosed
-      (subst (λ (n : ℕ). IsRun s most (from shown known 0 n closed worker.port count) end tally)
-      begins.failed
-      (subst
-      (λ (n : ℕ). IsRun s most (from shown known n failed closed worker.port count) end tally)
-      begins.given did.run)))) in
+      let Ran : L → Place → Type 0 = λ l start. IsRun s (came l) most start end tally in
+      let here = common.listener.now in
+      let run : Ran here (from shown known 0 0 false port 0) =
+      subst (λ (n : ℕ). Ran here (from shown known 0 0 false port n)) begins.unused
+      (subst (λ (p : P). Ran here (from shown known 0 0 false p count)) begins.port_is
+      (subst (λ (b : Bool). Ran here (from shown known 0 0 b worker.port count)) begins.unclosed
+      (subst (λ (n : ℕ). Ran here (from shown known 0 n closed worker.port count)) begins.failed
+      (subst (λ (n : ℕ). Ran here (from shown known n failed closed worker.port count))
+      begins.given
+      (subst (λ (l : L). Ran l (from shown known given failed closed worker.port count))
+      begins.opens_to did.run))))) in
       let no_given = begins.given in
       let no_failed = begins.failed in
       let unused = begins.unused in
@@ -217,8 +222,8 @@ module _ {R T L C S W V P : Type 0} (gives : S → Settings → Type 0) (lacks :
 
   pub all_ran : (ports : List P) (workers : List (Worker (Door L W) P (TcpBackend (Dialer R) T V C)))
       (ended : List (WorkerExit (Door L W) P (TcpBackend (Dialer R) T V C)))
-      → AllZip (Begins common.backend_timeout_ns address) ports workers
-      → AllZip Did workers ended → AllZip (HasRun gives shown known common) ports ended
+      → AllZip (Begins common.listener.now common.backend_timeout_ns address) ports workers
+      → AllZip Did workers ended → AllZip (HasRun gives came shown known common) ports ended
   all_ran [] [] [] p q = tt
   all_ran [] [] (e ∷ es) p q = absurd q
   all_ran [] (w ∷ ws) es p q = absurd p

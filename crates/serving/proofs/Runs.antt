@@ -63,13 +63,14 @@ events_more (Missing ∷ ts) t = ap (λ (xs : List Event). Missed ∷ xs) (event
 events_more (Serving sent written told ∷ ts) t =
     ap (λ (xs : List Event). Opened sent ∷ Closed written told ∷ xs) (events_more ts t)
 
-all_served : (s : Settings) (ts : List Turn) (t : Turn) (old mid new : Back)
-    → AreServed s ts old mid → AreServed s (t ∷ []) mid new → AreServed s (ts ++ t ∷ []) old new
-all_served s [] t old mid new same one =
-    subst (λ (b : Back). AreServed s (t ∷ []) b new) same one
-all_served s (Missing ∷ ts) t old mid new all one = all_served s ts t old mid new all one
-all_served s (Serving sent written told ∷ ts) t old mid new all one =
-    (all.0, all.1, all.2, all.3, all_served s ts t all.1 mid new all.4 one)
+all_served : (s : Settings) (came : Bytes → Type 0) (ts : List Turn) (t : Turn) (old mid new : Back)
+    → AreServed s came ts old mid → AreServed s came (t ∷ []) mid new
+    → AreServed s came (ts ++ t ∷ []) old new
+all_served s came [] t old mid new same one =
+    subst (λ (b : Back). AreServed s came (t ∷ []) b new) same one
+all_served s came (Missing ∷ ts) t old mid new all one = all_served s came ts t old mid new all one
+all_served s came (Serving sent written told ∷ ts) t old mid new all one =
+    (all.0, all.1, all.2, all.3, all.4, all_served s came ts t all.1 mid new all.5 one)
 
 all_shown : (ts : List Turn) (t : Turn) (old mid new : Option Visits) → Shows ts old mid
     → Shows (t ∷ []) mid new → Shows (ts ++ t ∷ []) old new
@@ -112,15 +113,16 @@ nothing_shown None = tt
 nothing_shown (Some s) = (refl, sym (append-nil s.log))
 
 -- so many turns were taken so far
-pub record Took (s : Settings) (count : ℕ) (old new : Place) (tally : TurnCounts) : Type 0 where
+pub record Took (s : Settings) (came : Bytes → Type 0) (count : ℕ) (old new : Place)
+    (tally : TurnCounts) : Type 0 where
   pub turns : List Turn
-  pub taken : AreTaken s turns old new tally
+  pub taken : AreTaken s came turns old new tally
   pub many : length turns ≡ count
 
 -- none was
-pub begins : (s : Settings) (place : Place)
-    → Took s 0 place place (record { accepted = 0; unaccepted = 0 })
-begins s place = record {
+pub begins : (s : Settings) (came : Bytes → Type 0) (place : Place)
+    → Took s came 0 place place (record { accepted = 0; unaccepted = 0 })
+begins s came place = record {
   turns = [];
   taken = record {
     accepted = refl;
@@ -134,14 +136,15 @@ begins s place = record {
 }
 
 -- one more was
-pub goes_on : (s : Settings) (count : ℕ) (old mid new : Place) (before after : TurnCounts) (t : Turn)
-    → Took s count old mid before
+pub goes_on : (s : Settings) (came : Bytes → Type 0) (count : ℕ) (old mid new : Place)
+    (before after : TurnCounts) (t : Turn) → Took s came count old mid before
     → after.accepted ≡ before.accepted + served (t ∷ [])
     → after.unaccepted ≡ before.unaccepted + missed (t ∷ [])
     → new.given ≡ given_by (t ∷ []) mid.given → new.failed ≡ failed_by (t ∷ []) mid.failed
-    → AreServed s (t ∷ []) mid.back new.back → Shows (t ∷ []) mid.visits new.visits
-    → Took s (count + 1) old new after
-goes_on s count old mid new before after t took accepted unaccepted given failed exchanges shown =
+    → AreServed s came (t ∷ []) mid.back new.back → Shows (t ∷ []) mid.visits new.visits
+    → Took s came (count + 1) old new after
+goes_on s came count old mid new before after t took accepted unaccepted given failed exchanges
+    shown =
     let turns = took.turns in
     record {
       turns = turns ++ t ∷ [];
@@ -154,7 +157,8 @@ goes_on s count old mid new before after t took accepted unaccepted given failed
             ∙ sym (given_more turns t old.given);
         failed = failed ∙ ap (failed_by (t ∷ [])) took.taken.failed
             ∙ sym (failed_more turns t old.failed);
-        exchanges = all_served s turns t old.back mid.back new.back took.taken.exchanges exchanges;
+        exchanges = all_served s came turns t old.back mid.back new.back took.taken.exchanges
+            exchanges;
         shown = all_shown turns t old.visits mid.visits new.visits took.taken.shown shown;
       };
       many = length-append turns (t ∷ []) ∙ ap (λ (n : ℕ). n + 1) took.many;
@@ -166,9 +170,10 @@ both_counted (Missing ∷ ts) = let same = both_counted ts in omega arith
 both_counted (Serving sent written told ∷ ts) = let same = both_counted ts in omega arith
 
 -- each turn has a client, or none
-pub both_of : (s : Settings) (count : ℕ) (old new : Place) (tally : TurnCounts)
-    → Took s count old new tally → tally.accepted + tally.unaccepted ≡ count
-both_of s count old new tally took =
+pub both_of : (s : Settings) (came : Bytes → Type 0) (count : ℕ) (old new : Place)
+    (tally : TurnCounts) → Took s came count old new tally
+    → tally.accepted + tally.unaccepted ≡ count
+both_of s came count old new tally took =
     let both = both_counted took.turns in
     let many = took.many in
     let accepted = took.taken.accepted in
@@ -186,19 +191,21 @@ once s sent unwritten written old new x is =
     once_by old.count new.count (is_through (summary_of x).admission)
     (exchanged_once s _ _ (summary_of x) is.exchanged)
 
-all_once : (s : Settings) (ts : List Turn) (old new : Back) → AreServed s ts old new
+all_once : (s : Settings) (came : Bytes → Type 0) (ts : List Turn) (old new : Back)
+    → AreServed s came ts old new
     → new.count ≤ old.count + served ts
-all_once s [] old new same = let count = ap (λ (b : Back). b.count) same in omega arith
-all_once s (Missing ∷ ts) old new all = all_once s ts old new all
-all_once s (Serving sent written told ∷ ts) old new all =
+all_once s came [] old new same = let count = ap (λ (b : Back). b.count) same in omega arith
+all_once s came (Missing ∷ ts) old new all = all_once s came ts old new all
+all_once s came (Serving sent written told ∷ ts) old new all =
     let one = once s sent all.0 written old all.1 told all.3 in
-    let others = all_once s ts all.1 new all.4 in
+    let others = all_once s came ts all.1 new all.5 in
     omega arith
 
-pub forwarded_at_most : (s : Settings) (count : ℕ) (old new : Place) (tally : TurnCounts)
-    → Took s count old new tally → new.back.count ≤ old.back.count + tally.accepted
-forwarded_at_most s count old new tally took =
-    let all = all_once s took.turns old.back new.back took.taken.exchanges in
+pub forwarded_at_most : (s : Settings) (came : Bytes → Type 0) (count : ℕ) (old new : Place)
+    (tally : TurnCounts) → Took s came count old new tally
+    → new.back.count ≤ old.back.count + tally.accepted
+forwarded_at_most s came count old new tally took =
+    let all = all_once s came took.turns old.back new.back took.taken.exchanges in
     let accepted = took.taken.accepted in
     omega arith
 
@@ -226,20 +233,22 @@ failed_exactly (Missing ∷ ts) n h =
 failed_exactly (Serving sent written told ∷ ts) n h = failed_exactly ts n h
 
 -- where a door's counts don't come to their ends, they rise by what is tallied
-pub all_given : (s : Settings) (count most : ℕ) (old new : Place) (tally : TurnCounts)
-    → Took s count old new tally → count ≤ most → old.given + most ≤ count_end
+pub all_given : (s : Settings) (came : Bytes → Type 0) (count most : ℕ) (old new : Place)
+    (tally : TurnCounts) → Took s came count old new tally
+    → count ≤ most → old.given + most ≤ count_end
     → new.given ≡ old.given + tally.accepted
-all_given s count most old new tally took few room =
+all_given s came count most old new tally took few room =
     let both = both_counted took.turns in
     let many = took.many in
     let accepted = took.taken.accepted in
     let given = took.taken.given ∙ given_exactly took.turns old.given (omega arith) in
     omega arith
 
-pub all_failed : (s : Settings) (count most : ℕ) (old new : Place) (tally : TurnCounts)
-    → Took s count old new tally → count ≤ most → old.failed + most ≤ count_end
+pub all_failed : (s : Settings) (came : Bytes → Type 0) (count most : ℕ) (old new : Place)
+    (tally : TurnCounts) → Took s came count old new tally
+    → count ≤ most → old.failed + most ≤ count_end
     → new.failed ≡ old.failed + tally.unaccepted
-all_failed s count most old new tally took few room =
+all_failed s came count most old new tally took few room =
     let both = both_counted took.turns in
     let many = took.many in
     let unaccepted = took.taken.unaccepted in
@@ -248,10 +257,11 @@ all_failed s count most old new tally took few room =
 
 -- the turns that were taken are a run, where they are as many as were asked for, or the door was
 -- found closed
-pub run_of : (s : Settings) (count most : ℕ) (old new : Place) (tally : TurnCounts)
-    → Took s count old new tally → count ≤ most → (new.closed ≡ false → count ≡ most)
-    → IsRun s most old new tally
-run_of s count most old new tally took few whole = record {
+pub run_of : (s : Settings) (came : Bytes → Type 0) (count most : ℕ) (old new : Place)
+    (tally : TurnCounts) → Took s came count old new tally
+    → count ≤ most → (new.closed ≡ false → count ≡ most)
+    → IsRun s came most old new tally
+run_of s came count most old new tally took few whole = record {
   turns = took.turns;
   taken = took.taken;
   few = let many = took.many in omega arith;

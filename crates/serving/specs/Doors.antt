@@ -1,13 +1,19 @@
 -- What a clause reads of a door.
 use Rattle.std.specs.Prelude.{ℕ, Bool}
+use Rattle.timed_io.specs.declared.counted_listener.CountedListener.{CountedListener}
+use Rattle.timed_io.specs.Accepted.{accepted_of, missed_of}
 use Rattle.serving.specs.declared.doors.Door.{Door}
+
+-- where its clients come from, with the counts of the accepts
+abbrev pub counted_in : {L W : Type 0} → Door L W → CountedListener L
+counted_in door = door.listener
 
 -- how many accepts gave a client, and how many gave none
 abbrev pub given_of : {L W : Type 0} → Door L W → ℕ
-given_of door = door.given
+given_of door = accepted_of door.listener
 
 abbrev pub failed_of : {L W : Type 0} → Door L W → ℕ
-failed_of door = door.failed
+failed_of door = missed_of door.listener
 
 -- whether its listener was found closed
 abbrev pub is_closed : {L W : Type 0} → Door L W → Bool

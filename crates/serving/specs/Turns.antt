@@ -39,15 +39,15 @@ events_of (Missing ∷ turns) = Missed ∷ events_of turns
 events_of (Serving sent written told ∷ turns) =
     Opened sent ∷ Closed written told ∷ events_of turns
 
--- THE EXCHANGES: one for each client, in order, to whom nothing had been written; and nothing else
--- is asked of the gate, or forwarded
-abbrev pub AreServed : Settings → List Turn → Back → Back → Type 0
-AreServed s [] old new = new ≡ old
-AreServed s (Missing ∷ turns) old new = AreServed s turns old new
-AreServed s (Serving sent written told ∷ turns) old new =
+-- THE EXCHANGES: one for each client, in order, who came where they are served and to whom nothing
+-- had been written; and nothing else is asked of the gate, or forwarded
+abbrev pub AreServed : Settings → (Bytes → Type 0) → List Turn → Back → Back → Type 0
+AreServed s came [] old new = new ≡ old
+AreServed s came (Missing ∷ turns) old new = AreServed s came turns old new
+AreServed s came (Serving sent written told ∷ turns) old new =
     (unwritten : Bytes) × (mid : Back)
     × IfSome unwritten (λ bytes. bytes ≡ [])
-    × IsServed s sent unwritten written old mid told × AreServed s turns mid new
+    × IsServed s sent unwritten written old mid told × came sent × AreServed s came turns mid new
 
 -- what a worker finds and leaves: its door's counts, whether that was found closed, what it shows,
 -- and what stands behind the worker
@@ -75,18 +75,19 @@ Shows turns old new = Follows old new (λ o n.
     (o.coming ≡ sent_by turns ++ n.coming) × (n.log ≡ o.log ++ events_of turns))
 
 -- TAKEN: the turns, as they are tallied, as the door counts and shows them, and as they are served
-pub record AreTaken (s : Settings) (turns : List Turn) (old new : Place) (tally : TurnCounts)
-    : Type 0 where
+pub record AreTaken (s : Settings) (came : Bytes → Type 0) (turns : List Turn) (old new : Place)
+    (tally : TurnCounts) : Type 0 where
   pub accepted : tally.accepted ≡ served turns
   pub unaccepted : tally.unaccepted ≡ missed turns
   pub given : new.given ≡ given_by turns old.given
   pub failed : new.failed ≡ failed_by turns old.failed
-  pub exchanges : AreServed s turns old.back new.back
+  pub exchanges : AreServed s came turns old.back new.back
   pub shown : Shows turns old.visits new.visits
 
 -- A RUN of so many turns, or of fewer where the door was found closed
-pub record IsRun (s : Settings) (most : ℕ) (old new : Place) (tally : TurnCounts) : Type 0 where
+pub record IsRun (s : Settings) (came : Bytes → Type 0) (most : ℕ) (old new : Place)
+    (tally : TurnCounts) : Type 0 where
   pub turns : List Turn
-  pub taken : AreTaken s turns old new tally
+  pub taken : AreTaken s came turns old new tally
   pub few : length turns ≤ most
   pub whole : new.closed ≡ false → length turns ≡ most

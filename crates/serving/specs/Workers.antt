@@ -17,7 +17,9 @@ use Rattle.serving.specs.declared.jobs.JobResult.{JobResult}
 use Rattle.serving.specs.declared.jobs.JobResult.TheVariants as left
 use Rattle.serving.specs.declared.jobs.Worker.{Worker}
 use Rattle.serving.specs.declared.working.WorkerSettings.{WorkerSettings}
-use Rattle.serving.specs.Doors.{failed_of, given_of, is_closed}
+use Rattle.timed_io.specs.Accepted.{listener_of}
+use Rattle.proxy.specs.Exchanges.{Bytes}
+use Rattle.serving.specs.Doors.{counted_in, failed_of, given_of, is_closed}
 use Rattle.serving.specs.Turns.{IsRun, Place}
 use Rattle.serving.specs.Visits.{Visits}
 
@@ -54,9 +56,9 @@ has_begun (left.Worked ended) = true
 
 -- what is known of doors, ports and backends, and which settings a source gives or lacks
 module _ {A P B S : Type 0} (given failed : A → ℕ) (closed : A → Bool)
-    (visits : A → Option Visits) (shown : P → Option Shown) (known : P → Option (List Entry))
-    (forwarded : B → ℕ) (log : B → Option (List Forwarded)) (gives : S → Settings → Type 0)
-    (lacks : S → Type 0) where
+    (visits : A → Option Visits) (came : A → Bytes → Type 0) (shown : P → Option Shown)
+    (known : P → Option (List Entry)) (forwarded : B → ℕ) (log : B → Option (List Forwarded))
+    (gives : S → Settings → Type 0) (lacks : S → Type 0) where
   -- what stands at a door, a port and a backend
   abbrev pub place_of : A → P → B → Place
   place_of door port backend = record {
@@ -79,7 +81,8 @@ module _ {A P B S : Type 0} (given failed : A → ℕ) (closed : A → Bool)
     pub bounded : most ≤ count_end
     pub settings : Settings
     pub are_given : gives source settings
-    pub run : IsRun settings most (place_of worker.door worker.port worker.backend)
+    pub run : IsRun settings (came worker.door) most
+        (place_of worker.door worker.port worker.backend)
         (place_of ended.door ended.port ended.backend) ended.tally
     pub turns : ended.tally.accepted + ended.tally.unaccepted ≤ most
     pub whole : closed ended.door ≡ false
@@ -110,9 +113,10 @@ module _ {A P B S : Type 0} (given failed : A → ℕ) (closed : A → Bool)
       Leaves context.now.common.now.source.now context.now.common.now.per_worker worker left
 
 -- a new worker, with this port, a backend at an address that was given nothing and whose calls may
--- take so many nanoseconds, where that is limited, and a door without a visit
-pub record Begins {R T L W V C P : Type 0} (most : Option ℕ) (address : List ℕ) (port : P)
-    (worker : Worker (Door L W) P (TcpBackend (Dialer R) T V C)) : Type 0 where
+-- take so many nanoseconds, where that is limited, and a door to a listener, without a visit
+pub record Begins {R T L W V C P : Type 0} (listener : L) (most : Option ℕ) (address : List ℕ)
+    (port : P) (worker : Worker (Door L W) P (TcpBackend (Dialer R) T V C)) : Type 0 where
+  pub opens_to : listener_of (counted_in worker.door) ≡ listener
   pub port_is : worker.port ≡ port
   pub given : given_of worker.door ≡ 0
   pub failed : failed_of worker.door ≡ 0
@@ -123,14 +127,15 @@ pub record Begins {R T L W V C P : Type 0} (most : Option ℕ) (address : List �
   pub host : host_of worker.backend ≡ address
 
 -- RAN: a worker of this port, by settings that the source gives, took its turns, or fewer where the
--- listener was closed; each accept was counted, for each client there was one exchange, and no more
--- was forwarded than there were clients
+-- listener was closed; each client came to that listener, each accept was counted, for each client
+-- there was one exchange, and no more was forwarded than there were clients
 pub record HasRun {R T L C S W V P : Type 0} (gives : S → Settings → Type 0)
-    (shown : P → Option Shown) (known : P → Option (List Entry)) (common : WorkerSettings L C S W)
-    (port : P) (ended : WorkerExit (Door L W) P (TcpBackend (Dialer R) T V C)) : Type 0 where
+    (came : L → Bytes → Type 0) (shown : P → Option Shown) (known : P → Option (List Entry))
+    (common : WorkerSettings L C S W) (port : P)
+    (ended : WorkerExit (Door L W) P (TcpBackend (Dialer R) T V C)) : Type 0 where
   pub settings : Settings
   pub are_given : gives common.source.now settings
-  pub run : IsRun settings common.per_worker
+  pub run : IsRun settings (came common.listener.now) common.per_worker
       (record {
         given = 0;
         failed = 0;

@@ -1,19 +1,21 @@
 // How a worker comes to its clients.
-ghost use Rattle.std.specs.Prelude.{◌≡◌, [], None, false, is_ok, if◌then◌else◌};
-ghost use Rattle.std.specs.Prelude.{IfOk, IfSome, OnErr};
+ghost use Rattle.std.specs.Prelude.{◌≡◌, ℕ, List, [], Option, None, false, is_ok};
+ghost use Rattle.std.specs.Prelude.{if◌then◌else◌, IfOk, IfSome, OnErr};
 ghost use Rattle.counted_io.specs.Count.{raised, raised_by_err};
-ghost use Rattle.serving.specs.Doors.{failed_of, given_of, is_closed};
+ghost use Rattle.serving.specs.Doors.{counted_in, failed_of, given_of, is_closed};
 ghost use Rattle.serving.specs.Visits.{Arrives, Closes, Misses};
+ghost use Rattle.timed_io.specs.Accepted.{listener_of};
 ghost use Rattle.timed_io.specs.Client.{from_of, to_of};
 
 use proxy::{Exchange, Watch};
 use std::io::Result;
-use timed_io::{AcceptedClient, Connection, Inlet, Listener, Outlet};
+use timed_io::{AcceptedClient, Connection, CountedListener, Inlet, Listener, Outlet};
 
-/// One worker's own way to its clients: it counts them, and may show what it did.
+/// One worker's own way to its clients: it counts them, and may show what it did. Nobody else lets
+/// a client go: only [`close`](Accepts::close) takes one, with the exchange that served it.
 pub trait Accepts {
-    /// A client's connection.
-    type Stream: Connection + Drop;
+    /// A client's connection, which a worker can't let go.
+    type Stream: Connection;
 
     /// The end of it that is read.
     type From: Inlet<Self::Stream> + Copy;
@@ -21,7 +23,7 @@ pub trait Accepts {
     /// The end of it that is written.
     type To: Outlet<Self::Stream> + Copy;
 
-    ghost use Rattle.std.specs.Prelude.{ℕ, Bool, Option};
+    ghost use Rattle.std.specs.Prelude.{ℕ, Bool, List, Option};
     ghost use Rattle.serving.specs.Visits.{Visits};
 
     // How many accepts gave a client, and how many gave none.
@@ -32,6 +34,9 @@ pub trait Accepts {
     // Whether it was found closed.
     ghost closed: { Self → Bool };
 
+    // A client came there who would send these bytes, where they are known.
+    ghost came: { Self → Option (List ℕ) → Type 0 };
+
     // Who is still to come and what happened so far, where that is shown.
     ghost visits: { Self → Option Visits };
 
@@ -40,6 +45,9 @@ pub trait Accepts {
         ensures given { given self.new
             ≡ (if is_ok result then raised (given self.old) else given self.old) }
         ensures failed { failed self.new ≡ raised_by_err result (failed self.old) }
+        ensures place { (sent : Option (List ℕ)) → came self.new sent → came self.old sent }
+        ensures came { IfOk result (λ client.
+            came self.old (Self.From.remaining (from_of client.ends))) }
         ensures arrived { IfOk result (λ client.
             Arrives (visits self.old) (visits self.new)
             (Self.From.remaining (from_of client.ends))) }
@@ -51,6 +59,7 @@ pub trait Accepts {
     fn close(&mut self, client: AcceptedClient<Self::Stream, Self::From, Self::To>, told: Exchange)
         ensures given { given self.new ≡ given self.old }
         ensures failed { failed self.new ≡ failed self.old }
+        ensures place { (sent : Option (List ℕ)) → came self.new sent → came self.old sent }
         ensures closed { Closes (visits self.old) (visits self.new)
             (Self.To.contents (to_of client.ends)) told };
 
@@ -59,34 +68,33 @@ pub trait Accepts {
         ensures { result ≡ closed self.now };
 }
 
-/// A worker's own count over a listener that is shared. It shows no visits; a watch hears of them.
+/// A worker's own door over a listener that is shared, which counts each accept. It shows no
+/// visits; a watch hears of them.
 #[derive(Drop)]
 pub struct Door<'a, L, W> {
-    listener: &'a L,
+    listener: CountedListener<'a, L>,
     watch: &'a W,
-    given: u64,
-    failed: u64,
     closed: bool,
 }
 
 impl<'a, L, W> Door<'a, L, W> {
-    /// Nobody was asked for yet.
-    pub fn new(listener: &'a L, watch: &'a W) -> Door<'a, L, W>
-        ensures given { given_of result ≡ 0 }
-        ensures failed { failed_of result ≡ 0 }
+    /// A door whose clients come from a listener.
+    pub fn new(listener: CountedListener<'a, L>, watch: &'a W) -> Door<'a, L, W>
+        ensures listener { counted_in result ≡ listener.entry }
         ensures unclosed { is_closed result ≡ false }
     {
         Door {
             listener,
             watch,
-            given: 0,
-            failed: 0,
             closed: false,
         }
     }
 }
 
-impl<'a, L: Listener, W: Watch> Accepts for Door<'a, L, W> {
+impl<'a, L: Listener, W: Watch> Accepts for Door<'a, L, W>
+where
+    L::Stream: Drop,
+{
     type Stream = L::Stream;
 
     type From = L::From;
@@ -94,7 +102,8 @@ impl<'a, L: Listener, W: Watch> Accepts for Door<'a, L, W> {
     type To = L::To;
 
     ghost use Rattle.std.specs.Prelude.{None};
-    ghost use Rattle.serving.specs.Doors.{failed_of, given_of, is_closed};
+    ghost use Rattle.timed_io.specs.Accepted.{listener_of};
+    ghost use Rattle.serving.specs.Doors.{counted_in, failed_of, given_of, is_closed};
 
     ghost given = { given_of };
 
@@ -102,17 +111,15 @@ impl<'a, L: Listener, W: Watch> Accepts for Door<'a, L, W> {
 
     ghost closed = { is_closed };
 
+    ghost came = { λ door. L.came (listener_of (counted_in door)) };
+
     ghost visits = { λ _. None };
 
     fn accept(&mut self) -> Result<AcceptedClient<L::Stream, L::From, L::To>> {
         let outcome = self.listener.accept();
         match &outcome {
-            Ok(_) => {
-                self.given = self.given.saturating_add(1);
-                self.watch.accepted();
-            }
+            Ok(_) => self.watch.accepted(),
             Err(error) => {
-                self.failed = self.failed.saturating_add(1);
                 self.closed = !self.listener.is_open();
                 if !self.closed {
                     self.watch.unaccepted(error);
@@ -125,9 +132,12 @@ impl<'a, L: Listener, W: Watch> Accepts for Door<'a, L, W> {
     fn close(&mut self, client: AcceptedClient<L::Stream, L::From, L::To>, told: Exchange)
         ensures given { given_of self.new ≡ given_of self.old }
         ensures failed { failed_of self.new ≡ failed_of self.old }
+        ensures place { (sent : Option (List ℕ))
+            → L.came (listener_of (counted_in self.new)) sent
+            → L.came (listener_of (counted_in self.old)) sent }
         ensures closed { Closes None None (L.To.contents (to_of client.ends)) told }
     {
-        let _closed = client;
+        client.close();
         self.watch.ended(&told.end());
     }
 

@@ -78,8 +78,8 @@ where
 
     ghost use Rattle.serving.specs.Workers.{Makes};
 
-    ghost makes = { Makes A.given A.failed A.closed A.visits P.shown P.known B.forwarded B.shown
-        S.gives S.lacks (λ task. T.makes task tt) };
+    ghost makes = { Makes A.given A.failed A.closed A.visits A.came P.shown P.known B.forwarded
+        B.shown S.gives S.lacks (λ task. T.makes task tt) };
 
     fn run(self) -> JobResult<A, P, B> {
         match self {
@@ -122,7 +122,7 @@ where
     C: Clock,
     S: Source,
     W: Watch,
-    ensures { Leaves A.given A.failed A.closed A.visits P.shown P.known B.forwarded B.shown
+    ensures { Leaves A.given A.failed A.closed A.visits A.came P.shown P.known B.forwarded B.shown
         S.gives S.lacks context.now.common.now.source.now context.now.common.now.per_worker worker
         result }
 {

@@ -22,7 +22,7 @@ use std::thread::Threads;
 use std::time::{Clock as SystemClock, Duration};
 use tasks::{Spawner, Task, run_tasks_beside};
 use tcp_backend::{BackendWatch, Dialer, TcpBackend};
-use timed_io::{ClientBuffers, Listener};
+use timed_io::{ClientBuffers, CountedListener, Listener};
 use wire::Backend;
 
 /// For how long a client takes nothing of its answer, in nanoseconds, before the system ends its
@@ -62,13 +62,14 @@ where
     W: Watch + BackendWatch + Sync,
     P::Permit: Send,
     P::Receipt: Send,
-    L::Stream: Send + Sync,
+    L::Stream: Send + Sync + Drop,
     L::From: Send + Sync,
     L::To: Send + Sync,
     R::Stream: Send + Sync,
     R::Listener: Send + Sync,
     ensures ran { IfOk result (λ lefts.
-        AllZip (HasRun S.gives P.shown P.known common.now) ports.items (ended_in lefts.items)) }
+        AllZip (HasRun S.gives L.came P.shown P.known common.now) ports.items
+        (ended_in lefts.items)) }
     ensures side_tasks { IfOk result (λ _. All (λ task. T.makes task tt) side_tasks.items) }
 
     // A thread is lacking only where the system refused one.
@@ -106,8 +107,8 @@ fn make_workers<'l, R: Net, P: Drop, L, C, S, W>(
     ServeFault,
 >
     ensures workers { IfOk result (λ workers.
-        AllZip (Begins common.now.backend_timeout_ns settings.now.backend) ports.items
-        workers.items) }
+        AllZip (Begins common.now.listener.now common.now.backend_timeout_ns settings.now.backend)
+        ports.items workers.items) }
     ensures lacking { OnErr result (IsErrOf result ServeFault.Memory) }
 {
     let (alloc, watch) = (common.alloc, common.watch);
@@ -116,7 +117,7 @@ fn make_workers<'l, R: Net, P: Drop, L, C, S, W>(
     let mut workers = Vec::with_capacity(alloc, ports.len())?;
     for port in ports {
         let worker = Worker {
-            door: Door::new(common.listener, watch),
+            door: Door::new(CountedListener::new(common.listener), watch),
             port,
             backend: TcpBackend::new(Dialer::new(rt, address), alloc, watch, clock, most_ns)?,
             buffers: ClientBuffers::new(alloc)?,
@@ -157,7 +158,7 @@ where
     L::From: Send + Sync,
     L::To: Send + Sync,
     ensures worked { IfOk result (λ lefts. AllZip (HasWorked A.given A.failed A.closed A.visits
-        P.shown P.known B.forwarded B.shown S.gives S.lacks
+        A.came P.shown P.known B.forwarded B.shown S.gives S.lacks
         common.now.source.now common.now.per_worker)
         workers.items (ended_in lefts.items)) }
     ensures side_tasks { IfOk result (λ _. All (λ task. T.makes task tt) side_tasks.items) }

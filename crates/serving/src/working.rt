@@ -98,7 +98,7 @@ where
     S: Source,
     W: Watch,
     requires settings { S.gives common.now.source.now settings.now }
-    ensures run { IsRun settings.now common.now.per_worker
+    ensures run { IsRun settings.now (A.came door.old) common.now.per_worker
         (record {
           given = A.given door.old;
           failed = A.failed door.old;

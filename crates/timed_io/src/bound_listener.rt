@@ -50,6 +50,14 @@ impl Listener for BoundListener {
 
     type To = OpaqueEnd;
 
+    ghost use Rattle.std.specs.Prelude.{⊤};
+
+    ghost came = { λ _ _. ⊤ };
+
+    ghost found = { λ _ _. ⊤ };
+
+    ghost closed = { λ _. ⊤ };
+
     fn accept(&self) -> Result<AcceptedClient<TcpStream, OpaqueEnd, OpaqueEnd>> {
         let (stream, _) = self.listener.accept()?;
         Ok(AcceptedClient {

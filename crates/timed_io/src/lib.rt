@@ -25,6 +25,7 @@ mod client;
 mod client_ends;
 mod connection;
 mod countdown;
+mod counted_listener;
 mod ends;
 mod first_byte;
 mod keeping;
@@ -40,6 +41,7 @@ pub use client::{Client, ClientBuffers, ClientReader, ClientTime, ClientWriter, 
 pub use client_ends::ClientEnds;
 pub use connection::{Connection, Lent};
 pub use countdown::Countdown;
+pub use counted_listener::CountedListener;
 pub use ends::{Inlet, OpaqueEnd, Outlet, read_ready};
 pub use first_byte::{FirstByte, Patience};
 pub use keeping::{ask_after, end_untaken};

@@ -1,6 +1,6 @@
 // Where connections come from.
 ghost use Rattle.std.specs.Prelude.{◌≡◌, [], IfOk, IfSome};
-ghost use Rattle.timed_io.specs.Client.{to_of};
+ghost use Rattle.timed_io.specs.Client.{from_of, to_of};
 
 use crate::client_ends::ClientEnds;
 use crate::connection::Connection;
@@ -8,8 +8,8 @@ use crate::ends::{Inlet, Outlet};
 use std::io::Result;
 use std::time::{Clock, Duration};
 
-/// A client who came.
-#[derive(Drop)]
+/// A client who came. It can't be copied, and it is let go only by [`close`](Self::close), which
+/// needs a connection that may be dropped: generic code can't let one go.
 pub struct AcceptedClient<S, F, T> {
     /// Its connection.
     pub stream: S,
@@ -17,10 +17,18 @@ pub struct AcceptedClient<S, F, T> {
     pub ends: ClientEnds<F, T>,
 }
 
+impl<S: Drop, F: Drop, T: Drop> AcceptedClient<S, F, T> {
+    /// Closes its connection.
+    pub fn close(self) {
+        let AcceptedClient { stream: _, ends: _ } = self;
+    }
+}
+
 /// Where connections come from. Several threads may ask it at once.
 pub trait Listener {
-    /// A client's connection, which is closed where its value ends.
-    type Stream: Connection + Drop;
+    /// A client's connection, which is closed where its value ends. Whoever may do that says so by
+    /// a bound of his own: nobody else lets a client go.
+    type Stream: Connection;
 
     /// The end of it that is read.
     type From: Inlet<Self::Stream> + Copy;
@@ -28,9 +36,22 @@ pub trait Listener {
     /// The end of it that is written.
     type To: Outlet<Self::Stream> + Copy;
 
+    ghost use Rattle.std.specs.Prelude.{ℕ, Bool, List, Option};
+
+    // A client came there who would send these bytes, where they are known.
+    ghost came: { Self → Option (List ℕ) → Type 0 };
+
+    // It was found open, or closed.
+    ghost found: { Self → Bool → Type 0 };
+
+    // It was closed for good.
+    ghost closed: { Self → Type 0 };
+
     /// Waits for the next client, to whom nothing was written yet; the fault is the system's, where
     /// there was none to be had. Once it is closed, nobody waits.
     fn accept(&self) -> Result<AcceptedClient<Self::Stream, Self::From, Self::To>>
+        ensures came { IfOk result (λ client.
+            came self.now (Self.From.remaining (from_of client.ends))) }
         ensures unwritten { IfOk result (λ client.
             IfSome (Self.To.contents (to_of client.ends)) (λ written. written ≡ [])) };
 
@@ -40,9 +61,11 @@ pub trait Listener {
 
     /// Whether connections may still come: it hasn't been closed. Where it has been, one that waits
     /// may still be had.
-    fn is_open(&self) -> bool;
+    fn is_open(&self) -> bool
+        ensures { found self.now result };
 
     /// Closes it for good, with all who wait in `accept`. Connections that wait are still accepted,
     /// for so long at most; it returns once there are none, and whoever connects then is refused.
-    fn close<R: Clock>(&self, rt: &R, most: Duration);
+    fn close<R: Clock>(&self, rt: &R, most: Duration)
+        ensures { closed self.now };
 }

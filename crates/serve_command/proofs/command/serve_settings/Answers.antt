@@ -1,4 +1,4 @@
-use Rattle.std.proofs.Common.{rules, ◌≡◌, Err}
+use Rattle.std.proofs.Common.{rules, ◌≡◌, ℕ, List, Err, subst}
 use Rattle.std.specs.Net.Text.{socket_v4_text}
 use Rattle.tasks.specs.Refused.{refused_of}
 use Rattle.serve_command.specs.ServiceFault.{of_workers}
@@ -68,8 +68,11 @@ returns-in_err-serve_in-clause-refused g c =
     (bound_at g.B.Binder.bound (socket_v4_text c.socket.result) c.args.settings.now.listen
     c.in_ok-front.front same c.in_ok-front.ensures.bound) c.serve_in.ensures.thread
 
-pub returns-clause-front : goal.returns-clause-front
-returns-clause-front g c =
-    let same : socket_v4_text c.socket.result ≡ c.args.settings.now.listen = search rules in
-    bound_at g.B.Binder.bound (socket_v4_text c.socket.result) c.args.settings.now.listen
-    c.in_ok-front.front same c.in_ok-front.ensures.bound
+pub returns-clause-counted : goal.returns-clause-counted
+returns-clause-counted g c =
+    let same : socket_v4_text c.socket.result ≡ c.args.settings.now.listen = search rules in (
+      c.in_ok-front.front,
+      subst (λ (address : List ℕ). g.B.Binder.bound address c.in_ok-front.front) same
+          c.in_ok-front.ensures.bound,
+      c.in_ok-serve_in.ensures.counted,
+    )

@@ -10,5 +10,6 @@ returns-clause-counted g c =
     let same : c.from.result ≡ c.args.service.now.per_worker = search rules in
     subst (λ (turns : ℕ). IfOk c.serve_gateway.result
     (AreCountersOfRuns any_rules (making_of c.args.service.now.workers c.args.settings.now)
-    (λ own. Says c.args.context.now.text.now.bytes.items (Ok own)) c.args.service.now.workers
-    turns)) same c.serve_gateway.ensures.counted
+    (λ own. Says c.args.context.now.text.now.bytes.items (Ok own))
+    (g.L.Listener.came c.args.context.now.front.now) c.args.service.now.workers turns)) same
+    c.serve_gateway.ensures.counted

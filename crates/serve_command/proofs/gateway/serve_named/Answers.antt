@@ -11,10 +11,12 @@ returns-clause-counted g c =
     let gateway = c.args.gateway.now in
     let common = gateway.common.now in
     let gives = g.S.Source.gives common.source.now in
+    let came = g.L.Listener.came common.listener.now in
     let all : vec_len c.take_own.new.passes ≡ gateway.workers = c.in_ok-own.ensures.all in
     subst (λ (n : ℕ). IfOk c.serve_through.result
-    (AreCountersOfRuns any_rules (making_of gateway.workers gateway.settings.now) gives n
+    (AreCountersOfRuns any_rules (making_of gateway.workers gateway.settings.now) gives came n
     common.per_worker)) all
     (subst (λ (m : Making). IfOk c.serve_through.result
-    (AreCountersOfRuns any_rules m gives (vec_len c.take_own.new.passes) common.per_worker))
+    (AreCountersOfRuns any_rules m gives came (vec_len c.take_own.new.passes)
+    common.per_worker))
     c.requires.making c.serve_through.ensures.counted)

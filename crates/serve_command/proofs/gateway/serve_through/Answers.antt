@@ -13,15 +13,18 @@ pub returns-clause-counted : goal.returns-clause-counted
 returns-clause-counted g c =
     let common = c.args.gateway.now.common.now in
     let gives = g.S.Source.gives in
+    let came = g.L.Listener.came in
     let ends = ended_in c.in_ok-lefts.lefts.items in
-    let both = all_ran_to _ _ _ _ gives common c.args.passes.items ends c.requires.unused
+    let both = all_ran_to _ _ _ _ gives came common c.args.passes.items ends
+    c.requires.unused
     (subst (λ ports. AllZip
-    (HasRun gives (λ port. None) (λ port. Some port.pass.log) common) ports ends)
+    (HasRun gives came (λ port. None) (λ port. Some port.pass.log) common) ports ends)
     c.in_ok-ports.ensures c.in_ok-lefts.ensures.ran) in
     let same = c.in_ok-passes.ensures in
     let long : length c.args.passes.items ≡ vec_len c.args.passes = search rules in record {
       passes = c.in_ok-passes.passes.items;
       all = ap (λ (ps : List Pass). length ps) same ∙ both.1 ∙ long;
-      ran = All-same (HasRunTo (gives common.source.now) common.per_worker) _ _ same both.0;
+      ran = All-same (HasRunTo (gives common.source.now) (came common.listener.now)
+          common.per_worker) _ _ same both.0;
       behind = c.counters_behind.ensures;
     }

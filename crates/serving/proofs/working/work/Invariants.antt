@@ -1,11 +1,11 @@
-use Rattle.std.proofs.Common.{◌≡◌, ◌+◌}
+use Rattle.std.proofs.Common.{◌≡◌, ◌+◌, ℕ, List, Option}
 use Rattle.serving.proofs.Runs.{Took}
 use Rattle.serving.proofs.working.work.Given as goal
 
 -- so many turns so far
 abbrev pub invariant-loop : goal.invariant-loop
 invariant-loop g l = record {
-  took : Took l.settings l.counter
+  took : Took l.settings (g.A.Accepts.came l.fn.door) l.counter
       (record {
         given = g.A.Accepts.given l.fn.door;
         failed = g.A.Accepts.failed l.fn.door;
@@ -32,4 +32,5 @@ invariant-loop g l = record {
       })
       l.tally;
   turns : l.tally.accepted + l.tally.unaccepted ≡ l.counter;
+  same : (sent : Option (List ℕ)) → g.A.Accepts.came l.door sent → g.A.Accepts.came l.fn.door sent;
 }
