@@ -2,6 +2,7 @@
 ghost use Rattle.std.specs.Prelude.{◌≡◌};
 ghost use Rattle.gate_desk.specs.Desk.{outcome_of};
 
+use crate::desk_listener::DeskListener;
 use crate::lame_duck::LameDuck;
 use crate::watch::DeskWatch;
 use clocks::Clock;
@@ -32,9 +33,9 @@ pub struct GateDesk<'a, G: Limit, M: GateNaming, R, L, C, W> {
     /// What noted exchanges and troubles, and hears of what is changed.
     pub watch: W,
     /// Where clients come from.
-    pub front: &'a L,
+    pub front: DeskListener<'a, L>,
     /// Where those come from who are served at this desk.
-    pub own: &'a L,
+    pub own: DeskListener<'a, L>,
     /// When the gateway is to be drained.
     pub lame_duck: &'a LameDuck,
     /// The clock of the gate's moments.
@@ -55,12 +56,15 @@ where
     W: DeskWatch,
 {
     ghost use Rattle.gate_desk.specs.Desk.{DoneBy, ShownBy};
+    ghost use Rattle.gate_desk.specs.Listeners.{is_shut, listener_in};
 
     ghost rows = { λ desk. desk.table };
 
-    ghost shows = { λ desk sight. ShownBy G.rules M.making sight };
+    ghost shows = { λ desk sight. ShownBy G.rules M.making (is_shut desk.front) sight };
 
-    ghost does = { λ before after deed. DoneBy before.pass after.pass deed };
+    ghost does = { λ before after deed. DoneBy
+        (L.closed (listener_in after.front)) before.pass after.pass (is_shut before.front)
+        (is_shut after.front) deed };
 
     fn table(&self) -> &PartitionTable {
         &self.table
@@ -108,7 +112,8 @@ where
         self.watch.draining_after(delay_ms);
         let until = self.clock.now().saturating_add(u64::from(delay_ms) * MILLI);
         self.lame_duck.begin(until);
-        self.lame_duck.rest(self.rt, self.clock, self.own, delay_ms);
+        self.lame_duck
+            .rest(self.rt, self.clock, &self.own, delay_ms);
         self.front.close(self.rt, self.most);
     }
 }

@@ -1,4 +1,5 @@
 // A gateway that is to be drained, and still takes clients.
+use crate::desk_listener::DeskListener;
 use clocks::Clock;
 use limit_laws::LAST_MOMENT;
 use std::sync::atomic::{AtomicU64, Ordering};
@@ -46,7 +47,7 @@ impl LameDuck {
         &self,
         rt: &R,
         clock: &C,
-        listener: &L,
+        listener: &DeskListener<'_, L>,
         most_ms: u32,
     ) {
         for _ in 0..=most_ms / PAUSE_MS {

@@ -7,11 +7,13 @@
 #![tactic(auto)]
 
 mod desk;
+mod desk_listener;
 mod lame_duck;
 mod operator;
 mod watch;
 
 pub use desk::GateDesk;
+pub use desk_listener::DeskListener;
 pub use lame_duck::LameDuck;
 pub use operator::Operator;
 pub use watch::DeskWatch;

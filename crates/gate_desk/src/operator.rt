@@ -44,17 +44,24 @@ where
     M: GateNaming,
     R: SystemClock + Wait,
     L: Listener,
+    L::Stream: Drop,
     C: Clock,
     W: DeskWatch + Drop,
 {
     type Done = ();
 
+    ghost use Rattle.std.specs.Prelude.{false};
     ghost use Rattle.gate_desk.specs.Desk.{DoneBy, ShownBy};
+    ghost use Rattle.gate_desk.specs.Listeners.{is_shut, listener_in};
     ghost use Rattle.gate_desk.specs.Operator.{HasOperated};
 
     ghost makes = { λ operator _. HasOperated operator.desk (λ desk. desk.table)
-        (λ _ sight. ShownBy G.rules M.making sight)
-        (λ before after deed. DoneBy before.pass after.pass deed)
+        (λ desk sight. ShownBy G.rules M.making (is_shut desk.front) sight)
+        (λ before after deed. DoneBy
+        (L.closed (listener_in after.front)) before.pass after.pass (is_shut before.front)
+        (is_shut after.front) deed)
+        (L.came operator.common.now.listener.now)
+        (L.found operator.common.now.listener.now false)
         operator.common.now.audience operator.common.now.page.now };
 
     fn run(self) {

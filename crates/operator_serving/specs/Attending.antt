@@ -1,5 +1,6 @@
 -- What an exchange with an operator is.
-use Rattle.std.specs.Prelude.{◌≡◌, ◌⊎◌, ⊤, ℕ, Bool, true, false, List, codes, length, bytes_eq, Option, None, Some, Result, Ok, Err, if◌then◌else◌}
+use Rattle.std.specs.Prelude.{◌≡◌, ◌⊎◌, ⊤, ℕ, Bool, true, false, List, [], codes, length, bytes_eq}
+use Rattle.std.specs.Prelude.{Option, None, Some, IfSome, Result, Ok, Err, if◌then◌else◌}
 use Rattle.counted_io.specs.declared.counted.Counted.{Counted}
 use Rattle.counted_io.specs.Counted.{inner_of}
 use Rattle.counted_io.specs.Effects.{Wrote}
@@ -19,6 +20,10 @@ use Rattle.operator_serving.specs.declared.attending.Attended.{Attended}
 use Rattle.operator_serving.specs.Desk.{Deed, Sight}
 use Rattle.operator_serving.specs.Telling.{Tells, lines_of}
 use Rattle.operator_serving.specs.Words.{Words}
+
+-- a reader or a writer of these bytes that wasn't called
+abbrev pub fresh : Bytes → Counted Bytes
+fresh bytes = record { inner = bytes; calls = 0; flushes = 0; failures = 0; is_flushed = false }
 
 -- the answer to a client that asked by this method: these lines, and what is told
 abbrev pub told_text_by : List ℕ → List Header → Words → List ℕ
@@ -86,17 +91,22 @@ module _ {D : Type 0} (rows : D → List Row) (shows : D → Sight → Type 0)
     pub reading : IsRead reader reader' writer writer' (inner_of asked) read
     pub deals : Deals tells audience page old new asked writer' read x
 
-  -- SERVED: there was one, over the two ends of a connection
-  pub record IsServed (audience : Audience) (page : List ℕ) (old new : D) : Type 0 where
+  -- SERVED: there was one with a client who would send this and to whom that had been written, over
+  -- the two ends of its connection, which nobody had called before
+  pub record IsServed (audience : Audience) (page : List ℕ) (sent unwritten : Bytes) (old new : D)
+      : Type 0 where
     pub reader : Counted Bytes
-    pub reader' : Counted Bytes
     pub writer : Counted Bytes
-    pub writer' : Counted Bytes
     pub told : Attended
-    pub attended : IsAttended (λ _. ⊤) audience page old new reader reader' writer writer' told
+    pub attended : IsAttended (λ _. ⊤) audience page old new (fresh sent) reader (fresh unwritten)
+        writer told
 
-  -- ONE AFTER THE OTHER: whatever changed at the desk, an exchange with an operator changed it
-  pub data AreServed (audience : Audience) (page : List ℕ) : D → D → Type 0 where
-    nobody : (desk : D) → AreServed audience page desk desk
-    one_more : (old mid new : D) → AreServed audience page old mid
-        → IsServed audience page mid new → AreServed audience page old new
+  -- ONE AFTER THE OTHER: whatever changed at the desk, an exchange changed it with a client who
+  -- came where they are served, and to whom nothing had been written
+  pub data AreServed (came : Bytes → Type 0) (audience : Audience) (page : List ℕ)
+      : D → D → Type 0 where
+    nobody : (desk : D) → AreServed came audience page desk desk
+    one_more : (old mid new : D) (sent unwritten : Bytes)
+        → AreServed came audience page old mid → came sent
+        → IfSome unwritten (λ bytes. bytes ≡ [])
+        → IsServed audience page sent unwritten mid new → AreServed came audience page old new

@@ -1,7 +1,8 @@
 // Operators, one after the other.
-ghost use Rattle.std.specs.Prelude.{◌≡◌};
+ghost use Rattle.std.specs.Prelude.{◌≡◌, false};
 ghost use Rattle.operator_calls.specs.declared.audience.Audience.TheVariants.{Anyone};
 ghost use Rattle.operator_serving.specs.Attending.{AreServed, IsServed};
+ghost use Rattle.timed_io.specs.Client.{from_of, to_of};
 
 use crate::attending::attend;
 use crate::caller::Peer;
@@ -39,15 +40,22 @@ pub struct Operating<'a, L, C> {
 }
 
 /// Attends to one client after the other, each for one request, until the listener is closed.
-pub fn operate<R: Wait + SystemClock, L: Listener, C: Clock, D: Desk>(
+pub fn operate<R, L, C, D>(
     rt: &R,
     common: &Operating<'_, L, C>,
     desk: &mut D,
     buffers: &mut ClientBuffers,
 )
-    ensures served { AreServed D.rows D.shows D.does common.now.audience common.now.page.now
-        desk.old desk.new }
+where
+    R: Wait + SystemClock,
+    L: Listener,
+    L::Stream: Drop,
+    C: Clock,
+    D: Desk,
+    ensures served { AreServed D.rows D.shows D.does (L.came common.now.listener.now)
+        common.now.audience common.now.page.now desk.old desk.new }
     ensures looks { common.now.audience ≡ Anyone → desk.new ≡ desk.old }
+    ensures ended { L.found common.now.listener.now false }
 {
     for _ in rt.forever() {
         match common.listener.accept() {
@@ -77,7 +85,7 @@ where
     C: Clock,
     D: Desk,
     ensures served { IsServed D.rows D.shows D.does common.now.audience common.now.page.now
-        desk.old desk.new }
+        (I.remaining (from_of client.ends)) (O.contents (to_of client.ends)) desk.old desk.new }
     ensures looks { common.now.audience ≡ Anyone → desk.new ≡ desk.old }
 {
     let time = ClientTime {

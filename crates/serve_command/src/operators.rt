@@ -2,7 +2,7 @@
 use crate::admin::AT_ONCE;
 use crate::desk_log::DeskLog;
 use crate::gateway::Gateway;
-use gate_desk::{GateDesk, Operator};
+use gate_desk::{DeskListener, GateDesk, Operator};
 use limit_laws::Limit;
 use operator_serving::Operating;
 use shared_gate::{GateNaming, Pass, SharedGate};
@@ -60,8 +60,8 @@ fn make_desk<'g, M: GateNaming, R: SystemClock, G: Limit, L, C, S>(
             rt: gateway.rt,
             watch: common.watch,
         },
-        front: common.listener,
-        own: operating.listener,
+        front: DeskListener::new(common.listener),
+        own: DeskListener::new(operating.listener),
         lame_duck: gateway.side.lame_duck,
         clock: common.clock,
         table,

@@ -9,7 +9,7 @@ pub loop-preserved-in-Ok : goal.loop-preserved-in-Ok
 loop-preserved-in-Ok g c = (
   tt,
   tt,
-  one_more c.args.desk.now c.loop.desk c.serve_operator.new.desk c.loop.invariant.2
-      c.serve_operator.ensures.served,
+  one_more c.args.desk.now c.loop.desk c.serve_operator.new.desk _ _ c.loop.invariant.2
+      c.in-Ok.ensures.came c.in-Ok.ensures.unwritten c.serve_operator.ensures.served,
   λ anyone. c.serve_operator.ensures.looks anyone ∙ c.loop.invariant.3 anyone,
 )

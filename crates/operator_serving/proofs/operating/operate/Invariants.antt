@@ -7,6 +7,7 @@ use Rattle.operator_serving.proofs.operating.operate.Given as goal
 abbrev pub invariant-loop : goal.invariant-loop
 invariant-loop g l =
     (goal.iterator-loop g).can_next l.iterator' × (goal.iterator-loop g).is_finite l.iterator'
-    × AreServed g.D.Desk.rows g.D.Desk.shows g.D.Desk.does l.fn.common.audience
-    l.fn.common.page.now l.fn.desk l.desk
+    × AreServed g.D.Desk.rows g.D.Desk.shows g.D.Desk.does
+    (g.L.Listener.came l.fn.common.listener.now) l.fn.common.audience l.fn.common.page.now
+    l.fn.desk l.desk
     × (l.fn.common.audience ≡ Anyone → l.desk ≡ l.fn.desk)
