@@ -32,6 +32,7 @@ pub(crate) fn run<M: GateNaming + Send + Sync, R: Threads + Wait + SystemClock +
     requires names { AreNamed M.calls M.place blanks }
     requires parts { AreWhole blanks }
     requires word { word ≡ M.word }
+    requires passes { M.passes ≡ 2 }
     requires range { AreInRange settings }
     requires making { M.making ≡ made_with aimd_rules (begun settings) }
     requires legal { CallsLegal aimd_rules (begun settings) M.legal }

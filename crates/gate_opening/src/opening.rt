@@ -33,9 +33,9 @@ fn gate_settings(settings: &Settings, workers: u32) -> Result<GateSettings<AnyLi
     })
 }
 
-/// The gate of these settings before so many workers, which rolls, with so many passes, by which no
-/// call was made yet. A book gives at most a million; where it gives fewer than are asked for, that
-/// is out of memory too.
+/// The gate of these settings before so many workers, which rolls, with so many passes and no more,
+/// by which no call was made yet. A book gives at most a million; where it gives fewer than are
+/// asked for, that is out of memory too.
 pub fn open_gate<M: GateNaming>(
     alloc: Global,
     settings: &Settings,
@@ -49,6 +49,7 @@ pub fn open_gate<M: GateNaming>(
     requires parts { AreWhole blanks }
     requires making { M.making ≡ making_of workers settings.now }
     requires sound { AreSound settings.now }
+    requires passes { count ≡ M.passes }
     requires legal { CallsLegal any_rules (journal_of workers settings.now) M.legal }
     ensures all { IfOk result (λ made. vec_len made.1 ≡ count) }
     ensures passes { IfOk result (λ made. made.1.items ≡ replicate count (pass_of 0)) }

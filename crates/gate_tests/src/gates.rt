@@ -138,6 +138,7 @@ fn try_at_named<M: GateNaming + Send + Sync, R: Threads + Wait + SystemClock + A
     requires names { AreNamed M.calls M.place blanks }
     requires parts { AreWhole blanks }
     requires word { word ≡ M.word }
+    requires passes { M.passes ≡ making.passes }
     requires legal { CallsAllLegal M.legal }
     requires making { M.making ≡ made_with any_rules (begun making.settings) }
 {

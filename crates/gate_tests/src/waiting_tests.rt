@@ -8,7 +8,7 @@ use gate_history::{Naming, Receipt, Spent, Ticket};
 use limit_kinds::AnyLimit;
 use limiter_core::{Counters, Event, Outcome, Reply};
 use partitions::Part;
-use shared_gate::{Claimed, Clock, GateNaming, Got, Pass, SharedGate, Waited};
+use shared_gate::{Claimed, Clock, GateNaming, Got, Looks, Pass, SharedGate, Waited};
 use std::alloc::Global;
 use std::process::Abort;
 use std::sync::Wait;
@@ -105,7 +105,8 @@ pub(crate) fn waits_in_vain<M: GateNaming, R: Wait + SystemClock + Abort>(
     let now = waiting.now;
     let permit = admitted(rt, gate, pass, now);
     check(rt, permit.facts().start == now.min(1 << 62));
-    let waited = gate.acquire_wait(rt, pass, UNKNOWN, now, waiting.clock, waiting.deadline);
+    let mut looks = Looks::new(waiting.clock);
+    let waited = gate.acquire_wait(rt, pass, UNKNOWN, now, &mut looks, waiting.deadline);
     are_one_and_two(rt, timed_out(rt, waited));
     let ended = gate.end(rt, pass, permit, Outcome::Success, now);
     check(rt, ended.reply() == Reply::Ended { promoted: 0 });
@@ -168,7 +169,9 @@ fn refuses_acquires<M: GateNaming, R: Wait + SystemClock + Abort>(
         Got::Exhausted(spent) => check(rt, is_spent(&spent, acquire(true, false, 2))),
         _ => rt.abort(),
     }
-    match gate.acquire_wait(rt, pass, UNKNOWN, 3, &TestClock::<R>::Stands(0), 0) {
+    let still = TestClock::<R>::Stands(0);
+    let mut looks = Looks::new(&still);
+    match gate.acquire_wait(rt, pass, UNKNOWN, 3, &mut looks, 0) {
         Waited::Exhausted(spent) => check(rt, is_spent(&spent, acquire(false, true, 3))),
         _ => rt.abort(),
     }

@@ -101,11 +101,12 @@ makes_two a t g r event waits gives reply none =
 
 -- waited, and then its number was lost, or the giving up exhausted
 module _ (M : Type 0) (before after : Pass) (a : Arrival) (first : Told) (r : Result Told Refusal)
-    (waiting : waits a ≡ true) (told : Waits {M = M} before after a.part a.at (Lost first r)) where
+    (deadline latest : ℕ) (waiting : waits a ≡ true)
+    (told : Waits {M = M} before after a.part a.at deadline latest (Lost first r)) where
   pub makes_lost : (second : Told) → r ≡ Ok second → Makes a (first ∷ second ∷ []) []
   makes_lost second is =
       let w = subst (λ (x : Result Told Refusal).
-      Waits {M = M} before after a.part a.at (Lost first x)) is told in
+      Waits {M = M} before after a.part a.at deadline latest (Lost first x)) is told in
       makes_two a first second reply.Lost (asks_waiting a waiting w.1.0.event) w.1.1
       w.2.event w.3 refl
 
@@ -113,6 +114,6 @@ module _ (M : Type 0) (before after : Pass) (a : Arrival) (first : Told) (r : Re
       → r ≡ Err spent → Makes a (first ∷ []) (spent ∷ [])
   makes_stuck spent why is =
       let w = subst (λ (x : Result Told Refusal).
-      Waits {M = M} before after a.part a.at (Lost first x)) is told in
+      Waits {M = M} before after a.part a.at deadline latest (Lost first x)) is told in
       stuck first spent (asks_waiting a waiting w.1.0.event) w.1.1
       (record { event = w.2.event; spent = why })

@@ -38,7 +38,7 @@ at_last : {X : Type 0} (xs : List X) (y : X) → slice_get (xs ++ y ∷ []) (len
 at_last [] y = refl
 at_last (z ∷ xs) y = at_last xs y
 
-one_longer : {X : Type 0} (xs : List X) (y : X) → length (xs ++ y ∷ []) ≡ suc (length xs)
+pub one_longer : {X : Type 0} (xs : List X) (y : X) → length (xs ++ y ∷ []) ≡ suc (length xs)
 one_longer [] y = refl
 one_longer (z ∷ xs) y = ap suc (one_longer xs y)
 

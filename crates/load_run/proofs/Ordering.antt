@@ -67,12 +67,13 @@ lie_three before mid then until e f t u v is does first last =
 
 -- a call that waited, and what its giving up was answered, or that it wasn't
 module _ (M : Type 0) (before after : Pass) (a : Arrival) (first : Told) (r : Result Told Refusal)
-    (told : Waits {M = M} before after a.part a.at (Lost first r)) where
+    (deadline latest : ℕ)
+    (told : Waits {M = M} before after a.part a.at deadline latest (Lost first r)) where
   pub lie_lost : (second : Told) → r ≡ Ok second
       → LieBetween (seen_by before) (seen_by after) (first ∷ second ∷ []) []
   lie_lost second is =
       let w = subst (λ (x : Result Told Refusal).
-      Waits {M = M} before after a.part a.at (Lost first x)) is told in
+      Waits {M = M} before after a.part a.at deadline latest (Lost first x)) is told in
       lie_two before w.0 (seen_by after) _ first second w.1.0 w.2.unseen w.2.seen
 
   pub lie_stuck : (spent : Refusal) → r ≡ Err spent
@@ -81,7 +82,7 @@ module _ (M : Type 0) (before after : Pass) (a : Arrival) (first : Told) (r : Re
       let from = seen_by before in
       let until = seen_by after in
       let w = subst (λ (x : Result Told Refusal).
-      Waits {M = M} before after a.part a.at (Lost first x)) is told in
+      Waits {M = M} before after a.part a.at deadline latest (Lost first x)) is told in
       let queued = w.1.0 in
       let untold = w.2 in
       lie_with from until (first ∷ []) spent

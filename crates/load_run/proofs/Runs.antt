@@ -1,6 +1,6 @@
 -- What is written of a run.
 use Rattle.std.proofs.Common.{◌≡◌, ℕ, ◌≤◌, List, [], None, Result, Err, IfErr, length, drop}
-use Rattle.std.proofs.Common.{ap, subst, sym, arith}
+use Rattle.std.proofs.Common.{ap, refl, subst, sym, arith}
 use Rattle.std.specs.Prelude.{Vec}
 use Rattle.std.specs.declared.alloc.Global.{Global}
 use Rattle.std.proofs.lemmas.List.Elements.{All-nil}
@@ -92,6 +92,7 @@ is_rejected_unread m opening base entries kept zero_base legal = record {
     enough = omega arith;
     first = tt;
   };
+  present = refl;
 }
 
 -- a run that isn't accepted stops by its cause

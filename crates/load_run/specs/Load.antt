@@ -1,5 +1,5 @@
 -- What a load is: an audited run of the calls of a trace.
-use Rattle.std.specs.Prelude.{◌≡◌, ℕ, List, Vec, length}
+use Rattle.std.specs.Prelude.{◌≡◌, ℕ, false, List, Vec, length}
 use Rattle.std.specs.declared.alloc.Global.{Global}
 use Rattle.limit_kinds.specs.declared.kinds.AnyLimit.{AnyLimit}
 use Rattle.limit_kinds.specs.AnyKinds.{any_rules}
@@ -12,7 +12,7 @@ use Rattle.gate_history.specs.Refusal.{Refusal}
 use Rattle.audit.specs.declared.cause.Cause.{Cause}
 use Rattle.audit.specs.Accepted.{IsHistoryOf}
 use Rattle.shared_gate.specs.Calls.{Pass}
-use Rattle.shared_gate.specs.Closing.{FailsBy, IsKept}
+use Rattle.shared_gate.specs.Closing.{FailsBy, IsKept, is_missing}
 use Rattle.script.specs.Settings.{SettingFacts}
 use Rattle.script_gate.specs.Settings.{journal_of}
 use Rattle.load_driver.specs.Limits.{kept_entries}
@@ -47,7 +47,7 @@ pub record IsRun (workers n : ℕ) (settings : SettingFacts) (arrivals : List Ar
   pub accepted : IsAccepted (making_of n settings) kept spent summary
 
 -- a history of a gate that isn't that of just these receipts: the audit fails by this cause, the
--- first that applies
+-- first that applies, and no pass is missing
 pub record IsRejected (m : Making) (kept : List (Vec Told Global)) (cause : Cause) : Type 0 where
   pub opening : Standing AnyLimit
   pub base : ℕ
@@ -55,6 +55,7 @@ pub record IsRejected (m : Making) (kept : List (Vec Told Global)) (cause : Caus
   pub passes : List Pass
   pub legal : IsKept any_rules m opening base entries
   pub fails : FailsBy any_rules m passes base entries kept cause
+  pub present : is_missing cause ≡ false
 
 -- a run that isn't accepted: the workers made such lists
 pub record IsUnaccepted (workers n : ℕ) (settings : SettingFacts) (arrivals : List Arrival)

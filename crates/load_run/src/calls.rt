@@ -6,7 +6,7 @@ ghost use Rattle.load_run.specs.Made.{made_of, refused_of};
 
 use gate_history::{Naming, Permit, Receipt, Spent};
 use limit_laws::{LAST_MOMENT, Limit};
-use shared_gate::{Clock, GateNaming, Got, Pass, SharedGate, Waited};
+use shared_gate::{Clock, GateNaming, Got, Looks, Pass, SharedGate, Waited};
 use std::alloc::AllocError;
 use std::sync::Wait;
 use std::time::Clock as SystemClock;
@@ -121,8 +121,26 @@ fn call_and_wait<L: Limit, M: GateNaming, R: Wait + SystemClock, C: Clock>(
     ensures order { LieBetween (seen_by pass.old) (seen_by pass.new)
         (made_of result) (refused_of result) }
 {
-    let deadline = clock.now().saturating_add(timeout).min(LAST_MOMENT);
-    match gate.acquire_wait(rt, pass, arrival.part, arrival.at, clock, deadline) {
+    let mut looks = Looks::new(clock);
+    let deadline = looks.look().saturating_add(timeout).min(LAST_MOMENT);
+    call_until(rt, gate, pass, arrival, &mut looks, deadline)
+}
+
+/// The calls of an arrival that waits until this deadline.
+fn call_until<L: Limit, M: GateNaming, R: Wait + SystemClock, C: Clock>(
+    rt: &R,
+    gate: &SharedGate<L, M>,
+    pass: &mut Pass<M>,
+    arrival: Arrival,
+    looks: &mut Looks<'_, C, ()>,
+    deadline: u64,
+) -> Made<M>
+    requires { waits arrival ≡ true }
+    ensures made { Makes arrival (made_of result) (refused_of result) }
+    ensures order { LieBetween (seen_by pass.old) (seen_by pass.new)
+        (made_of result) (refused_of result) }
+{
+    match gate.acquire_wait(rt, pass, arrival.part, arrival.at, looks, deadline) {
         Waited::Admitted(receipt, permit) => {
             Made::Two(receipt, finish(rt, gate, pass, arrival, permit))
         }

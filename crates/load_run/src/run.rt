@@ -64,6 +64,7 @@ where
     requires names { AreNamed M.calls M.place blanks }
     requires parts { AreWhole blanks }
     requires word { word ≡ M.word }
+    requires passes { size.workers ≡ M.passes }
     requires legal { CallsLegal any_rules (journal_of size.limit kept_entries settings) M.legal }
     ensures run { IfOk result (IsRun size.workers size.limit settings.entry arrivals.items) }
     ensures stops { IfErr result
@@ -101,6 +102,7 @@ fn open_gate<M: GateNaming>(
     requires names { AreNamed M.calls M.place blanks }
     requires parts { AreWhole blanks }
     requires word { word ≡ M.word }
+    requires passes { size.workers ≡ M.passes }
     requires legal { CallsLegal any_rules (journal_of size.limit kept_entries settings) M.legal }
     ensures { IfOk result (λ opened. vec_len opened.1 ≡ size.workers) }
 {
@@ -123,6 +125,7 @@ fn open_over<L: Limit, M: GateNaming>(
     requires names { AreNamed M.calls M.place blanks }
     requires parts { AreWhole blanks }
     requires word { word ≡ M.word }
+    requires passes { workers ≡ M.passes }
     requires legal { CallsLegal L.rules (begun settings) M.legal }
     ensures { IfOk result (λ opened. vec_len opened.1 ≡ workers) }
 {
@@ -141,6 +144,7 @@ fn close<M: GateNaming>(
     gate: SharedGate<AnyLimit, M>,
     worked: Worked<M>,
 ) -> Result<Summary, Cause>
+    requires { vec_len worked.passes ≡ M.passes }
     ensures accepted { IfOk result (IsAccepted M.making
         worked.kept.items worked.spent.items) }
     ensures rejected { IfErr result (IsRejected M.making worked.kept.items) }

@@ -1,5 +1,5 @@
 // All workers, each on a thread of its own.
-ghost use Rattle.std.specs.Prelude.{◌≡◌, ◌++◌, ◌∷◌, [], IfOk, IsErrOf, vec_len};
+ghost use Rattle.std.specs.Prelude.{◌≡◌, ◌+◌, ◌++◌, ◌∷◌, [], IfOk, IsErrOf, vec_len};
 ghost use Rattle.counted_io.specs.Count.{raised};
 ghost use Rattle.tasks.specs.Refused.{refused_of};
 ghost use Rattle.audit.specs.Firsts.{EachHas};
@@ -83,6 +83,7 @@ fn gather<M: GateNaming>(
     done: Vec<Result<Worker<M>, AllocError>>,
 ) -> Result<Worked<M>, AllocError>
     ensures count { IfOk result (λ worked. vec_len worked.kept ≡ vec_len done) }
+    ensures passes { IfOk result (λ worked. vec_len worked.passes ≡ vec_len done) }
     ensures each { IfOk result (λ worked. EachHas
         (IsKeptAt worked.kept.items worked.spent.items) done.items) }
 {
@@ -109,6 +110,7 @@ where
     R: Threads + Wait + SystemClock + Sync,
     C: Clock + Sync,
     ensures count { IfOk result (λ worked. vec_len worked.kept ≡ vec_len workers) }
+    ensures passes { IfOk result (λ worked. vec_len worked.passes ≡ vec_len workers) }
     ensures work { IfOk result (λ worked. AreWork context.now.workers
         context.now.arrivals.now.items worked.kept.items worked.spent.items) }
     ensures thread { IsErrOf result TasksFault.Thread →
@@ -127,6 +129,8 @@ where
 impl<M: GateNaming> Worked<M> {
     /// With what one more worker brings back.
     fn add(self, worker: Worker<M>) -> Result<Worked<M>, AllocError>
+        ensures passes { IfOk result (λ worked.
+            vec_len worked.passes ≡ vec_len self.passes + 1) }
         ensures kept { IfOk result (λ worked.
             worked.kept.items ≡ self.kept.items ++ worker.receipts ∷ []) }
         ensures spent { IfOk result (λ worked.

@@ -13,14 +13,15 @@ use Rattle.gate_port.specs.Asking.{Ask, acquire, says}
 use Rattle.ports.specs.declared.asked.Asked.{Asked}
 use Rattle.ports.specs.declared.asked.Asked.TheVariants as asked
 
--- a port: its pass, and what it was told of its last asking
+-- a port: its pass, what it was told of its last asking, and a moment that its clock has reached
 pub record Shared (M : Type 0) : Type 0 where
   pub pass : Pass
   pub asked : Asked M
+  pub reached : ℕ
 
 -- a port with this pass that was told so
-abbrev pub port_in : {M : Type 0} → Pass → Asked M → Shared M
-port_in pass asked = record { pass = pass; asked = asked }
+abbrev pub port_in : {M : Type 0} → Pass → Asked M → ℕ → Shared M
+port_in pass asked reached = record { pass = pass; asked = asked; reached = reached }
 
 -- an acquire that waited, and what its giving up was answered
 abbrev pub asked_by : {M : Type 0} → Told → Result Told Refusal → Asked M

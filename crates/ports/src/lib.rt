@@ -11,6 +11,7 @@
 #![tactic(auto)]
 
 mod asked;
+mod reached;
 mod shared;
 mod solo;
 mod view;

@@ -5,10 +5,11 @@ ghost use Rattle.gate_port.specs.Asking.{ask_of};
 ghost use Rattle.gate_port.specs.Log.{AdmitsIn, EndsIn};
 ghost use Rattle.ports.specs.declared.asked.Asked.TheVariants.{Nothing};
 ghost use Rattle.ports.specs.Asked.{IsAnswered, port_in};
-ghost use Rattle.ports.specs.Told.{IsTold};
+ghost use Rattle.ports.specs.Told.{IsLate, IsTold};
 
 use crate::asked::Asked;
-use clocks::Clock;
+use crate::reached::Reached;
+use clocks::{Clock, Looks};
 use gate_history::{Permit, Receipt};
 use gate_port::{Admission, GatePort, Why};
 use limit_laws::Limit;
@@ -22,7 +23,7 @@ use std::time::Clock as SystemClock;
 
 /// A port over a gate that threads share, with a pass of its own. It shows no entries; what it
 /// knows of the gate's log is what its pass knows, and it keeps the receipts of its last asking.
-/// Contracts see these and its pass.
+/// Contracts see these, its pass, and the moment at which its last wait in vain was over.
 #[derive(Drop)]
 pub struct Port<'a, L: Limit, M: GateNaming, R, C> {
     rt: &'a R,
@@ -30,6 +31,7 @@ pub struct Port<'a, L: Limit, M: GateNaming, R, C> {
     pass: Pass<M>,
     asked: Asked<M>,
     clock: &'a C,
+    reached: Reached,
     // Where the moment is noted at which its permit was got, in nanoseconds from 1 on; 0 where it
     // has none.
     since: Option<&'a AtomicU64>,
@@ -40,7 +42,7 @@ impl<'a, L: Limit, M: GateNaming, R, C> Model for Port<'a, L, M, R, C> {
 
     ghost Value = { Shared M };
 
-    ghost view = { λ p. port_in p.pass p.asked };
+    ghost view = { λ p. port_in p.pass p.asked p.reached };
 
     ghost invariant = { λ p. Unit {0} };
 }
@@ -53,7 +55,7 @@ impl<'a, L: Limit, M: GateNaming, R, C> Port<'a, L, M, R, C> {
         pass: Pass<M>,
         clock: &'a C,
     ) -> Port<'a, L, M, R, C>
-        ensures { result ≡ port_in pass Nothing }
+        ensures { result ≡ port_in pass Nothing 0 }
     {
         Port {
             rt,
@@ -61,6 +63,7 @@ impl<'a, L: Limit, M: GateNaming, R, C> Port<'a, L, M, R, C> {
             pass,
             asked: Asked::Nothing,
             clock,
+            reached: Reached::first(),
             since: None,
         }
     }
@@ -76,6 +79,7 @@ impl<'a, L: Limit, M: GateNaming, R, C> Port<'a, L, M, R, C> {
             pass,
             asked,
             clock,
+            reached,
             since: _,
         } = self;
         Port {
@@ -84,6 +88,7 @@ impl<'a, L: Limit, M: GateNaming, R, C> Port<'a, L, M, R, C> {
             pass,
             asked,
             clock,
+            reached,
             since: Some(since),
         }
     }
@@ -105,6 +110,7 @@ impl<'a, L: Limit, M: GateNaming, R, C> Port<'a, L, M, R, C> {
             pass,
             asked: _,
             clock: _,
+            reached: _,
             since: _,
         } = self;
         pass
@@ -146,9 +152,28 @@ impl<'a, L: Limit, M: GateNaming, R: Wait + SystemClock, C: Clock> Port<'a, L, M
             (record { part = part; bypass = false; wait = true }) now result }
         ensures answered { IsAnswered self.old.pass self.new.pass
             (record { part = part; bypass = false; wait = true }) now self.new.asked result }
+        ensures late { IsLate (Some deadline) self.new.reached result }
     {
-        let (rt, pass, clock) = (self.rt, &mut self.pass, self.clock);
-        let (asked, answer) = match self.gate.acquire_wait(rt, pass, part, now, clock, deadline) {
+        let mut looks = Looks::new(self.clock);
+        self.ask_until(part, now, &mut looks, deadline)
+    }
+
+    /// The same, by these looks at the clock.
+    fn ask_until(
+        &mut self,
+        part: Part,
+        now: u64,
+        looks: &mut Looks<'a, C, ()>,
+        deadline: u64,
+    ) -> Admission<Permit<M>>
+        ensures told { IsTold self.old.pass self.new.pass
+            (record { part = part; bypass = false; wait = true }) now result }
+        ensures answered { IsAnswered self.old.pass self.new.pass
+            (record { part = part; bypass = false; wait = true }) now self.new.asked result }
+        ensures late { IsLate (Some deadline) self.new.reached result }
+    {
+        let (rt, pass) = (self.rt, &mut self.pass);
+        let (asked, answer) = match self.gate.acquire_wait(rt, pass, part, now, looks, deadline) {
             Waited::Admitted(receipt, permit) => {
                 (Asked::Answered(receipt), Admission::Admitted(permit))
             }
@@ -156,6 +181,7 @@ impl<'a, L: Limit, M: GateNaming, R: Wait + SystemClock, C: Clock> Port<'a, L, M
                 (Asked::GaveUp(first, second), Admission::Admitted(permit))
             }
             Waited::TimedOut(first, second) => {
+                self.reached = Reached::by(looks);
                 (
                     Asked::GaveUp(first, second),
                     Admission::Refused(Why::TimedOut),
@@ -191,6 +217,7 @@ impl<'a, L: Limit, M: GateNaming, R: Wait + SystemClock, C: Clock> Port<'a, L, M
             result }
         ensures answered { IsAnswered self.old.pass self.new.pass
             (ask_of part bypass deadline) now self.new.asked result }
+        ensures late { IsLate deadline self.new.reached result }
         ensures log { AdmitsIn part bypass deadline now (Some self.old.pass.log)
             (Some self.new.pass.log) (λ permit. permit) result }
         ensures few { self.new.pass.count
@@ -249,6 +276,7 @@ impl<'a, L: Limit, M: GateNaming, R: Wait + SystemClock, C: Clock> GatePort
             result }
         ensures answered { IsAnswered self.old.pass self.new.pass
             (ask_of part bypass deadline) now self.new.asked result }
+        ensures late { IsLate deadline self.new.reached result }
         ensures log { AdmitsIn part bypass deadline now (Some self.old.pass.log)
             (Some self.new.pass.log) (λ permit. permit) result }
         ensures few { self.new.pass.count

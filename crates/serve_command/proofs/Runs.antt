@@ -1,11 +1,17 @@
 -- What the workers of a gateway did, by what their ports know in the end.
 use Rattle.std.proofs.Common.{◌≡◌, refl, ap, ℕ, suc, false, List, [], ◌∷◌, All, Option, None, Some}
 use Rattle.std.specs.List.{AllZip}
+use Rattle.std.specs.Prelude.{◌≢◌, IfNone, IfSome}
 use Rattle.std.proofs.Common.{◌++◌, ◌∙◌, length, map, option_to_list, subst, sym}
 use mathlib.Core.List.{map-append}
 use Rattle.std.proofs.lemmas.List.Elements.{All-nil, All-cons, All-head, All-tail}
+use Rattle.limit_laws.specs.Algorithm.{Algorithm}
+use Rattle.limiter_core.specs.declared.counters.Counters.{Counters}
 use Rattle.limiter_core.specs.declared.event.Entry.{Entry}
+use Rattle.gate_ledgers.specs.Making.{Making}
 use Rattle.shared_gate.specs.Calls.{Pass}
+use Rattle.shared_gate.specs.Closing.{calls_by}
+use Rattle.shared_gate.specs.Reported.{AreCountersBehind}
 use Rattle.ports.specs.declared.asked.Asked.TheVariants.{Nothing}
 use Rattle.ports.specs.Asked.{Shared, port_in}
 use Rattle.gate_config.specs.declared.settings.Settings.{Settings}
@@ -20,7 +26,7 @@ use Rattle.serving.specs.declared.working.WorkerSettings.{WorkerSettings}
 use Rattle.serving.specs.Doors.{failed_of, given_of, is_closed}
 use Rattle.serving.specs.Turns.{IsRun}
 use Rattle.serving.specs.Workers.{HasRun, ended_in}
-use Rattle.serve_command.specs.Runs.{HasRunTo, stood_at}
+use Rattle.serve_command.specs.Runs.{AreToldOfRuns, HasRunTo, calls_told, stood_at}
 
 module _ {L C S W : Type 0} (R T V M : Type 0) (gives : S → Settings → Type 0)
     (came : L → Option (List ℕ) → Type 0) (common : WorkerSettings L C S W) where
@@ -37,7 +43,7 @@ module _ {L C S W : Type 0} (R T V M : Type 0) (gives : S → Settings → Type 
   pass_in ended = ended.port.pass
 
   abbrev port_of : Pass → Shared M
-  port_of pass = port_in pass Nothing
+  port_of pass = port_in pass Nothing 0
 
   -- one worker, whose pass knew nothing
   ran_to : (pass : Pass) (ended : End) → pass.log ≡ [] → Ran (port_of pass) ended
@@ -99,3 +105,29 @@ one_pass_more {A} {B} {M} lefts l pass passes more same own is =
     ∙ ap (λ (ps : List Pass). map pass_of (ended_in lefts) ++ ps) own
     ∙ sym (map-append pass_of (ended_in lefts) (ended_in (l ∷ [])))
     ∙ ap (λ (es : List (WorkerExit A (Shared M) B)). map pass_of es) (sym (ended_more lefts l))
+
+-- what is told of runs, by whether their counters tell of just as many calls as were made
+pub told_of_runs : {S : Type 0} (rules : Algorithm S) (m : Making) (Gives : Settings → Type 0)
+    (Came : Option (List ℕ) → Type 0) (workers most : ℕ) (passes : List Pass)
+    (counters : Counters) (calls : ℕ) (told : Option Counters) → length passes ≡ workers
+    → All (HasRunTo Gives Came most) passes → AreCountersBehind rules m passes counters
+    → calls ≡ calls_by passes
+    → IfSome told (λ it. (it ≡ counters) × (calls_told counters ≡ calls))
+    → IfNone told (calls_told counters ≢ calls)
+    → AreToldOfRuns rules m Gives Came workers most told
+told_of_runs rules m Gives Came workers most passes counters calls (Some it) all ran behind is some
+    none = record {
+      passes = passes;
+      all = all;
+      ran = ran;
+      behind = subst (λ (c : Counters). AreCountersBehind rules m passes c) (sym some.0) behind;
+      balance = ap calls_told some.0 ∙ some.1 ∙ is;
+    }
+told_of_runs rules m Gives Came workers most passes counters calls None all ran behind is some none =
+    record {
+      passes = passes;
+      all = all;
+      counters = counters;
+      behind = behind;
+      off = λ same. none (same ∙ sym is);
+    }

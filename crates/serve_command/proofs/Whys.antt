@@ -18,23 +18,26 @@ use Rattle.serve_command.specs.ServiceFault.{of_workers}
 use Rattle.serve_command.specs.Command.{AreOfFile, IsBound, IsBoundToo, IsOfAdmin, IsOfServing}
 use Rattle.serve_command.specs.Command.{IsUnboundToo, IsWhyOfService}
 
--- a fault that isn't one of the configuration or of the counters
+-- a fault that isn't one of the configuration or of writing the counters
 abbrev IsServing : ServiceFault → Type 0
 IsServing (Service.Config fault) = ⊥
 IsServing Service.Listen = Unit {0}
 IsServing Service.Memory = Unit {0}
 IsServing Service.Thread = Unit {0}
+IsServing Service.Miscounted = Unit {0}
 IsServing Service.Write = ⊥
 
 -- as is each that serving has a cause of
 pub serving_is : {L : Type 0} (Bound : List ℕ → L → Type 0) (Unbound : List ℕ → Type 0)
-    (listen : List ℕ) (admin status : Option SocketAddrV4) (before after : ℕ) (f : ServiceFault)
-    → IsOfServing Bound Unbound listen admin status before after f → IsServing f
-serving_is Bound Unbound listen admin status before after (Service.Config fault) of = absurd of
-serving_is Bound Unbound listen admin status before after Service.Listen of = tt
-serving_is Bound Unbound listen admin status before after Service.Memory of = tt
-serving_is Bound Unbound listen admin status before after Service.Thread of = tt
-serving_is Bound Unbound listen admin status before after Service.Write of = absurd of
+    (listen : List ℕ) (admin status : Option SocketAddrV4) (before after : ℕ) (Miscounts : Type 0)
+    (f : ServiceFault) → IsOfServing Bound Unbound listen admin status before after Miscounts f
+    → IsServing f
+serving_is Bound Unbound listen admin status before after M (Service.Config fault) of = absurd of
+serving_is Bound Unbound listen admin status before after M Service.Listen of = tt
+serving_is Bound Unbound listen admin status before after M Service.Memory of = tt
+serving_is Bound Unbound listen admin status before after M Service.Thread of = tt
+serving_is Bound Unbound listen admin status before after M Service.Miscounted of = tt
+serving_is Bound Unbound listen admin status before after M Service.Write of = absurd of
 
 module _ {F W X : Type 0} (Unopened : Type 0) (Opened : F → Type 0)
     (remaining : F → Option (List ℕ)) (OfServing : Settings → ServiceFault → Type 0)
@@ -78,6 +81,7 @@ module _ {F W X : Type 0} (Unopened : Type 0) (Opened : F → Type 0)
       go Service.Listen of served = (refl, (s, had, of))
       go Service.Memory of served = (refl, (s, had, of))
       go Service.Thread of served = (refl, (s, had, of))
+      go Service.Miscounted of served = (refl, (s, had, of))
       go Service.Write of served = absurd served
 
 -- its counters weren't written
@@ -99,10 +103,10 @@ bound_at Bound text listen listener same bound =
 
 -- why serving failed, by what was missing
 module _ {L X : Type 0} (Bound : List ℕ → L → Type 0) (Unbound : List ℕ → Type 0)
-    (listen : List ℕ) (admin status : Option SocketAddrV4) (before after : ℕ)
+    (listen : List ℕ) (admin status : Option SocketAddrV4) (before after : ℕ) (Miscounts : Type 0)
     (r : Result X ServiceFault) where
   abbrev Of : ServiceFault → Type 0
-  Of = IsOfServing Bound Unbound listen admin status before after
+  Of = IsOfServing Bound Unbound listen admin status before after Miscounts
 
   of : (fault : ServiceFault) → r ≡ Err fault → Of fault → IfErr r Of
   of fault is = subst (λ (x : Result X ServiceFault). IfErr x Of) (sym is)
@@ -123,6 +127,7 @@ module _ {L X : Type 0} (Bound : List ℕ → L → Type 0) (Unbound : List ℕ 
       go Service.Listen why = inr (inl (bound, why))
       go Service.Memory why = bound
       go Service.Thread why = absurd why
+      go Service.Miscounted why = absurd why
       go Service.Write why = absurd why
 
   -- that of whoever looks

@@ -65,19 +65,23 @@ pub record HasServed {F L W : Type 0} (Opened : F → Type 0) (remaining : F →
   pub unfailing : failures_of new ≡ failures_of old
   pub flushed : is_flushed new ≡ true
 
--- A FAULT OF SERVING ITSELF, by the addresses and by how many threads were refused before and
--- after: an address couldn't be bound, of clients, of the operator or of whoever looks; or that of
--- clients was, and memory was lacking, or the system refused a thread
+-- A FAULT OF SERVING ITSELF, by the addresses, by how many threads were refused before and after,
+-- and by what is miscounted: an address couldn't be bound, of clients, of the operator or of whoever
+-- looks; or that of clients was, and memory was lacking, the system refused a thread, or all have
+-- served, and the gate's counters tell of calls that none of them made
 abbrev pub IsOfServing : {L : Type 0} → (List ℕ → L → Type 0) → (List ℕ → Type 0)
-    → List ℕ → Option SocketAddrV4 → Option SocketAddrV4 → ℕ → ℕ → ServiceFault → Type 0
-IsOfServing Bound Unbound listen admin status before after (Service.Config fault) = ⊥
-IsOfServing Bound Unbound listen admin status before after Service.Listen =
+    → List ℕ → Option SocketAddrV4 → Option SocketAddrV4 → ℕ → ℕ → Type 0 → ServiceFault → Type 0
+IsOfServing Bound Unbound listen admin status before after Miscounts (Service.Config fault) = ⊥
+IsOfServing Bound Unbound listen admin status before after Miscounts Service.Listen =
     Unbound listen ⊎ (IsBound Bound listen × IsUnboundToo Unbound admin)
     ⊎ (IsBound Bound listen × IsBoundToo Bound admin × IsUnboundToo Unbound status)
-IsOfServing Bound Unbound listen admin status before after Service.Memory = IsBound Bound listen
-IsOfServing Bound Unbound listen admin status before after Service.Thread =
+IsOfServing Bound Unbound listen admin status before after Miscounts Service.Memory =
+    IsBound Bound listen
+IsOfServing Bound Unbound listen admin status before after Miscounts Service.Thread =
     IsBound Bound listen × (after ≡ raised before)
-IsOfServing Bound Unbound listen admin status before after Service.Write = ⊥
+IsOfServing Bound Unbound listen admin status before after Miscounts Service.Miscounted =
+    IsBound Bound listen × Miscounts
+IsOfServing Bound Unbound listen admin status before after Miscounts Service.Write = ⊥
 
 -- why an operator's address isn't had
 abbrev pub IsOfAdmin : (List ℕ → Type 0) → Option SocketAddrV4 → ServiceFault → Type 0
@@ -85,6 +89,7 @@ IsOfAdmin Unbound admin (Service.Config fault) = ⊥
 IsOfAdmin Unbound admin Service.Listen = IsUnboundToo Unbound admin
 IsOfAdmin Unbound admin Service.Memory = Unit {0}
 IsOfAdmin Unbound admin Service.Thread = ⊥
+IsOfAdmin Unbound admin Service.Miscounted = ⊥
 IsOfAdmin Unbound admin Service.Write = ⊥
 
 -- settings of the file were had, with which this holds

@@ -17,4 +17,5 @@ service_fault_text (Service.Config fault) = file_fault_text fault
 service_fault_text Service.Listen = codes "listen"
 service_fault_text Service.Memory = codes "memory"
 service_fault_text Service.Thread = codes "thread"
+service_fault_text Service.Miscounted = codes "miscounted"
 service_fault_text Service.Write = codes "write"

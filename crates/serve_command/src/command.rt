@@ -4,6 +4,7 @@ ghost use Rattle.std.specs.Net.Text.{socket_v4_text};
 ghost use Rattle.counted_io.specs.declared.counted.Counted.{Counted as CountedValue};
 ghost use Rattle.counted_io.specs.Counted.{failures_of, inner_of};
 ghost use Rattle.tasks.specs.Refused.{refused_of};
+ghost use Rattle.limit_kinds.specs.AnyKinds.{any_rules};
 ghost use Rattle.gate_config.specs.Settings.{AreSound};
 ghost use Rattle.fault_lines.specs.FaultLine.{IsTold, fault_line};
 ghost use Rattle.config_file.specs.Reading.{Held, IsUnreadFile, Says};
@@ -11,6 +12,8 @@ ghost use Rattle.serve_command.specs.declared.fault.ServiceFault.TheVariants.{Li
 ghost use Rattle.serve_command.specs.Command.{AreCountersAt, HasServed, IsBoundToo, IsOfAdmin};
 ghost use Rattle.serve_command.specs.Command.{IsUnboundToo};
 ghost use Rattle.serve_command.specs.Command.{IsOfServing, IsWhyOfService};
+ghost use Rattle.gate_opening.specs.Opening.{making_of};
+ghost use Rattle.serve_command.specs.Runs.{AreMiscounted};
 ghost use Rattle.serve_command.specs.ServiceFault.{service_fault_text};
 
 use crate::admin::AdminAddress;
@@ -107,7 +110,9 @@ where
         × IsWhyOfService (F.unopened service.now.path.now)
         (F.opened service.now.path.now) F.File.remaining
         (λ s. IsOfServing B.bound B.unbound s.listen service.now.admin service.now.status
-        (refused_of spawner.old) (refused_of spawner.new)) writer.old writer.new fault }
+        (refused_of spawner.old) (refused_of spawner.new)
+        (AreMiscounted any_rules (making_of service.now.workers s) service.now.workers))
+        writer.old writer.new fault }
 {
     match serve_and_count(rt, spawner, files, addresses, alloc, service, writer) {
         Ok(()) => DONE,
@@ -144,7 +149,9 @@ where
     ensures refused { IfErr result (IsWhyOfService (F.unopened service.now.path.now)
         (F.opened service.now.path.now) F.File.remaining
         (λ s. IsOfServing B.bound B.unbound s.listen service.now.admin service.now.status
-        (refused_of spawner.old) (refused_of spawner.new)) writer.old writer.new) }
+        (refused_of spawner.old) (refused_of spawner.new)
+        (AreMiscounted any_rules (making_of service.now.workers s) service.now.workers))
+        writer.old writer.new) }
 {
     let text = read_config(rt, files, alloc, service.path)?;
     let settings = read_bytes(alloc, &text)?;
@@ -210,7 +217,9 @@ where
         service.now.per_worker) }
     ensures refused { IfErr result (IsOfServing B.bound B.unbound settings.now.listen
         service.now.admin service.now.status
-        (refused_of spawner.old) (refused_of spawner.new)) }
+        (refused_of spawner.old) (refused_of spawner.new)
+        (AreMiscounted any_rules (making_of service.now.workers settings.now)
+        service.now.workers)) }
 {
     let front = bind(rt, addresses, settings.listen.socket())?;
     let admin = bind_admin(rt, addresses, alloc, service.admin)?;
@@ -228,7 +237,10 @@ where
         watch: &watch,
         alloc,
     };
-    Ok(serve_in(rt, spawner, &context, settings, service)?)
+    match serve_in(rt, spawner, &context, settings, service)? {
+        Some(counters) => Ok(counters),
+        None => Err(ServiceFault::Miscounted),
+    }
 }
 
 /// What notes and logs what happens. It fails only out of memory.

@@ -6,7 +6,7 @@ ghost use Rattle.limit_kinds.specs.AnyKinds.{any_rules};
 ghost use Rattle.gate_config.specs.Settings.{AreSound};
 ghost use Rattle.config_file.specs.Reading.{Says};
 ghost use Rattle.gate_opening.specs.Opening.{making_of};
-ghost use Rattle.serve_command.specs.Runs.{AreCountersOfRuns};
+ghost use Rattle.serve_command.specs.Runs.{AreToldOfRuns};
 
 use crate::admin::{AdminAddress, SideAddresses, listener_of};
 use crate::command::Service;
@@ -50,14 +50,15 @@ pub(crate) struct ServeContext<'a, R: SystemClock, L> {
     pub(crate) alloc: Global,
 }
 
-/// Serves by these settings, which are those of the text, and tells the gate's counters.
+/// Serves by these settings, which are those of the text, and tells the gate's counters; or none,
+/// where these tell of calls that no worker made.
 pub(crate) fn serve_in<'c, R, L>(
     rt: &'c R,
     spawner: &mut Spawner<'_, R>,
     context: &ServeContext<'c, R, L>,
     settings: &'c Settings,
     service: &Service<'_>,
-) -> Result<Counters, ServeFault>
+) -> Result<Option<Counters>, ServeFault>
 where
     R: Net + Threads + Wait + SystemClock + Log + Sync,
     L: Listener + Sync,
@@ -69,7 +70,7 @@ where
     requires says { Says context.now.text.now.bytes.items (Ok settings.now) }
     requires sound { AreSound settings.now }
     requires few { service.now.workers ≤ 64 }
-    ensures counted { IfOk result (AreCountersOfRuns any_rules
+    ensures counted { IfOk result (AreToldOfRuns any_rules
         (making_of service.now.workers settings.now)
         (λ own. Says context.now.text.now.bytes.items (Ok own)) (L.came context.now.front.now)
         service.now.workers service.now.per_worker) }

@@ -20,6 +20,8 @@ pub enum ServiceFault {
     Memory,
     /// A thread couldn't be started; the workers that were have ended.
     Thread,
+    /// All workers have ended, and the gate's counters tell of calls that none of them made.
+    Miscounted,
     /// The counters can't be written.
     Write,
 }
@@ -70,6 +72,7 @@ pub(crate) fn report_service_fault<E: Write>(errors: &mut Counted<E>, fault: &Se
         ServiceFault::Listen => report_fault(errors, &["listen"]),
         ServiceFault::Memory => report_fault(errors, &["memory"]),
         ServiceFault::Thread => report_fault(errors, &["thread"]),
+        ServiceFault::Miscounted => report_fault(errors, &["miscounted"]),
         ServiceFault::Write => report_fault(errors, &["write"]),
     }
 }

@@ -1,6 +1,6 @@
 // The gate of a configuration, and its workers.
-ghost use Rattle.std.specs.Prelude.{◌≡◌, ◌≤◌, ◌+◌, [], ◌∷◌, map, replicate, vec_len};
-ghost use Rattle.std.specs.Prelude.{All, IfOk, IsErrOf, OnOk, option_to_list};
+ghost use Rattle.std.specs.Prelude.{◌≡◌, ◌≢◌, ◌≤◌, ◌+◌, [], ◌∷◌, map, replicate, vec_len};
+ghost use Rattle.std.specs.Prelude.{All, IfNone, IfOk, IfSome, IsErrOf, OnOk, option_to_list};
 ghost use Rattle.counted_io.specs.Count.{raised};
 ghost use Rattle.tasks.specs.Refused.{refused_of};
 ghost use Rattle.limit_kinds.specs.AnyKinds.{any_rules};
@@ -12,7 +12,7 @@ ghost use Rattle.gate_opening.specs.Opening.{journal_of, making_of};
 ghost use Rattle.ports.specs.declared.asked.Asked.TheVariants.{Nothing};
 ghost use Rattle.ports.specs.Asked.{port_in};
 ghost use Rattle.serving.specs.Workers.{ended_in};
-ghost use Rattle.serve_command.specs.Runs.{AreCountersOfRuns};
+ghost use Rattle.serve_command.specs.Runs.{AreToldOfRuns, calls_told};
 
 use crate::admin::SideAddresses;
 use crate::operators::make_operators;
@@ -52,11 +52,11 @@ pub(crate) struct Gateway<'g, R: SystemClock, L, C, S> {
 }
 
 /// Serves clients through the gate of the gateway's settings, by its workers, and tells the gate's
-/// counters once all have ended.
+/// counters once all have ended; or none, where these tell of calls that no worker made.
 pub(crate) fn serve_gateway<R, L, C, S>(
     spawner: &mut Spawner<'_, R>,
     gateway: &Gateway<'_, R, L, C, S>,
-) -> Result<Counters, ServeFault>
+) -> Result<Option<Counters>, ServeFault>
 where
     R: Net + Threads + Wait + SystemClock + Log + Sync,
     L: Listener + Sync,
@@ -70,7 +70,7 @@ where
     requires given { S.gives gateway.now.common.now.source.now gateway.now.settings.now }
     requires sound { AreSound gateway.now.settings.now }
     requires few { gateway.now.workers ≤ 64 }
-    ensures counted { IfOk result (AreCountersOfRuns any_rules
+    ensures counted { IfOk result (AreToldOfRuns any_rules
         (making_of gateway.now.workers gateway.now.settings.now)
         (S.gives gateway.now.common.now.source.now)
         (L.came gateway.now.common.now.listener.now) gateway.now.workers
@@ -80,16 +80,19 @@ where
 {
     let word = Word::new(gateway.common.alloc)?;
     let blanks = Blanks::new();
-    serve_named::<Brand, R, L, C, S>(spawner, gateway, blanks, word)
+    let others = gateway.side.count();
+    serve_named::<Brand, R, L, C, S>(spawner, gateway, blanks, word, others)
 }
 
-/// Serves clients through the gate of the gateway's settings, which has these names.
+/// Serves clients through the gate of the gateway's settings, which has these names, with so many
+/// passes beside those of its workers.
 fn serve_named<M, R, L, C, S>(
     spawner: &mut Spawner<'_, R>,
     gateway: &Gateway<'_, R, L, C, S>,
     blanks: Blanks,
     word: Word,
-) -> Result<Counters, ServeFault>
+    others: usize,
+) -> Result<Option<Counters>, ServeFault>
 where
     M: GateNaming + Send + Sync,
     R: Net + Threads + Wait + SystemClock + Log + Sync,
@@ -104,12 +107,14 @@ where
     requires names { AreNamed M.calls M.place blanks }
     requires parts { AreWhole blanks }
     requires word { word ≡ M.word }
+    requires passes { M.passes ≡ gateway.now.workers + others }
+    requires beside { others ≤ 8 }
     requires making { M.making ≡ making_of gateway.now.workers gateway.now.settings.now }
     requires sound { AreSound gateway.now.settings.now }
     requires legal { CallsLegal any_rules
         (journal_of gateway.now.workers gateway.now.settings.now) M.legal }
     requires few { gateway.now.workers ≤ 64 }
-    ensures counted { IfOk result (AreCountersOfRuns any_rules
+    ensures counted { IfOk result (AreToldOfRuns any_rules
         (making_of gateway.now.workers gateway.now.settings.now)
         (S.gives gateway.now.common.now.source.now)
         (L.came gateway.now.common.now.listener.now) gateway.now.workers
@@ -117,7 +122,7 @@ where
     ensures thread { IsErrOf result ServeFault.Thread →
         refused_of spawner.new ≡ raised (refused_of spawner.old) }
 {
-    let (workers, others) = (gateway.workers as usize, gateway.side.count());
+    let workers = gateway.workers as usize;
     let (gate, mut passes) = open_gate::<M>(
         gateway.common.alloc,
         gateway.settings,
@@ -138,7 +143,7 @@ fn serve_through<M, R, G, L, C, S>(
     gate: &SharedGate<G, M>,
     passes: Vec<Pass<M>>,
     own: Vec<Pass<M>>,
-) -> Result<Counters, ServeFault>
+) -> Result<Option<Counters>, ServeFault>
 where
     M: GateNaming + Send + Sync,
     R: Net + Threads + Wait + SystemClock + Log + Sync,
@@ -152,7 +157,7 @@ where
     R::Stream: Send + Sync,
     R::Listener: Send + Sync,
     requires unused { All (λ pass. pass.log ≡ []) passes.items }
-    ensures counted { IfOk result (AreCountersOfRuns G.rules M.making
+    ensures counted { IfOk result (AreToldOfRuns G.rules M.making
         (S.gives gateway.now.common.now.source.now)
         (L.came gateway.now.common.now.listener.now) (vec_len passes)
         gateway.now.common.now.per_worker) }
@@ -174,7 +179,37 @@ where
         operators,
     )?;
     let passes = passes_of(kept, lefts)?;
-    Ok(gate.counters_behind(rt, passes))
+    let (counters, calls) = gate.counters_behind(rt, passes);
+    Ok(balanced(counters, calls))
+}
+
+/// The counters, where they tell of just so many calls.
+fn balanced(counters: Counters, calls: u64) -> Option<Counters>
+    ensures some { IfSome result (λ told.
+        (told ≡ counters) × (calls_told counters ≡ calls)) }
+    ensures none { IfNone result (calls_told counters ≢ calls) }
+{
+    if calls_told(counters) == u128::from(calls) {
+        Some(counters)
+    } else {
+        None
+    }
+}
+
+/// How many calls counters tell of. Settings and resets of the limit aren't among them.
+fn calls_told(counters: Counters) -> u128
+    ensures { result ≡ calls_told counters }
+{
+    let asked = u128::from(counters.admitted)
+        + u128::from(counters.bypassed)
+        + u128::from(counters.full)
+        + u128::from(counters.backlog_full)
+        + u128::from(counters.waiting);
+    let given_up = u128::from(counters.promoted) + u128::from(counters.timed_out);
+    let ended = u128::from(counters.success)
+        + u128::from(counters.ignored)
+        + u128::from(counters.dropped);
+    asked + given_up + ended
 }
 
 /// The passes behind the first ones, so many of them. It fails only out of memory.
@@ -202,7 +237,7 @@ fn make_ports<'a, M: GateNaming, R, G: Limit, C>(
 where
     R: SystemClock,
     ensures { IfOk result (λ ports.
-        ports.items ≡ map (λ pass. port_in pass Nothing) passes.items) }
+        ports.items ≡ map (λ pass. port_in pass Nothing 0) passes.items) }
 {
     let mut ports = Vec::new(alloc);
     for pass in passes {

@@ -1,7 +1,7 @@
 -- Why a closed gate's audit fails, by its book and its history.
 use Rattle.std.proofs.Common.{◌≡◌, ℕ, zero, suc, List, [], ◌∷◌, ◌++◌, length, drop}
 use Rattle.std.proofs.Common.{refl, sym, ap, ◌∙◌, subst, arith, length-append}
-use Rattle.std.specs.Prelude.{IfErr, IfOk, Result, Ok, Err, Vec}
+use Rattle.std.specs.Prelude.{IfErr, IfOk, Result, Ok, Err, Vec, false}
 use Rattle.std.specs.declared.alloc.Global.{Global}
 use Rattle.limit_laws.specs.Algorithm.{Algorithm}
 use Rattle.limiter_core.specs.declared.event.Entry.{Entry}
@@ -14,10 +14,11 @@ use Rattle.gate_ledgers.specs.Making.{Making}
 use Rattle.gate_ledgers.specs.Told.{Told}
 use Rattle.gate_history.specs.Book.{Agrees, Book, IsMadeAs, IsUnasked, calls_of}
 use Rattle.audit.specs.declared.cause.Cause.{Cause}
+use Rattle.audit.specs.declared.cause.Cause.TheVariants as cause
 use Rattle.audit.specs.declared.judge.Calls.{Calls}
 use Rattle.audit.specs.Accepted.{IsHistoryOf}
-use Rattle.audit.specs.Verdict.{audited, IsFirstCause}
-use Rattle.shared_gate.specs.Closing.{IsEndOf, IsKept, limiter_of}
+use Rattle.audit.specs.Verdict.{Audit, HasAllPasses, audited, IsFirstCause}
+use Rattle.shared_gate.specs.Closing.{IsEndOf, IsKept, is_missing, limiter_of}
 use Rattle.shared_gate.specs.Log.{IsBehind}
 
 -- the book's journal as a value of its own
@@ -93,6 +94,18 @@ first_of calls counted base entries shown kept lists cause is same lent first =
     (subst (λ (h : List Entry). IsFirstCause (audited calls base h kept) cause) same
     (subst (λ (ls : List (Vec Told Global)). IsFirstCause (audited calls base shown ls) cause)
     lent first))
+
+-- where all passes are there none is missing
+pub none_is_missing : (a : Audit) (c : Cause) → HasAllPasses a → IsFirstCause a c
+    → is_missing c ≡ false
+none_is_missing a cause.Memory all first = refl
+none_is_missing a (cause.PassesMissing book sum) all first =
+    absurd (first.2 (first.0 ∙ all ∙ sym first.1))
+none_is_missing a (cause.Rolled base) all first = refl
+none_is_missing a (cause.Strange list place) all first = refl
+none_is_missing a (cause.Order list place) all first = refl
+none_is_missing a (cause.Uncovered number) all first = refl
+none_is_missing a (cause.Unmatched number) all first = refl
 
 -- an accepted history has the calls of the passes
 pub has_the_calls : (calls : Calls) (log entries : List Entry) → calls.book ≡ calls_of log

@@ -20,6 +20,11 @@ get_any [] i d e h = absurd (omega arith)
 get_any (x ∷ xs) zero d e h = refl
 get_any (x ∷ xs) (suc i) d e h = get_any xs i d e (omega arith)
 
+-- one more is one more
+pub one_longer : {A : Type 0} (xs : List A) (y : A) → length (xs ++ y ∷ []) ≡ suc (length xs)
+one_longer [] y = refl
+one_longer (x ∷ xs) y = ap suc (one_longer xs y)
+
 -- a fact of each of a list that has one more in front, or behind
 module _ {A : Type 0} (P : A → Type 0) where
   all_more : (r : A) (rs : List A) → P r → All P rs → All P (r ∷ rs)

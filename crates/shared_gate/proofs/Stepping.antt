@@ -57,6 +57,13 @@ module _ {S : Type 0} (rules : Algorithm S) (old new : Book S) (before after : �
   sealed_after (Ok told) got d = d.is_sealed
   sealed_after (Err refusal) got d = ap (λ (b : Book S). b.is_sealed) d.same
 
+  -- it has as many passes as before
+  pub passes_after : (told : Result Told Refusal) (got : Given)
+      → StepsTo rules old new before after e told got
+      → new.tally.passes ≡ old.tally.passes
+  passes_after (Ok told) got d = d.passes
+  passes_after (Err refusal) got d = ap (λ (b : Book S). b.tally.passes) d.same
+
   pub next_after : (told : Result Told Refusal) (got : Given)
       → StepsTo rules old new before after e told got
       → next_number next ≡ length (log ++ picked log next)

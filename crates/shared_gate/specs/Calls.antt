@@ -100,26 +100,27 @@ Gets before after part bypass wait now (got.Exhausted spent) =
     IsUntold before after (Acquire part bypass wait now) spent
 
 -- an acquire that may wait: an acquire with `wait`, and where that waits a giving up of its number,
--- by the pass as it was left then
-abbrev pub Waits : {M : Type 0} → Pass → Pass → Part → ℕ → Waited M → Type 0
-Waits {M} before after part now (waited.Admitted receipt permit) =
+-- by the pass as it was left then. Its time is over only once the latest moment that the clock told
+-- is no earlier than the deadline
+abbrev pub Waits : {M : Type 0} → Pass → Pass → Part → (now deadline latest : ℕ) → Waited M → Type 0
+Waits {M} before after part now deadline latest (waited.Admitted receipt permit) =
     Gets {M = M} before after part false true now (got.Admitted receipt permit)
-Waits {M} before after part now (waited.BacklogFull receipt) =
+Waits {M} before after part now deadline latest (waited.BacklogFull receipt) =
     Gets {M = M} before after part false true now (got.BacklogFull receipt)
-Waits before after part now (waited.Exhausted spent) =
+Waits before after part now deadline latest (waited.Exhausted spent) =
     IsUntold before after (Acquire part false true now) spent
-Waits before after part now (waited.Promoted first second permit) =
+Waits before after part now deadline latest (waited.Promoted first second permit) =
     (mid : Pass) × IsQueued before mid part now first
     × IsTold mid after (GiveUp first.number) second
     × WasGranted second.number first.number second.reply permit
-Waits before after part now (waited.TimedOut first second) =
+Waits before after part now deadline latest (waited.TimedOut first second) =
     (mid : Pass) × IsQueued before mid part now first
     × IsTold mid after (GiveUp first.number) second
-    × (second.reply ≡ reply.TimedOut) × (first.number < second.number)
-Waits before after part now (waited.Lost first (Ok second)) =
+    × (second.reply ≡ reply.TimedOut) × (first.number < second.number) × (deadline ≤ latest)
+Waits before after part now deadline latest (waited.Lost first (Ok second)) =
     (mid : Pass) × IsQueued before mid part now first
     × IsTold mid after (GiveUp first.number) second × (second.reply ≡ reply.Lost)
-Waits before after part now (waited.Lost first (Err spent)) =
+Waits before after part now deadline latest (waited.Lost first (Err spent)) =
     (mid : Pass) × IsQueued before mid part now first
     × IsUntold mid after (GiveUp first.number) spent
 

@@ -1,5 +1,6 @@
 -- What a gate tells as it is closed.
-use Rattle.std.specs.Prelude.{◌≡◌, ℕ, ◌+◌, ◌≤◌, false, List, Vec, All, drop, length, sum_by}
+use Rattle.std.specs.Prelude.{◌≡◌, ℕ, ◌+◌, ◌≤◌, Bool, true, false, List, Vec, All, drop, length}
+use Rattle.std.specs.Prelude.{sum_by}
 use mathlib.Core.List.{IsPrefix}
 use Rattle.std.specs.declared.alloc.Global.{Global}
 use Rattle.limit_laws.specs.Algorithm.{Algorithm}
@@ -12,6 +13,7 @@ use Rattle.gate_ledgers.specs.Making.{Making}
 use Rattle.gate_ledgers.specs.Told.{Told}
 use Rattle.gate_history.specs.Book.{IsUnasked, calls_of}
 use Rattle.audit.specs.declared.cause.Cause.{Cause}
+use Rattle.audit.specs.declared.cause.Cause.TheVariants.{PassesMissing}
 use Rattle.audit.specs.Verdict.{audited, IsFirstCause}
 use Rattle.shared_gate.specs.Calls.{Pass}
 
@@ -56,3 +58,8 @@ pub record FailsBy {S : Type 0} (rules : Algorithm S) (m : Making) (passes : Lis
   pub enough : calls_by passes ≤ calls_of log
   pub first : IsFirstCause
       (audited (record { book = calls_of log; sum = calls_by passes }) base entries kept) cause
+
+-- passes are missing by this cause
+abbrev pub is_missing : Cause → Bool
+is_missing (PassesMissing book sum) = true
+is_missing _ = false

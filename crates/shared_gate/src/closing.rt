@@ -1,5 +1,5 @@
 // The audit of a gate that is closed.
-ghost use Rattle.std.specs.Prelude.{◌≡◌, ◌≤◌, All, IfOk, IfErr};
+ghost use Rattle.std.specs.Prelude.{◌≡◌, ◌≤◌, All, IfOk, IfErr, vec_len};
 ghost use mathlib.Core.List.{IsPrefix};
 ghost use Rattle.audit.specs.Accepted.{IsHistoryOf};
 ghost use Rattle.audit.specs.Verdict.{audited, IsFirstCause};
@@ -38,6 +38,7 @@ pub(crate) fn count_calls<L: Limit, M: GateNaming>(
     ensures book { result.book ≡ book.old.tally.calls }
     ensures sum { result.sum ≡ calls_by passes.items }
     ensures enough { result.sum ≤ result.book }
+    ensures all { vec_len passes ≡ book.old.tally.passes → result.sum ≡ result.book }
     ensures begun { All (λ pass. IsPrefix pass.log keeper.old.log) passes.items }
     ensures same { book.new ≡ book.old }
     ensures keeper { keeper.new ≡ keeper.old }

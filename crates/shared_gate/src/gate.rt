@@ -1,5 +1,5 @@
 // A gate that threads share.
-ghost use Rattle.std.specs.Prelude.{◌≡◌, true, All, IfOk, IfErr, map};
+ghost use Rattle.std.specs.Prelude.{◌≡◌, ◌≤◌, true, false, All, IfOk, IfErr, is_ok, map, vec_len};
 ghost use mathlib.Core.List.{IsPrefix};
 ghost use Rattle.limiter_core.specs.declared.event.Event.TheVariants.{SetLimit, Reset, Look};
 ghost use Rattle.audit.specs.Accepted.{IsHistoryOf};
@@ -9,7 +9,7 @@ ghost use Rattle.gate_history.specs.Handing.{IsChange};
 ghost use Rattle.gate_history.specs.Steps.{event_of};
 ghost use Rattle.shared_gate.specs.Calls.{Tells, Gets, Waits, Claims, GivesUp, Ends, Changes};
 ghost use Rattle.shared_gate.specs.Calls.{pass_of};
-ghost use Rattle.shared_gate.specs.Closing.{FailsBy, IsKept, calls_by};
+ghost use Rattle.shared_gate.specs.Closing.{FailsBy, IsKept, calls_by, is_missing};
 ghost use Rattle.shared_gate.specs.Log.{CallsLegal};
 ghost use Rattle.shared_gate.specs.Reported.{AreCountersBehind, AreCountersOf, AreCountersOfAll};
 ghost use Rattle.shared_gate.specs.Reported.{ArePassesMissing, IsReportOf};
@@ -18,10 +18,11 @@ use crate::answers::Waited;
 use crate::closing::{AuditFault, count_calls, judge};
 use crate::naming::GateNaming;
 use crate::pass::{Pass, with_readers};
+use crate::resting::{pause_for, rest};
 use crate::sealed::Sealed;
 use crate::word::Word;
 use audit::Calls;
-use clocks::Clock;
+use clocks::{Clock, Looks};
 use gate_history::{
     Book, Call, Claimed, Entry, GaveUp, Got, History, Permit, Receipt, Spent, Step, Ticket,
 };
@@ -32,15 +33,7 @@ use limiter_core::{Counters, Outcome};
 use partitions::Part;
 use std::alloc::{AllocError, Global};
 use std::sync::{Condvar, Mutex, Wait};
-use std::time::{Clock as SystemClock, Duration};
-
-/// The most nanoseconds from one look at the clock of a waiter to the next: 100 ms, since the clock
-/// that it looks at need not go as the system's does.
-const LONGEST_PAUSE_NS: u64 = 100_000_000;
-
-/// The fewest that it asks to sleep: 1 ms, so that a clock that stands still before the deadline
-/// keeps no processor busy.
-const SHORTEST_PAUSE_NS: u64 = 1_000_000;
+use std::time::Clock as SystemClock;
 
 /// A gate that threads share. A call that takes the lock keeps its promise if it returns. Every
 /// moment is in nanoseconds; one above 2^62 is taken as 2^62.
@@ -65,6 +58,7 @@ impl<L: Limit, M: GateNaming> SharedGate<L, M> {
         requires word { word ≡ M.word }
         requires sealed { book.is_sealed ≡ true }
         requires unasked { next_number book.journal ≡ 0 }
+        requires few { book.tally.passes ≡ M.passes }
         requires legal { CallsLegal L.rules book.journal M.legal }
         ensures passes { IfOk result (λ made. made.1.items ≡ map pass_of passes.items) }
     {
@@ -94,19 +88,23 @@ impl<L: Limit, M: GateNaming> SharedGate<L, M> {
         self.report(rt).counters
     }
 
-    /// What was counted so far, once these passes call no more: all their calls are in it.
-    pub fn counters_behind(&self, rt: &impl Wait, passes: Vec<Pass<M>>) -> Counters
-        ensures { AreCountersBehind L.rules M.making passes.items result }
+    /// What was counted so far, once these passes call no more: all their calls are in it. And how
+    /// many these are.
+    pub fn counters_behind(&self, rt: &impl Wait, passes: Vec<Pass<M>>) -> (Counters, u64)
+        ensures counters { AreCountersBehind L.rules M.making passes.items result.0 }
+        ensures calls { result.1 ≡ calls_by passes.items }
     {
         let mut sealed = self.book.lock(rt);
-        sealed.take_back(&self.word, passes);
-        sealed.report().counters
+        let calls = sealed.take_back(&self.word, passes);
+        (sealed.report().counters, calls.sum)
     }
 
-    /// The same where nobody else has called: these are counters of their calls alone. Else how
-    /// many calls there were, and how many of them by these passes.
+    /// The same where nobody else has called: these are counters of their calls alone, as they are
+    /// where these are all passes of the gate. Else how many calls there were, and how many of them
+    /// by these passes.
     pub fn counters_of_all(&self, rt: &impl Wait, passes: Vec<Pass<M>>) -> Result<Counters, Calls>
         ensures all { IfOk result (AreCountersOfAll L.rules M.making passes.items) }
+        ensures whole { vec_len passes ≡ M.passes → is_ok result ≡ true }
         ensures missing { IfErr result (ArePassesMissing L.rules M.making passes.items) }
     {
         let mut sealed = self.book.lock(rt);
@@ -157,10 +155,10 @@ impl<L: Limit, M: GateNaming> SharedGate<L, M> {
         pass: &mut Pass<M>,
         part: Part,
         now: u64,
-        clock: &C,
+        looks: &mut Looks<'_, C, ()>,
         deadline: u64,
     ) -> Waited<M>
-        ensures { Waits pass.old pass.new part now result }
+        ensures { Waits pass.old pass.new part now deadline looks.new.latest result }
     {
         match self.acquire(rt, pass, part, false, true, now) {
             Got::Admitted(receipt, permit) => Waited::Admitted(receipt, permit),
@@ -169,10 +167,13 @@ impl<L: Limit, M: GateNaming> SharedGate<L, M> {
             Got::BacklogFull(receipt) => Waited::BacklogFull(receipt),
             Got::Exhausted(spent) => Waited::Exhausted(spent),
             Got::Waiting(receipt, ticket) => {
-                self.wait_for(rt, ticket.number(), clock, deadline);
+                let is_over = self.wait_for(rt, ticket.number(), looks, deadline);
                 match self.give_up(rt, pass, ticket) {
                     GaveUp::Granted(second, permit) => Waited::Promoted(receipt, second, permit),
-                    GaveUp::TimedOut(second) => Waited::TimedOut(receipt, second),
+                    GaveUp::TimedOut(second) => {
+                        rest(rt, looks, deadline, is_over);
+                        Waited::TimedOut(receipt, second)
+                    }
                     GaveUp::Lost(second) => Waited::Lost(receipt, Ok(second)),
                     GaveUp::Exhausted(spent) => Waited::Lost(receipt, Err(spent)),
                 }
@@ -180,27 +181,30 @@ impl<L: Limit, M: GateNaming> SharedGate<L, M> {
         }
     }
 
-    /// Waits until a permit of this number is granted, or the clock has reached the deadline.
+    /// Waits until a permit of this number is granted, or the clock has reached the deadline, and
+    /// tells whether it has.
     fn wait_for<R: Wait + SystemClock, C: Clock>(
         &self,
         rt: &R,
         number: u64,
-        clock: &C,
+        looks: &mut Looks<'_, C, ()>,
         deadline: u64,
-    ) {
+    ) -> bool
+        ensures { result ≡ true → deadline ≤ looks.new.latest }
+    {
         let mut locked = self.book.lock(rt);
         for _ in rt.forever() {
             if locked.book.journal().core().is_granted(number) {
-                return;
+                return false;
             }
-            let now = clock.now();
+            let now = looks.look();
             if now >= deadline {
-                return;
+                return true;
             }
-            let nanos = (deadline - now).clamp(SHORTEST_PAUSE_NS, LONGEST_PAUSE_NS);
-            let pause = Duration::from_nanos(nanos);
+            let pause = pause_for(deadline - now);
             locked = self.freed.wait_timeout(rt, locked, pause).0;
         }
+        unreachable!()
     }
 
     /// Ends a permit, and wakes all who wait.
@@ -293,8 +297,9 @@ impl<L: Limit, M: GateNaming> SharedGate<L, M> {
     /// receipts were kept, one list for each caller, each call once and each list in order.
     ///
     /// Else the first [`Cause`](audit::Cause) that applies, with the history and the lists; the
-    /// passes are spent. It takes memory for three marks an entry before all else, and goes over
-    /// the receipts twice and over the entries three times.
+    /// passes are spent. None is missing where these are all passes of the gate. It takes memory
+    /// for three marks an entry before all else, and goes over the receipts twice and over the
+    /// entries three times.
     pub fn close(
         self,
         alloc: Global,
@@ -312,6 +317,8 @@ impl<L: Limit, M: GateNaming> SharedGate<L, M> {
             All (λ pass. IsPrefix pass.log history.entries.items) passes.items) }
         ensures first { IfErr result (λ fault. FailsBy L.rules M.making passes.items
             fault.history.base fault.history.entries.items fault.kept.items fault.cause) }
+        ensures none_missing { IfErr result (λ fault.
+            vec_len passes ≡ M.passes → is_missing fault.cause ≡ false) }
         ensures history { IfErr result (λ fault. IsKept L.rules M.making
             fault.history.opening.standing fault.history.base fault.history.entries.items) }
         ensures kept { IfErr result (λ fault. fault.kept ≡ kept) }

@@ -19,12 +19,13 @@ mod meeting;
 mod naming;
 mod opening;
 mod pass;
+mod resting;
 mod sealed;
 mod word;
 
 pub use answers::Waited;
 pub use audit::{Calls, Cause};
-pub use clocks::{Clock, ProgramClock};
+pub use clocks::{Clock, Looks, ProgramClock};
 pub use closing::AuditFault;
 pub use gate::SharedGate;
 pub use gate_history::{Claimed, GaveUp, Got};

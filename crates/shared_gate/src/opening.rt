@@ -1,5 +1,5 @@
 // A gate with its passes.
-ghost use Rattle.std.specs.Prelude.{◌≡◌, IfOk, OnOk, replicate, vec_len};
+ghost use Rattle.std.specs.Prelude.{◌≡◌, ◌+◌, IfOk, OnOk, replicate, vec_len};
 ghost use Rattle.gate_journal.specs.Journal.{next_number};
 ghost use Rattle.shared_gate.specs.Calls.{pass_of};
 ghost use Rattle.shared_gate.specs.Log.{CallsLegal};
@@ -13,10 +13,10 @@ use limit_laws::Limit;
 use std::alloc::{AllocError, Global};
 
 impl<L: Limit, M: GateNaming> SharedGate<L, M> {
-    /// A gate over a book of which nothing was asked, with so many passes, which are the last that
-    /// the book gives. No call was made by any of them, and none knows of an entry. A book that
-    /// isn't sealed gives a million in all; where it gives fewer than are asked for, that is out of
-    /// memory too.
+    /// A gate over a book of which nothing was asked and that gave no pass, with so many passes,
+    /// which are all that the book gives. No call was made by any of them, and none knows of an
+    /// entry. A book that isn't sealed gives a million in all; where it gives fewer than are asked
+    /// for, that is out of memory too.
     pub fn open(
         alloc: Global,
         word: Word,
@@ -25,6 +25,8 @@ impl<L: Limit, M: GateNaming> SharedGate<L, M> {
     ) -> Result<(SharedGate<L, M>, Vec<Pass<M>>), AllocError>
         requires word { word ≡ M.word }
         requires unasked { next_number book.journal ≡ 0 }
+        requires unused { book.tally.passes ≡ 0 }
+        requires passes { count ≡ M.passes }
         requires legal { CallsLegal L.rules book.journal M.legal }
         ensures all { IfOk result (λ made. vec_len made.1 ≡ count) }
         ensures passes { IfOk result (λ made.
@@ -45,6 +47,7 @@ fn make_passes<L: Limit, M: GateNaming>(
 ) -> Result<Vec<gate_history::Pass<M>>, AllocError>
     ensures passes { IfOk result (λ passes. passes.items ≡ replicate count 0) }
     ensures journal { OnOk result (book.new.journal ≡ book.old.journal) }
+    ensures few { OnOk result (book.new.tally.passes ≡ book.old.tally.passes + count) }
 {
     let mut passes = Vec::with_capacity(alloc, count)?;
     for _ in 0..count {

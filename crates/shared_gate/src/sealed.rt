@@ -1,5 +1,5 @@
 // What lies under the lock.
-ghost use Rattle.std.specs.Prelude.{◌≡◌, ◌≤◌, All};
+ghost use Rattle.std.specs.Prelude.{◌≡◌, ◌≤◌, All, vec_len};
 ghost use mathlib.Core.List.{IsPrefix};
 ghost use Rattle.gate_history.specs.Book.{calls_of};
 ghost use Rattle.gate_history.specs.Steps.{event_of};
@@ -19,8 +19,8 @@ use limit_laws::Limit;
 use limiter_core::counters_add_up;
 use std::marker::{Brand, Model};
 
-/// A book that gives no more passes, and the keeper of the log of all its entries. Contracts see
-/// the log.
+/// A book that gave as many passes as its gate has, and gives no more, and the keeper of the log of
+/// all its entries. Contracts see the log.
 #[derive(Drop)]
 pub(crate) struct Sealed<L: Limit, M: GateNaming> {
     pub(crate) book: Book<L, M>,
@@ -37,7 +37,8 @@ impl<L: Limit, M: GateNaming> Model for Sealed<L, M> {
     ghost view = { λ s. s.keeper.log };
 
     ghost invariant = { λ s. (s.keeper.table ≡ M.word) × (s.book.is_sealed ≡ true)
-        × IsBehind L.rules M.making.limit M.legal s.keeper.log s.book };
+        × IsBehind L.rules M.making.limit M.legal s.keeper.log s.book
+        × (s.book.tally.passes ≡ M.passes) };
 }
 
 impl<L: Limit, M: GateNaming> Sealed<L, M> {
@@ -65,13 +66,15 @@ impl<L: Limit, M: GateNaming> Sealed<L, M> {
     }
 
     /// Takes passes back, by which no more calls are made, and tells how many calls there were and
-    /// how many were made by these: they are in the log.
+    /// how many were made by these: they are in the log, and are all calls where these are all
+    /// passes.
     pub(crate) fn take_back(&mut self, word: &SharedWord<Entry>, passes: Vec<Pass<M>>) -> Calls
         requires { word.now ≡ M.word }
         ensures book { result.book ≡ calls_of self.old }
         ensures sum { result.sum ≡ calls_by passes.items }
         ensures begun { All (λ pass. IsPrefix pass.log self.old) passes.items }
         ensures enough { result.sum ≤ result.book }
+        ensures all { vec_len passes ≡ M.passes → result.sum ≡ result.book }
         ensures same { self.new ≡ self.old }
     {
         count_calls(&mut self.book, word, &mut self.keeper, passes)

@@ -13,9 +13,10 @@ ghosts-run-M-Naming g a = record {
   making = made_with aimd_rules (begun a.settings);
 }
 
--- and the table of its word; legal is what its limiter may be asked and answer
+-- and the table of its word; two threads call; legal is what its limiter may be asked and answer
 abbrev pub ghosts-run-M-GateNaming : goal.ghosts-run-M-GateNaming
 ghosts-run-M-GateNaming g a = record {
   word = a.word;
+  passes = 2;
   legal = IsLegalFrom aimd_rules (begun a.settings);
 }

@@ -15,6 +15,10 @@ pub open-requires-clause-unasked : goal.open-requires-clause-unasked
 open-requires-clause-unasked g c =
     ap (λ (b : Book AnyLimit). next_number b.journal) c.in_ok-book.ensures
 
+pub open-requires-clause-unused : goal.open-requires-clause-unused
+open-requires-clause-unused g c =
+    ap (λ (b : Book AnyLimit). b.tally.passes) c.in_ok-book.ensures
+
 pub open-requires-clause-legal : goal.open-requires-clause-legal
 open-requires-clause-legal g c =
     subst (λ (j : Journal AnyLimit). CallsLegal any_rules j g.M.GateNaming.legal)

@@ -12,6 +12,10 @@ ghosts-try_at_named-M-Naming g a = record {
   making = made_with any_rules (begun a.making.settings);
 }
 
--- and the table of its word; each log is called legal
+-- and the table of its word; it has the passes that it is to have, and each log is called legal
 abbrev pub ghosts-try_at_named-M-GateNaming : goal.ghosts-try_at_named-M-GateNaming
-ghosts-try_at_named-M-GateNaming g a = record { word = a.word; legal = λ log. Unit {0} }
+ghosts-try_at_named-M-GateNaming g a = record {
+  word = a.word;
+  passes = a.making.passes;
+  legal = λ log. Unit {0};
+}

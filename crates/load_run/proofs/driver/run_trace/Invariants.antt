@@ -14,9 +14,11 @@ ghosts-run_named-M-Naming g a = record {
   making = making_of a.size.limit a.settings;
 }
 
--- and the table of its word; legal is what a limiter of the trace may be asked and answer
+-- and the table of its word; each worker has a pass; legal is what a limiter of the trace may be
+-- asked and answer
 abbrev pub ghosts-run_named-M-GateNaming : goal.ghosts-run_named-M-GateNaming
 ghosts-run_named-M-GateNaming g a = record {
   word = a.word;
+  passes = a.size.workers;
   legal = IsLegalFrom any_rules (journal_of a.size.limit kept_entries a.settings);
 }

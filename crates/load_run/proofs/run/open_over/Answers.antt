@@ -9,6 +9,10 @@ pub open-requires-clause-unasked : goal.open-requires-clause-unasked
 open-requires-clause-unasked g c =
     ap (λ (b : Book g.row.L.Denot). next_number b.journal) c.in_ok-book.ensures
 
+pub open-requires-clause-unused : goal.open-requires-clause-unused
+open-requires-clause-unused g c =
+    ap (λ (b : Book g.row.L.Denot). b.tally.passes) c.in_ok-book.ensures
+
 pub open-requires-clause-legal : goal.open-requires-clause-legal
 open-requires-clause-legal g c =
     subst (λ (b : Book g.row.L.Denot). CallsLegal g.L.Limit.rules b.journal g.M.GateNaming.legal)

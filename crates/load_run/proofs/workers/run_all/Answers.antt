@@ -11,6 +11,12 @@ returns-clause-count g c =
     AllZip-long _ _ _ c.in_ok-done.ensures.made in
     search rules
 
+pub returns-clause-passes : goal.returns-clause-passes
+returns-clause-passes g c =
+    let long : length c.in_ok-done.done.items ≡ length c.in-Ok.hands.items =
+    AllZip-long _ _ _ c.in_ok-done.ensures.made in
+    search rules
+
 pub returns-clause-work : goal.returns-clause-work
 returns-clause-work g c =
     let kept = c.in-Ok-gather.worked.kept.items in

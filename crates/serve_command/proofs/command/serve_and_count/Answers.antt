@@ -1,7 +1,10 @@
 use Rattle.std.proofs.Common.{rules, ◌≡◌, ℕ, List, Ok, Err, subst}
 use Rattle.tasks.specs.Refused.{refused_of}
+use Rattle.limit_kinds.specs.AnyKinds.{any_rules}
 use Rattle.config_file.specs.Reading.{IsFaultOf, Says}
+use Rattle.gate_opening.specs.Opening.{making_of}
 use Rattle.serve_command.specs.Command.{AreCountersAt, IsOfServing}
+use Rattle.serve_command.specs.Runs.{AreMiscounted}
 use Rattle.serve_command.specs.declared.fault.ServiceFault.TheVariants as Service
 use Rattle.serve_command.proofs.Whys.{serving_is, why_unread, why_unserved, why_unset}
 use Rattle.serve_command.proofs.Whys.{why_unwritten}
@@ -15,7 +18,8 @@ returns-in_err-text-clause-refused g c =
     let path = c.args.service.now.path.now in
     why_unread (g.F.Opener.unopened path) (g.F.Opener.opened path) g.F.File.Read.remaining
     (λ s. IsOfServing g.B.Binder.bound g.B.Binder.unbound s.listen c.args.service.now.admin
-    c.args.service.now.status (refused_of c.args.spawner.now) (refused_of c.args.spawner.now))
+    c.args.service.now.status (refused_of c.args.spawner.now) (refused_of c.args.spawner.now)
+    (AreMiscounted any_rules (making_of c.args.service.now.workers s) c.args.service.now.workers))
     c.args.writer.now c.from_residual.result fault is c.in_err-text.ensures.refused
 
 pub returns-in_err-settings-clause-refused : goal.returns-in_err-settings-clause-refused
@@ -27,7 +31,8 @@ returns-in_err-settings-clause-refused g c =
     let path = c.args.service.now.path.now in
     why_unset (g.F.Opener.unopened path) (g.F.Opener.opened path) g.F.File.Read.remaining
     (λ s. IsOfServing g.B.Binder.bound g.B.Binder.unbound s.listen c.args.service.now.admin
-    c.args.service.now.status (refused_of c.args.spawner.now) (refused_of c.args.spawner.now))
+    c.args.service.now.status (refused_of c.args.spawner.now) (refused_of c.args.spawner.now)
+    (AreMiscounted any_rules (making_of c.args.service.now.workers s) c.args.service.now.workers))
     c.args.writer.now c.from_residual-in_err-settings.result fault is bytes
     c.in_ok-text.ensures.text
     (subst (λ (xs : List ℕ). IsFaultOf xs fault) same c.in_err-settings.ensures.refused)
@@ -45,12 +50,15 @@ returns-in_err-counters-clause-refused g c =
     why_unserved (g.F.Opener.unopened path) (g.F.Opener.opened path) g.F.File.Read.remaining
     (λ s. IsOfServing g.B.Binder.bound g.B.Binder.unbound s.listen c.args.service.now.admin
     c.args.service.now.status (refused_of c.args.spawner.now)
-    (refused_of c.serve_settings.new.spawner))
+    (refused_of c.serve_settings.new.spawner)
+    (AreMiscounted any_rules (making_of c.args.service.now.workers s) c.args.service.now.workers))
     c.args.writer.now c.from_residual-in_err-counters.result fault is
     s (had.0, bytes, had.2, had.3, says) of
     (serving_is g.B.Binder.bound g.B.Binder.unbound s.listen c.args.service.now.admin
     c.args.service.now.status (refused_of c.args.spawner.now)
-    (refused_of c.serve_settings.new.spawner) fault of)
+    (refused_of c.serve_settings.new.spawner)
+    (AreMiscounted any_rules (making_of c.args.service.now.workers s) c.args.service.now.workers)
+    fault of)
 
 pub returns-in_err-write_counters-clause-refused :
     goal.returns-in_err-write_counters-clause-refused
@@ -64,7 +72,8 @@ returns-in_err-write_counters-clause-refused g c =
     why_unwritten (g.F.Opener.unopened path) (g.F.Opener.opened path) g.F.File.Read.remaining
     (λ s. IsOfServing g.B.Binder.bound g.B.Binder.unbound s.listen c.args.service.now.admin
     c.args.service.now.status (refused_of c.args.spawner.now)
-    (refused_of c.serve_settings.new.spawner))
+    (refused_of c.serve_settings.new.spawner)
+    (AreMiscounted any_rules (making_of c.args.service.now.workers s) c.args.service.now.workers))
     c.args.writer.now c.write_counters.new.writer c.from_residual-in_err-write_counters.result is
     c.in_err-write_counters.ensures.failed
     s (had.0, bytes, had.2, had.3, says)

@@ -1,6 +1,9 @@
 use Rattle.std.proofs.Common.{rules, ◌≡◌, ℕ, List, Err, subst}
 use Rattle.std.specs.Net.Text.{socket_v4_text}
 use Rattle.tasks.specs.Refused.{refused_of}
+use Rattle.limit_kinds.specs.AnyKinds.{any_rules}
+use Rattle.gate_opening.specs.Opening.{making_of}
+use Rattle.serve_command.specs.Runs.{AreMiscounted}
 use Rattle.serve_command.specs.ServiceFault.{of_workers}
 use Rattle.serve_command.proofs.Whys.{bound_at, lacks_admin, lacks_front, lacks_status}
 use Rattle.serve_command.proofs.Whys.{lacks_memory, lacks_workers}
@@ -13,7 +16,10 @@ returns-in_err-front-clause-refused g c =
     let is : c.from_residual.result ≡ Err fault = search rules in
     let same : socket_v4_text c.socket.result ≡ c.args.settings.now.listen = search rules in
     lacks_front g.B.Binder.bound g.B.Binder.unbound c.args.settings.now.listen
-    c.args.service.now.admin c.args.service.now.status before before c.from_residual.result fault is
+    c.args.service.now.admin c.args.service.now.status before before
+    (AreMiscounted any_rules (making_of c.args.service.now.workers c.args.settings.now)
+    c.args.service.now.workers)
+    c.from_residual.result fault is
     (socket_v4_text c.socket.result) same c.in_err-front.ensures.unbound
 
 pub returns-in_err-admin-clause-refused : goal.returns-in_err-admin-clause-refused
@@ -24,6 +30,8 @@ returns-in_err-admin-clause-refused g c =
     let same : socket_v4_text c.socket.result ≡ c.args.settings.now.listen = search rules in
     lacks_admin g.B.Binder.bound g.B.Binder.unbound c.args.settings.now.listen
     c.args.service.now.admin c.args.service.now.status before before
+    (AreMiscounted any_rules (making_of c.args.service.now.workers c.args.settings.now)
+    c.args.service.now.workers)
     c.from_residual-in_err-admin.result fault is
     (bound_at g.B.Binder.bound (socket_v4_text c.socket.result) c.args.settings.now.listen
     c.in_ok-front.front same c.in_ok-front.ensures.bound) c.in_err-admin.ensures.unbound
@@ -36,6 +44,8 @@ returns-in_err-status-clause-refused g c =
     let same : socket_v4_text c.socket.result ≡ c.args.settings.now.listen = search rules in
     lacks_status g.B.Binder.bound g.B.Binder.unbound c.args.settings.now.listen
     c.args.service.now.admin c.args.service.now.status before before
+    (AreMiscounted any_rules (making_of c.args.service.now.workers c.args.settings.now)
+    c.args.service.now.workers)
     c.from_residual-in_err-status.result fault is
     (bound_at g.B.Binder.bound (socket_v4_text c.socket.result) c.args.settings.now.listen
     c.in_ok-front.front same c.in_ok-front.ensures.bound) c.in_ok-admin.ensures.bound
@@ -49,30 +59,35 @@ returns-in_err-watch-clause-refused g c =
     let same : socket_v4_text c.socket.result ≡ c.args.settings.now.listen = search rules in
     lacks_memory g.B.Binder.bound g.B.Binder.unbound c.args.settings.now.listen
     c.args.service.now.admin c.args.service.now.status before before
+    (AreMiscounted any_rules (making_of c.args.service.now.workers c.args.settings.now)
+    c.args.service.now.workers)
     c.from_residual-in_err-watch.result fault is
     (bound_at g.B.Binder.bound (socket_v4_text c.socket.result) c.args.settings.now.listen
     c.in_ok-front.front same c.in_ok-front.ensures.bound) c.in_err-watch.ensures.lacking
 
-pub returns-in_err-serve_in-clause-refused :
-    goal.returns-in_err-serve_in-clause-refused
-returns-in_err-serve_in-clause-refused g c =
-    let fault = c.in_err-serve_in.field-0.0 in
+pub returns-in_err-counters-clause-refused :
+    goal.returns-in_err-counters-clause-refused
+returns-in_err-counters-clause-refused g c =
+    let fault = c.in_err-counters.field-0.0 in
     let was : c.serve_in.result ≡ Err fault = search rules in
-    let is : c.from_residual-in_err-serve_in.result ≡ Err (of_workers fault) =
+    let is : c.from_residual-in_err-counters.result ≡ Err (of_workers fault) =
     search rules in
     let same : socket_v4_text c.socket.result ≡ c.args.settings.now.listen = search rules in
     lacks_workers g.B.Binder.bound g.B.Binder.unbound c.args.settings.now.listen
     c.args.service.now.admin c.args.service.now.status (refused_of c.args.spawner.now)
-    (refused_of c.serve_in.new.spawner) c.from_residual-in_err-serve_in.result
+    (refused_of c.serve_in.new.spawner)
+    (AreMiscounted any_rules (making_of c.args.service.now.workers c.args.settings.now)
+    c.args.service.now.workers)
+    c.from_residual-in_err-counters.result
     c.serve_in.result fault was is
     (bound_at g.B.Binder.bound (socket_v4_text c.socket.result) c.args.settings.now.listen
     c.in_ok-front.front same c.in_ok-front.ensures.bound) c.serve_in.ensures.thread
 
-pub returns-clause-counted : goal.returns-clause-counted
-returns-clause-counted g c =
+pub returns-in-Some-clause-counted : goal.returns-in-Some-clause-counted
+returns-in-Some-clause-counted g c =
     let same : socket_v4_text c.socket.result ≡ c.args.settings.now.listen = search rules in (
       c.in_ok-front.front,
       subst (λ (address : List ℕ). g.B.Binder.bound address c.in_ok-front.front) same
           c.in_ok-front.ensures.bound,
-      c.in_ok-serve_in.ensures.counted,
+      search rules,
     )

@@ -5,7 +5,7 @@ use Rattle.std.proofs.lemmas.List.Elements.{All-same}
 use Rattle.shared_gate.specs.Calls.{Pass}
 use Rattle.serving.specs.Workers.{HasRun, ended_in}
 use Rattle.serve_command.specs.Runs.{HasRunTo}
-use Rattle.serve_command.proofs.Runs.{all_ran_to}
+use Rattle.serve_command.proofs.Runs.{all_ran_to, told_of_runs}
 use Rattle.serve_command.proofs.gateway.serve_through.Goals as goal
 
 -- the passes that were handed back are those of the workers, who began with passes of no call
@@ -21,10 +21,9 @@ returns-clause-counted g c =
     (HasRun gives came (λ port. None) (λ port. Some port.pass.log) common) ports ends)
     c.in_ok-ports.ensures c.in_ok-lefts.ensures.ran) in
     let same = c.in_ok-passes.ensures in
-    let long : length c.args.passes.items ≡ vec_len c.args.passes = search rules in record {
-      passes = c.in_ok-passes.passes.items;
-      all = ap (λ (ps : List Pass). length ps) same ∙ both.1 ∙ long;
-      ran = All-same (HasRunTo (gives common.source.now) (came common.listener.now)
-          common.per_worker) _ _ same both.0;
-      behind = c.counters_behind.ensures;
-    }
+    let long : length c.args.passes.items ≡ vec_len c.args.passes = search rules in
+    told_of_runs _ _ _ _ _ _ _ _ _ _ (ap (λ (ps : List Pass). length ps) same ∙ both.1 ∙ long)
+    (All-same (HasRunTo (gives common.source.now) (came common.listener.now)
+    common.per_worker) _ _ same both.0)
+    c.counters_behind-calls.ensures.counters c.counters_behind-calls.ensures.calls
+    c.balanced.ensures.some c.balanced.ensures.none

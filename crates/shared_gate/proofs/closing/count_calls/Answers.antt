@@ -1,4 +1,6 @@
 use Rattle.std.proofs.Common.{rules, ◌≡◌, ℕ, List, [], ◌∷◌, All, ap, arith, sym, ◌∙◌, subst}
+use Rattle.std.proofs.Common.{length}
+use Rattle.std.specs.Prelude.{vec_len}
 use Rattle.std.proofs.lemmas.Iterator.Adapters.{YieldsList-from_vec}
 use Rattle.std.proofs.lemmas.Iterator.Consumers.{YieldsList-end}
 use Rattle.std.proofs.lemmas.List.{map-id}
@@ -6,7 +8,7 @@ use Rattle.std.proofs.lemmas.List.Sums.{sum_by-append, sum_by-cons}
 use Rattle.std.proofs.lemmas.List.Elements.{All-nil}
 use mathlib.Core.List.{IsPrefix}
 use Rattle.shared_gate.specs.Calls.{Pass}
-use Rattle.shared_gate.proofs.Gathering.{all_behind}
+use Rattle.shared_gate.proofs.Gathering.{all_behind, one_longer}
 use Rattle.shared_gate.proofs.closing.count_calls.Goals as goal
 
 abbrev count : Pass → ℕ
@@ -16,6 +18,22 @@ pub loop-pass-init : goal.loop-pass-init
 loop-pass-init g c = record {
   sum = search rules;
   few = search rules;
+  many = search rules;
+  all =
+      λ same.
+      let none = c.none_returned-returned.ensures in
+      let no_passes : c.args.book.now.tally.passes ≡ 0 = omega (
+        arith,
+        same,
+        ap (λ r. r.passes) none.none,
+        ap (λ b. b.tally.passes) none.same,
+      ) in
+      omega (
+        arith,
+        none.all no_passes,
+        ap (λ r. r.calls) none.none,
+        ap (λ b. b.tally.calls) none.same,
+      );
   book = search rules;
   keeper = search rules;
   begun = All-nil (λ (pass : Pass). IsPrefix pass.log c.args.keeper.now.log);
@@ -26,12 +44,26 @@ loop-pass-preserved g c = record {
   sum = omega (
     arith,
     c.loop-pass.invariant.sum,
-    c.take_back-in-loop-pass.ensures.sum,
+    c.take_back-in-loop-pass.ensures.calls,
     sum_by-append count c.loop-pass.yielded (c.in-Some.pass ∷ []),
     sum_by-cons count c.in-Some.pass [],
     ap count c.pass.view_is,
   );
   few = search rules;
+  many = omega (
+    arith,
+    c.loop-pass.invariant.many,
+    c.take_back-in-loop-pass.ensures.passes,
+    one_longer c.loop-pass.yielded c.in-Some.pass,
+  );
+  all =
+      λ whole.
+      let took = c.take_back-in-loop-pass.ensures in
+      omega (
+        arith,
+        took.all (whole ∙ ap (λ b. b.tally.passes) took.same),
+        ap (λ b. b.tally.calls) took.same,
+      );
   book = search rules;
   keeper = search rules;
   begun =
@@ -61,6 +93,25 @@ returns-clause-begun g c =
     sym (map-id c.loop-pass.yielded) ∙ end.0 in
     subst (λ (passes : List Pass). All (λ (pass : Pass). IsPrefix pass.log c.args.keeper.now.log)
     passes) all c.loop-pass.invariant.begun
+
+pub returns-clause-all : goal.returns-clause-all
+returns-clause-all g c whole =
+    let end =
+    YieldsList-end (YieldsList-from_vec c.args.passes.items (search rules) (search rules))
+    c.loop-pass.yielded c.loop-pass.pass-iterator c.loop-pass.yielded_by c.next.result
+    c.next.new.self c.in-None.is c.next.ensures.steps in
+    let yielded : c.loop-pass.yielded ≡ c.args.passes.items =
+    sym (map-id c.loop-pass.yielded) ∙ end.0 in
+    let long : length c.args.passes.items ≡ vec_len c.args.passes = search rules in
+    let many : c.loop-pass.returned.passes ≡ c.loop-pass.book.tally.passes =
+    c.loop-pass.invariant.many ∙ ap (λ (passes : List Pass). length passes) yielded ∙ long ∙ whole
+    ∙ ap (λ b. b.tally.passes) (sym c.loop-pass.invariant.book) in
+    omega (
+      arith,
+      c.loop-pass.invariant.all many,
+      c.calls.ensures.calls,
+      c.count.ensures,
+    )
 
 pub returns-clause-same : goal.returns-clause-same
 returns-clause-same g c = search rules

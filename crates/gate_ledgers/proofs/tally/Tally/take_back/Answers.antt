@@ -1,8 +1,11 @@
 use Rattle.std.proofs.Common.{rules}
 use Rattle.gate_ledgers.proofs.tally.Tally.take_back.Goals as goal
 
-pub returns-clause-sum : goal.returns-clause-sum
-returns-clause-sum c = search rules
+pub returns-clause-calls : goal.returns-clause-calls
+returns-clause-calls c = search rules
+
+pub returns-clause-passes : goal.returns-clause-passes
+returns-clause-passes c = search rules
 
 pub returns-clause-few : goal.returns-clause-few
 returns-clause-few c = search rules

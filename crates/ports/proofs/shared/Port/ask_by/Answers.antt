@@ -1,8 +1,9 @@
-use Rattle.std.proofs.Common.{rules, sym, subst}
+use Rattle.std.proofs.Common.{rules, refl, sym, subst}
 use Rattle.gate_port.specs.Asking.{ask_of}
 use Rattle.gate_port.specs.Log.{IsAskedIn}
 use Rattle.ports.specs.Asked.{IsAnswered}
 use Rattle.ports.proofs.InLog.{asked_in, same_told}
+use Rattle.ports.proofs.Late.{never_late}
 use Rattle.ports.proofs.shared.Port.ask_by.Goals as goal
 
 pub returns-in-Some-clause-told : goal.returns-in-Some-clause-told
@@ -22,6 +23,13 @@ returns-in_default-clause-answered g c = search rules
 
 pub returns-in_default-clause-few : goal.returns-in_default-clause-few
 returns-in_default-clause-few g c = search rules
+
+pub returns-in-Some-clause-late : goal.returns-in-Some-clause-late
+returns-in-Some-clause-late g c = search rules
+
+pub returns-in_default-clause-late : goal.returns-in_default-clause-late
+returns-in_default-clause-late g c =
+    never_late _ _ _ _ _ c.args.deadline c.ask.result c.ask.ensures.told refl
 
 pub returns-in-Some-clause-log : goal.returns-in-Some-clause-log
 returns-in-Some-clause-log g c =

@@ -15,7 +15,7 @@ returns-in-Granted g c = (c.acquire.new.pass, search rules, search rules, search
 
 pub returns-in-TimedOut : goal.returns-in-TimedOut
 returns-in-TimedOut g c =
-    (c.acquire.new.pass, search rules, search rules, search rules, search rules)
+    (c.acquire.new.pass, search rules, search rules, search rules, search rules, c.rest.ensures)
 
 pub returns-in-Lost : goal.returns-in-Lost
 returns-in-Lost g c = (c.acquire.new.pass, search rules, search rules, search rules)

@@ -1,10 +1,10 @@
-use Rattle.std.proofs.Common.{rules, ℕ, List, All, ap, arith, sym, subst, ◌∙◌}
+use Rattle.std.proofs.Common.{rules, ◌≡◌, ℕ, List, All, ap, arith, sym, subst, ◌∙◌}
 use mathlib.Core.List.{IsPrefix}
 use Rattle.limiter_core.specs.declared.event.Entry.{Entry}
 use Rattle.audit.specs.Verdict.{audited, IsFirstCause}
 use Rattle.gate_history.specs.Book.{calls_of}
 use Rattle.shared_gate.specs.Calls.{Pass}
-use Rattle.shared_gate.proofs.Closings.{on_err, on_ok}
+use Rattle.shared_gate.proofs.Closings.{none_is_missing, on_err, on_ok}
 use Rattle.shared_gate.proofs.gate.SharedGate.close.Goals as goal
 
 pub returns-clause-whole : goal.returns-clause-whole
@@ -60,6 +60,26 @@ returns-clause-first g c =
           IsFirstCause (audited (record { book = calls_of log; sum = sum }) fault.history.base
           fault.history.entries.items fault.kept.items) fault.cause) counted.sum first;
     })
+    c.judge.result c.judge.ensures.end c.judge.ensures.first
+
+-- where all passes of the gate were handed in, all calls are theirs
+pub returns-clause-none_missing : goal.returns-clause-none_missing
+returns-clause-none_missing g c =
+    let counted = c.count_calls-calls.ensures in
+    let log : List Entry = c.count_calls-calls.new.keeper.log in
+    let behind = c.book.invariant.2 in
+    on_err _ _ _
+    (λ fault end first whole.
+    let all : calls_of log ≡ c.count_calls-calls.result.sum = omega (
+      arith,
+      counted.all (whole ∙ sym c.book.invariant.3),
+      counted.book,
+      behind.calls,
+      ap (λ k. calls_of k.log) counted.keeper,
+    ) in
+    none_is_missing
+    (audited (record { book = calls_of log; sum = c.count_calls-calls.result.sum })
+    fault.history.base fault.history.entries.items fault.kept.items) fault.cause all first)
     c.judge.result c.judge.ensures.end c.judge.ensures.first
 
 pub returns-clause-history : goal.returns-clause-history

@@ -7,11 +7,11 @@ use Rattle.shared_gate.specs.Closing.{calls_by}
 use Rattle.shared_gate.proofs.gate.SharedGate.counters_behind.Goals as goal
 
 -- the report is of the log that the passes were compared with
-pub returns : goal.returns
-returns g c =
+pub returns-clause-counters : goal.returns-clause-counters
+returns-clause-counters g c =
     let passes : List Pass = c.args.passes.items in
     let same : c.deref_mut.result.now ≡ c.deref.result.now =
-    sym (c.deref.ensures ∙ c.take_back.ensures.same) in
+    sym (c.deref.ensures ∙ c.take_back-calls.ensures.same) in
     record {
       log = c.deref.result.now;
       report = c.report.result;
@@ -19,13 +19,16 @@ returns g c =
       told = refl;
       begun =
           subst (λ (log : List Entry). All (λ (pass : Pass). IsPrefix pass.log log) passes) same
-          c.take_back.ensures.begun;
+          c.take_back-calls.ensures.begun;
       enough =
           subst (λ (log : List Entry). calls_by passes ≤ calls_of log) same
           (omega (
             arith,
-            c.take_back.ensures.enough,
-            c.take_back.ensures.book,
-            c.take_back.ensures.sum,
+            c.take_back-calls.ensures.enough,
+            c.take_back-calls.ensures.book,
+            c.take_back-calls.ensures.sum,
           ));
     }
+
+pub returns-clause-calls : goal.returns-clause-calls
+returns-clause-calls g c = c.take_back-calls.ensures.sum

@@ -24,6 +24,14 @@ returns-then-calls-clause-missing g c =
       fewer = omega (arith, told.enough, c.if-calls);
     }
 
+-- where these are all passes nobody else has called
+pub returns-then-calls-clause-whole : goal.returns-then-calls-clause-whole
+returns-then-calls-clause-whole g c whole =
+    absurd (omega (arith, c.if-calls, c.take_back-calls.ensures.all whole))
+
+pub returns-clause-whole : goal.returns-clause-whole
+returns-clause-whole g c whole = refl
+
 pub returns-clause-all : goal.returns-clause-all
 returns-clause-all g c =
     let passes : List Pass = c.args.passes.items in

@@ -12,4 +12,5 @@ invariant_of-new g c =
       behind_none g.L.Limit.rules g.M.Naming.making.limit g.M.GateNaming.legal c.args.book _
           (ap (λ k. k.log) keeper) c.requires.unasked c.requires.legal book.sound.four
           book.unasked book.legal book.agrees,
+      c.requires.few,
     )

@@ -1,4 +1,4 @@
-use Rattle.std.proofs.Common.{rules, ◌≡◌, ap, map, sym, subst, ◌∙◌}
+use Rattle.std.proofs.Common.{rules, arith, ◌≡◌, ◌+◌, ap, map, sym, subst, ◌∙◌}
 use Rattle.gate_journal.specs.Journal.{Journal, next_number}
 use Rattle.shared_gate.specs.Calls.{pass_of}
 use Rattle.shared_gate.specs.Log.{CallsLegal}
@@ -9,6 +9,13 @@ pub new-requires-clause-unasked : goal.new-requires-clause-unasked
 new-requires-clause-unasked g c =
     let stays : c.seal.new.self.journal ≡ c.args.book.journal = search rules in
     ap next_number stays ∙ c.requires.unasked
+
+-- the passes are all that the book gave
+pub new-requires-clause-few : goal.new-requires-clause-few
+new-requires-clause-few g c =
+    let given : c.seal.new.self.tally.passes ≡ c.args.book.tally.passes + c.args.count =
+    search rules in
+    omega (arith, given, c.requires.unused, c.requires.passes)
 
 pub new-requires-clause-legal : goal.new-requires-clause-legal
 new-requires-clause-legal g c =

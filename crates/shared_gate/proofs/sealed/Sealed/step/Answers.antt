@@ -6,7 +6,8 @@ use Rattle.gate_history.specs.Handing.{given_by, told_of}
 use Rattle.gate_history.specs.Steps.{event_of}
 use Rattle.shared_gate.specs.Calls.{Pass, Tells}
 use Rattle.shared_gate.proofs.Behind.{number_is}
-use Rattle.shared_gate.proofs.Stepping.{behind_after, next_after, sealed_after, tells_of}
+use Rattle.shared_gate.proofs.Stepping.{behind_after, next_after, passes_after, sealed_after}
+use Rattle.shared_gate.proofs.Stepping.{tells_of}
 use Rattle.shared_gate.proofs.sealed.Sealed.step.Goals as goal
 
 pub raise-requires-clause-next : goal.raise-requires-clause-next
@@ -50,6 +51,12 @@ invariant_of-self g c =
           (ap (λ k. k.log) raised) (c.rolling_runs_are_legal.ensures.stretches rules)
           c.counters_add_up.ensures (told_of c.step-step.result)
           (given_by c.step-step.result) c.step-step.ensures,
+      passes_after rules old new c.pass.inside.pass c.step-step.new.pass e
+          same g.M.Naming.making.limit g.M.GateNaming.legal c.self.inside.keeper.log
+          c.self.invariant.2 c.journal-journal.result.now c.journal-journal.ensures
+          (told_of c.step-step.result)
+          (given_by c.step-step.result) c.step-step.ensures
+          ∙ c.self.invariant.3,
     )
 
 pub invariant_of-pass : goal.invariant_of-pass

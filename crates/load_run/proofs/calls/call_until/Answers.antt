@@ -4,7 +4,7 @@ use Rattle.load_run.proofs.Calling.{asks_waiting, makes_admitted, makes_lost, ma
 use Rattle.load_run.proofs.Calling.{makes_promoted, makes_stuck, makes_two}
 use Rattle.load_run.proofs.Ordering.{lie_lost, lie_none, lie_one, lie_stuck, lie_three}
 use Rattle.load_run.proofs.Ordering.{lie_two}
-use Rattle.load_run.proofs.calls.call_and_wait.Goals as goal
+use Rattle.load_run.proofs.calls.call_until.Goals as goal
 
 pub returns-in-Admitted-clause-made : goal.returns-in-Admitted-clause-made
 returns-in-Admitted-clause-made g c =
@@ -34,13 +34,15 @@ returns-in-BacklogFull-clause-made g c =
 
 pub returns-in-Ok-clause-made : goal.returns-in-Ok-clause-made
 returns-in-Ok-clause-made g c =
-    makes_lost (Unit {0}) _ _ c.args.arrival c.in-Lost.first c.in-Lost.second c.requires
-    c.in-Lost.ensures c.in-Ok.second c.in-Ok.is
+    makes_lost (Unit {0}) _ _ c.args.arrival c.in-Lost.first c.in-Lost.second
+    c.args.deadline c.acquire_wait.new.looks.latest c.requires c.in-Lost.ensures
+    c.in-Ok.second c.in-Ok.is
 
 pub returns-in-Err-clause-made : goal.returns-in-Err-clause-made
 returns-in-Err-clause-made g c =
-    makes_stuck (Unit {0}) _ _ c.args.arrival c.in-Lost.first c.in-Lost.second c.requires
-    c.in-Lost.ensures c.in-Err.spent c.held-held.ensures.spent c.in-Err.is
+    makes_stuck (Unit {0}) _ _ c.args.arrival c.in-Lost.first c.in-Lost.second
+    c.args.deadline c.acquire_wait.new.looks.latest c.requires c.in-Lost.ensures
+    c.in-Err.spent c.held-held.ensures.spent c.in-Err.is
 
 pub returns-in-Exhausted-clause-made : goal.returns-in-Exhausted-clause-made
 returns-in-Exhausted-clause-made g c =
@@ -70,12 +72,14 @@ returns-in-BacklogFull-clause-order g c =
 
 pub returns-in-Ok-clause-order : goal.returns-in-Ok-clause-order
 returns-in-Ok-clause-order g c =
-    lie_lost (Unit {0}) _ _ c.args.arrival c.in-Lost.first c.in-Lost.second c.in-Lost.ensures
+    lie_lost (Unit {0}) _ _ c.args.arrival c.in-Lost.first c.in-Lost.second
+    c.args.deadline c.acquire_wait.new.looks.latest c.in-Lost.ensures
     c.in-Ok.second c.in-Ok.is
 
 pub returns-in-Err-clause-order : goal.returns-in-Err-clause-order
 returns-in-Err-clause-order g c =
-    lie_stuck (Unit {0}) _ _ c.args.arrival c.in-Lost.first c.in-Lost.second c.in-Lost.ensures
+    lie_stuck (Unit {0}) _ _ c.args.arrival c.in-Lost.first c.in-Lost.second
+    c.args.deadline c.acquire_wait.new.looks.latest c.in-Lost.ensures
     c.in-Err.spent c.in-Err.is
 
 pub returns-in-Exhausted-clause-order : goal.returns-in-Exhausted-clause-order
