@@ -134,3 +134,28 @@ OF_AUTO = [
         ("backlog = 10\n" + AUTO + "min = 60\n", 60, 0, 10, TOO_FEW),
     ]
 ]
+# Places of a class's own are counted too.
+OF_AUTO += [
+    (
+        "backlog = 5\n" + FIXED + LIVE_OF_TWO + "places = 10\n",
+        "greatest limit 4, shares of it 3, backlog 5 and places of classes 10 are 22 together\n"
+        "serve it with --workers 23 or more, at most 64\n",
+    ),
+    (
+        "backlog = 5\n" + AUTO + LIVE_OF_TWO + "places = 5\n",
+        'limit.kind = "auto": it goes up to what the workers leave over, at most limit.max; with --workers 64 to 32\n'
+        "greatest limit 32, shares of it 20, backlog 5 and places of classes 5 are 62 together\n"
+        "serve it with --workers 63 or more, at most 64\n",
+    ),
+    (
+        "backlog = 0\n" + FIXED + LIVE_OF_TWO + "places = 60\n",
+        "greatest limit 4, shares of it 3, backlog 0 and places of classes 60 are 67 together\n" + TOO_FEW,
+    ),
+    (
+        "backlog = 9\nwait = false\n" + FIXED + LIVE_OF_TWO + "places = 2\n",
+        "greatest limit 4, shares of it 3 and backlog 0 are 7 together\n"
+        "serve it with --workers 8 or more, at most 64\n"
+        "wait = false: nobody waits, so backlog = 9 has no effect\n"
+        "wait = false: nobody waits, so the places of classes have no effect\n",
+    ),
+]

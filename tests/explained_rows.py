@@ -412,6 +412,40 @@ OF_FAULTS_OF_THREE = [
         "unknown limit.beta",
     ),
     (
+        FIXED,
+        '[[class]]\nname = "b"\nshare = 1\nplaces = 9_901\n',
+        "",
+        "class 1 of 1\nline 10: places = 9_901\n"
+        "class.places: own places, 0 to what backlog and those before leave of 10000; default 0\n"
+        "here from 0 to 9900\n",
+        "value class.places",
+    ),
+    (
+        "backlog = 4\n" + FIXED + LIVE_OF_TWO + "places = 6\n",
+        '[[class]]\nname = "b"\nshare = 1\nplaces = 9_991\n',
+        "",
+        "class 2 of 2\nline 15: places = 9_991\n"
+        "class.places: own places, 0 to what backlog and those before leave of 10000; default 0\n"
+        "here from 0 to 9990\n",
+        "value class.places",
+    ),
+    (
+        FIXED,
+        '[[class]]\nname = "b"\nshare = 1\nplaces = []\n',
+        "",
+        "class 1 of 1\nline 10: places = []\n"
+        "class.places: own places, 0 to what backlog and those before leave of 10000; default 0\n"
+        "here from 0 to 9900\n",
+        "kind class.places",
+    ),
+    (
+        FIXED + LIVE_OF_TWO,
+        "place = 1\n",
+        "",
+        "class 1 of 1\nline 10: place = 1\nclass.place isn't a key here; those that are: name share places\n",
+        "unknown class.place",
+    ),
+    (
         AUTO,
         "min = 9\nmax = 8\n",
         "",

@@ -43,6 +43,15 @@ CLASSES = "\n".join(
         '[[bypass]]\nkind = "prefix"\nprefix = "/health"',
     )
 )
+PLACED = "\n".join(
+    (
+        'backlog = 1\ntimeout_ms = 60_000\n\n[limit]\nkind = "fixed"\ninitial = 1',
+        '[[class]]\nname = "live"\nshare = 1\nplaces = 2',
+        '[[class]]\nname = "batch"\nshare = 1',
+        '[[resolver]]\nkind = "header"\nheader = "X-Class"',
+    )
+)
+HELD_BY = b"GET /held HTTP/1.1\r\nHost: h\r\nX-Class: %s\r\n\r\n"
 SETTABLE = '[limit]\nkind = "settable"\nmin = 1\nmax = 8\ninitial = {}\n'
 
 
@@ -159,6 +168,7 @@ class Operating(Served):
             "granted": 0,
             "class_in_flight": {"live": 2},
             "class_share": {"live": 2, "batch": 1},
+            "class_refused_total": {"unknown,full": 1},
             "decisions_total": {"admitted": 2, "bypassed": 1, "full": 1},
             "outcomes_total": {},
             "answers_total": {"400": 1, "413": 1, "429": 1, "431": 1, "501": 1},
@@ -166,7 +176,11 @@ class Operating(Served):
             "busy_workers": 2,
         }
         self.judge("the numbers while two are inside", True, gate.shows(**wanted))
-        self.judge("classes of the numbers", ["live", "batch", "unknown"], [*gate.metrics()["class_in_flight"]])
+        classes = ["live", "batch", "unknown"]
+        found = gate.metrics()
+        self.judge("classes of the numbers", classes, [*found["class_in_flight"]])
+        causes = [f"{name},{cause}" for name in classes for cause in ("full", "backlog", "timed-out")]
+        self.judge("causes of the refusals", causes, [*found["class_refused_total"]])
         backend.release.set()
         self.judge("those who were inside", [passed_on(BODY)] * 2, [it.result() for it in held])
         for path in (b"/closes", b"/garbage", b"/busy"):
@@ -224,6 +238,29 @@ class Operating(Served):
         self.judge(
             "what the log tells", True, until(lambda: [it for it in gate.log if "the operator " in it][1:] == lines)
         )
+
+    def keeps_own_places(self, backend: Backend) -> None:
+        """Who finds a place of its own class waits while others fill everybody's, and each class is told by itself."""
+        gate = self.operated(backend, PLACED, workers=12, version=3)
+        later: list[Later] = []
+        for name, inside, waiting in (
+            (b"live", 1, 0),
+            (b"batch", 2, 0),
+            (b"batch", 2, 1),
+            (b"live", 2, 2),
+            (b"live", 2, 3),
+        ):
+            later.append(Later(gate.ask, HELD_BY % name))
+            self.judge(f"{waiting} wait", True, gate.shows(in_flight=inside, waiting=waiting))
+        for name in (b"live", b"batch", b"unknown", b"batch"):
+            refused = gate.ask(HELD_BY.replace(b"/held", b"/") % name)
+            self.judge(f"one more of {name!r}", b"HTTP/1.1 429 ", refused[:13])
+        told_of = {"live,backlog": 1, "batch,backlog": 2, "unknown,backlog": 1}
+        numbers = {"decisions_total": {"admitted": 2, "waiting": 3, "backlog": 4}, "answers_total": {"429": 4}}
+        self.judge("who was refused", True, gate.shows(waiting=3, class_refused_total=told_of, **numbers))
+        backend.release.set()
+        self.judge("all others are served", [passed_on(BODY)] * 5, [it.result() for it in later])
+        self.judge("nobody waits", True, gate.shows(waiting=0, class_refused_total=told_of))
 
     def resets_what_was_learned(self, backend: Backend) -> None:
         """A limit that learned goes back to its beginning; and it isn't set by hand."""

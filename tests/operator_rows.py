@@ -38,6 +38,7 @@ FAMILIES = {
     "admission_granted": ("gauge", None),
     "admission_class_in_flight": ("gauge", "class"),
     "admission_class_share": ("gauge", "class"),
+    "admission_class_refused_total": ("counter", "class,cause"),
     "admission_decisions_total": ("counter", "decision"),
     "admission_outcomes_total": ("counter", "outcome"),
     "admission_answers_total": ("counter", "status"),
@@ -113,9 +114,12 @@ def unread(port: int) -> Iterator[tuple[str, bytes, bytes]]:
 Family = tuple[str, dict[tuple[str | None, str | None], int]]
 
 
+LABEL = r'[a-zA-Z_]\w*="[^"\\\n]*"'
+
+
 def families_of(text: str) -> dict[str, Family]:
-    """The families of a text in Prometheus's format: by name the kind, and the samples by the value of their label, or
-    by nothing where they have none. A text of another form is an error."""
+    """The families of a text in Prometheus's format: by name the kind, and the samples by the names and the values of
+    their labels, each joined by commas, or by nothing where they have none. A text of another form is an error."""
     found: dict[str, Family] = {}
     name = ""
     if not text.endswith("\n"):
@@ -129,8 +133,10 @@ def families_of(text: str) -> dict[str, Family]:
                 raise ValueError(f"a family a second time, or without its kind: {line}")
             found[name] = (kind[1], {})
             continue
-        sample = re.fullmatch(r'([a-zA-Z_:][\w:]*)(?:\{([a-zA-Z_]\w*)="([^"\\\n]*)"\})? (\d+)', line)
-        if not sample or sample[1] != name or (sample[2], sample[3]) in found[name][1]:
+        sample = re.fullmatch(rf"([a-zA-Z_:][\w:]*)(?:\{{({LABEL}(?:,{LABEL})*)\}})? (\d+)", line)
+        labels = re.findall(r'(\w+)="([^"]*)"', sample[2] or "") if sample else []
+        key = (",".join(it[0] for it in labels) or None, ",".join(it[1] for it in labels) or None)
+        if not sample or sample[1] != name or key in found[name][1]:
             raise ValueError(f"no sample of {name}, or a second one: {line}")
-        found[name][1][sample[2], sample[3]] = int(sample[4])
+        found[name][1][key] = int(sample[3])
     return found

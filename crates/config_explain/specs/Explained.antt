@@ -11,7 +11,7 @@ use Rattle.gate_config.specs.declared.key.Section.TheVariants as In
 use Rattle.gate_config.specs.declared.number.Range.{Range}
 use Rattle.gate_config.specs.Fault.{plain}
 use Rattle.gate_config.specs.Key.{path_of, section_of}
-use Rattle.gate_config.specs.Rows.{Bound, Holds, all_rows, left_of_hundred, left_of_thousand, number, of}
+use Rattle.gate_config.specs.Rows.{Bound, Holds, all_rows, left_of_hundred, left_of_places, left_of_thousand, number, of}
 use Rattle.gate_config.specs.Settings.{IsOfKey, Reads, settings_of}
 use Rattle.config_explain.specs.declared.members.Member.{Member}
 
@@ -41,11 +41,13 @@ key_line key is_missing held =
     path_of key ++ (if is_missing then codes " isn't there" else []) ++ codes ": " ++ held
     ++ codes "\n"
 
--- an end of a range hangs on other keys: it is an earlier key's number, or what the classes leave
+-- an end of a range hangs on other keys: it is an earlier key's number, or what the classes leave,
+-- by themselves or with the backlog
 abbrev pub end_hangs : Bound → Bool
 end_hangs (of name) = true
 end_hangs left_of_hundred = true
 end_hangs left_of_thousand = true
+end_hangs left_of_places = true
 end_hangs _ = false
 
 -- a range of numbers has such an end

@@ -21,15 +21,28 @@ pub(crate) fn explain_settings(
     requires { AreSound settings.now }
 {
     explain_workers(out, settings)?;
-    if !settings.wait && settings.backlog > 0 && value_at(table, Key::Backlog).is_some() {
-        let backlog = settings.backlog;
+    if !settings.wait {
+        explain_backlog(out, table, settings)?;
+    }
+    explain_limit(out, table, u64::from(limit_of(settings).hi()))?;
+    explain_callers(out, table, settings)
+}
+
+/// Says that places have no effect where nobody waits: everybody's, where the configuration names
+/// them, and those of classes.
+fn explain_backlog(out: &mut String, table: &Table, settings: &Settings) -> Result<(), AllocError> {
+    let places = settings.table.placed();
+    let backlog = u64::from(settings.backlog).saturating_sub(places);
+    if backlog > 0 && value_at(table, Key::Backlog).is_some() {
         write!(
             out,
             "wait = false: nobody waits, so backlog = {backlog} has no effect\n"
         )?;
     }
-    explain_limit(out, table, u64::from(limit_of(settings).hi()))?;
-    explain_callers(out, table, settings)
+    if places > 0 {
+        out.push_str("wait = false: nobody waits, so the places of classes have no effect\n")?;
+    }
+    Ok(())
 }
 
 /// The limit before as many workers as there may be.
@@ -43,7 +56,12 @@ fn limit_of(settings: &Settings) -> AnyLimit
 fn explain_workers(out: &mut String, settings: &Settings) -> Result<(), AllocError>
     requires { AreSound settings.now }
 {
-    let (limit, shares, waiting) = most_of(settings);
+    let Most {
+        limit,
+        shares,
+        backlog,
+        places,
+    } = most_of(settings);
     if let LimitKind::Auto = settings.limit.kind() {
         write!(
             out,
@@ -51,27 +69,52 @@ fn explain_workers(out: &mut String, settings: &Settings) -> Result<(), AllocErr
              with --workers {MOST_WORKERS} to {limit}\n"
         )?;
     }
-    let inside = limit.saturating_add(shares).saturating_add(waiting);
-    write!(
-        out,
-        "greatest limit {limit}, shares of it {shares} and backlog {waiting} \
-         are {inside} together\n"
-    )?;
+    let inside = limit
+        .saturating_add(shares)
+        .saturating_add(backlog)
+        .saturating_add(places);
+    if places > 0 {
+        write!(
+            out,
+            "greatest limit {limit}, shares of it {shares}, backlog {backlog} and places of \
+             classes {places} are {inside} together\n"
+        )?;
+    } else {
+        write!(
+            out,
+            "greatest limit {limit}, shares of it {shares} and backlog {backlog} \
+             are {inside} together\n"
+        )?;
+    }
     say_workers(out, inside)
 }
 
-/// The greatest limit, the most that shares add to it, and the most who wait.
-fn most_of(settings: &Settings) -> (u64, u64, u64)
+/// The most who may be inside.
+struct Most {
+    /// The greatest limit.
+    limit: u64,
+    /// How many permits shares add to it.
+    shares: u64,
+    /// How many wait in everybody's places.
+    backlog: u64,
+    /// How many wait in the classes' own.
+    places: u64,
+}
+
+/// The most who may be inside by each rule.
+fn most_of(settings: &Settings) -> Most
     requires { AreSound settings.now }
 {
     let hi = limit_of(settings).hi();
     let limit = u64::from(hi);
-    let most = settings.table.most(hi);
-    (
+    let waiting = u64::from(settings.waiting());
+    let places = settings.table.placed().min(waiting);
+    Most {
         limit,
-        most.saturating_sub(limit),
-        u64::from(settings.waiting()),
-    )
+        shares: settings.table.most(hi).saturating_sub(limit),
+        backlog: waiting.saturating_sub(places),
+        places,
+    }
 }
 
 /// Says how many workers are wanted where so many may be inside together.

@@ -75,6 +75,15 @@ macro_rules! range_between {
     ([$($left:tt)+] [$low:literal to what the classes before leave of $all:literal; required]) => {
         Range::required($low, $($left)+)
     };
+    (
+        [$left:ident]
+        [
+            $low:literal to what backlog and those before leave of $all:literal;
+            default $default:literal
+        ]
+    ) => {
+        Range::new($low, $left, $default)
+    };
 }
 
 /// Whether the range in a row's brackets hangs on other keys: one of its ends is no number.

@@ -106,6 +106,10 @@ macro_rules! key_row {
         ClassPercent "  percent       version 1: " "percent, "
             [1 to what the classes before leave of 100; required];
     } };
+    (ClassPlaces [$($row:tt)*] $($given:tt)*) => { $($row)*! { $($given)*
+        ClassPlaces "  places        version 3: " "own places, "
+            [0 to what backlog and those before leave of 10000; default 0];
+    } };
     (Resolver [$($row:tt)*] $($given:tt)*) => { $($row)*! { $($given)*
         Resolver "[[resolver]], at most 32; the first that finds a class tells it." ""
             help " All its keys are required:"
@@ -166,8 +170,9 @@ macro_rules! key_rows {
             Version Listen Backend Backlog Wait TimeoutMs Keep Promote Limit LimitKind LimitMin
             LimitMax LimitInitial LimitRatio LimitTimeoutUs LimitAlpha LimitBeta LimitProbeEvery
             Window WindowSize WindowMinUs WindowMaxUs WindowMinRttUs Class ClassName ClassShare
-            ClassPercent Resolver ResolverKind ResolverHeader ResolverMethod ResolverClass
-            ResolverRoutes Bypass BypassKind BypassMethod BypassPrefix BypassHeader BypassEquals
+            ClassPercent ClassPlaces Resolver ResolverKind ResolverHeader ResolverMethod
+            ResolverClass ResolverRoutes Bypass BypassKind BypassMethod BypassPrefix BypassHeader
+            BypassEquals
         }
     };
     // Each row goes behind those before it.

@@ -1,5 +1,5 @@
 -- A document of its sections and its rules.
-use Rattle.std.proofs.Common.{◌≡◌, ◌∙◌, ap, refl, sym, [], List, Option, option_map, Result, Ok, Err, IsOk}
+use Rattle.std.proofs.Common.{◌≡◌, ◌∙◌, ap, refl, sym, ℕ, [], codes, List, Option, option_map, Result, Ok, Err, IsOk}
 use Rattle.toml.specs.Data.{Members}
 use Rattle.partitions.specs.Table.{Row}
 use Rattle.windowed.specs.declared.numbers.WindowNumbers.{WindowNumbers}
@@ -9,7 +9,7 @@ use Rattle.gate_config.specs.Outcomes.{◌>>=◌, result_map}
 use Rattle.gate_config.specs.declared.top.TopKeys.{TopKeys}
 use Rattle.gate_config.specs.declared.version.Version.{Version}
 use Rattle.gate_config.specs.Rows.{top_rows}
-use Rattle.gate_config.specs.Section.{Values, section_values}
+use Rattle.gate_config.specs.Section.{Values, number_at, section_values}
 use Rattle.gate_config.specs.Top.{top_values}
 use Rattle.gate_config.specs.Document.{DocumentValues, RuleValues, TableRef, bypasses_of, classes_in, document_of, limit_member, limit_of, resolvers_of, rules_of, window_member, window_of}
 
@@ -71,11 +71,12 @@ of_three (Err e) b c all make = refl
 of_three (Ok x) b c all make = of_two (b x) c (all x) make
 
 -- the document is at fault where the rules are
-pub document_read : (v : Version) (t : Members) (read : IsRead v t) →
-    document_of v t ≡ (rules_of v t >>= λ rules. Ok (with_rules read rules))
-document_read v t read =
-    rw (read.is_top, read.is_limit, read.is_window)
-    (of_three (classes_in v t) (λ classes. resolvers_of classes.1 t) (bypasses_of t)
+pub document_read : (v : Version) (t : Members) (read : IsRead v t) (backlog : ℕ) →
+    number_at (codes "backlog") read.top ≡ backlog →
+    document_of v t ≡ (rules_of v backlog t >>= λ rules. Ok (with_rules read rules))
+document_read v t read backlog is_backlog =
+    rw (read.is_top, read.is_limit, read.is_window, is_backlog)
+    (of_three (classes_in v backlog t) (λ classes. resolvers_of classes.1 t) (bypasses_of t)
     (λ classes resolvers bypasses.
     record { classes = classes; resolvers = resolvers; bypasses = bypasses }) (with_rules read))
 
@@ -85,10 +86,11 @@ pub same_fault : {A B : Type 0} (a : Result A ConfigFault) (make : A → B) (fau
 same_fault (Err e) make fault said = cc
 same_fault (Ok x) make fault said = cc
 
-pub no_resolvers : (v : Version) (t : Members) (classes : List Members × List Row)
+pub no_resolvers : (v : Version) (backlog : ℕ) (t : Members) (classes : List Members × List Row)
     (e : ConfigFault) →
-    classes_in v t ≡ Ok classes → resolvers_of classes.1 t ≡ Err e → rules_of v t ≡ Err e
-no_resolvers v t classes e is_read fault = rw (is_read, fault)
+    classes_in v backlog t ≡ Ok classes → resolvers_of classes.1 t ≡ Err e →
+    rules_of v backlog t ≡ Err e
+no_resolvers v backlog t classes e is_read fault = rw (is_read, fault)
 
 after_resolvers : {A B : Type 0} (r : Result A ConfigFault) (next : A → Result B ConfigFault)
     (e : ConfigFault) →
@@ -96,11 +98,11 @@ after_resolvers : {A B : Type 0} (r : Result A ConfigFault) (next : A → Result
 after_resolvers (Ok a) next e fine fault = fault a
 after_resolvers (Err f) next e fine fault = cc
 
-pub no_bypasses : (v : Version) (t : Members) (classes : List Members × List Row)
+pub no_bypasses : (v : Version) (backlog : ℕ) (t : Members) (classes : List Members × List Row)
     (e : ConfigFault) →
-    classes_in v t ≡ Ok classes → IsOk (resolvers_of classes.1 t) → bypasses_of t ≡ Err e →
-    rules_of v t ≡ Err e
-no_bypasses v t classes e is_read fine fault =
+    classes_in v backlog t ≡ Ok classes → IsOk (resolvers_of classes.1 t) → bypasses_of t ≡ Err e →
+    rules_of v backlog t ≡ Err e
+no_bypasses v backlog t classes e is_read fine fault =
     rw is_read (after_resolvers (resolvers_of classes.1 t) _ e fine λ resolvers. rw fault)
 
 -- an answer has one fault

@@ -4,3 +4,4 @@ mod Blank
 mod Documents
 mod Made
 mod Told
+mod Places

@@ -2,7 +2,7 @@
 use Rattle.std.specs.declared.alloc.Global.{Global}
 use Rattle.std.specs.BTreeMap.{BTreeMap}
 use Rattle.std.specs.Borrow.{Bor}
-use Rattle.std.specs.Prelude.{List, [], map, Option, Some, None, option_map, Result, Ok, String, codes}
+use Rattle.std.specs.Prelude.{ℕ, List, [], map, Option, Some, None, option_map, Result, Ok, String, codes}
 use Rattle.toml.specs.declared.value.Value.{Value}
 use Rattle.toml.specs.Data.{Members, get_member}
 use Rattle.toml.specs.View.{table_view}
@@ -22,7 +22,7 @@ use Rattle.gate_config.specs.ClassRows.{class_row}
 use Rattle.gate_config.specs.Limit.{limit_in}
 use Rattle.gate_config.specs.Resolver.{resolver_after, resolver_member}
 use Rattle.gate_config.specs.Rows.{top_rows}
-use Rattle.gate_config.specs.Section.{Values, read_each, section_values}
+use Rattle.gate_config.specs.Section.{Values, number_at, read_each, section_values}
 use Rattle.gate_config.specs.Top.{top_values}
 use Rattle.gate_config.specs.Window.{window_in}
 use Rattle.gate_config.specs.declared.document.Document.{Document}
@@ -86,10 +86,11 @@ read_window (Some window) = window_in window >>= λ numbers. Ok (Some (window, n
 abbrev pub window_of : Members → Result (Option (Members × WindowNumbers)) ConfigFault
 window_of t = optional_from Key.Window (get_member (codes "window") t) >>= read_window
 
--- the classes in a version: at most four tables, each read behind those before it
-abbrev pub classes_in : Version → Members → Result (List Members × List Row) ConfigFault
-classes_in version t = tables_from Key.Class 4 (get_member (codes "class") t) >>= λ tables.
-    classes_of version tables >>= λ classes. Ok (tables, classes)
+-- the classes in a version, behind the number of `backlog`: at most four tables, each read behind
+-- those before it
+abbrev pub classes_in : Version → ℕ → Members → Result (List Members × List Row) ConfigFault
+classes_in version backlog t = tables_from Key.Class 4 (get_member (codes "class") t) >>= λ tables.
+    classes_of version backlog tables >>= λ classes. Ok (tables, classes)
 
 -- the resolvers among these classes, at most 32
 abbrev pub resolvers_of : List Row → Members → Result (List (Members × Values)) ConfigFault
@@ -102,10 +103,11 @@ abbrev pub bypasses_of : Members → Result (List (Members × Values)) ConfigFau
 bypasses_of t =
     tables_from Key.Bypass 32 (get_member (codes "bypass") t) >>= read_each bypass_after []
 
--- the keys of the three arrays in a version, in the order of the rows
-abbrev pub rules_of : Version → Members → Result RuleValues ConfigFault
-rules_of version t =
-    classes_in version t >>= λ classes.
+-- the keys of the three arrays in a version, behind the number of `backlog`, in the order of the
+-- rows
+abbrev pub rules_of : Version → ℕ → Members → Result RuleValues ConfigFault
+rules_of version backlog t =
+    classes_in version backlog t >>= λ classes.
     resolvers_of classes.1 t >>= λ resolvers.
     bypasses_of t >>= λ bypasses.
     Ok (record { classes = classes; resolvers = resolvers; bypasses = bypasses })
@@ -116,7 +118,7 @@ document_of version t =
     section_values [] top_rows t >>= λ top.
     limit_of version t >>= λ limit.
     window_of t >>= λ window.
-    classes_in version t >>= λ classes.
+    classes_in version (number_at (codes "backlog") top) t >>= λ classes.
     resolvers_of classes.1 t >>= λ resolvers.
     bypasses_of t >>= λ bypasses.
     Ok (record {

@@ -1,6 +1,7 @@
 -- The table of keys: which keys there are, in the order in which faults are looked for, and what
 -- each may hold. The share of a class is told in percent by version 1, and in thousandths since
--- version 2; a limit without numbers came with version 3. All else is that of each version.
+-- version 2; a limit without numbers and the places of a class came with version 3. All else is
+-- that of each version.
 use Rattle.std.specs.Prelude.{ℕ, Bool, true, List, [], ◌∷◌, ◌++◌, map, Option, Some, None, codes}
 use Rattle.limit_laws.specs.Algorithm.{greatest_limit}
 use Rattle.aimd.specs.AimdRules.{least_ratio, greatest_ratio}
@@ -13,13 +14,15 @@ use Rattle.gate_config.specs.declared.key.Key.{Key}
 use Rattle.gate_config.specs.declared.version.Version.{Version}
 use Rattle.gate_config.specs.declared.version.Version.TheVariants.{One, Three}
 
--- an end of a range: a number, the number of an earlier key of the section, or what the classes so
--- far leave of a hundred percent, or of a thousand thousandths
+-- an end of a range: a number, the number of an earlier key of the section, what the classes so far
+-- leave of a hundred percent or of a thousand thousandths, or what `backlog` and they leave of the
+-- ten thousand places that there may be
 pub data Bound : Type 0 where
   at : ℕ → Bound
   of : List ℕ → Bound
   left_of_hundred : Bound
   left_of_thousand : Bound
+  left_of_places : Bound
 
 -- what a key holds
 pub data Holds : Type 0 where
@@ -129,11 +132,16 @@ abbrev pub share_row : Version → Row
 share_row One = row Key.ClassPercent (number (at 1) left_of_hundred None)
 share_row _ = row Key.ClassShare (number (at 1) left_of_thousand None)
 
+-- the places of the backlog that are a class's own
+abbrev pub places_rows : Version → List Row
+places_rows Three = row Key.ClassPlaces (number (at 0) left_of_places (Some 0)) ∷ []
+places_rows _ = []
+
 abbrev pub class_rows : Version → List Row
 class_rows version =
     row Key.ClassName new_name
     ∷ share_row version
-    ∷ []
+    ∷ places_rows version
 
 abbrev pub resolver_kinds : List (List ℕ)
 resolver_kinds = codes "header" ∷ codes "method" ∷ codes "route" ∷ []

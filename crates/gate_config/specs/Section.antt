@@ -9,9 +9,9 @@ use Rattle.gate_config.specs.Key.{name_of}
 use Rattle.gate_config.specs.Number.{flag_from, number_from}
 use Rattle.gate_config.specs.Outcomes.{result_map, ◌>>=◌}
 use Rattle.gate_config.specs.Text.{begins_path, choice_from, is_among, is_token, text_from}
-use Rattle.gate_config.specs.ClassRows.{is_class, is_new_name, left_by}
+use Rattle.gate_config.specs.ClassRows.{is_class, is_new_name, left_by, places_left}
 use Rattle.gate_config.specs.Routes.{routes_from}
-use Rattle.gate_config.specs.Rows.{Bound, Holds, Row, address, at, choice, class_name, flag, left_of_hundred, left_of_thousand, new_name, number, of, prefix, routes, text, token, word}
+use Rattle.gate_config.specs.Rows.{Bound, Holds, Row, address, at, choice, class_name, flag, left_of_hundred, left_of_places, left_of_thousand, new_name, number, of, prefix, routes, text, token, word}
 
 -- what was read at a key
 pub data Given : Type 0 where
@@ -62,6 +62,7 @@ bound_of classes values (at n) = n
 bound_of classes values (of name) = number_at name values
 bound_of classes values left_of_hundred = left_by classes / 10
 bound_of classes values left_of_thousand = left_by classes
+bound_of classes values left_of_places = places_left (number_at (codes "backlog") values) classes
 
 -- what a key holds, where it is of the key's kind and in its range, or its default
 abbrev pub read_key : List ClassRow → Values → Key → Holds → Option Data → Result Given ConfigFault

@@ -1,7 +1,8 @@
 -- The settings that a text holds.
-use Rattle.std.specs.Prelude.{◌≡◌, ◌≤◌, ℕ, ◌*◌, ℤ, pos, ◌==◌, List, [], map, Option, Some, None, option_map, ok_or, Result, Err, bytes_eq, codes, IsUtf8, if◌then◌else◌}
+use Rattle.std.specs.Prelude.{◌≡◌, ◌≤◌, ℕ, ◌+◌, ◌*◌, ℤ, pos, ◌==◌, List, [], map, Option, Some, None, option_map, ok_or, Result, Err, bytes_eq, codes, IsUtf8, if◌then◌else◌}
 use Rattle.toml.specs.Data.{Data, Members, get_member, integer}
 use Rattle.toml.specs.Parse.{parse_document}
+use Rattle.partitions.specs.Table.{placed}
 use Rattle.limit_kinds.specs.AnyKinds.{any_from}
 use Rattle.limit_kinds.specs.Specs.{first_limit}
 use Rattle.limiter_core.specs.declared.promote.Promote.{Promote}
@@ -41,12 +42,13 @@ version_of _ = None
 abbrev pub promote_named : List ℕ → Promote
 promote_named word = if bytes_eq word all then All else Newest
 
--- the settings that keys make with these resolvers: times are in nanoseconds
+-- the settings that keys make with these resolvers: everybody's places and the classes' own are one
+-- backlog, and times are in nanoseconds
 abbrev pub settings_with : DocumentValues → List Resolver → Settings
 settings_with d resolvers = record {
   listen = text_at (codes "listen") d.top;
   backend = text_at (codes "backend") d.top;
-  backlog = number_at (codes "backlog") d.top;
+  backlog = number_at (codes "backlog") d.top + placed d.classes.1;
   wait = flag_at (codes "wait") d.top;
   timeout_ns = number_at (codes "timeout_ms") d.top * 1000000;
   keep = number_at (codes "keep") d.top;
@@ -88,10 +90,11 @@ IsOfKey (Fault.Value key) = Unit {0}
 IsOfKey (Fault.Unknown path) = ⊥
 IsOfKey Fault.Route = ⊥
 
--- the numbers of settings are in their ranges: the timeout is from a millisecond to an hour, in
--- nanoseconds
+-- the numbers of settings are in their ranges: the backlog has the classes' own places, and the
+-- timeout is from a millisecond to an hour, in nanoseconds
 pub record AreSound (s : Settings) : Type 0 where
   pub backlog_most : s.backlog ≤ 10000
+  pub places_within : placed s.table ≤ s.backlog
   pub timeout_least : 1000000 ≤ s.timeout_ns
   pub timeout_most : s.timeout_ns ≤ 3600000000000
   pub keep_least : 1 ≤ s.keep

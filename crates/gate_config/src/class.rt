@@ -1,16 +1,17 @@
 // The keys of classes.
 ghost use Rattle.std.specs.List.{list_any};
-ghost use Rattle.std.specs.Prelude.{◌≡◌, ◌≤◌, bytes_eq, length, map};
+ghost use Rattle.std.specs.Prelude.{◌≡◌, ◌+◌, ◌≤◌, ℕ, None, IfOk, bytes_eq, length, map};
 ghost use Rattle.toml.specs.Data.{get_member};
 ghost use Rattle.toml.specs.View.{table_view};
-ghost use Rattle.partitions.specs.Table.{is_name};
+ghost use Rattle.partitions.specs.Table.{is_name, placed};
 ghost use Rattle.gate_config.specs.Key.{name_of};
+ghost use Rattle.gate_config.specs.Number.{number_from};
 ghost use Rattle.gate_config.specs.Outcomes.{result_map};
 ghost use Rattle.gate_config.specs.Table.{tables_among};
 ghost use Rattle.gate_config.specs.Text.{text_from};
 ghost use Rattle.gate_config.specs.declared.version.Version.TheVariants.{One, Two, Three};
 ghost use Rattle.gate_config.specs.Class.{class_after, class_from, classes_of};
-ghost use Rattle.gate_config.specs.ClassRows.{class_row, is_class, is_new_name, left_by};
+ghost use Rattle.gate_config.specs.ClassRows.{class_row, is_class, is_new_name, left_by, places_left};
 ghost use Rattle.gate_config.specs.Rows.{class_rows};
 
 use crate::version::Version;
@@ -20,36 +21,47 @@ use config_words::range_of;
 use partitions::{from_percent, is_name};
 use toml::{Table, Value};
 
+/// The most places of a backlog, everybody's and the classes' own.
+const MOST_PLACES: u32 = 10_000;
+
 /// The keys that a class has in a version.
 pub fn class_keys(version: Version) -> &'static [Key]
     ensures { map name_of result.now ≡ map (λ row. name_of row.key) (class_rows version) }
 {
     match version {
         Version::One => &[Key::ClassName, Key::ClassPercent],
-        Version::Two | Version::Three => &[Key::ClassName, Key::ClassShare],
+        Version::Two => &[Key::ClassName, Key::ClassShare],
+        Version::Three => &[Key::ClassName, Key::ClassShare, Key::ClassPlaces],
     }
 }
 
-/// What the keys of a class hold: its name as it stands in the text, and its share in thousandths.
+/// What the keys of a class hold: its name as it stands in the text, its share in thousandths, and
+/// how many places of the backlog are its own.
 #[derive(Clone, Copy, Default)]
 pub struct ClassKeys<'a> {
     pub name: &'a str,
     pub thousandths: u32,
+    pub places: u32,
 }
 
-/// The keys of the classes in a version, each read after those before it.
+/// The keys of the classes in a version, each read after those before it. Where everybody has so
+/// many places of the backlog, these and the classes' own are at most 10,000.
 pub fn read_classes<'a>(
     version: Version,
+    backlog: u32,
     items: &'a [Value],
 ) -> Result<ArrayVec<ClassKeys<'a>, 4>, ConfigFault>
-    requires { length items.now ≤ 4 }
-    ensures { result_map (λ classes. map class_row classes.items) result
-        ≡ classes_of version (tables_among items.now) }
+    requires few { length items.now ≤ 4 }
+    requires backlog { backlog ≤ 10000 }
+    ensures value { result_map (λ classes. map class_row classes.items) result
+        ≡ classes_of version backlog (tables_among items.now) }
+    ensures within { IfOk result (λ classes.
+        backlog + placed (map class_row classes.items) ≤ 10000) }
 {
     let mut classes = ArrayVec::new();
     for item in items {
         if let Some(table) = item.as_table() {
-            let class = read_class(version, &classes, table)?;
+            let class = read_class(version, backlog, &classes, table)?;
             classes.push(class);
         }
     }
@@ -59,13 +71,16 @@ pub fn read_classes<'a>(
 /// A class behind the classes before it, and of a fault which class it is.
 fn read_class<'a>(
     version: Version,
+    backlog: u32,
     before: &[ClassKeys],
     table: &'a Table,
 ) -> Result<ClassKeys<'a>, ConfigFault>
-    ensures { result_map class_row result
-        ≡ class_after version (map class_row before.now) (table_view table.now) }
+    ensures value { result_map class_row result
+        ≡ class_after version backlog (map class_row before.now) (table_view table.now) }
+    ensures within { IfOk result (λ class.
+        class.places ≤ places_left backlog (map class_row before.now)) }
 {
-    match read_keys(version, before, table) {
+    match read_keys(version, backlog, before, table) {
         Ok(class) => Ok(class),
         Err(fault) => Err(fault.of_member(before.len())),
     }
@@ -74,41 +89,83 @@ fn read_class<'a>(
 /// The keys of a class behind the classes before it.
 fn read_keys<'a>(
     version: Version,
+    backlog: u32,
     before: &[ClassKeys],
     table: &'a Table,
 ) -> Result<ClassKeys<'a>, ConfigFault>
-    ensures { result_map class_row result
-        ≡ class_from version (map class_row before.now) (table_view table.now) }
+    ensures value { result_map class_row result
+        ≡ class_from version backlog (map class_row before.now) (table_view table.now) }
+    ensures within { IfOk result (λ class.
+        class.places ≤ places_left backlog (map class_row before.now)) }
 {
     match version {
         Version::One => read_by_percent(before, table),
-        Version::Two | Version::Three => read_by_share(before, table),
+        Version::Two => read_by_share(before, table),
+        Version::Three => read_with_places(backlog, before, table),
     }
 }
 
 /// The keys of a class whose share is told in percent.
 fn read_by_percent<'a>(before: &[ClassKeys], table: &'a Table) -> Result<ClassKeys<'a>, ConfigFault>
-    ensures { result_map class_row result
-        ≡ class_from One (map class_row before.now) (table_view table.now) }
+    ensures value { (backlog : ℕ) → result_map class_row result
+        ≡ class_from One backlog (map class_row before.now) (table_view table.now) }
+    ensures places { IfOk result (λ class. class.places ≡ 0) }
 {
     let name = new_name(before, table, Key::ClassName)?;
     let left = left_by(before) / 10;
     let percent = read_number(table, Key::ClassPercent, range_of!(ClassPercent, left))?;
     let thousandths = from_percent(u64::from(percent)) as u32;
-    Ok(ClassKeys { name, thousandths })
+    Ok(ClassKeys {
+        name,
+        thousandths,
+        places: 0,
+    })
 }
 
 /// The keys of a class whose share is told in thousandths, as in version 2 and later.
 fn read_by_share<'a>(before: &[ClassKeys], table: &'a Table) -> Result<ClassKeys<'a>, ConfigFault>
-    ensures two { result_map class_row result
-        ≡ class_from Two (map class_row before.now) (table_view table.now) }
-    ensures three { result_map class_row result
-        ≡ class_from Three (map class_row before.now) (table_view table.now) }
+    ensures value { (backlog : ℕ) → result_map class_row result
+        ≡ class_from Two backlog (map class_row before.now) (table_view table.now) }
+    ensures places { IfOk result (λ class. class.places ≡ 0) }
 {
     let name = new_name(before, table, Key::ClassName)?;
+    let thousandths = read_share(before, table)?;
+    Ok(ClassKeys {
+        name,
+        thousandths,
+        places: 0,
+    })
+}
+
+/// The keys of a class that may have places of its own, as in version 3.
+fn read_with_places<'a>(
+    backlog: u32,
+    before: &[ClassKeys],
+    table: &'a Table,
+) -> Result<ClassKeys<'a>, ConfigFault>
+    ensures value { result_map class_row result
+        ≡ class_from Three backlog (map class_row before.now) (table_view table.now) }
+    ensures within { IfOk result (λ class.
+        class.places ≤ places_left backlog (map class_row before.now)) }
+{
+    let name = new_name(before, table, Key::ClassName)?;
+    let thousandths = read_share(before, table)?;
+    let left = places_left(backlog, before);
+    let places = read_number(table, Key::ClassPlaces, range_of!(ClassPlaces, left))?;
+    Ok(ClassKeys {
+        name,
+        thousandths,
+        places,
+    })
+}
+
+/// The share of a class in thousandths.
+fn read_share(before: &[ClassKeys], table: &Table) -> Result<u32, ConfigFault>
+    ensures { result ≡ number_from Key.ClassShare 1 (left_by (map class_row before.now)) None
+        (get_member (name_of Key.ClassShare) (table_view table.now)) }
+{
     let left = left_by(before);
-    let thousandths = read_number(table, Key::ClassShare, range_of!(ClassShare, left))?;
-    Ok(ClassKeys { name, thousandths })
+    read_number(table, Key::ClassShare, range_of!(ClassShare, left))
 }
 
 /// The name of a partition that none of the classes has.
@@ -165,6 +222,19 @@ fn left_by(classes: &[ClassKeys]) -> u32
     let mut left = 1000u32;
     for class in classes {
         left = left.saturating_sub(class.thousandths);
+    }
+    left
+}
+
+/// What everybody's places of the backlog and those of the classes leave of the most that there
+/// may be.
+fn places_left(backlog: u32, classes: &[ClassKeys]) -> u32
+    ensures value { result ≡ places_left backlog (map class_row classes.now) }
+    ensures most { result ≤ 10000 }
+{
+    let mut left = MOST_PLACES.saturating_sub(backlog);
+    for class in classes {
+        left = left.saturating_sub(class.places);
     }
     left
 }

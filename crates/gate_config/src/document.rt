@@ -1,7 +1,8 @@
 // All keys of a configuration, section by section.
 ghost use Rattle.std.specs.Option.{ForSome};
-ghost use Rattle.std.specs.Prelude.{◌≡◌, [], Err, IfErr, IfOk, IsErrOf, IsOk, map, option_map};
+ghost use Rattle.std.specs.Prelude.{◌≡◌, ◌+◌, ◌≤◌, [], Err, IfErr, IfOk, IsErrOf, IsOk, map, option_map};
 ghost use Rattle.toml.specs.View.{table_view};
+ghost use Rattle.partitions.specs.Table.{placed};
 ghost use Rattle.windowed.specs.WindowedRules.{windows_made};
 ghost use Rattle.limit_kinds.specs.Specs.{limit_made};
 ghost use Rattle.gate_config.specs.declared.fault.ConfigFault.{ConfigFault as FaultValue};
@@ -56,6 +57,8 @@ pub fn read_document<'a>(
     ensures limit { IfOk result (λ d. IsOk (limit_made d.limit.1)) }
     ensures window { IfOk result
         (λ d. ForSome d.window (λ window. IsOk (windows_made window.1))) }
+    ensures places { IfOk result (λ d.
+        d.top.backlog + placed (map class_row d.rules.classes.1.items) ≤ 10000) }
     ensures said { Answers document_values (document_of version (table_view table.now)) result }
     ensures fault { (fault : FaultValue) →
         document_of version (table_view table.now) ≡ Err fault → IsErrOf result fault }
@@ -63,7 +66,7 @@ pub fn read_document<'a>(
     let top = read_top(table)?;
     let limit = limit_in(version, table)?;
     let window = window_in(table)?;
-    let rules = rules_in(alloc, version, table)?;
+    let rules = rules_in(alloc, version, top.backlog, table)?;
     Ok(Document {
         top,
         limit,
@@ -96,13 +99,17 @@ fn window_in<'a>(table: &'a Table) -> Result<Option<(&'a Table, WindowNumbers)>,
 fn rules_in<'a>(
     alloc: Global,
     version: Version,
+    backlog: u32,
     table: &'a Table,
 ) -> Result<RuleKeys<'a>, ConfigFault>
-    ensures said { Answers rule_values (rules_of version (table_view table.now)) result }
+    requires { backlog ≤ 10000 }
+    ensures places { IfOk result (λ rules.
+        backlog + placed (map class_row rules.classes.1.items) ≤ 10000) }
+    ensures said { Answers rule_values (rules_of version backlog (table_view table.now)) result }
     ensures fault { (fault : FaultValue) →
-        rules_of version (table_view table.now) ≡ Err fault → IsErrOf result fault }
+        rules_of version backlog (table_view table.now) ≡ Err fault → IsErrOf result fault }
 {
-    let classes = classes_in(version, table)?;
+    let classes = classes_in(version, backlog, table)?;
     let resolvers = resolvers_in(&classes.1, table)?;
     let bypasses = bypasses_in(table)?;
     // No key is at fault: from here on it fails only out of memory.
@@ -118,12 +125,17 @@ fn rules_in<'a>(
 /// The tables of the array `class`, and their keys.
 fn classes_in<'a>(
     version: Version,
+    backlog: u32,
     table: &'a Table,
 ) -> Result<(&'a [Value], ArrayVec<ClassKeys<'a>, 4>), ConfigFault>
-    ensures { result_map tables_and_rows result ≡ classes_in version (table_view table.now) }
+    requires { backlog ≤ 10000 }
+    ensures places { IfOk result (λ classes.
+        backlog + placed (map class_row classes.1.items) ≤ 10000) }
+    ensures said { result_map tables_and_rows result
+        ≡ classes_in version backlog (table_view table.now) }
 {
     let tables = read_tables(table, Key::Class, 4)?;
-    let classes = read_classes(version, tables)?;
+    let classes = read_classes(version, backlog, tables)?;
     Ok((tables, classes))
 }
 

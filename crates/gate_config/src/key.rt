@@ -61,6 +61,7 @@ pub enum Key {
     ClassName,
     ClassPercent,
     ClassShare,
+    ClassPlaces,
     Resolver,
     ResolverKind,
     ResolverHeader,
@@ -106,7 +107,9 @@ impl Key {
             Key::WindowSize | Key::WindowMinUs | Key::WindowMaxUs | Key::WindowMinRttUs => {
                 Section::Window
             }
-            Key::ClassName | Key::ClassPercent | Key::ClassShare => Section::Class,
+            Key::ClassName | Key::ClassPercent | Key::ClassShare | Key::ClassPlaces => {
+                Section::Class
+            }
             Key::ResolverKind
             | Key::ResolverHeader
             | Key::ResolverMethod
@@ -152,6 +155,7 @@ impl Key {
             Key::ClassName => "name",
             Key::ClassPercent => "percent",
             Key::ClassShare => "share",
+            Key::ClassPlaces => "places",
             Key::Resolver => "resolver",
             Key::ResolverHeader | Key::BypassHeader => "header",
             Key::ResolverMethod | Key::BypassMethod => "method",

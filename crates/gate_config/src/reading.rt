@@ -1,14 +1,16 @@
 // From bytes to settings.
 ghost use Rattle.std.specs.Option.{ForSome};
-ghost use Rattle.std.specs.Prelude.{◌≡◌, [], ◌≢◌, ◌⊎◌, IfOk, IfErr, IsErrOf, IsOk, Err, IsUtf8, codes, map};
+ghost use Rattle.std.specs.Prelude.{◌≡◌, ◌+◌, ◌≤◌, [], ◌≢◌, ◌⊎◌, IfOk, IfErr, IsErrOf, IsOk, Err, IsUtf8, codes, map};
 ghost use Rattle.toml.specs.Data.{Members, get_member};
 ghost use Rattle.toml.specs.Errors.{IsBlank};
 ghost use Rattle.toml.specs.View.{table_view};
+ghost use Rattle.partitions.specs.Table.{placed};
 ghost use Rattle.windowed.specs.WindowedRules.{windows_made};
 ghost use Rattle.limit_kinds.specs.Specs.{limit_made};
 ghost use Rattle.gate_config.specs.declared.fault.ConfigFault.{ConfigFault as FaultValue};
 ghost use Rattle.gate_config.specs.Outcomes.{Answers};
 ghost use Rattle.gate_config.specs.Bypass.{bypass_member};
+ghost use Rattle.gate_config.specs.ClassRows.{class_row};
 ghost use Rattle.gate_config.specs.Resolver.{resolver_member};
 ghost use Rattle.gate_config.specs.Top.{IsTop};
 ghost use Rattle.gate_config.specs.Document.{document_values, rule_values};
@@ -107,6 +109,8 @@ fn made_of(alloc: Global, document: Document) -> Result<Settings, ConfigFault>
     requires top { IsTop document.top }
     requires limit { IsOk (limit_made document.limit.1) }
     requires window { ForSome document.window (λ window. IsOk (windows_made window.1)) }
+    requires places { document.top.backlog
+        + placed (map class_row document.rules.classes.1.items) ≤ 10000 }
     ensures sound { IfOk result AreSound }
     ensures said { Makes (λ settings. settings) (made_of (document_values document.entry)) result }
 {
@@ -118,10 +122,11 @@ fn made_of(alloc: Global, document: Document) -> Result<Settings, ConfigFault>
         rules: _,
     } = document;
     let limit = any_limit(limit.1, window.map(|window| window.1));
+    let places = table.placed() as u32;
     Ok(Settings {
         listen: top.listen,
         backend: top.backend,
-        backlog: top.backlog,
+        backlog: top.backlog + places,
         wait: top.wait,
         timeout_ns: u64::from(top.timeout_ms) * MILLI,
         keep: top.keep,

@@ -12,7 +12,8 @@ pub struct Settings {
     pub listen: Address,
     /// Where it forwards to.
     pub backend: Address,
-    /// How many callers may wait, up to 10,000.
+    /// How many callers may wait in all, up to 10,000: in everybody's places, as many as the key
+    /// `backlog` says, and in the classes' own.
     pub backlog: u32,
     /// Whether refused callers wait.
     pub wait: bool,
@@ -24,7 +25,7 @@ pub struct Settings {
     pub promote: Promote,
     /// The limit in its first state, over windows where the configuration has some.
     pub limit: AnyLimit,
-    /// The classes of callers and their shares.
+    /// The classes of callers, their shares and their own places.
     pub table: PartitionTable,
     /// How a request's class is told.
     pub rules: Rules,

@@ -49,7 +49,7 @@ pub const NO_WINDOW: [Key; 12] = [
 pub struct TopKeys {
     pub listen: Address,
     pub backend: Address,
-    /// How many callers may wait.
+    /// How many callers may wait, beside those in the classes' own places.
     pub backlog: u32,
     /// Whether refused callers wait.
     pub wait: bool,

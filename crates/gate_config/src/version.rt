@@ -8,6 +8,7 @@ pub enum Version {
     One,
     /// Shares in thousandths, at `class.share`.
     Two,
-    /// The same shares, and a limit without numbers, `limit.kind = "auto"`.
+    /// The same shares, a limit without numbers, `limit.kind = "auto"`, and places of the backlog
+    /// that are a class's own, `class.places`.
     Three,
 }

@@ -18,6 +18,12 @@ unfoldable pub sample_text : List ℕ → List ℕ → List ℕ → ℕ → List
 sample_text name label word value = concat (
     name ∷ codes "{" ∷ label ∷ codes "=\"" ∷ word ∷ codes "\"} " ∷ decimal value ∷ codes "\n" ∷ [])
 
+-- a sample of a class and a cause, which are such words
+unfoldable pub cause_text : List ℕ → List ℕ → List ℕ → ℕ → List ℕ
+cause_text name class cause value = concat (
+    name ∷ codes "{class=\"" ∷ class ∷ codes "\",cause=\"" ∷ cause ∷ codes "\"} " ∷ decimal value
+    ∷ codes "\n" ∷ [])
+
 -- a sample for each word
 abbrev pub samples_text : List ℕ → List ℕ → List (List ℕ × ℕ) → List ℕ
 samples_text name label samples =

@@ -9,9 +9,10 @@ use Rattle.release.specs.Release.{version}
 use Rattle.serve_reports.specs.declared.noted.GatewayStats.{GatewayStats}
 use Rattle.serve_reports.specs.declared.noted.Troubles.{Troubles}
 use Rattle.serve_reports.specs.declared.outstanding.Outstanding.{Outstanding}
+use Rattle.serve_reports.specs.declared.refusals.RefusalTally.{RefusalTally}
 use Rattle.serve_reports.specs.declared.tally.AnswerTally.{AnswerTally}
 use Rattle.serve_reports.specs.declared.workers.Workers.{Workers}
-use Rattle.metrics.specs.Families.{counters_text, gauge_text, head_text, number_text, sample_text}
+use Rattle.metrics.specs.Families.{cause_text, counters_text, gauge_text, head_text, number_text, sample_text}
 
 -- the limit, and how many are in flight, wait and are granted
 abbrev pub standing_text : Report → List ℕ
@@ -37,13 +38,38 @@ classes_text name help rows numbers =
     ++ class_text name rows numbers 2 ++ class_text name rows numbers 3
     ++ sample_text name (codes "class") (codes "unknown") (slice_index numbers 4)
 
--- how many of each class are in flight, and the share of each
-abbrev pub shares_text : Report → List Row → List ℕ
-shares_text r rows =
+-- how many requests of a class, told of at a place, were refused for each cause
+abbrev pub refused_text : List ℕ → RefusalTally → ℕ → List ℕ
+refused_text class t place =
+    cause_text (codes "admission_class_refused_total") class (codes "full")
+    (slice_index t.full place)
+    ++ cause_text (codes "admission_class_refused_total") class (codes "backlog")
+    (slice_index t.backlog place)
+    ++ cause_text (codes "admission_class_refused_total") class (codes "timed-out")
+    (slice_index t.timed_out place)
+
+-- those of the class in a row
+abbrev pub class_refused_text : List Row → RefusalTally → ℕ → List ℕ
+class_refused_text rows t row =
+    if nat_lt row (length rows) then refused_text (name_of rows (Known row)) t row else []
+
+-- those of each class, in their order, and of the callers of none
+unfoldable pub refusals_text : List Row → RefusalTally → List ℕ
+refusals_text rows t =
+    head_text (codes "admission_class_refused_total") (codes "counter")
+    (codes "Requests of a class that the gate refused, by the cause.")
+    ++ class_refused_text rows t 0 ++ class_refused_text rows t 1
+    ++ class_refused_text rows t 2 ++ class_refused_text rows t 3
+    ++ refused_text (codes "unknown") t 4
+
+-- how many of each class are in flight, its share, and whom of it the gate refused
+abbrev pub by_class_text : Report → List Row → RefusalTally → List ℕ
+by_class_text r rows t =
     classes_text (codes "admission_class_in_flight")
     (codes "Permits of a class that haven't ended.") rows r.counts
     ++ classes_text (codes "admission_class_share")
     (codes "The share of a class at this limit, in permits.") rows r.shares
+    ++ refusals_text rows t
 
 -- how often each reply and promotion was
 abbrev pub decisions_text : Counters → List ℕ
@@ -109,10 +135,10 @@ program_text seconds =
     (codes "Always 1, labelled with the version of the program.")
     ++ sample_text (codes "admission_build_info") (codes "version") version 1
 
--- THE TEXT OF THE METRICS: sixteen families
+-- THE TEXT OF THE METRICS: seventeen families
 abbrev pub metrics_text : Report → List Row → GatewayStats → List ℕ
 metrics_text r rows n =
-    standing_text r ++ shares_text r rows ++ decisions_text r.counters
+    standing_text r ++ by_class_text r rows n.refusals ++ decisions_text r.counters
     ++ outcomes_text r.counters ++ answers_text n.answers ++ empty_text n.answers
     ++ troubles_text n.troubles ++ workers_text n.workers ++ oldest_text n.outstanding
     ++ program_text n.seconds

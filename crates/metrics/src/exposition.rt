@@ -2,17 +2,17 @@
 ghost use Rattle.std.specs.Prelude.{◌≡◌, ◌++◌, ◌<◌, IfOk, OnOk, codes, string_bytes};
 ghost use Rattle.release.specs.Release.{version};
 ghost use Rattle.metrics.specs.Families.{sample_text};
-ghost use Rattle.metrics.specs.Metrics.{answers_text, class_text, classes_text, decisions_text};
+ghost use Rattle.metrics.specs.Metrics.{answers_text, by_class_text, class_refused_text, class_text, classes_text, decisions_text};
 ghost use Rattle.metrics.specs.Metrics.{empty_text, metrics_text, oldest_text, outcomes_text};
 ghost use Rattle.metrics.specs.Metrics.{program_text};
-ghost use Rattle.metrics.specs.Metrics.{shares_text, standing_text, troubles_text, workers_text};
+ghost use Rattle.metrics.specs.Metrics.{refusals_text, refused_text, standing_text, troubles_text, workers_text};
 
-use crate::families::{push_gauge, push_head, push_number, push_sample, push_samples};
+use crate::families::{push_cause, push_gauge, push_head, push_number, push_sample, push_samples};
 use gate_port::Report;
 use limiter_core::Counters;
 use partitions::{Part, PartitionTable};
 use release::version;
-use serve_reports::{AnswerTally, GatewayStats, Outstanding, Troubles, Workers};
+use serve_reports::{AnswerTally, GatewayStats, Outstanding, RefusalTally, Troubles, Workers};
 use std::alloc::{AllocError, Global};
 
 /// The text of the metrics in the text format of Prometheus, version 0.0.4: of the state in a
@@ -29,7 +29,7 @@ pub fn metrics_text(
 {
     let mut text = String::new(alloc);
     push_standing(&mut text, report)?;
-    push_shares(&mut text, report, table)?;
+    push_by_class(&mut text, report, table, &noted.refusals)?;
     push_decisions(&mut text, &report.counters)?;
     push_outcomes(&mut text, &report.counters)?;
     push_answers(&mut text, &noted.answers)?;
@@ -60,10 +60,15 @@ fn push_standing(text: &mut String, report: &Report) -> Result<(), AllocError>
     push_gauge(text, "admission_granted", help, report.granted as u64)
 }
 
-/// Adds how many of each class are in flight, and the share of each.
-fn push_shares(text: &mut String, report: &Report, table: &PartitionTable) -> Result<(), AllocError>
+/// Adds how many of each class are in flight, its share, and whom of it the gate refused.
+fn push_by_class(
+    text: &mut String,
+    report: &Report,
+    table: &PartitionTable,
+    refusals: &RefusalTally,
+) -> Result<(), AllocError>
     ensures { OnOk result (string_bytes text.new
-        ≡ string_bytes text.old ++ shares_text report.now table.now) }
+        ≡ string_bytes text.old ++ by_class_text report.now table.now refusals.now) }
 {
     let help = "Permits of a class that haven't ended.";
     push_classes(
@@ -74,7 +79,61 @@ fn push_shares(text: &mut String, report: &Report, table: &PartitionTable) -> Re
         &report.counts,
     )?;
     let help = "The share of a class at this limit, in permits.";
-    push_classes(text, "admission_class_share", help, table, &report.shares)
+    push_classes(text, "admission_class_share", help, table, &report.shares)?;
+    push_refusals(text, table, refusals)
+}
+
+/// Adds how many requests of each class the gate refused for each cause, and of callers of none.
+fn push_refusals(
+    text: &mut String,
+    table: &PartitionTable,
+    tally: &RefusalTally,
+) -> Result<(), AllocError>
+    ensures { OnOk result (string_bytes text.new
+        ≡ string_bytes text.old ++ refusals_text table.now tally.now) }
+{
+    let help = "Requests of a class that the gate refused, by the cause.";
+    push_head(text, "admission_class_refused_total", "counter", help)?;
+    push_class_refused(text, table, tally, 0)?;
+    push_class_refused(text, table, tally, 1)?;
+    push_class_refused(text, table, tally, 2)?;
+    push_class_refused(text, table, tally, 3)?;
+    push_refused(text, "unknown", tally, 4)
+}
+
+/// Adds the refusals of the class in a row of the table, where it has one.
+fn push_class_refused(
+    text: &mut String,
+    table: &PartitionTable,
+    tally: &RefusalTally,
+    row: u8,
+) -> Result<(), AllocError>
+    requires { row < 4 }
+    ensures { OnOk result (string_bytes text.new
+        ≡ string_bytes text.old ++ class_refused_text table.now tally.now row) }
+{
+    let place = usize::from(row);
+    if table.len() <= place {
+        return Ok(());
+    }
+    push_refused(text, table.name(Part::Known(row)), tally, place)
+}
+
+/// Adds the refusals of a class, by the cause.
+fn push_refused(
+    text: &mut String,
+    class: &str,
+    tally: &RefusalTally,
+    place: usize,
+) -> Result<(), AllocError>
+    requires { place < 5 }
+    ensures { OnOk result (string_bytes text.new
+        ≡ string_bytes text.old ++ refused_text class.now tally.now place) }
+{
+    let name = "admission_class_refused_total";
+    push_cause(text, name, class, "full", tally.full[place])?;
+    push_cause(text, name, class, "backlog", tally.backlog[place])?;
+    push_cause(text, name, class, "timed-out", tally.timed_out[place])
 }
 
 /// Adds a family with a sample for each class, and for the callers of none.

@@ -1,6 +1,6 @@
 // Families of samples, in the text format of Prometheus.
 ghost use Rattle.std.specs.Prelude.{◌≡◌, ◌++◌, OnOk, flat_map, string_bytes};
-ghost use Rattle.metrics.specs.Families.{gauge_text, head_text, number_text, sample_text};
+ghost use Rattle.metrics.specs.Families.{cause_text, gauge_text, head_text, number_text, sample_text};
 
 use std::alloc::AllocError;
 
@@ -71,4 +71,22 @@ pub(crate) fn push_sample(
         ≡ string_bytes text.old ++ sample_text name.now label.now word.now value) }
 {
     write!(text, "{name}{{{label}=\"{word}\"}} {value}\n")
+}
+
+/// Adds a sample of a class and a cause, words that need no escape.
+#[tactic(auto, unfolding(crate::specs::Families::cause_text))]
+pub(crate) fn push_cause(
+    text: &mut String,
+    name: &str,
+    class: &str,
+    cause: &str,
+    value: u64,
+) -> Result<(), AllocError>
+    ensures { OnOk result (string_bytes text.new
+        ≡ string_bytes text.old ++ cause_text name.now class.now cause.now value) }
+{
+    write!(
+        text,
+        "{name}{{class=\"{class}\",cause=\"{cause}\"}} {value}\n"
+    )
 }

@@ -52,33 +52,39 @@ const REFUSALS = [['full', 'no room', '#d55e00'], ['backlog', 'backlog full', '#
 const looks = [];
 let lastAnswer = null;
 
-// The samples of a text: by the family's name a number, or numbers by their label's value.
+// The samples of a text: by the family's name a number, or numbers by the value of their first
+// label, each the sum of those that a second label tells apart.
 function samplesOf(text) {
   const found = {};
   for (const line of text.split('\\n')) {
-    const parts = /^([a-z_]+)(?:[{][a-z]+=\"([^\"]*)\"[}])? ([0-9]+)$/.exec(line);
+    const parts = /^([a-z_]+)(?:[{][a-z]+=\"([^\"]*)\"(?:,[^}]*)?[}])? ([0-9]+)$/.exec(line);
     if (!parts) continue;
     const [, name, label, value] = parts;
     if (label === undefined) found[name] = Number(value);
-    else (found[name] ??= {})[label] = Number(value);
+    else {
+      const family = found[name] ??= {};
+      family[label] = (family[label] ?? 0) + Number(value);
+    }
   }
   return found;
 }
 
-// How many refusals of a kind came in a second, from one look to the next of the same run.
-function rateOf(kind, look, before) {
+// How much a counter rose in a second, from one look to the next of the same run.
+function rateOf(family, label, look, before) {
   if (!before || look.told.admission_uptime_seconds < before.told.admission_uptime_seconds)
     return null;
-  const more = look.told.admission_decisions_total[kind]
-    - before.told.admission_decisions_total[kind];
+  const more = look.told[family][label] - before.told[family][label];
   return more < 0 ? null : more / (look.at - before.at);
 }
 
 // A look: when it was, and what the gateway told; it told nothing where it didn't answer.
 function note(told) {
-  const look = { at: Date.now() / 1000, told, rates: {} };
+  const look = { at: Date.now() / 1000, told, rates: {}, refused: {} };
   const before = looks.at(-1)?.told ? looks.at(-1) : null;
-  if (told) for (const [kind] of REFUSALS) look.rates[kind] = rateOf(kind, look, before);
+  if (told) for (const [kind] of REFUSALS)
+    look.rates[kind] = rateOf('admission_decisions_total', kind, look, before);
+  if (told) for (const name of classesOf(told))
+    look.refused[name] = rateOf('admission_class_refused_total', name, look, before);
   looks.push(look);
   while (looks[0].at < look.at - KEPT_SECONDS) looks.shift();
   if (told) lastAnswer = look;
@@ -102,6 +108,9 @@ const PANELS = [
   { title: 'Refusals a second', series: told => REFUSALS.map(([kind, name, color]) => ({
     color, value: look => look.rates[kind],
     said: `${name} ${(lastAnswer.rates[kind] ?? 0).toFixed(1)}` })) },
+  { title: 'Refusals a second, by class', series: told => classesOf(told).map((name, place) => ({
+    color: colorOf(name, place), value: look => look.refused[name],
+    said: `${name} ${(lastAnswer.refused[name] ?? 0).toFixed(1)}` })) },
   { title: 'Waiting for a permit', series: told => [
     { color: '#56b4e9', value: look => look.told.admission_waiting,
       said: `waiting ${told.admission_waiting}` }] },

@@ -1,5 +1,6 @@
 // What was noted while serving.
 use crate::outstanding::Outstanding;
+use crate::refusals::RefusalTally;
 use crate::tally::AnswerTally;
 use crate::workers::Workers;
 
@@ -23,6 +24,8 @@ pub struct Troubles {
 pub struct GatewayStats {
     /// How many exchanges ended in each of its own answers.
     pub answers: AnswerTally,
+    /// How many requests of each class the gate refused.
+    pub refusals: RefusalTally,
     /// How often each trouble came.
     pub troubles: Troubles,
     /// How many workers serve a client at this moment.

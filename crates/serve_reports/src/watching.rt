@@ -5,6 +5,7 @@ ghost use Rattle.serve_reports.specs.Spells.{is_minute_over};
 use crate::noted::{GatewayStats, Troubles};
 use crate::outstanding::{Moments, Outstanding};
 use crate::pace::Pace;
+use crate::refusals::RefusalTally;
 use crate::report_line::report_text;
 use crate::spell::RateLimitedLog;
 use crate::tally::AnswerTally;
@@ -38,6 +39,7 @@ const EMFILE: i32 = 24;
 #[derive(Clone, Copy)]
 struct Notes {
     answers: AnswerTally,
+    refusals: RefusalTally,
     unreached: RateLimitedLog,
     broken: RateLimitedLog,
     late: RateLimitedLog,
@@ -89,6 +91,7 @@ impl<'a, R: SystemClock> Watcher<'a, R> {
     ) -> Result<Watcher<'a, R>, AllocError> {
         let notes = Notes {
             answers: AnswerTally::default(),
+            refusals: RefusalTally::default(),
             unreached: RateLimitedLog::new(),
             broken: RateLimitedLog::new(),
             late: RateLimitedLog::new(),
@@ -136,6 +139,7 @@ impl<R: SystemClock + Log + Wait> Watcher<'_, R> {
         let now = self.clock.now();
         GatewayStats {
             answers: notes.answers,
+            refusals: notes.refusals,
             troubles: notes.troubles(),
             workers: self.workers(),
             outstanding: self.moments.outstanding(now),
@@ -209,7 +213,9 @@ impl<R: SystemClock + Log + Wait> Watch for Watcher<'_, R> {
     fn ended(&self, exchange: &ExchangeSummary) {
         self.busy.fetch_sub(1, Ordering::SeqCst);
         if exchange.is_own {
-            self.notes.lock(self.rt).answers.count(exchange);
+            let mut notes = self.notes.lock(self.rt);
+            notes.answers.count(exchange);
+            notes.refusals.count(exchange);
         }
     }
 

@@ -2,6 +2,7 @@
 ghost use Rattle.std.specs.Prelude.{◌≡◌, ◌≢◌, ◌≤◌, ◌++◌, [], ◌∷◌, length, map, Some, None, IfOk, OnOk, IfErr};
 ghost use Rattle.toml.specs.View.{table_view};
 ghost use Rattle.partitions.specs.Faults.{given};
+ghost use Rattle.partitions.specs.Table.{unplaced};
 ghost use Rattle.gate_config.specs.Bypass.{bypass_values};
 ghost use Rattle.gate_config.specs.ClassRows.{class_row};
 ghost use Rattle.gate_config.specs.Resolver.{resolver_values};
@@ -25,8 +26,21 @@ pub fn partitions_of(alloc: Global, classes: &[ClassKeys]) -> Result<PartitionTa
     }
     let rows = class_pairs(alloc, classes)?;
     match PartitionTable::new(alloc, &rows) {
-        Ok(table) => Ok(table),
+        Ok(mut table) => {
+            set_places(&mut table, classes);
+            Ok(table)
+        }
         Err(_) => Err(AllocError),
+    }
+}
+
+/// Gives each class of a table its places of the backlog.
+fn set_places(table: &mut PartitionTable, classes: &[ClassKeys])
+    requires { table.old ≡ unplaced (map class_row classes.now) }
+    ensures { table.new ≡ map class_row classes.now }
+{
+    for row in 0..table.len() {
+        table.set_places(Part::Known(row as u8), classes[row].places);
     }
 }
 
@@ -35,7 +49,7 @@ fn class_pairs<'a>(
     alloc: Global,
     classes: &'a [ClassKeys],
 ) -> Result<Vec<(&'a [u8], u32)>, AllocError>
-    ensures { IfOk result (λ pairs. given pairs.items ≡ map class_row classes.now) }
+    ensures { IfOk result (λ pairs. given pairs.items ≡ unplaced (map class_row classes.now)) }
 {
     let mut pairs = Vec::new(alloc);
     for class in classes {

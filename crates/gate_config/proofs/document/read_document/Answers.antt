@@ -1,4 +1,4 @@
-use Rattle.std.proofs.Common.{rules, ◌≡◌, Err, IsErrOf}
+use Rattle.std.proofs.Common.{rules, ◌≡◌, refl, Err, IsErrOf}
 use Rattle.toml.specs.View.{table_view}
 use Rattle.gate_config.specs.Document.{rules_of}
 use Rattle.gate_config.proofs.Documents.{IsRead, document_read, is_read, same_fault, with_rules}
@@ -9,10 +9,12 @@ returns-in_err-rules-clause-fault c = λ fault said.
     let read : IsRead c.args.version (table_view c.args.table.now) = is_read _ _ _ _ _ c.in_ok-top.top
     c.in_ok-limit.limit c.in_ok-window.window c.read_top.ensures.value c.limit_in.ensures.said
     c.window_in.ensures.said c.in_ok-top.was c.in_ok-limit.was c.in_ok-window.was in
-    let whole = document_read c.args.version (table_view c.args.table.now) read in
-    let key : rules_of c.args.version (table_view c.args.table.now) ≡ Err fault =
-    same_fault (rules_of c.args.version (table_view c.args.table.now)) (with_rules read) fault
-    (rw whole at said) in
+    let whole = document_read c.args.version (table_view c.args.table.now) read
+    c.in_ok-top.top.backlog refl in
+    let key : rules_of c.args.version c.in_ok-top.top.backlog (table_view c.args.table.now)
+    ≡ Err fault =
+    same_fault (rules_of c.args.version c.in_ok-top.top.backlog (table_view c.args.table.now))
+    (with_rules read) fault (rw whole at said) in
     let told : IsErrOf c.rules_in.result fault = c.rules_in.ensures.fault fault key in
     search rules
 
@@ -21,7 +23,8 @@ returns-in_err-rules-clause-said c =
     let read : IsRead c.args.version (table_view c.args.table.now) = is_read _ _ _ _ _ c.in_ok-top.top
     c.in_ok-limit.limit c.in_ok-window.window c.read_top.ensures.value c.limit_in.ensures.said
     c.window_in.ensures.said c.in_ok-top.was c.in_ok-limit.was c.in_ok-window.was in
-    let whole = document_read c.args.version (table_view c.args.table.now) read in
+    let whole = document_read c.args.version (table_view c.args.table.now) read
+    c.in_ok-top.top.backlog refl in
     search rules
 
 pub returns-clause-said : goal.returns-clause-said
@@ -29,7 +32,8 @@ returns-clause-said c =
     let read : IsRead c.args.version (table_view c.args.table.now) = is_read _ _ _ _ _ c.in_ok-top.top
     c.in_ok-limit.limit c.in_ok-window.window c.read_top.ensures.value c.limit_in.ensures.said
     c.window_in.ensures.said c.in_ok-top.was c.in_ok-limit.was c.in_ok-window.was in
-    let whole = document_read c.args.version (table_view c.args.table.now) read in
+    let whole = document_read c.args.version (table_view c.args.table.now) read
+    c.in_ok-top.top.backlog refl in
     search rules
 
 pub returns-clause-fault : goal.returns-clause-fault
@@ -37,7 +41,8 @@ returns-clause-fault c =
     let read : IsRead c.args.version (table_view c.args.table.now) = is_read _ _ _ _ _ c.in_ok-top.top
     c.in_ok-limit.limit c.in_ok-window.window c.read_top.ensures.value c.limit_in.ensures.said
     c.window_in.ensures.said c.in_ok-top.was c.in_ok-limit.was c.in_ok-window.was in
-    let whole = document_read c.args.version (table_view c.args.table.now) read in
+    let whole = document_read c.args.version (table_view c.args.table.now) read
+    c.in_ok-top.top.backlog refl in
     search rules
 
 pub returns-in_err-top-clause-said : goal.returns-in_err-top-clause-said

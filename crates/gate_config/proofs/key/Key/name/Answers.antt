@@ -82,6 +82,9 @@ returns-in-ClassPercent c = search rules
 pub returns-in-ClassShare : goal.returns-in-ClassShare
 returns-in-ClassShare c = search rules
 
+pub returns-in-ClassPlaces : goal.returns-in-ClassPlaces
+returns-in-ClassPlaces c = search rules
+
 pub returns-in-Resolver : goal.returns-in-Resolver
 returns-in-Resolver c = search rules
 
