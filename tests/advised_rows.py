@@ -1,5 +1,5 @@
 """Rows of `tests/keys`: what `check --explain` says of configurations without a fault."""
-from config_texts import AIMD, AUTO, BY_METHOD, BYPASS, FIXED, LIVE_OF_TWO, PLAIN, SETTABLE, VEGAS
+from config_texts import AIMD, AUTO, BY_METHOD, BY_ROUTE, BYPASS, FIXED, LIVE_OF_TWO, PLAIN, SETTABLE, VEGAS
 
 # Lines behind the version and the addresses, and what it says of them.
 OF_NO_FAULT = [
@@ -82,6 +82,8 @@ OF_NO_FAULT += [
             "capitals\n",
         ),
         (PLAIN + 'initial = 40\n[[bypass]]\nkind = "method"\nmethod = "M-SEARCH"\n', ""),
+        # an empty table of routes does nothing, and isn't told
+        (PLAIN + "initial = 40\n" + BY_ROUTE, ""),
     ]
 ]
 TOO_FEW = "too few workers: there are at most 64, and callers past them wait unseen; lower the limit or the backlog\n"
@@ -103,11 +105,15 @@ OF_NO_FAULT += [
         'resolver 1 has the method "get" with small letters: methods are compared byte for byte, and clients send '
         "capitals\n",
     ),
+]
+# Nor are routes told of without a slash in front, or with a colon for a segment.
+OF_NO_FAULT += [
     (
-        "backlog = 0\n" + FIXED + LIVE_OF_TWO + '[[resolver]]\nkind = "header"\nheader = "A"\n',
+        "backlog = 0\n" + FIXED + LIVE_OF_TWO + rules,
         "greatest limit 4, shares of it 3 and backlog 0 are 7 together\n"
         "serve it with --workers 8 or more, at most 64\n",
-    ),
+    )
+    for rules in ('[[resolver]]\nkind = "header"\nheader = "A"\n', BY_ROUTE + '"a" = "live"\n"/b/:id" = "live"\n')
 ]
 # The same of addresses that are one.
 OF_ONE_ADDRESS = [

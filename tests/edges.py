@@ -15,13 +15,13 @@ from concurrent.futures import ThreadPoolExecutor
 
 from beside import Beside
 from ending import is_between
-from large import LINGERS, LONG_TIME, MEGABYTE, post
+from large import LINGERS, MEGABYTE, post
 from large import answer as response
 from loopback import BODY, Backend, Gateway, Later, Scripted, read_all, read_head
 from operating import HELD, Operated
 from operator_rows import DONE, NOTHING, request, told
 from running import PATIENCE, free_port, until
-from sockets import AGAIN, PLAIN, TRIES, passed_on, processor_time, timed, tried, unbroken
+from sockets import AGAIN, LONG_TIME, PLAIN, TRIES, passed_on, processor_time, timed, tried, unbroken
 from telling import BROKEN, REPORT, fill, lines_of, troubles, waits_to_write
 from wires import local, reset
 

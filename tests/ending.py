@@ -1,5 +1,6 @@
 """Cases of `tests/serve` on calls and connections that come to an end, whatever their peer does or leaves undone."""
 import contextlib
+import functools
 import pathlib
 import socket
 import threading
@@ -8,8 +9,8 @@ from collections.abc import Callable
 
 from loopback import BODY, WHOLE, Backend, Gateway, Later, Scripted, read_all, read_head
 from running import PATIENCE, free_port, until
-from sockets import MUCH, PLAIN, TRIES, Sockets, drips, passed_on, timed, tried
-from telling import reports
+from sockets import LONG_TIME, MUCH, PLAIN, TRIES, Sockets, drips, passed_on, timed, tried, unbroken
+from telling import BROKEN, reports, troubles
 from wires import local
 
 ONE = 'wait = false\n\n[limit]\nkind = "fixed"\ninitial = 1'
@@ -19,6 +20,8 @@ POST = b"POST /plain HTTP/1.1\r\nHost: h\r\nContent-Length: %d\r\n\r\n%s" % (len
 LATE = "[WARN  admission] the backend didn't answer in time count=1"
 # From this connect on a backend's queue is full, which accepts nobody.
 QUEUE = 3
+# Answers of which a client takes nothing for a while: the system has the first whole by then, and not the second.
+RESTED = (300_000, 6_000_000)
 
 
 def is_between(seconds: float, bounds: tuple[float, float]) -> bool:
@@ -132,6 +135,63 @@ class Ending(Sockets):
                 answer, seconds = timed(gate.ask, PLAIN)
                 self.judge(f"a full queue with {words}", (local(status), True), (answer, is_between(seconds, bounds)))
                 self.judge(f"counters of it with {words}", {"admitted": 1, kind: 1}, gate.ending())
+
+    def gives_up_who_reads_nothing(self, _: Backend) -> None:
+        """A backend that takes nothing of its request is given up behind five seconds, and at once where it has ended
+        what it sends: 502, dropped, and told."""
+        for ends_first, bounds in ((False, (4.5, 9.0)), (True, (0.0, 4.0))):
+            took = tried(functools.partial(self.time_of_who_reads_nothing, ends_first), bounds[1])
+            what = "that ends what it sends" if ends_first else "that is silent"
+            self.judge(f"a backend {what} and reads nothing", True, is_between(took[-1], bounds) or took)
+
+    def time_of_who_reads_nothing(self, ends_first: bool) -> float:
+        """When a call is answered whose backend reads nothing, from when that has its connection on."""
+        begun: list[float] = []
+        stays = threading.Event()
+
+        def reads_nothing(client: socket.socket) -> None:
+            begun.append(time.monotonic())
+            if ends_first:
+                client.shutdown(socket.SHUT_WR)
+            stays.wait(3 * PATIENCE)
+
+        backend = Scripted(reads_nothing)
+        gate = self.gateway(backend, ONE, words=LONG_TIME)
+        with gate.connect() as client:
+            client.settimeout(3 * PATIENCE)
+            client.sendall(POST)
+            self.judge(f"who reads nothing, {ends_first}", local(502), read_all(client))
+            took = time.monotonic() - begun[0]
+        self.judge(f"counters of who reads nothing, {ends_first}", {"admitted": 1, "dropped": 1}, gate.ending())
+        told = f"{BROKEN}count=1 cause=closed before the request was written"
+        self.judge(f"what is told of who reads nothing, {ends_first}", [told], troubles(gate, 1))
+        stays.set()
+        backend.close()
+        return took
+
+    def lets_its_clients_rest(self, _: Backend) -> None:
+        """A client that takes nothing of its answer for seven seconds gets all of it within its own time, whether the
+        gateway still writes it or its system has all of it."""
+        for body in RESTED:
+
+            def answers(client: socket.socket, body: int = body) -> None:
+                read_head(client)
+                client.sendall(b"HTTP/1.1 200 OK\r\nContent-Length: %d\r\n\r\n" % body + b"y" * body)
+
+            backend = Scripted(answers)
+            gate = self.gateway(backend, words=LONG_TIME)
+            with socket.socket() as client:
+                client.setsockopt(socket.SOL_SOCKET, socket.SO_RCVBUF, 4096)
+                client.settimeout(3 * PATIENCE)
+                client.connect(("127.0.0.1", gate.port))
+                client.sendall(PLAIN)
+                begun = client.recv(1)
+                time.sleep(7)
+                found, why = unbroken(client, b"")
+            length = len((begun + found).partition(b"\r\n\r\n")[2])
+            self.judge(f"{body} bytes behind a rest", (body, None), (length, why))
+            self.judge(f"counters of {body} bytes behind a rest", {"admitted": 1, "success": 1}, gate.ending())
+            backend.close()
 
     def waits_for_no_end(self, _: Backend) -> None:
         """A client is answered, and let go, before it is looked whether its backend closes, which never does here."""

@@ -1,7 +1,5 @@
 """Cases of `tests/serve` on large bodies: a backend that answers before it reads, and a client that reads late."""
-import contextlib
 import itertools
-import pathlib
 import socket
 import struct
 import subprocess
@@ -11,12 +9,10 @@ from concurrent.futures import ThreadPoolExecutor
 from loopback import FIVE, Backend, Gateway, Scripted, read_all, read_head
 from running import until
 from served import Served
-from sockets import AGAIN, PLAIN, passed_on, unbroken
+from sockets import AGAIN, LONG_TIME, PLAIN, passed_on, states_of, unbroken
 from wires import local
 
 MEGABYTE = 1_000_000
-# A client whose machine has other work takes its time.
-LONG_TIME = ("--client-timeout-ms", "60000")
 STEPS = range(1, 9)
 HOW = {False: "by a length", True: "in chunks"}
 # How much of a large answer is read at once.
@@ -83,11 +79,7 @@ def on_the_way(port: int, client: socket.socket) -> int:
 
 def rests(process: subprocess.Popen[str]) -> bool:
     """Whether each thread of a process waits for something, or it has ended."""
-    states: set[str] = set()
-    for it in pathlib.Path(f"/proc/{process.pid}/task").glob("*/stat"):
-        with contextlib.suppress(OSError):
-            states.add(it.read_text().rpartition(")")[2].split()[0])
-    return states <= set("SZX")
+    return states_of(process) <= set("SZX")
 
 
 class Large(Served):

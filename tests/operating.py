@@ -375,9 +375,9 @@ class Operating(Served):
                 f"[ERROR admission] the address can't be bound address={address} "
                 "error=Address already in use (os error 98)\nadmission: listen\n"
             )
-            self.judge("at an address that is taken", (1, "", True), (status, out, said.endswith(wanted)))
+            self.judge("at an address that is taken, before anything is told", (1, "", wanted), (status, out, said))
         status, out, said = served(f"127.0.0.1:{front}")
-        self.judge("at its own front", (1, "", True), (status, out, said.endswith("admission: listen\n")))
+        self.judge("at its own front", (1, "", wanted.replace(address, f"127.0.0.1:{front}")), (status, out, said))
         other = self.operated(backend, loopback="127.255.255.254")
         self.judge("at another loopback address", told(DONE), other.call("GET /health"))
         other.loopback = "127.0.0.1"

@@ -1,6 +1,8 @@
 """Cases of `tests/serve` on connections: early answers, resets, signals, descriptors and slow ends."""
+import contextlib
 import functools
 import os
+import pathlib
 import resource
 import signal
 import socket
@@ -8,11 +10,11 @@ import subprocess
 import threading
 import time
 import typing
-from collections.abc import Callable
+from collections.abc import Callable, Iterator
 from concurrent.futures import ThreadPoolExecutor
 
 from loopback import BODY, FIVE, LARGE, WHOLE, Backend, Gateway, Later, Scripted, read_all, read_head
-from running import PATIENCE
+from running import PATIENCE, until
 from served import Served
 from wires import CONTINUE, local
 
@@ -29,6 +31,8 @@ FLOOD = b"x" * 20_000_000
 STOPS = 12
 # How often a case is tried whose mistake shows in most of its tries.
 TRIES = 5
+# A client whose machine has other work takes its time.
+LONG_TIME = ("--client-timeout-ms", "60000")
 # For how many seconds a case is tried again that other work on the machine may make late.
 AGAIN = 3 * PATIENCE
 
@@ -82,6 +86,26 @@ def processor_time(process: subprocess.Popen[str]) -> float:
     with open(f"/proc/{process.pid}/stat", encoding="ascii") as file:
         user, system = file.read().rpartition(")")[2].split()[11:13]
     return (int(user) + int(system)) / os.sysconf("SC_CLK_TCK")
+
+
+def states_of(process: subprocess.Popen[str]) -> set[str]:
+    """The states of a process's threads, as proc(5) names them; none where it has ended."""
+    states = set()
+    for it in pathlib.Path(f"/proc/{process.pid}/task").glob("*/stat"):
+        with contextlib.suppress(OSError):
+            states.add(it.read_text().rpartition(")")[2].split()[0])
+    return states
+
+
+@contextlib.contextmanager
+def standing_still(process: subprocess.Popen[str]) -> Iterator[None]:
+    """A process does nothing meanwhile: each of its threads is stopped, and then goes on."""
+    process.send_signal(signal.SIGSTOP)
+    until(lambda: states_of(process) == {"T"})
+    try:
+        yield
+    finally:
+        process.send_signal(signal.SIGCONT)
 
 
 class Sockets(Served):
