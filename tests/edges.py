@@ -21,7 +21,18 @@ from loopback import BODY, Backend, Gateway, Later, Scripted, read_all, read_hea
 from operating import HELD, Operated
 from operator_rows import DONE, NOTHING, request, told
 from running import PATIENCE, free_port, until
-from sockets import AGAIN, LONG_TIME, PLAIN, TRIES, passed_on, processor_time, timed, tried, unbroken
+from sockets import (
+    AGAIN,
+    LONG_TIME,
+    PLAIN,
+    TRIES,
+    comes_to_rest,
+    passed_on,
+    processor_time,
+    timed,
+    tried,
+    unbroken,
+)
 from telling import BROKEN, REPORT, fill, lines_of, troubles, waits_to_write
 from wires import local, reset
 
@@ -96,6 +107,8 @@ class Edges(Beside):
                 begun = processor_time(gate.process)
                 is_busy = until(lambda it=begun: processor_time(gate.process) - it > 0.3, seconds=2)
                 self.judge(f"its processor without descriptors for {what}, {turn}", False, is_busy)
+                # One that tries again and again never waits, however little of a processor it gets.
+                self.judge(f"its threads without descriptors for {what}, {turn}", True, comes_to_rest(gate.process))
                 # Who waited for a client by then had a descriptor for it already.
                 served = sum(it.found is not None for it in asked)
                 self.judge(f"how many of {what} meanwhile, {turn}", True, served <= AT_ONCE or served)
@@ -269,9 +282,10 @@ class Edges(Beside):
 
     def gives_answers_their_time(self, backend: Backend) -> None:
         """A client that doesn't read its answer has its whole time for it, and then no more."""
-        gate = self.gateway(backend, each=1_000_000, words=("--client-timeout-ms", "6000"))
+        gate = self.gateway(backend, each=1_000_000, words=("--client-timeout-ms", "12000"))
         took: list[float] = []
-        while len(took) < 3 and max(took, default=0) < 4.8:
+        # Less than half is far below, where other work makes the next one late.
+        while len(took) < 3 and max(took, default=0) < 9.8:
             with socket.socket() as deaf:
                 deaf.setsockopt(socket.SOL_SOCKET, socket.SO_RCVBUF, 4096)
                 deaf.connect(("127.0.0.1", gate.port))
@@ -280,7 +294,7 @@ class Edges(Beside):
                 answer, rest = timed(gate.ask, PLAIN)
                 self.judge("one behind a deaf client", passed_on(BODY), answer)
                 took.append(rest)
-        self.judge("how long the deaf one had", True, max(took) >= 4.8 or took)
+        self.judge("how long the deaf one had", True, max(took) >= 9.8 or took)
 
     def looks_after_its_answers(self, _: Backend) -> None:
         """A client that reads nothing of an answer holds its worker for two seconds more where some kilobytes are left

@@ -79,7 +79,7 @@ def on_the_way(port: int, client: socket.socket) -> int:
 
 def rests(process: subprocess.Popen[str]) -> bool:
     """Whether each thread of a process waits for something, or it has ended."""
-    return states_of(process) <= set("SZX")
+    return {*states_of(process).values()} <= set("SZX")
 
 
 class Large(Served):

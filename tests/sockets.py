@@ -88,20 +88,32 @@ def processor_time(process: subprocess.Popen[str]) -> float:
     return (int(user) + int(system)) / os.sysconf("SC_CLK_TCK")
 
 
-def states_of(process: subprocess.Popen[str]) -> set[str]:
-    """The states of a process's threads, as proc(5) names them; none where it has ended."""
-    states = set()
+def states_of(process: subprocess.Popen[str]) -> dict[str, str]:
+    """The state of each thread of a process, as proc(5) names them; none where it has ended."""
+    states = {}
     for it in pathlib.Path(f"/proc/{process.pid}/task").glob("*/stat"):
         with contextlib.suppress(OSError):
-            states.add(it.read_text().rpartition(")")[2].split()[0])
+            states[it.parent.name] = it.read_text().rpartition(")")[2].split()[0]
     return states
+
+
+def comes_to_rest(process: subprocess.Popen[str]) -> bool:
+    """Whether each thread of a process is found to wait for something, sooner or later."""
+    waited: set[str] = set()
+
+    def have_waited() -> bool:
+        states = states_of(process)
+        waited.update(thread for thread, state in states.items() if state == "S")
+        return waited >= states.keys()
+
+    return until(have_waited)
 
 
 @contextlib.contextmanager
 def standing_still(process: subprocess.Popen[str]) -> Iterator[None]:
     """A process does nothing meanwhile: each of its threads is stopped, and then goes on."""
     process.send_signal(signal.SIGSTOP)
-    until(lambda: states_of(process) == {"T"})
+    until(lambda: {*states_of(process).values()} == {"T"})
     try:
         yield
     finally:
