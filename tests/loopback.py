@@ -255,7 +255,7 @@ class Gateway:
     def ending(self) -> typing.Any:
         """The counters that it printed, by name, once it has ended with status 0."""
         try:
-            self.process.wait(timeout=PATIENCE)
+            self.process.wait(timeout=2 * PATIENCE)
         except subprocess.TimeoutExpired:
             self.process.kill()
             return "didn't end"
@@ -279,6 +279,7 @@ class Later:
         with contextlib.suppress(OSError):
             self.found = call(*given)
 
-    def result(self) -> typing.Any:
-        self.thread.join(PATIENCE)
+    def result(self, seconds: float = PATIENCE) -> typing.Any:
+        """What the call gives, waited for so long at most; nothing where it doesn't come, or fails by its connection."""
+        self.thread.join(seconds)
         return self.found

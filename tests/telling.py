@@ -49,6 +49,12 @@ def reports(gate: Gateway) -> list[dict[str, str]]:
     return [dict(it.split("=") for it in line[len(REPORT) :].split()) for line in lines_of(gate, REPORT)]
 
 
+def told_of(gate: Gateway, begin: str) -> list[tuple[int, str]]:
+    """How often a trouble came whose lines begin so, by each of them, with the words behind that."""
+    found = [re.fullmatch(rf"{re.escape(begin)}count=(\d+) (.*)", it) for it in lines_of(gate, begin)]
+    return [(int(it[1]), it[2]) for it in found if it]
+
+
 def troubles(gate: Gateway, count: int) -> list[str]:
     """The warnings of a gateway's log, but those of its workers, once there are so many."""
 
@@ -163,8 +169,6 @@ class Telling(Served):
         for _ in range(30):
             gate.ask(PLAIN)
             other.ask(b"GET /garbage HTTP/1.1\r\nHost: h\r\n\r\n")
-        # A machine with other work may take longer, and then there is one line more.
-        lines = 2 if time.monotonic() - began < 9 else 3
         time.sleep(10.5)
         gate.ask(PLAIN)
         other.ask(b"GET /closes HTTP/1.1\r\nHost: h\r\n\r\n")
@@ -172,11 +176,13 @@ class Telling(Served):
             ("refused connections", gate, UNREACHED, ["error=Connection refused (os error 111)"] * 2),
             ("broken answers", other, BROKEN, ["cause=malformed", "cause=cut off"]),
         ):
-            until(lambda it, line: len(lines_of(it, line)) >= 2, it, line)
-            told = [re.fullmatch(rf"{re.escape(line)}count=(\d+) (.*)", it) for it in lines_of(it, line)]
-            counts = [int(found[1]) for found in told if found]
-            self.judge(f"how often {what} are told", (1, 31, True), (counts[0], sum(counts), 2 <= len(told) <= lines))
-            self.judge(f"the causes of {what}", causes, [told[0] and told[0][2], told[-1] and told[-1][2]])
+            until(lambda it=it, line=line: sum(count for count, _ in told_of(it, line)) >= 31)
+            told = told_of(it, line)
+            counts = [count for count, _ in told]
+            # The first one, and one for each ten seconds.
+            most = 1 + (time.monotonic() - began) // 10
+            self.judge(f"how often {what} are told", (1, 31, True), (counts[0], sum(counts), 2 <= len(told) <= most))
+            self.judge(f"the causes of {what}", causes, [told[0][1], told[-1][1]])
 
     def tells_each_trouble(self, backend: Backend) -> None:
         """A trouble is reported whatever else was told a moment ago; and one that doesn't come isn't."""
