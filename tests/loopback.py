@@ -280,6 +280,6 @@ class Later:
             self.found = call(*given)
 
     def result(self, seconds: float = PATIENCE) -> typing.Any:
-        """What the call gives, waited for so long at most; nothing where it doesn't come, or fails by its connection."""
+        """What the call gives, waited for so long at most; nothing where it doesn't come, or its connection fails."""
         self.thread.join(seconds)
         return self.found
