@@ -2,7 +2,7 @@
 import dataclasses
 import typing
 
-from wayward import AS_EVER, ONE_AT_ONCE, ONE_IN_A_TENTH, REFUSING, Faults, Times, Wayward
+from wayward import AS_EVER, ONE_AT_ONCE, ONE_IN_A_TENTH, REFUSING, Faults, Times
 
 QUICK, SLOW, LARGE = (f"examples/vegas_{it}.toml" for it in ("quick", "slow", "large"))
 MOST_SMALL, LEAST_SLOW = 16, 0.1
@@ -117,11 +117,31 @@ WORN = (
 )
 
 
-def nothing(_: Wayward) -> None:
+class Troubled(typing.Protocol):
+    """A backend that can have a bad day, whether it is measured or simulated."""
+
+    slots: typing.Any
+    speed: typing.Any
+    ahead: typing.Any
+
+    def kill(self) -> None:
+        ...
+
+    def start(self) -> None:
+        ...
+
+    def stop(self) -> None:
+        ...
+
+    def resume(self) -> None:
+        ...
+
+
+def nothing(_: Troubled) -> None:
     pass
 
 
-def unchanged(_: Wayward, __: float) -> None:
+def unchanged(_: Troubled, __: float) -> None:
     pass
 
 
@@ -132,41 +152,57 @@ class Day:
 
     name: str
     lasts: float
-    begin: typing.Callable[[Wayward], None]
-    end: typing.Callable[[Wayward], None] = nothing
-    course: typing.Callable[[Wayward, float], None] = unchanged
+    begin: typing.Callable[[Troubled], None]
+    end: typing.Callable[[Troubled], None] = nothing
+    course: typing.Callable[[Troubled, float], None] = unchanged
     before: float = 1.0
 
 
-def refuse(backend: Wayward) -> None:
+def refuse(backend: Troubled) -> None:
     backend.ahead.value = REFUSING
 
 
-def at_once(backend: Wayward) -> None:
+def at_once(backend: Troubled) -> None:
     backend.ahead.value = ONE_AT_ONCE
 
 
-def in_a_tenth(backend: Wayward) -> None:
+def in_a_tenth(backend: Troubled) -> None:
     backend.ahead.value = ONE_IN_A_TENTH
 
 
-def as_ever(backend: Wayward) -> None:
+def as_ever(backend: Troubled) -> None:
     backend.ahead.value, backend.speed.value = AS_EVER, 1.0
 
 
-def slow_down(backend: Wayward) -> None:
+def kill(backend: Troubled) -> None:
+    backend.kill()
+
+
+def start(backend: Troubled) -> None:
+    backend.start()
+
+
+def stop(backend: Troubled) -> None:
+    backend.stop()
+
+
+def resume(backend: Troubled) -> None:
+    backend.resume()
+
+
+def slow_down(backend: Troubled) -> None:
     backend.speed.value = 0.25
 
 
-def warm_up(backend: Wayward, part: float) -> None:
+def warm_up(backend: Troubled, part: float) -> None:
     backend.speed.value = 1 / (COLD - (COLD - 1) * part)
 
 
-def double(backend: Wayward) -> None:
+def double(backend: Troubled) -> None:
     backend.slots.value *= 2
 
 
-def halve(backend: Wayward) -> None:
+def halve(backend: Troubled) -> None:
     backend.slots.value //= 2
 
 
@@ -176,9 +212,9 @@ DAYS = (
     Day("503 at once for 12 s", 12, refuse, as_ever),
     Day("one answer at once", 0, at_once),
     Day("one answer in a tenth", 0, in_a_tenth),
-    Day("killed, back after 5 s", 5, Wayward.kill, Wayward.start),
+    Day("killed, back after 5 s", 5, kill, start),
     Day("four times slower for 15 s", 15, slow_down, as_ever),
-    Day("hangs for 5 s", 5, Wayward.stop, Wayward.resume),
+    Day("hangs for 5 s", 5, stop, resume),
     Day("a deploy, ten times slower at first, warm in 20 s", 20, nothing, as_ever, warm_up),
     Day("a deploy doubles the slots", 0, double, before=0.5),
     Day("half of the slots lost", 0, halve, before=2.0),

@@ -176,7 +176,7 @@ class Auto(Fixed):
 
     def learn(self, sample: Sample) -> None:
         if sample.dropped:
-            if not self.dips and not self.left_out and 2 * sample.rtt < self.base:
+            if not self.dips and not self.left_out and self.is_quick(sample.rtt):
                 self.drops.append(sample.inflight)
                 if self.ends_early():
                     self.look(early=True)
@@ -190,11 +190,18 @@ class Auto(Fixed):
             if len(self.answers) >= self.needed():
                 self.look(early=False)
 
+    def is_quick(self, rtt: int) -> bool:
+        """Whether a drop took less than half of the base."""
+        return 2 * rtt < self.base
+
+    def found_more(self) -> bool:
+        """Whether drops found more in flight than answers did."""
+        return sum(self.drops) * len(self.answers) > sum(it[1] for it in self.answers) * len(self.drops)
+
     def sheds(self) -> bool:
         """Of each four calls the backend sheds more than one, of those that find more in flight than answers do."""
         count, drops = len(self.answers), len(self.drops)
-        held = sum(it[1] for it in self.answers)
-        return drops >= 3 and 3 * drops > count and sum(self.drops) * count > held * drops
+        return drops >= 3 and 3 * drops > count and self.found_more()
 
     def ends_early(self) -> bool:
         count = len(self.answers)
@@ -227,9 +234,12 @@ class Auto(Fixed):
         low, self.every = self.limit, 1 if moved else min(64, 4 * self.every)
         self.base, self.base_top, self.calm, self.dips = mean, low, 0, False
 
+    def is_base(self, mean: int) -> bool:
+        """Whether the limit is as low as when the base was measured, or answers take less than half of it."""
+        return not self.base or self.top <= self.base_top or 2 * mean < self.base
+
     def measure(self, mean: int) -> None:
-        """The base is what answers take under a limit as low as when it was measured, or less than half of it."""
-        if not self.base or self.top <= self.base_top or 2 * mean < self.base:
+        if self.is_base(mean):
             self.base_top = min(self.base_top or self.top, self.top)
             self.base, self.every, self.calm = mean, 1, 0
 
@@ -237,28 +247,50 @@ class Auto(Fixed):
         """Half way to what was served, and no raise above it for some windows."""
         same = served <= self.roof <= served + self.headroom()
         self.left_out, self.pace = self.top, 0
-        self.top -= -(-(self.top - served) // 2)
+        self.top = self.half_way(served)
         self.roof = served
         self.roof_left = self.roof_every = min(64, 4 * self.roof_every) if same else 4
 
+    def half_way(self, wanted: int) -> int:
+        """Half way down to a lower limit."""
+        return self.top - -(-max(0, self.top - wanted) // 2)
+
     def move(self, count: int, held: int, most: int, mean: int) -> None:
-        """Up by what is missing to the headroom, or half way down to what was in flight without the queue."""
+        """By the queue that the window shows; a dip begins behind enough windows with a queue that didn't raise it."""
         before, room = self.top, self.headroom() * count
         queue = held * max(0, mean - self.base) // mean
         if queue >= room:
-            wanted = (held - queue + count // 2) // count + self.headroom()
-            half = self.top - -(-max(0, self.top - wanted) // 2)
-            self.top, self.pace = min(self.top, max(self.least, half)), 0
-            self.left_out = most if self.top < before else self.left_out
-        elif most >= self.top:
-            added = ((room - queue) * 2**self.pace + count // 2) // count
-            roof = max(self.top, self.roof) if self.roof_left else self.most
-            self.top = min(roof, self.most, self.top + min(self.top, added))
-            self.pace = min(4, self.pace + 1) if added else 0
-        if most >= before >= self.top > 1 and 2 * queue >= room:
+            self.fall((held - queue + count // 2) // count + self.headroom(), most)
+        elif self.may_rise(most):
+            self.rise(room - queue, count)
+        if most >= before >= self.top > 1 and self.has_queue(queue, room):
             self.calm += 1
             if self.calm >= self.every:
-                self.calm, self.dips, self.left_out = 0, True, most
+                self.begin_dip(most)
+
+    def may_rise(self, most: int) -> bool:
+        """Whether the window met the limit."""
+        return most >= self.top
+
+    def has_queue(self, queue: int, room: int) -> bool:
+        """Whether the queue of a window is half a headroom."""
+        return 2 * queue >= room
+
+    def fall(self, wanted: int, most: int) -> None:
+        """Half way down to what was in flight without the queue, and a headroom."""
+        before, self.pace = self.top, 0
+        self.top = min(self.top, max(self.least, self.half_way(wanted)))
+        self.left_out = most if self.top < before else self.left_out
+
+    def rise(self, missing: int, count: int) -> None:
+        """Up by what is missing to the headroom, doubled with each raise in a row, and at most to twice the limit."""
+        added = (missing * 2**self.pace + count // 2) // count
+        roof = max(self.top, self.roof) if self.roof_left else self.most
+        self.top = min(roof, self.most, self.top + min(self.top, added))
+        self.pace = min(4, self.pace + 1) if added else 0
+
+    def begin_dip(self, most: int) -> None:
+        self.calm, self.dips, self.left_out = 0, True, most
 
     def reset(self) -> None:
         self.forget()
