@@ -32,7 +32,9 @@ class Backend:
             f"{it.cut:.0%} cut off" if it.cut else "",
             f"503 to {it.broken:.0%} at once" if it.broken else "",
             f"its own 429 above {it.most}" if it.most is not None else "",
-            f"its own 429 above {it.pace:g} a second" if it.pace is not None else "",
+            f"its own 429 above {it.pace:g} {'in each' if it.by_seconds else 'a'} second"
+            if it.pace is not None
+            else "",
             f"stops for {told(self.stops)} each 10 s" if self.stops else "",
         ]
         return ", ".join([f"{self.slots} × {told(self.seconds)}", *filter(None, more)])

@@ -77,7 +77,8 @@ class Simulated:
         self.own = 0
         self.queue: list[int] = []
         self.inside: set[int] = set()
-        self.pace = Pace(backend.faults.pace) if backend.faults.pace is not None else None
+        faults = backend.faults
+        self.pace = Pace(faults.pace, faults.by_seconds) if faults.pace is not None else None
         self.slots = Number(int(backend.slots * day.before) if day else backend.slots)
         self.speed, self.ahead = Number(1.0), Number(AS_EVER)
         self.is_up, self.hangs = True, False

@@ -42,13 +42,15 @@ class Times(typing.NamedTuple):
 
 class Faults(typing.NamedTuple):
     """What a backend does wrong at any time: a part of its answers is cut off, and a part of the calls is answered 503
-    at once; and it refuses the next by a 429 of its own where more than `most` are inside, or above so many a second.
+    at once; and it refuses the next by a 429 of its own where more than `most` are inside, or above so many a second,
+    of which a tenth may come at once, or all of each second.
     """
 
     cut: float = 0.0
     broken: float = 0.0
     most: int | None = None
     pace: float | None = None
+    by_seconds: bool = False
 
     @property
     def refuses(self) -> bool:
@@ -56,14 +58,17 @@ class Faults(typing.NamedTuple):
 
 
 class Pace:
-    """So many calls a second, and a tenth of a second's at once."""
+    """So many calls a second, and a tenth of a second's at once; or so many in each second, and all of them at once."""
 
-    def __init__(self, rate: float) -> None:
-        self.rate, self.free, self.since = rate, 0.0, 0.0
+    def __init__(self, rate: float, by_seconds: bool = False) -> None:
+        self.rate, self.by_seconds, self.free, self.since = rate, by_seconds, 0.0, 0.0
 
     def takes(self, now: float) -> bool:
         """Whether one more is taken at this second."""
-        self.free = min(1 + self.rate / 10, self.free + (now - self.since) * self.rate)
+        if not self.by_seconds:
+            self.free = min(1 + self.rate / 10, self.free + (now - self.since) * self.rate)
+        elif int(now) > int(self.since) or not self.since:
+            self.free = self.rate
         self.since = now
         is_taken = self.free >= 1
         self.free -= is_taken
@@ -112,7 +117,7 @@ class Wayward:
         self.served = 0
         self.queue: collections.deque[Exchange] = collections.deque()
         self.draw = random.Random(1)
-        self.pace = Pace(faults.pace) if faults.pace is not None else None
+        self.pace = Pace(faults.pace, faults.by_seconds) if faults.pace is not None else None
 
     def __enter__(self) -> "Wayward":
         self.start()
