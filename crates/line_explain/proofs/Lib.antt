@@ -1,3 +1,2 @@
-mod Reaching
 mod Behind
 mod Naming

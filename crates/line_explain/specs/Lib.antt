@@ -1,5 +1,3 @@
-pub mod Astray
-pub mod Outside
 pub mod Named
 pub mod Kept
 pub mod Told

@@ -1,20 +1,15 @@
 //! What `--explain` says of a line of a script or a trace that is at fault, to a person.
 //!
-//! [`explanation`] says which word of the line is wrong and what is wanted there, by the forms that
-//! lines have (`script::line_forms`), and [`tell_explained`] writes it. [`Kept`] is the reader that
-//! keeps the text for it. Which word is named is pinned by `specs/Named.antt`; of what is wanted
-//! there no contract says anything.
+//! [`explanation`] says which word of the line is wrong and what is wanted there (`line_wants`),
+//! and [`tell_explained`] writes it. [`Kept`] is the reader that keeps the text for it. Which word
+//! is named is pinned by `specs/Named.antt`; of what is wanted there no contract says anything.
 #![tactic(auto)]
 
-mod astray;
-mod choices;
-mod classes;
 mod explain;
 mod kept;
 mod lines_before;
 mod shown;
 mod told;
-mod value;
 
 pub use explain::explanation;
 pub use kept::Kept;

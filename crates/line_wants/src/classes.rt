@@ -1,5 +1,5 @@
 // Classes beside those that a text has.
-use crate::astray::word_at;
+use crate::fitting::word_at;
 use crate::value::push_name;
 use partitions::{Part, PartitionTable};
 use script::{NumberPlace, RangeEnd, WordPlace};
@@ -10,7 +10,7 @@ const WHOLE: u32 = 1_000;
 
 /// Why a class of allowed name and share, or as many places as are allowed, isn't taken.
 #[derive(Clone, Copy)]
-pub(crate) enum Refusal {
+pub enum Refusal {
     /// There are as many as there may be.
     TooMany,
     /// One has its name.
@@ -22,7 +22,7 @@ pub(crate) enum Refusal {
 }
 
 /// The place of the word for which a line's class isn't taken.
-pub(crate) fn place_of(refusal: Refusal) -> usize {
+pub fn place_of(refusal: Refusal) -> usize {
     match refusal {
         Refusal::TooMany => 0,
         Refusal::Given => 1,
@@ -33,7 +33,7 @@ pub(crate) fn place_of(refusal: Refusal) -> usize {
 
 /// Why a line isn't taken behind the classes of a table and where so many places are left, whose
 /// name and numbers are allowed: one that gives a class, or places of the backlog.
-pub(crate) fn refusal_of(table: &PartitionTable, left: u64, line: &[u8]) -> Refusal {
+pub fn refusal_of(table: &PartitionTable, left: u64, line: &[u8]) -> Refusal {
     match word_at(line, 0) {
         Some(b"places") => Refusal::Full { left, place: 2 },
         Some(b"backlog") => Refusal::Full { left, place: 1 },
@@ -63,7 +63,7 @@ fn left_of(table: &PartitionTable) -> u32 {
 }
 
 /// Says why a class isn't taken.
-pub(crate) fn push_refusal(
+pub fn push_refusal(
     out: &mut String,
     form: &[WordPlace],
     refusal: Refusal,
@@ -102,7 +102,7 @@ fn push_left(out: &mut String, number: NumberPlace, left: u32) -> Result<(), All
 }
 
 /// Says which classes a line may name.
-pub(crate) fn push_names(out: &mut String, table: &PartitionTable) -> Result<(), AllocError> {
+pub fn push_names(out: &mut String, table: &PartitionTable) -> Result<(), AllocError> {
     out.push_str("CLASS, one of ")?;
     for row in 0..table.len() {
         let name = table.name(Part::Known(row as u8));
@@ -112,10 +112,7 @@ pub(crate) fn push_names(out: &mut String, table: &PartitionTable) -> Result<(),
 }
 
 /// Says which classes a line may give places, which has to stand behind their lines.
-pub(crate) fn push_names_before(
-    out: &mut String,
-    table: &PartitionTable,
-) -> Result<(), AllocError> {
+pub fn push_names_before(out: &mut String, table: &PartitionTable) -> Result<(), AllocError> {
     out.push_str("NAME, a class of a line before")?;
     for row in 0..table.len() {
         let name = table.name(Part::Known(row as u8));

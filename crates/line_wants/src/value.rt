@@ -2,10 +2,10 @@
 ghost use Rattle.std.specs.Prelude.{◌≡◌, length, option_and_then, option_map, slice_get, take_while, zip};
 ghost use Rattle.script.specs.Words.{number_of, words};
 ghost use Rattle.script.specs.Forms.{form_of, wanted_at};
-ghost use Rattle.line_explain.specs.Outside.{end_at, form_had, is_whole, is_within, outside};
+ghost use Rattle.line_wants.specs.Outside.{end_at, form_had, is_whole, is_within, outside};
 
-use crate::astray::{count_words, is_filled, is_space, reach, word_at};
 use crate::choices::push_held;
+use crate::fitting::{count_words, is_filled, is_space, reach, word_at};
 use config_words::key_row;
 use partitions::is_name;
 use script::{NumberPlace, RangeEnd, TextKind, WordPlace, line_forms, read_number};
@@ -19,7 +19,7 @@ macro_rules! held_of_row {
 }
 
 /// The form that a whole line has.
-pub(crate) fn form_had(kind: TextKind, line: &[u8]) -> Option<&'static [WordPlace]>
+pub fn form_had(kind: TextKind, line: &[u8]) -> Option<&'static [WordPlace]>
     ensures { option_map form_of result ≡ form_had kind (words line.now) }
 {
     let found = line_forms(kind).iter().find(|form| is_whole(line, form));
@@ -34,7 +34,7 @@ fn is_whole(line: &[u8], form: &[WordPlace]) -> bool
 }
 
 /// The place of the first word that is out of its range; the number of places where none is.
-pub(crate) fn outside(line: &[u8], form: &[WordPlace]) -> usize
+pub fn outside(line: &[u8], form: &[WordPlace]) -> usize
     ensures { result ≡ outside (words line.now) (form_of form.entry) }
 {
     count_within(line, form)
@@ -87,7 +87,7 @@ fn number_at(line: &[u8], place: usize) -> Option<u64>
 }
 
 /// Says what is wanted at a place, and which numbers that are here where they hang on others.
-pub(crate) fn push_wanted(
+pub fn push_wanted(
     out: &mut String,
     line: &[u8],
     form: &[WordPlace],

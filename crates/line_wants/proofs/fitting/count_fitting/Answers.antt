@@ -4,7 +4,7 @@ use Rattle.std.proofs.lemmas.Iterator.Consumers.{YieldsList-at, YieldsList-from_
 use Rattle.std.proofs.lemmas.Iterator.Search.{YieldsList-from_take_while}
 use Rattle.std.proofs.lemmas.Iterator.Splits.{YieldsList-from_slice_split}
 use Rattle.script.specs.Forms.{fits, wanted_at}
-use Rattle.line_explain.proofs.astray.count_fitting.Goals as goal
+use Rattle.line_wants.proofs.fitting.count_fitting.Goals as goal
 
 -- the words that are split off, beside the places, as long as they fit
 pub returns : goal.returns

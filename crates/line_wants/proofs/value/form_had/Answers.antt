@@ -3,9 +3,9 @@ use Rattle.std.proofs.lemmas.Iterator.{YieldsList-from_slice}
 use Rattle.std.proofs.lemmas.Iterator.Search.{find_from_yields_List}
 use Rattle.script.specs.Words.{words}
 use Rattle.script.specs.Forms.{form_of}
-use Rattle.line_explain.specs.Outside.{is_whole}
-use Rattle.line_explain.proofs.Reaching.{find_of_map}
-use Rattle.line_explain.proofs.value.form_had.Goals as goal
+use Rattle.line_wants.specs.Outside.{is_whole}
+use Rattle.line_wants.proofs.Reaching.{find_of_map}
+use Rattle.line_wants.proofs.value.form_had.Goals as goal
 
 -- the form of the code's that is found is the one that is found among the forms
 pub returns : goal.returns

@@ -5,8 +5,8 @@ use Rattle.std.proofs.lemmas.Iterator.Search.{YieldsList-from_take_while}
 use Rattle.std.proofs.lemmas.Iterator.Splits.{YieldsList-from_slice_split}
 use Rattle.script.specs.Words.{words}
 use Rattle.script.specs.Forms.{wanted_at}
-use Rattle.line_explain.specs.Outside.{is_within}
-use Rattle.line_explain.proofs.value.count_within.Goals as goal
+use Rattle.line_wants.specs.Outside.{is_within}
+use Rattle.line_wants.proofs.value.count_within.Goals as goal
 
 -- the words that are split off, beside the places, as long as they are in their ranges
 pub returns : goal.returns

@@ -1,5 +1,5 @@
 // What the forms want at a place.
-use crate::astray::reach;
+use crate::fitting::reach;
 use script::{NumberPlace, RangeEnd, TextKind, WordPlace, line_forms};
 use std::alloc::AllocError;
 
@@ -28,7 +28,7 @@ struct Choices<'a, 'b> {
 }
 
 /// Says what the forms want at a place, of those that have all words before it.
-pub(crate) fn push_choices(
+pub fn push_choices(
     out: &mut String,
     kind: TextKind,
     line: &[u8],

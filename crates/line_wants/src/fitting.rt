@@ -3,7 +3,7 @@ ghost use Rattle.std.specs.Prelude.{◌≡◌, ◌==◌, bytes_eq, length, map, 
 ghost use Rattle.std.specs.List.{list_any};
 ghost use Rattle.script.specs.Words.{words};
 ghost use Rattle.script.specs.Forms.{fits, form_of, wanted_at};
-ghost use Rattle.line_explain.specs.Astray.{astray, reach};
+ghost use Rattle.line_wants.specs.Astray.{astray, reach};
 
 use script::{TextKind, WordPlace, line_forms, read_number};
 
@@ -67,7 +67,7 @@ fn count_fitting(line: &[u8], form: &[WordPlace]) -> usize
 
 /// The place, counted from 0, of the first word that no form can go on with, or at which the line
 /// ends too early.
-pub(crate) fn astray(kind: TextKind, line: &[u8]) -> usize
+pub fn astray(kind: TextKind, line: &[u8]) -> usize
     ensures { result ≡ astray kind (words line.now) }
 {
     line_forms(kind)
@@ -76,7 +76,7 @@ pub(crate) fn astray(kind: TextKind, line: &[u8]) -> usize
 }
 
 /// The word at a place of a line.
-pub(crate) fn word_at(line: &[u8], place: usize) -> Option<&[u8]>
+pub fn word_at(line: &[u8], place: usize) -> Option<&[u8]>
     ensures { option_map (λ word. word.now) result ≡ slice_get (words line.now) place }
 {
     line.split(|byte| is_space(*byte))

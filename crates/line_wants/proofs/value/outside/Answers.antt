@@ -1,9 +1,9 @@
 use Rattle.std.proofs.Common.{◌∙◌}
 use Rattle.script.specs.Words.{words}
 use Rattle.script.specs.Forms.{wanted_at}
-use Rattle.line_explain.specs.Outside.{is_within}
-use Rattle.line_explain.proofs.Reaching.{reaches}
-use Rattle.line_explain.proofs.value.outside.Goals as goal
+use Rattle.line_wants.specs.Outside.{is_within}
+use Rattle.line_wants.proofs.Reaching.{reaches}
+use Rattle.line_wants.proofs.value.outside.Goals as goal
 
 pub returns : goal.returns
 returns c =

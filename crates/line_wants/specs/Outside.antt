@@ -8,7 +8,7 @@ use Rattle.script.specs.declared.forms.TextKind.{TextKind}
 use Rattle.script.specs.declared.place.RangeEnd.{RangeEnd}
 use Rattle.script.specs.declared.place.RangeEnd.TheVariants.{At, Of}
 use Rattle.script.specs.Forms.{Wanted, number, name, forms_of}
-use Rattle.line_explain.specs.Astray.{reach}
+use Rattle.line_wants.specs.Astray.{reach}
 
 -- the number that an end of a range is in a line
 abbrev pub end_at : List (List ℕ) → RangeEnd → ℕ

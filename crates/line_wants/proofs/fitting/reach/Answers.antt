@@ -1,8 +1,8 @@
 use Rattle.std.proofs.Common.{◌∙◌}
 use Rattle.script.specs.Words.{words}
 use Rattle.script.specs.Forms.{fits, wanted_at}
-use Rattle.line_explain.proofs.Reaching.{reaches}
-use Rattle.line_explain.proofs.astray.reach.Goals as goal
+use Rattle.line_wants.proofs.Reaching.{reaches}
+use Rattle.line_wants.proofs.fitting.reach.Goals as goal
 
 pub returns : goal.returns
 returns c =

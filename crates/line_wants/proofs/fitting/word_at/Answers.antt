@@ -1,7 +1,7 @@
 use Rattle.std.proofs.Common.{◌==◌, rules, tests, length, nat_lt}
 use Rattle.std.proofs.lemmas.Iterator.Consumers.{YieldsList-at, YieldsList-from_filter, nth_from_yields_List}
 use Rattle.std.proofs.lemmas.Iterator.Splits.{YieldsList-from_slice_split}
-use Rattle.line_explain.proofs.astray.word_at.Goals as goal
+use Rattle.line_wants.proofs.fitting.word_at.Goals as goal
 
 -- one of the words that are split off
 pub returns : goal.returns

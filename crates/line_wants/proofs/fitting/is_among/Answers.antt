@@ -1,8 +1,8 @@
 use Rattle.std.proofs.Common.{◌∙◌, rules, tests, bytes_eq}
 use Rattle.std.proofs.lemmas.Iterator.{YieldsList-from_slice}
 use Rattle.std.proofs.lemmas.Iterator.Search.{any_from_yields_List}
-use Rattle.line_explain.proofs.Reaching.{any_of_map}
-use Rattle.line_explain.proofs.astray.is_among.Goals as goal
+use Rattle.line_wants.proofs.Reaching.{any_of_map}
+use Rattle.line_wants.proofs.fitting.is_among.Goals as goal
 
 pub returns : goal.returns
 returns c =

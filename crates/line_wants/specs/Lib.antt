@@ -1,0 +1,2 @@
+pub mod Astray
+pub mod Outside
