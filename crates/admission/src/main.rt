@@ -3,7 +3,7 @@
 //! fault, or with 2 and the text of a fault of the words.
 #![tactic(auto)]
 
-use commands::{Run, words};
+use commands::{Run, parse_args};
 use config_check::check_file;
 use config_file::SystemFiles;
 use counted_io::Counted;
@@ -25,7 +25,7 @@ fn main(rt: HostRuntime) -> ExitCode {
         Ok(list) => list,
         Err(error) => return ExitCode::from(tell_unread_words(error.kind(), &mut errors)),
     };
-    let run = match words(alloc, list.as_slice()) {
+    let run = match parse_args(alloc, list.as_slice()) {
         Ok(run) => run,
         Err(error) => {
             let _ = error.print(&rt);

@@ -47,7 +47,7 @@ impl Error for Cause {}
 
 /// Where a receipt stands: its list, and its place in it, both counted from 0.
 #[derive(Clone, Copy)]
-pub(crate) struct Place {
+pub(crate) struct ReceiptPlace {
     pub(crate) list: usize,
     pub(crate) place: usize,
 }

@@ -4,7 +4,7 @@ ghost use Rattle.audit.specs.Accepted.{IsHistoryOf};
 ghost use Rattle.audit.specs.Marks.{AreFresh};
 ghost use Rattle.audit.specs.Verdict.{audited, NoneApplies, IsFirstCause};
 
-use crate::cause::{Cause, Place};
+use crate::cause::{Cause, ReceiptPlace};
 use crate::cover::first_uncovered;
 use crate::matching::{first_endings, first_unmatched};
 use crate::order::first_unordered;
@@ -94,10 +94,10 @@ fn first_cause<N: Naming>(
     if base > 0 {
         return Some(Cause::Rolled { base });
     }
-    if let Some(Place { list, place }) = first_strange(entries, kept, &mut named) {
+    if let Some(ReceiptPlace { list, place }) = first_strange(entries, kept, &mut named) {
         return Some(Cause::Strange { list, place });
     }
-    if let Some(Place { list, place }) = first_unordered(kept) {
+    if let Some(ReceiptPlace { list, place }) = first_unordered(kept) {
         return Some(Cause::Order { list, place });
     }
     if let Some(number) = first_uncovered(entries, &named) {

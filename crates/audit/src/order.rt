@@ -4,17 +4,17 @@ ghost use Rattle.std.specs.Prelude.{IsTrue, MatchOption};
 ghost use Rattle.audit.specs.Firsts.{EachHas, IsFirstWithout, AllPlacesHave, IsFirstPlaceWithout};
 ghost use Rattle.audit.specs.Receipts.{IsInOrder, IsInOrderIn};
 
-use crate::cause::Place;
+use crate::cause::ReceiptPlace;
 use gate_ledgers::{Naming, Receipt};
 
 /// The first receipt whose number isn't above that of the one before it in its list.
-pub(crate) fn first_unordered<N: Naming>(kept: &[Vec<Receipt<N>>]) -> Option<Place>
+pub(crate) fn first_unordered<N: Naming>(kept: &[Vec<Receipt<N>>]) -> Option<ReceiptPlace>
     ensures { MatchOption result (AllPlacesHave IsInOrderIn kept.now)
         (λ at. IsFirstPlaceWithout IsInOrderIn kept.now at.list at.place) }
 {
     for (list, receipts) in kept.iter().enumerate() {
         if let Some(place) = first_unordered_in(receipts) {
-            return Some(Place { list, place });
+            return Some(ReceiptPlace { list, place });
         }
     }
     None

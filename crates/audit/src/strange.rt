@@ -8,7 +8,7 @@ ghost use Rattle.audit.specs.Firsts.{EachHas, IsFirstWithout, AllPlacesHave, IsF
 ghost use Rattle.audit.specs.Receipts.{IsOfCall, Stands, StandsAfter, StandsIn, all_kept};
 ghost use Rattle.audit.specs.Marks.{AreNamed};
 
-use crate::cause::Place;
+use crate::cause::ReceiptPlace;
 use crate::equal::{same_event, same_reply};
 use gate_ledgers::{Naming, Receipt};
 use limiter_core::Entry;
@@ -18,7 +18,7 @@ pub(crate) fn first_strange<N: Naming>(
     entries: &[Entry],
     kept: &[Vec<Receipt<N>>],
     named: &mut [bool],
-) -> Option<Place>
+) -> Option<ReceiptPlace>
     requires long { length named.old ≡ length entries.now }
     requires unmarked { AreNamed (length entries.now) [] named.old }
     ensures first { MatchOption result (AllPlacesHave (StandsIn entries.now kept.now) kept.now)
@@ -27,7 +27,7 @@ pub(crate) fn first_strange<N: Naming>(
 {
     for (list, receipts) in kept.iter().enumerate() {
         if let Some(place) = first_strange_in(entries, receipts, named) {
-            return Some(Place { list, place });
+            return Some(ReceiptPlace { list, place });
         }
     }
     None

@@ -6,11 +6,11 @@ use crate::clock::Clock;
 use std::marker::Model;
 use std::snapshot::Snapshot;
 
-/// The looks of one caller at a clock, in nanoseconds: each tells a moment that is no earlier than
-/// the one before, however the clock goes. Contracts see how many there were, the last two, and
-/// what was known at the last one. To know what was known takes no memory and no time.
+/// A clock as one caller looks at it, in nanoseconds: each look tells a moment that is no earlier
+/// than the one before, however the clock goes. Contracts see how many looks there were, the last
+/// two, and what was known at the last one. To know what was known takes no memory and no time.
 #[derive(Drop)]
-pub struct Looks<'c, C, T> {
+pub struct MonotonicClock<'c, C, T> {
     clock: &'c C,
     count: u64,
     before: u64,
@@ -18,7 +18,7 @@ pub struct Looks<'c, C, T> {
     known: Option<Snapshot<T>>,
 }
 
-impl<'c, C, T> Model for Looks<'c, C, T> {
+impl<'c, C, T> Model for MonotonicClock<'c, C, T> {
     ghost use Rattle.clocks.specs.Looks.{Looked, shown_in};
 
     ghost Value = { Looked T };
@@ -33,12 +33,12 @@ impl<'c, C, T> Model for Looks<'c, C, T> {
     ghost invariant = { λ p. Unit {0} };
 }
 
-impl<'c, C: Clock, T> Looks<'c, C, T> {
+impl<'c, C: Clock, T> MonotonicClock<'c, C, T> {
     /// Looks at this clock, of which there were none yet.
-    pub fn new(clock: &'c C) -> Looks<'c, C, T>
+    pub fn new(clock: &'c C) -> MonotonicClock<'c, C, T>
         ensures { result ≡ unlooked }
     {
-        Looks {
+        MonotonicClock {
             clock,
             count: 0,
             before: 0,

@@ -229,7 +229,7 @@ fn unnamed(alloc: Global, wrong: Option<WrongValue<'_>>) -> Result<Error, AllocE
 ///
 /// An error is clap's: its text says which word is wrong, and its exit code is 2, or 0 where help
 /// or the version was asked for. Out of memory is an error of the code 2 too.
-pub fn words<'a>(alloc: Global, list: &'a [String]) -> Result<Run<'a>, Error>
+pub fn parse_args<'a>(alloc: Global, list: &'a [String]) -> Result<Run<'a>, Error>
     ensures run { IfOk result (IsRunOf (subcommand_of admission_app (map string_bytes list.now))) }
     ensures faultless { OnOk result (fault_of admission_app (map string_bytes list.now) ≡ []) }
     ensures ranges { IfOk result KeepsRanges }

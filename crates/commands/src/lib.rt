@@ -1,6 +1,6 @@
 //! The words of the program's command line, and its helps.
 //!
-//! [`words`] reads the command line. Its contract pins the run that the words name, with its
+//! [`parse_args`] reads the command line. Its contract pins the run that the words name, with its
 //! numbers in their ranges, and which words are a fault.
 #![tactic(auto)]
 
@@ -13,5 +13,5 @@ mod options;
 mod rows;
 mod serve_options;
 
-pub use command_line::{Run, TextTask, words};
+pub use command_line::{Run, TextTask, parse_args};
 pub use serve_options::{LogLines, ServeOptions};

@@ -12,7 +12,7 @@ use gate_history::{Blanks, GateSettings};
 use limiter_core::Promote;
 use partitions::PartitionTable;
 use run::run;
-use shared_gate::Word;
+use shared_gate::LogLength;
 use std::marker::Brand;
 
 fn main(rt: HostRuntime) -> anyhow::Result<()> {
@@ -36,7 +36,7 @@ fn main(rt: HostRuntime) -> anyhow::Result<()> {
         kept: 1_000,
         is_rolling: false,
     };
-    let word = Word::new(alloc)?;
+    let word = LogLength::new(alloc)?;
     let history = run::<Brand, _>(&rt, alloc, Blanks::new(), word, settings)?;
     println!(rt; "audit ok: {} entries", history.entries.len())?;
     Ok(())

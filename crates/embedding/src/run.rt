@@ -13,7 +13,7 @@ use aimd::Aimd;
 use gate_history::{Blanks, Book, GateSettings, History};
 use partitions::Part;
 use shared_gate::{
-    GateNaming, Pass, ProgramClock, SharedGate, Word, accepted_histories_are_one_threads,
+    GateNaming, LogLength, Pass, ProgramClock, SharedGate, accepted_histories_are_one_threads,
 };
 use std::alloc::Global;
 use std::sync::Wait;
@@ -26,7 +26,7 @@ pub(crate) fn run<M: GateNaming + Send + Sync, R: Threads + Wait + SystemClock +
     rt: &R,
     alloc: Global,
     blanks: Blanks,
-    word: Word,
+    word: LogLength,
     settings: GateSettings<Aimd>,
 ) -> anyhow::Result<History<Aimd>>
     requires names { AreNamed M.calls M.place blanks }

@@ -1,6 +1,6 @@
 // One exchange with a gate that keeps what it is asked.
 use crate::devices::{KEPT, Moments, Says, Sink, Source, Ticking, Told, Watched};
-use clocks::Looks;
+use clocks::MonotonicClock;
 use counted_io::Counted;
 use gate_config::{Settings, read};
 use limiter_core::Outcome;
@@ -107,7 +107,7 @@ fn came_by(alloc: Global, case: Case, settings: &Settings) -> Came {
         &mut gate,
         &mut backend,
         settings,
-        &mut Looks::new(&Ticking::new()),
+        &mut MonotonicClock::new(&Ticking::new()),
         &mut Counted::new(&mut source),
         &mut Counted::new(&mut sink),
     );

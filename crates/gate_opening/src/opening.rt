@@ -10,7 +10,7 @@ ghost use Rattle.gate_opening.specs.Opening.{journal_of, making_of};
 
 use gate_config::{AnyLimit, Settings};
 use gate_history::{Blanks, Book, GateSettings};
-use shared_gate::{GateNaming, SharedGate, Word};
+use shared_gate::{GateNaming, LogLength, SharedGate};
 use std::alloc::{AllocError, Global};
 
 /// What the gate of a configuration before so many workers is made with. It rolls whenever it holds
@@ -41,7 +41,7 @@ pub fn open_gate<M: GateNaming>(
     settings: &Settings,
     workers: u32,
     blanks: Blanks,
-    word: Word,
+    word: LogLength,
     count: usize,
 ) -> Result<(SharedGate<AnyLimit, M>, Vec<shared_gate::Pass<M>>), AllocError>
     requires word { word ≡ M.word }

@@ -6,7 +6,7 @@ use gate_history::{Naming, Permit, Receipt, Ticket};
 use limit_kinds::AnyLimit;
 use limiter_core::Outcome;
 use partitions::Part;
-use shared_gate::{GateNaming, Got, Looks, Pass, SharedGate, Waited};
+use shared_gate::{GateNaming, Got, MonotonicClock, Pass, SharedGate, Waited};
 use std::alloc::Global;
 use std::process::Abort;
 use std::sync::Wait;
@@ -98,7 +98,7 @@ pub(crate) fn promoted<M: GateNaming, R: Wait + SystemClock + Abort>(
     pass: &mut Pass<M>,
 ) -> Permit<M> {
     let still = TestClock::<R>::Stands(0);
-    let mut looks = Looks::new(&still);
+    let mut looks = MonotonicClock::new(&still);
     match gate.acquire_wait(rt, pass, Part::Unknown, 0, &mut looks, 1 << 62) {
         Waited::Promoted(_first, _second, permit) => permit,
         _ => rt.abort(),

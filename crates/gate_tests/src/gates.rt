@@ -21,7 +21,7 @@ use limit_kinds::{AnyLimit, BaseLimit};
 use limit_laws::{Fixed, Settable};
 use limiter_core::Promote;
 use partitions::PartitionTable;
-use shared_gate::{GateNaming, Pass, SharedGate, Word};
+use shared_gate::{GateNaming, LogLength, Pass, SharedGate};
 use std::alloc::Global;
 use std::marker::Brand;
 use std::process::Abort;
@@ -123,7 +123,7 @@ pub(crate) fn try_at<R: Threads + Wait + SystemClock + Abort + Sync>(
     making: Making,
     trial: Trial<'_, R>,
 ) {
-    let word = Word::new(alloc).expect(rt, "memory for a word");
+    let word = LogLength::new(alloc).expect(rt, "memory for a word");
     try_at_named::<Brand, R>(rt, alloc, Blanks::new(), word, making, trial);
 }
 
@@ -131,7 +131,7 @@ fn try_at_named<M: GateNaming + Send + Sync, R: Threads + Wait + SystemClock + A
     rt: &R,
     alloc: Global,
     blanks: Blanks,
-    word: Word,
+    word: LogLength,
     making: Making,
     trial: Trial<'_, R>,
 )

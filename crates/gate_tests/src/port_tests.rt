@@ -6,7 +6,7 @@ use limit_kinds::AnyLimit;
 use limit_laws::Limit;
 use limiter_core::{Counters, Outcome};
 use partitions::Part;
-use ports::{Admission, Asked, GatePort, Port, Why};
+use ports::{Admission, GatePort, Port, Receipts, Why};
 use shared_gate::{Clock, GateNaming, Pass, SharedGate};
 use std::process::Abort;
 use std::sync::Wait;
@@ -44,9 +44,9 @@ fn asks_three_times<L: Limit, M: GateNaming, R: Wait + SystemClock + Abort, C: C
 ) {
     let permit = admitted(rt, port);
     check_refused(rt, port, None, Why::Full);
-    check(rt, matches!(port.asked(), Asked::Answered(_)));
+    check(rt, matches!(port.asked(), Receipts::Answered(_)));
     check_refused(rt, port, Some(9 * SECOND), Why::TimedOut);
-    check(rt, matches!(port.asked(), Asked::GaveUp(_, _)));
+    check(rt, matches!(port.asked(), Receipts::GaveUp(_, _)));
     port.end(permit, Outcome::Ignored, 9);
 }
 

@@ -7,7 +7,7 @@ use gate_history::Receipt;
 use limit_kinds::AnyLimit;
 use limiter_core::Outcome;
 use partitions::Part;
-use shared_gate::{Clock, GateNaming, Looks, Pass, SharedGate};
+use shared_gate::{Clock, GateNaming, MonotonicClock, Pass, SharedGate};
 use std::alloc::Global;
 use std::process::Abort;
 use std::sync::{Mutex, Wait};
@@ -179,7 +179,7 @@ fn waits_and_tells<M: GateNaming, R: Wait + SystemClock + Abort>(
 ) {
     let pair = Mutex::new(Pair { one, two });
     let clock = Telling { rt, gate, pair };
-    let mut looks = Looks::new(&clock);
+    let mut looks = MonotonicClock::new(&clock);
     let waited = gate.acquire_wait(rt, waiter, Part::Unknown, 0, &mut looks, 1);
     check(rt, timed_out(rt, waited).0 == 3);
 }

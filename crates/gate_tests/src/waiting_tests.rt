@@ -8,7 +8,7 @@ use gate_history::{Naming, Receipt, Spent, Ticket};
 use limit_kinds::AnyLimit;
 use limiter_core::{Counters, Event, Outcome, Reply};
 use partitions::Part;
-use shared_gate::{Claimed, Clock, GateNaming, Got, Looks, Pass, SharedGate, Waited};
+use shared_gate::{Claimed, Clock, GateNaming, Got, MonotonicClock, Pass, SharedGate, Waited};
 use std::alloc::Global;
 use std::process::Abort;
 use std::sync::Wait;
@@ -105,7 +105,7 @@ pub(crate) fn waits_in_vain<M: GateNaming, R: Wait + SystemClock + Abort>(
     let now = waiting.now;
     let permit = admitted(rt, gate, pass, now);
     check(rt, permit.facts().start == now.min(1 << 62));
-    let mut looks = Looks::new(waiting.clock);
+    let mut looks = MonotonicClock::new(waiting.clock);
     let waited = gate.acquire_wait(rt, pass, UNKNOWN, now, &mut looks, waiting.deadline);
     are_one_and_two(rt, timed_out(rt, waited));
     let ended = gate.end(rt, pass, permit, Outcome::Success, now);
@@ -170,7 +170,7 @@ fn refuses_acquires<M: GateNaming, R: Wait + SystemClock + Abort>(
         _ => rt.abort(),
     }
     let still = TestClock::<R>::Stands(0);
-    let mut looks = Looks::new(&still);
+    let mut looks = MonotonicClock::new(&still);
     match gate.acquire_wait(rt, pass, UNKNOWN, 3, &mut looks, 0) {
         Waited::Exhausted(spent) => check(rt, is_spent(&spent, acquire(false, true, 3))),
         _ => rt.abort(),

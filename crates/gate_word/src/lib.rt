@@ -14,4 +14,4 @@ mod word;
 
 pub use rule::{Added, Compares, Notes, Raises, Rises, Takes, Tells, View};
 pub use seats::{Keeper, Reader};
-pub use word::{SharedWord, Word};
+pub use word::{LogLength, SharedLogLength};

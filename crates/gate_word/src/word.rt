@@ -10,12 +10,12 @@ use std::marker::Model;
 
 /// An empty log that nobody shares yet. Contracts see the name of its table.
 #[derive(Drop)]
-pub struct Word<E> {
+pub struct LogLength<E> {
     table: WordTable<E>,
     seat: Seat<E>,
 }
 
-impl<E> Model for Word<E> {
+impl<E> Model for LogLength<E> {
     ghost use Rattle.std.specs.Prelude.{◌≡◌, []};
     ghost use Rattle.atomic_table.specs.Seated.{TableId};
     ghost use Rattle.gate_word.specs.Rule.{keeper_view};
@@ -29,30 +29,30 @@ impl<E> Model for Word<E> {
         × (w.seat.table_id ≡ w.table.shared.table_id) × (w.seat.me ≡ (keeper_view [] [], [])) };
 }
 
-impl<E> Word<E> {
+impl<E> LogLength<E> {
     /// An empty log. Fails where memory for its word can't be had.
-    pub fn new(alloc: Global) -> Result<Word<E>, AllocError> {
+    pub fn new(alloc: Global) -> Result<LogLength<E>, AllocError> {
         let (table, seat) = WordTable::of_words(alloc, &[0], &())?;
-        Ok(Word { table, seat })
+        Ok(LogLength { table, seat })
     }
 
     /// The log that threads share, and its keeper.
-    pub fn share(self) -> (SharedWord<E>, Keeper<E>)
+    pub fn share(self) -> (SharedLogLength<E>, Keeper<E>)
         ensures shared { result.0 ≡ self }
         ensures keeper { result.1 ≡ record { table = self; log = [] } }
     {
-        let Word { table, seat } = self;
-        (SharedWord { table }, Keeper { seat })
+        let LogLength { table, seat } = self;
+        (SharedLogLength { table }, Keeper { seat })
     }
 }
 
 /// A log that threads share. Contracts see the name of its table.
 #[derive(Drop)]
-pub struct SharedWord<E> {
+pub struct SharedLogLength<E> {
     table: WordTable<E>,
 }
 
-impl<E> Model for SharedWord<E> {
+impl<E> Model for SharedLogLength<E> {
     ghost use Rattle.atomic_table.specs.Seated.{TableId};
     ghost use Rattle.gate_word.specs.Seats.{IsTable};
 
@@ -63,7 +63,7 @@ impl<E> Model for SharedWord<E> {
     ghost invariant = { λ w. IsTable w.table.shared.table_id };
 }
 
-impl<E> SharedWord<E> {
+impl<E> SharedLogLength<E> {
     /// A new reader, who knows the log as it stands.
     pub fn reader(&self, keeper: &mut Keeper<E>) -> Reader<E>
         requires table { keeper.old.table ≡ self.now }

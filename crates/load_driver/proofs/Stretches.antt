@@ -28,7 +28,7 @@ use Rattle.script.specs.declared.request.Request.TheVariants as request
 use Rattle.script.specs.Words.{words, result_map}
 use Rattle.script.specs.Classes.{part_of}
 use Rattle.script.specs.Line.{Said, line_of}
-use Rattle.load_driver.specs.declared.asked.Asked.TheVariants as asked
+use Rattle.load_driver.specs.declared.asked.SessionCall.TheVariants as asked
 use Rattle.load_driver.specs.Replay.{Asks, Open, ending_of, request_asks}
 use Rattle.load_driver.specs.Replay.{line_asks, IfEvent, after_asked, asked_text, by_asks}
 use Rattle.load_driver.specs.Replay.{after_text, entries_text, lines_text}

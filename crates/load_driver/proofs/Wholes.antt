@@ -11,8 +11,8 @@ use Rattle.limiter_core.specs.Laws.{MayEndOpen, AnswersHanded, OpensByItsCall, S
 use Rattle.gate_journal.specs.Image.{image_of}
 use Rattle.gate_journal.specs.Journal.{Journal, next_number, is_over, answered}
 use Rattle.gate_journal.specs.Rolling.{StretchesJoin, continued}
-use Rattle.load_driver.specs.declared.asked.Asked.{Asked}
-use Rattle.load_driver.specs.declared.asked.Asked.TheVariants as asked
+use Rattle.load_driver.specs.declared.asked.SessionCall.{SessionCall}
+use Rattle.load_driver.specs.declared.asked.SessionCall.TheVariants as asked
 use Rattle.load_driver.specs.Replay.{IfEvent, after_asked, told_of, asked_text}
 use Rattle.load_driver.specs.Session.{Session, open_in}
 use Rattle.load_driver.specs.Stretches.{Holds, StandsFor, IsOpen, opened_by, stretch_after}
@@ -104,13 +104,13 @@ module _ {S : Type 0} (rules : Algorithm S) (lawful : IsLawful rules)
         } in
         subst (λ (es : List Entry). StandsFor rules (record w { entries = es }) after) path there
 
-  pub same_answer : (a : Asked) → IfEvent a (IsOpen (open_in s))
+  pub same_answer : (a : SessionCall) → IfEvent a (IsOpen (open_in s))
       → told_of rules j a ≡ told_of rules w a
   same_answer asked.Nothing is = refl
   same_answer asked.NotOpen is = refl
   same_answer (asked.Event e) is = event_told e is
 
-  pub same_lines_then : (a : Asked) → IfEvent a (IsOpen (open_in s))
+  pub same_lines_then : (a : SessionCall) → IfEvent a (IsOpen (open_in s))
       → asked_text rules j a ≡ asked_text rules w a
   same_lines_then asked.Nothing is = refl
   same_lines_then asked.NotOpen is = refl
@@ -125,7 +125,7 @@ module _ {S : Type 0} (rules : Algorithm S) (lawful : IsLawful rules)
         ∙ (λ k. record (sym same k) { opening = w.opening; entries = w.entries });
   }
 
-  pub stands_then : (a : Asked) → IfEvent a (IsOpen (open_in s))
+  pub stands_then : (a : SessionCall) → IfEvent a (IsOpen (open_in s))
       → (after : Session S) → after.journal ≡ stretch_after rules j a
       → open_in after ≡ open_asked rules j (open_in s) a
       → StandsFor rules (after_asked rules w a) after

@@ -21,8 +21,8 @@ use Rattle.script.specs.declared.request.Request.TheVariants.{Acquire, Bypass, E
 use Rattle.script.specs.Words.{words, result_map}
 use Rattle.script.specs.Classes.{part_of}
 use Rattle.script.specs.Line.{Said, line_of}
-use Rattle.load_driver.specs.declared.asked.Asked.{Asked}
-use Rattle.load_driver.specs.declared.asked.Asked.TheVariants as asked
+use Rattle.load_driver.specs.declared.asked.SessionCall.{SessionCall}
+use Rattle.load_driver.specs.declared.asked.SessionCall.TheVariants as asked
 use Rattle.load_driver.specs.Text.{entry_text}
 
 -- what a script is answered: a text, and the line at fault that ended it, if one did
@@ -41,7 +41,7 @@ entries_text rows number (e ∷ es) = entry_text rows number e ++ entries_text r
 
 -- what a line asks, or why it is at fault
 abbrev pub Asks : Type 0
-Asks = Result Asked FaultKind
+Asks = Result SessionCall FaultKind
 
 -- what is asked about the part of a class
 abbrev pub about : List Row → List ℕ → (Part → Event) → Asks
@@ -49,7 +49,7 @@ about rows class make =
     result_map (λ part. asked.Event (make part)) (ok_or (part_of rows class) Class)
 
 -- an ending is an event only where its number names an open permit
-abbrev pub ending_of : Option PermitFacts → Outcome → ℕ → Asked
+abbrev pub ending_of : Option PermitFacts → Outcome → ℕ → SessionCall
 ending_of None outcome now = asked.NotOpen
 ending_of (Some permit) outcome now = asked.Event (event.End permit outcome now)
 
@@ -80,7 +80,7 @@ line_asks rows by_number (Ok (Some (line.Request request))) = request_asks rows 
 line_asks rows by_number (Err why) = Err why
 
 -- a fact of the event that is asked, if one is
-abbrev pub IfEvent : Asked → (Event → Type 0) → Type 0
+abbrev pub IfEvent : SessionCall → (Event → Type 0) → Type 0
 IfEvent asked.Nothing P = Unit {0}
 IfEvent asked.NotOpen P = Unit {0}
 IfEvent (asked.Event e) P = P e
@@ -90,19 +90,19 @@ abbrev pub added : {S : Type 0} → Algorithm S → Journal S → Event → List
 added rules j e = if is_over rules j e then [] else answered rules j e
 
 -- the journal after what is asked
-abbrev pub after_asked : {S : Type 0} → Algorithm S → Journal S → Asked → Journal S
+abbrev pub after_asked : {S : Type 0} → Algorithm S → Journal S → SessionCall → Journal S
 after_asked rules j asked.Nothing = j
 after_asked rules j asked.NotOpen = j
 after_asked rules j (asked.Event e) = record j { entries = j.entries ++ added rules j e }
 
 -- the entries that what is asked adds
-abbrev pub told_of : {S : Type 0} → Algorithm S → Journal S → Asked → List Entry
+abbrev pub told_of : {S : Type 0} → Algorithm S → Journal S → SessionCall → List Entry
 told_of rules j asked.Nothing = []
 told_of rules j asked.NotOpen = []
 told_of rules j (asked.Event e) = added rules j e
 
 -- what is written of it
-abbrev pub asked_text : {S : Type 0} → Algorithm S → Journal S → Asked → List ℕ
+abbrev pub asked_text : {S : Type 0} → Algorithm S → Journal S → SessionCall → List ℕ
 asked_text rules j asked.Nothing = []
 asked_text rules j asked.NotOpen = codes "- not open\n"
 asked_text rules j (asked.Event e) =
@@ -110,7 +110,7 @@ asked_text rules j (asked.Event e) =
     else entries_text j.rows (next_number j) (answered rules j e)
 
 -- by what a line asks: the text of it and of the lines after it, or its fault
-abbrev pub by_asks : {S : Type 0} → Algorithm S → Journal S → ℕ → Asks → (Asked → Told) → Told
+abbrev pub by_asks : {S : Type 0} → Algorithm S → Journal S → ℕ → Asks → (SessionCall → Told) → Told
 by_asks rules j number (Ok a) after = after_text (asked_text rules j a) (after a)
 by_asks rules j number (Err why) after =
     record { out = []; fault = Some (record { line = number; why = why }) }

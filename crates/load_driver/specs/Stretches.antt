@@ -12,9 +12,9 @@ use Rattle.gate_journal.specs.Journal.{Journal, gate, next_number, is_over, answ
 use Rattle.gate_journal.specs.Rolling.{IsLastStretch, after}
 use Rattle.script.specs.Words.{words}
 use Rattle.script.specs.Line.{line_of}
-use Rattle.load_driver.specs.declared.asked.Asked.{Asked}
+use Rattle.load_driver.specs.declared.asked.SessionCall.{SessionCall}
 use Rattle.load_driver.specs.declared.session.Added.{Added}
-use Rattle.load_driver.specs.declared.asked.Asked.TheVariants as asked
+use Rattle.load_driver.specs.declared.asked.SessionCall.TheVariants as asked
 use Rattle.load_driver.specs.Replay.{Told, Open, open_of, line_asks, by_asks}
 use Rattle.load_driver.specs.Session.{Session, open_in}
 
@@ -56,12 +56,12 @@ open_then rules j by_number e =
     else opened_by by_number (next_number j) (answered rules j e)
 
 -- the last stretch, and the open permits, after what is asked
-abbrev pub stretch_after : {S : Type 0} → Algorithm S → Journal S → Asked → Journal S
+abbrev pub stretch_after : {S : Type 0} → Algorithm S → Journal S → SessionCall → Journal S
 stretch_after rules j asked.Nothing = j
 stretch_after rules j asked.NotOpen = j
 stretch_after rules j (asked.Event e) = after rules j e
 
-abbrev pub open_asked : {S : Type 0} → Algorithm S → Journal S → Open → Asked → Open
+abbrev pub open_asked : {S : Type 0} → Algorithm S → Journal S → Open → SessionCall → Open
 open_asked rules j by_number asked.Nothing = by_number
 open_asked rules j by_number asked.NotOpen = by_number
 open_asked rules j by_number (asked.Event e) = open_then rules j by_number e

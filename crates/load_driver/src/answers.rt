@@ -11,7 +11,7 @@ ghost use Rattle.load_driver.specs.Stretches.{IsOpen, stretch_after, open_asked,
 ghost use Rattle.load_driver.specs.Stretches.{StandsFor, told_at};
 ghost use Rattle.gate_journal.specs.Journal.{Journal};
 
-use super::asked::{Asked, read_asked};
+use super::asked::{SessionCall, read_asked};
 use super::session::{Added, Session};
 use super::text::push_entry;
 use gate_journal::rolling_runs_are_legal;
@@ -45,7 +45,7 @@ fn push_entries(
 fn serve<L: Limit>(
     session: &mut Session<L>,
     text: &mut String,
-    asked: Asked,
+    asked: SessionCall,
 ) -> Result<Option<Added>, AllocError>
     requires { IfEvent asked (IsOpen (open_in session.old)) }
     ensures inside { IfOk result (λ added. IfSome added (λ at.
@@ -60,12 +60,12 @@ fn serve<L: Limit>(
         ≡ string_bytes text.old ++ asked_text L.rules session.old.journal asked) }
 {
     let event = match asked {
-        Asked::Nothing => return Ok(None),
-        Asked::NotOpen => {
+        SessionCall::Nothing => return Ok(None),
+        SessionCall::NotOpen => {
             text.push_str("- not open\n")?;
             return Ok(None);
         }
-        Asked::Event(event) => event,
+        SessionCall::Event(event) => event,
     };
     match session.ask(event)? {
         Some(added) => {
@@ -86,7 +86,7 @@ fn serve<L: Limit>(
 pub fn answer<L: Limit>(
     session: &mut Session<L>,
     text: &mut String,
-    asked: Asked,
+    asked: SessionCall,
 ) -> Result<Option<Added>, AllocError>
     requires { IfEvent asked (IsOpen (open_in session.old)) }
     ensures inside { IfOk result (λ added. IfSome added (λ at.

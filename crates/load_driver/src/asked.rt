@@ -15,7 +15,7 @@ use script::{FaultKind, Line, Request, read_line, read_part};
 
 /// What a line asks once the settings are over.
 #[derive(Clone, Copy)]
-pub enum Asked {
+pub enum SessionCall {
     /// It is skipped.
     Nothing,
     /// The end of a permit that isn't open.
@@ -25,22 +25,30 @@ pub enum Asked {
 }
 
 /// The end of a permit, where it is open. `now` is in nanoseconds.
-pub fn read_end<L: Limit>(session: &Session<L>, number: u64, outcome: Outcome, now: u64) -> Asked
+pub fn read_end<L: Limit>(
+    session: &Session<L>,
+    number: u64,
+    outcome: Outcome,
+    now: u64,
+) -> SessionCall
     ensures asked { result ≡ ending_of (open_in session.now number) outcome now }
     ensures named { IfEvent result (IsOpen (open_in session.now)) }
 {
     match session.permit(number) {
-        Some(permit) => Asked::Event(Event::End {
+        Some(permit) => SessionCall::Event(Event::End {
             permit,
             outcome,
             now,
         }),
-        None => Asked::NotOpen,
+        None => SessionCall::NotOpen,
     }
 }
 
 /// What a request asks, or that the table has no such class.
-fn read_request<L: Limit>(session: &Session<L>, request: Request<&[u8]>) -> Result<Asked, FaultKind>
+fn read_request<L: Limit>(
+    session: &Session<L>,
+    request: Request<&[u8]>,
+) -> Result<SessionCall, FaultKind>
     ensures asked { result
         ≡ request_asks session.now.journal.rows (open_in session.now)
         (request_bytes request.entry) }
@@ -72,17 +80,20 @@ fn read_request<L: Limit>(session: &Session<L>, request: Request<&[u8]>) -> Resu
             part: read_part(session.table(), class)?,
         },
     };
-    Ok(Asked::Event(event))
+    Ok(SessionCall::Event(event))
 }
 
 /// What a line asks behind the settings, or why it is at fault.
-pub(crate) fn read_asked<L: Limit>(session: &Session<L>, line: &[u8]) -> Result<Asked, FaultKind>
+pub(crate) fn read_asked<L: Limit>(
+    session: &Session<L>,
+    line: &[u8],
+) -> Result<SessionCall, FaultKind>
     ensures asked { result
         ≡ line_asks session.now.journal.rows (open_in session.now) (line_of (words line.now)) }
     ensures named { IfOk result (λ asked. IfEvent asked (IsOpen (open_in session.now))) }
 {
     match read_line(line)? {
-        None => Ok(Asked::Nothing),
+        None => Ok(SessionCall::Nothing),
         Some(Line::Setting(_)) => Err(FaultKind::Late),
         Some(Line::Request(request)) => read_request(session, request),
     }

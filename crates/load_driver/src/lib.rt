@@ -17,7 +17,7 @@ mod session;
 mod text;
 
 pub use answers::answer;
-pub use asked::{Asked, read_end};
+pub use asked::{SessionCall, read_end};
 pub use driver::{DriverFault, KEPT, MOST_BYTES, MOST_READS, replay};
 pub use script::{FaultKind, LineFault};
 pub use session::{Added, Session};

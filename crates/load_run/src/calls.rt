@@ -6,7 +6,7 @@ ghost use Rattle.load_run.specs.Made.{made_of, refused_of};
 
 use gate_history::{Naming, Permit, Receipt, Spent};
 use limit_laws::{LAST_MOMENT, Limit};
-use shared_gate::{Clock, GateNaming, Got, Looks, Pass, SharedGate, Waited};
+use shared_gate::{Clock, GateNaming, Got, MonotonicClock, Pass, SharedGate, Waited};
 use std::alloc::AllocError;
 use std::sync::Wait;
 use std::time::Clock as SystemClock;
@@ -121,7 +121,7 @@ fn call_and_wait<L: Limit, M: GateNaming, R: Wait + SystemClock, C: Clock>(
     ensures order { LieBetween (seen_by pass.old) (seen_by pass.new)
         (made_of result) (refused_of result) }
 {
-    let mut looks = Looks::new(clock);
+    let mut looks = MonotonicClock::new(clock);
     let deadline = looks.look().saturating_add(timeout).min(LAST_MOMENT);
     call_until(rt, gate, pass, arrival, &mut looks, deadline)
 }
@@ -132,7 +132,7 @@ fn call_until<L: Limit, M: GateNaming, R: Wait + SystemClock, C: Clock>(
     gate: &SharedGate<L, M>,
     pass: &mut Pass<M>,
     arrival: Arrival,
-    looks: &mut Looks<'_, C, ()>,
+    looks: &mut MonotonicClock<'_, C, ()>,
     deadline: u64,
 ) -> Made<M>
     requires { waits arrival ≡ true }

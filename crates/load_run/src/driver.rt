@@ -21,7 +21,7 @@ use crate::summary::Summary;
 use counted_io::{Counted, read_all, write_and_flush};
 use gate_history::Blanks;
 use load_driver::{MOST_BYTES, MOST_READS};
-use shared_gate::{Clock, ProgramClock, Word};
+use shared_gate::{Clock, LogLength, ProgramClock};
 use std::alloc::{AllocError, Global};
 use std::io::{Read, Write};
 use std::marker::Brand;
@@ -64,7 +64,7 @@ where
     if let Some(fault) = fault {
         return Err(LoadFault::Line(fault));
     }
-    let word = Word::new(alloc)?;
+    let word = LogLength::new(alloc)?;
     run_named::<Brand, T, C>(
         rt,
         spawner,

@@ -24,9 +24,9 @@ use gate_history::{Blanks, Book, GateSettings};
 use limit_kinds::AnyLimit;
 use limit_laws::Limit;
 use load_driver::KEPT;
-use script::Settings;
+use script::ScriptSettings;
 use script_gate::gate_settings;
-use shared_gate::{Cause, Clock, GateNaming, SharedGate, Word};
+use shared_gate::{Cause, Clock, GateNaming, LogLength, SharedGate};
 use std::alloc::{AllocError, Global};
 use std::sync::Wait;
 use std::thread::Threads;
@@ -47,8 +47,8 @@ pub(crate) fn run_named<M: GateNaming + Send + Sync, R, C>(
     spawner: &mut Spawner<'_, R>,
     alloc: Global,
     blanks: Blanks,
-    word: Word,
-    settings: Settings,
+    word: LogLength,
+    settings: ScriptSettings,
     arrivals: Vec<Arrival>,
     size: RunSize,
     clock: &C,
@@ -91,8 +91,8 @@ where
 fn open_gate<M: GateNaming>(
     alloc: Global,
     blanks: Blanks,
-    word: Word,
-    settings: Settings,
+    word: LogLength,
+    settings: ScriptSettings,
     size: RunSize,
     turns: usize,
 ) -> Result<(SharedGate<AnyLimit, M>, Vec<Worker<M>>), AllocError>
@@ -115,7 +115,7 @@ fn open_gate<M: GateNaming>(
 fn open_over<L: Limit, M: GateNaming>(
     alloc: Global,
     blanks: Blanks,
-    word: Word,
+    word: LogLength,
     settings: GateSettings<L>,
     workers: usize,
     turns: usize,

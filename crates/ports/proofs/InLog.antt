@@ -19,8 +19,8 @@ use Rattle.gate_port.specs.declared.port.Admission.TheVariants.{Admitted, Bypass
 use Rattle.gate_port.specs.Asking.{Ask, acquire, told}
 use Rattle.gate_port.specs.Ending.{IsPromotion}
 use Rattle.gate_port.specs.Log.{IsAskedIn, IsEndedIn, IsLogged, answered, gave_up, missed, spent}
-use Rattle.ports.specs.declared.asked.Asked.{Asked}
-use Rattle.ports.specs.declared.asked.Asked.TheVariants as asked
+use Rattle.ports.specs.declared.asked.Receipts.{Receipts}
+use Rattle.ports.specs.declared.asked.Receipts.TheVariants as asked
 use Rattle.ports.specs.Asked.{IsAnswered, IsQueued}
 
 abbrev one : Entry → ℕ
@@ -54,7 +54,7 @@ queued before after ask now first is =
     (logged before after (acquire ask now) first is.0)
 
 -- AN ASKING stands in the log
-pub asked_in : {M : Type 0} (before after : Pass) (ask : Ask) (now : ℕ) (kept : Asked M)
+pub asked_in : {M : Type 0} (before after : Pass) (ask : Ask) (now : ℕ) (kept : Receipts M)
     (answer : Admission PermitFacts) → IsAnswered before after ask now kept answer
     → IsAskedIn ask before.log now after.log answer
 asked_in before after ask now asked.Nothing answer is = absurd is

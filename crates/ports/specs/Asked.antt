@@ -10,21 +10,21 @@ use Rattle.gate_port.specs.declared.port.Why.TheVariants as why
 use Rattle.gate_port.specs.declared.port.Admission.{Admission}
 use Rattle.gate_port.specs.declared.port.Admission.TheVariants.{Refused}
 use Rattle.gate_port.specs.Asking.{Ask, acquire, says}
-use Rattle.ports.specs.declared.asked.Asked.{Asked}
-use Rattle.ports.specs.declared.asked.Asked.TheVariants as asked
+use Rattle.ports.specs.declared.asked.Receipts.{Receipts}
+use Rattle.ports.specs.declared.asked.Receipts.TheVariants as asked
 
 -- a port: its pass, what it was told of its last asking, and a moment that its clock has reached
 pub record Shared (M : Type 0) : Type 0 where
   pub pass : Pass
-  pub asked : Asked M
+  pub asked : Receipts M
   pub reached : ℕ
 
 -- a port with this pass that was told so
-abbrev pub port_in : {M : Type 0} → Pass → Asked M → ℕ → Shared M
+abbrev pub port_in : {M : Type 0} → Pass → Receipts M → ℕ → Shared M
 port_in pass asked reached = record { pass = pass; asked = asked; reached = reached }
 
 -- an acquire that waited, and what its giving up was answered
-abbrev pub asked_by : {M : Type 0} → Told → Result Told Refusal → Asked M
+abbrev pub asked_by : {M : Type 0} → Told → Result Told Refusal → Receipts M
 asked_by first (Ok second) = asked.GaveUp first second
 asked_by first (Err spent) = asked.Missed first spent
 
@@ -37,7 +37,7 @@ IsQueued before after ask now first =
 -- answered: that of an acquire of what was asked for, and what its reply says; or that of one that
 -- waits and, by the pass as it was left then, that of the giving up of its number, and what the
 -- reply to this says; or a refusal of either, which gets nothing
-abbrev pub IsAnswered : {M : Type 0} → Pass → Pass → Ask → ℕ → Asked M → Admission PermitFacts
+abbrev pub IsAnswered : {M : Type 0} → Pass → Pass → Ask → ℕ → Receipts M → Admission PermitFacts
     → Type 0
 IsAnswered before after ask now asked.Nothing answer = ⊥
 IsAnswered before after ask now (asked.Exhausted spent) answer =

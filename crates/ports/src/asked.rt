@@ -6,7 +6,7 @@ use gate_history::{Naming, Receipt, Spent};
 
 /// What the gate told a port of an asking, call by call.
 #[derive(Drop)]
-pub enum Asked<M: Naming> {
+pub enum Receipts<M: Naming> {
     /// Nothing was asked yet.
     Nothing,
     /// The acquire wasn't answered, since the history is exhausted.
@@ -19,14 +19,14 @@ pub enum Asked<M: Naming> {
     Missed(Receipt<M>, Spent<M>),
 }
 
-impl<M: Naming> Asked<M> {
+impl<M: Naming> Receipts<M> {
     /// An acquire that waited, and what its giving up was answered.
-    pub(crate) fn waited(first: Receipt<M>, second: Result<Receipt<M>, Spent<M>>) -> Asked<M>
+    pub(crate) fn waited(first: Receipt<M>, second: Result<Receipt<M>, Spent<M>>) -> Receipts<M>
         ensures { result ≡ asked_by first second }
     {
         match second {
-            Ok(second) => Asked::GaveUp(first, second),
-            Err(spent) => Asked::Missed(first, spent),
+            Ok(second) => Receipts::GaveUp(first, second),
+            Err(spent) => Receipts::Missed(first, spent),
         }
     }
 }

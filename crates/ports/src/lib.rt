@@ -16,7 +16,7 @@ mod shared;
 mod solo;
 mod view;
 
-pub use asked::Asked;
+pub use asked::Receipts;
 pub use gate_port::{Admission, GatePort, Why};
 pub use shared::Port;
 pub use solo::SoloPort;

@@ -1,7 +1,7 @@
 // A moment that a clock has reached.
 ghost use Rattle.std.specs.Prelude.{◌≡◌, ◌≤◌};
 
-use clocks::{Clock, Looks};
+use clocks::{Clock, MonotonicClock};
 use std::marker::Model;
 
 /// A moment that a clock has reached, in nanoseconds, or the first of all. Only a look at a clock
@@ -30,7 +30,7 @@ impl Reached {
     }
 
     /// What the clock tells by one look more, or by an earlier one.
-    pub(crate) fn by<C: Clock>(looks: &mut Looks<'_, C, ()>) -> Reached
+    pub(crate) fn by<C: Clock>(looks: &mut MonotonicClock<'_, C, ()>) -> Reached
         ensures { looks.old.latest ≤ result }
     {
         Reached {

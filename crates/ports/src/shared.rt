@@ -3,13 +3,13 @@ ghost use Rattle.std.specs.Prelude.{◌≡◌, ◌+◌, ◌≤◌, Some, true, f
 ghost use Rattle.shared_gate.specs.Calls.{Ends};
 ghost use Rattle.gate_port.specs.Asking.{ask_of};
 ghost use Rattle.gate_port.specs.Log.{AdmitsIn, EndsIn};
-ghost use Rattle.ports.specs.declared.asked.Asked.TheVariants.{Nothing};
+ghost use Rattle.ports.specs.declared.asked.Receipts.TheVariants.{Nothing};
 ghost use Rattle.ports.specs.Asked.{IsAnswered, port_in};
 ghost use Rattle.ports.specs.Told.{IsLate, IsTold};
 
-use crate::asked::Asked;
+use crate::asked::Receipts;
 use crate::reached::Reached;
-use clocks::{Clock, Looks};
+use clocks::{Clock, MonotonicClock};
 use gate_history::{Permit, Receipt};
 use gate_port::{Admission, GatePort, Why};
 use limit_laws::Limit;
@@ -29,7 +29,7 @@ pub struct Port<'a, L: Limit, M: GateNaming, R, C> {
     rt: &'a R,
     gate: &'a SharedGate<L, M>,
     pass: Pass<M>,
-    asked: Asked<M>,
+    asked: Receipts<M>,
     clock: &'a C,
     reached: Reached,
     // Where the moment is noted at which its permit was got, in nanoseconds from 1 on; 0 where it
@@ -61,7 +61,7 @@ impl<'a, L: Limit, M: GateNaming, R, C> Port<'a, L, M, R, C> {
             rt,
             gate,
             pass,
-            asked: Asked::Nothing,
+            asked: Receipts::Nothing,
             clock,
             reached: Reached::first(),
             since: None,
@@ -94,7 +94,7 @@ impl<'a, L: Limit, M: GateNaming, R, C> Port<'a, L, M, R, C> {
     }
 
     /// What the gate told of the last asking.
-    pub fn asked(&self) -> &Asked<M>
+    pub fn asked(&self) -> &Receipts<M>
         ensures { result.now ≡ self.now.asked }
     {
         &self.asked
@@ -129,18 +129,21 @@ impl<'a, L: Limit, M: GateNaming, R: Wait + SystemClock, C: Clock> Port<'a, L, M
         let pass = &mut self.pass;
         let (asked, answer) = match self.gate.acquire(self.rt, pass, part, bypass, false, now) {
             Got::Admitted(receipt, permit) => {
-                (Asked::Answered(receipt), Admission::Admitted(permit))
+                (Receipts::Answered(receipt), Admission::Admitted(permit))
             }
-            Got::Bypassed(receipt) => (Asked::Answered(receipt), Admission::Bypassed),
-            Got::Full(receipt) => (Asked::Answered(receipt), Admission::Refused(Why::Full)),
+            Got::Bypassed(receipt) => (Receipts::Answered(receipt), Admission::Bypassed),
+            Got::Full(receipt) => (Receipts::Answered(receipt), Admission::Refused(Why::Full)),
             Got::BacklogFull(receipt) => {
                 (
-                    Asked::Answered(receipt),
+                    Receipts::Answered(receipt),
                     Admission::Refused(Why::BacklogFull),
                 )
             }
             Got::Waiting(_receipt, _ticket) => unreachable!(),
-            Got::Exhausted(spent) => (Asked::Exhausted(spent), Admission::Refused(Why::Exhausted)),
+            Got::Exhausted(spent) => (
+                Receipts::Exhausted(spent),
+                Admission::Refused(Why::Exhausted),
+            ),
         };
         self.asked = asked;
         answer
@@ -154,7 +157,7 @@ impl<'a, L: Limit, M: GateNaming, R: Wait + SystemClock, C: Clock> Port<'a, L, M
             (record { part = part; bypass = false; wait = true }) now self.new.asked result }
         ensures late { IsLate (Some deadline) self.new.reached result }
     {
-        let mut looks = Looks::new(self.clock);
+        let mut looks = MonotonicClock::new(self.clock);
         self.ask_until(part, now, &mut looks, deadline)
     }
 
@@ -163,7 +166,7 @@ impl<'a, L: Limit, M: GateNaming, R: Wait + SystemClock, C: Clock> Port<'a, L, M
         &mut self,
         part: Part,
         now: u64,
-        looks: &mut Looks<'a, C, ()>,
+        looks: &mut MonotonicClock<'a, C, ()>,
         deadline: u64,
     ) -> Admission<Permit<M>>
         ensures told { IsTold self.old.pass self.new.pass
@@ -175,29 +178,35 @@ impl<'a, L: Limit, M: GateNaming, R: Wait + SystemClock, C: Clock> Port<'a, L, M
         let (rt, pass) = (self.rt, &mut self.pass);
         let (asked, answer) = match self.gate.acquire_wait(rt, pass, part, now, looks, deadline) {
             Waited::Admitted(receipt, permit) => {
-                (Asked::Answered(receipt), Admission::Admitted(permit))
+                (Receipts::Answered(receipt), Admission::Admitted(permit))
             }
             Waited::Promoted(first, second, permit) => {
-                (Asked::GaveUp(first, second), Admission::Admitted(permit))
+                (Receipts::GaveUp(first, second), Admission::Admitted(permit))
             }
             Waited::TimedOut(first, second) => {
                 self.reached = Reached::by(looks);
                 (
-                    Asked::GaveUp(first, second),
+                    Receipts::GaveUp(first, second),
                     Admission::Refused(Why::TimedOut),
                 )
             }
             Waited::BacklogFull(receipt) => {
                 (
-                    Asked::Answered(receipt),
+                    Receipts::Answered(receipt),
                     Admission::Refused(Why::BacklogFull),
                 )
             }
             Waited::Lost(first, second) => {
-                (Asked::waited(first, second), Admission::Refused(Why::Lost))
+                (
+                    Receipts::waited(first, second),
+                    Admission::Refused(Why::Lost),
+                )
             }
             Waited::Exhausted(spent) => {
-                (Asked::Exhausted(spent), Admission::Refused(Why::Exhausted))
+                (
+                    Receipts::Exhausted(spent),
+                    Admission::Refused(Why::Exhausted),
+                )
             }
         };
         self.asked = asked;

@@ -4,7 +4,7 @@ ghost use Rattle.gate_history.specs.Steps.{event_of};
 ghost use Rattle.gate_port.specs.Asking.{would_wait};
 ghost use Rattle.ports.specs.Solo.{Gets, GivesUp, IsOfPort, Makes};
 
-use gate_history::{Book, Call, GaveUp, Got, Naming, Pass, Permit, Receipt, Step, Ticket};
+use gate_history::{Book, BookPass, Call, GaveUp, Got, Naming, Permit, Receipt, Step, Ticket};
 use gate_port::{Admission, GatePort, Why};
 use limit_laws::Limit;
 use limiter_core::Outcome;
@@ -16,7 +16,7 @@ use std::marker::Model;
 #[derive(Drop)]
 pub struct SoloPort<L: Limit, N: Naming> {
     book: Book<L, N>,
-    pass: Pass<N>,
+    pass: BookPass<N>,
 }
 
 impl<L: Limit, N: Naming> Model for SoloPort<L, N> {
@@ -31,7 +31,7 @@ impl<L: Limit, N: Naming> Model for SoloPort<L, N> {
 
 impl<L: Limit, N: Naming> SoloPort<L, N> {
     /// A port that makes the book's steps by this pass.
-    pub fn new(book: Book<L, N>, pass: Pass<N>) -> SoloPort<L, N>
+    pub fn new(book: Book<L, N>, pass: BookPass<N>) -> SoloPort<L, N>
         ensures { result ≡ record { book = book; calls = pass } }
     {
         SoloPort { book, pass }
@@ -45,7 +45,7 @@ impl<L: Limit, N: Naming> SoloPort<L, N> {
     }
 
     /// Its pass.
-    pub fn into_pass(self) -> Pass<N>
+    pub fn into_pass(self) -> BookPass<N>
         ensures { result ≡ self.calls }
     {
         let SoloPort { book: _, pass } = self;

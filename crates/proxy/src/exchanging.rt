@@ -10,7 +10,7 @@ ghost use Rattle.proxy.specs.Made.{counts_of, is_all_sent, reads_of, summary_of,
 use crate::replying::{fault_status, is_own, reply, reply_status};
 use crate::settling::{outcome_at, settle};
 use crate::told::{CallCounts, Exchange, ExchangeSummary, Verdict};
-use clocks::{Clock, Looks};
+use clocks::{Clock, MonotonicClock};
 use counted_io::Counted;
 use gate_config::Settings;
 use gate_port::GatePort;
@@ -32,7 +32,7 @@ pub fn exchange<P: GatePort, B: Backend, C: Clock, R: BufRead, W: Write>(
     port: &mut P,
     backend: &mut B,
     settings: &Settings,
-    looks: &mut Looks<'_, C, BackendAnswer>,
+    looks: &mut MonotonicClock<'_, C, BackendAnswer>,
     reader: &mut Counted<R>,
     writer: &mut Counted<W>,
 ) -> Exchange

@@ -5,7 +5,7 @@ ghost use Rattle.proxy.specs.Settling.{IsSettled};
 
 use crate::told::Verdict;
 use classifier::{Class, classify};
-use clocks::{Clock, Looks};
+use clocks::{Clock, MonotonicClock};
 use gate_config::Settings;
 use gate_port::{Admission, GatePort};
 use limit_laws::LAST_MOMENT;
@@ -75,7 +75,7 @@ pub(crate) fn settle<P: GatePort, B: Backend, C: Clock>(
     port: &mut P,
     backend: &mut B,
     settings: &Settings,
-    looks: &mut Looks<'_, C, BackendAnswer>,
+    looks: &mut MonotonicClock<'_, C, BackendAnswer>,
     request: &Request,
 ) -> Settled
     ensures { IsSettled settings.now request.now (P.shown port.old) (P.shown port.new)

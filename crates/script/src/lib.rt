@@ -4,7 +4,7 @@
 //! [`next_line`] cuts one line off a text, and [`read_line`] says what it has: nothing, a setting
 //! or a request, or the fault of its words. Its contract is exact, by `specs/Line.antt`; that of
 //! [`read_trace_line`], which says the same of a trace's line, by `specs/TraceLine.antt`.
-//! [`Settings`] are what setting lines add up to, each taken by the rules of
+//! [`ScriptSettings`] are what setting lines add up to, each taken by the rules of
 //! `specs/Settings.antt`. [`read_settings`] takes those at the head of a text, of a script or a
 //! trace alike, and says which lines are left (`specs/Opening.antt`).
 //!
@@ -44,5 +44,5 @@ pub use opening::{Opening, read_settings};
 pub use place::{NumberPlace, RangeEnd, WordPlace};
 pub use request::Request;
 pub use setting::Setting;
-pub use settings::Settings;
+pub use settings::ScriptSettings;
 pub use trace_line::{TraceLine, read_trace_line};

@@ -8,7 +8,7 @@ ghost use Rattle.script.specs.Opening.{head_of, opening_of};
 use super::line_fault::LineFault;
 use super::lines::next_line;
 use super::setting::{Setting, read_setting};
-use super::settings::Settings;
+use super::settings::ScriptSettings;
 use super::words::{is_comment, next_word};
 use std::alloc::{AllocError, Global};
 
@@ -16,7 +16,7 @@ use std::alloc::{AllocError, Global};
 #[derive(Drop)]
 pub struct Opening<'a> {
     /// The settings.
-    pub settings: Settings<'a>,
+    pub settings: ScriptSettings<'a>,
     /// The number of the first line that is left, from 1.
     pub line: u64,
     /// The lines that are left: the first is none of the settings, or the setting at fault.
@@ -55,7 +55,7 @@ pub fn read_settings<'a>(alloc: Global, text: &'a [u8]) -> Result<Opening<'a>, A
     ensures short { IfOk result (λ opening.
         opening.line + length opening.rest.now ≤ 1 + length text.now) }
 {
-    let mut settings = Settings::new(alloc);
+    let mut settings = ScriptSettings::new(alloc);
     let mut rest = text;
     let mut number = 1u64;
     let mut fault = None;

@@ -31,7 +31,7 @@ const USUAL_TIMEOUT: u64 = 1_000_000_000;
 
 /// The settings that the lines of a script gave so far.
 #[derive(Drop)]
-pub struct Settings<'a> {
+pub struct ScriptSettings<'a> {
     limit: Option<BaseLimit>,
     windows: Option<WindowSettings>,
     backlog: Option<u32>,
@@ -43,7 +43,7 @@ pub struct Settings<'a> {
     table: PartitionTable,
 }
 
-impl<'a> Model for Settings<'a> {
+impl<'a> Model for ScriptSettings<'a> {
     ghost use Rattle.std.specs.Prelude.{◌≡◌, ◌≤◌, IfSome};
     ghost use Rattle.std.specs.Prelude.{◌+◌};
     ghost use Rattle.partitions.specs.Faults.{given};
@@ -71,7 +71,7 @@ impl<'a> Model for Settings<'a> {
         × IfSome s.keep (λ entries. (1 ≤ entries) × (entries ≤ most_kept)) };
 }
 
-impl<'a> Settings<'a> {
+impl<'a> ScriptSettings<'a> {
     ghost use Rattle.lifo_backlog.specs.Waiters.{most_waiters};
     ghost use Rattle.script.specs.Limits.{most_kept};
     ghost use Rattle.script.specs.Setting.{setting_bytes};
@@ -81,10 +81,10 @@ impl<'a> Settings<'a> {
     ghost use Rattle.script.specs.Settings.{with_promote, promote_of, with_own_places};
 
     /// No settings.
-    pub fn new(alloc: Global) -> Settings<'a>
+    pub fn new(alloc: Global) -> ScriptSettings<'a>
         ensures { result ≡ no_settings }
     {
-        Settings {
+        ScriptSettings {
             limit: None,
             windows: None,
             backlog: None,

@@ -7,11 +7,11 @@ ghost use Rattle.script_gate.specs.Settings.{journal_of};
 
 use gate_journal::GateSettings;
 use limit_kinds::AnyLimit;
-use script::Settings;
+use script::ScriptSettings;
 
 /// What the gate of a script or a trace is made with: its limit is fixed at `n` permits where no
 /// line gives one, and `kept` entries are kept where none says how many.
-pub fn gate_settings(settings: Settings<'_>, n: u32, kept: usize) -> GateSettings<AnyLimit>
+pub fn gate_settings(settings: ScriptSettings<'_>, n: u32, kept: usize) -> GateSettings<AnyLimit>
     requires least { 1 ≤ n }
     requires most { n ≤ greatest_limit }
     requires some_kept { 1 ≤ kept }

@@ -12,7 +12,7 @@ use Rattle.gate_ledgers.specs.Making.{Making}
 use Rattle.shared_gate.specs.Calls.{Pass}
 use Rattle.shared_gate.specs.Closing.{calls_by}
 use Rattle.shared_gate.specs.Reported.{AreCountersBehind}
-use Rattle.ports.specs.declared.asked.Asked.TheVariants.{Nothing}
+use Rattle.ports.specs.declared.asked.Receipts.TheVariants.{Nothing}
 use Rattle.ports.specs.Asked.{Shared, port_in}
 use Rattle.gate_config.specs.declared.settings.Settings.{Settings}
 use Rattle.tcp_backend.specs.declared.connecting.TcpBackend.{TcpBackend}

@@ -9,7 +9,7 @@ ghost use Rattle.gate_config.specs.Settings.{AreSound};
 ghost use Rattle.shared_gate.specs.Calls.{pass_of};
 ghost use Rattle.shared_gate.specs.Log.{CallsLegal};
 ghost use Rattle.gate_opening.specs.Opening.{journal_of, making_of};
-ghost use Rattle.ports.specs.declared.asked.Asked.TheVariants.{Nothing};
+ghost use Rattle.ports.specs.declared.asked.Receipts.TheVariants.{Nothing};
 ghost use Rattle.ports.specs.Asked.{port_in};
 ghost use Rattle.serving.specs.Workers.{ended_in};
 ghost use Rattle.serve_command.specs.Runs.{AreToldOfRuns, calls_told};
@@ -26,7 +26,7 @@ use log::Log;
 use ports::{Port, View};
 use serve_reports::Watcher;
 use serving::{JobResult, ServeFault, Source, WorkerSettings, serve};
-use shared_gate::{GateNaming, Pass, SharedGate, Word};
+use shared_gate::{GateNaming, LogLength, Pass, SharedGate};
 use std::alloc::{AllocError, Global};
 use std::marker::Brand;
 use std::net::Net;
@@ -78,7 +78,7 @@ where
     ensures thread { IsErrOf result ServeFault.Thread →
         refused_of spawner.new ≡ raised (refused_of spawner.old) }
 {
-    let word = Word::new(gateway.common.alloc)?;
+    let word = LogLength::new(gateway.common.alloc)?;
     let blanks = Blanks::new();
     let others = gateway.side.count();
     serve_named::<Brand, R, L, C, S>(spawner, gateway, blanks, word, others)
@@ -90,7 +90,7 @@ fn serve_named<M, R, L, C, S>(
     spawner: &mut Spawner<'_, R>,
     gateway: &Gateway<'_, R, L, C, S>,
     blanks: Blanks,
-    word: Word,
+    word: LogLength,
     others: usize,
 ) -> Result<Option<Counters>, ServeFault>
 where

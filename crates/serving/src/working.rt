@@ -7,7 +7,7 @@ ghost use Rattle.serving.specs.Turns.{IsRun};
 ghost use Rattle.timed_io.specs.Client.{from_of, to_of};
 
 use crate::doors::Accepts;
-use clocks::{Clock, Looks};
+use clocks::{Clock, MonotonicClock};
 use gate_config::Settings;
 use gate_port::GatePort;
 use proxy::{Exchange, Watch, exchange};
@@ -251,7 +251,7 @@ where
         mut reader,
         mut writer,
     } = client;
-    let mut looks = Looks::new(common.clock);
+    let mut looks = MonotonicClock::new(common.clock);
     let served = exchange(
         common.alloc,
         port,

@@ -11,7 +11,7 @@ use crate::pass::Pass;
 use crate::sealed::Sealed;
 use audit::{Calls, Cause, verdict};
 use gate_history::{Book, Entry, History, Naming, Receipt};
-use gate_word::{Keeper, SharedWord};
+use gate_word::{Keeper, SharedLogLength};
 use limit_laws::Limit;
 use std::alloc::Global;
 
@@ -29,7 +29,7 @@ pub struct AuditFault<L: Limit, M: Naming> {
 /// The calls by all passes of a book, and by these, each of which knew a beginning of the log.
 pub(crate) fn count_calls<L: Limit, M: GateNaming>(
     book: &mut Book<L, M>,
-    word: &SharedWord<Entry>,
+    word: &SharedLogLength<Entry>,
     keeper: &mut Keeper<Entry>,
     passes: Vec<Pass<M>>,
 ) -> Calls

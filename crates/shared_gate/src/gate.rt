@@ -20,14 +20,14 @@ use crate::naming::GateNaming;
 use crate::pass::{Pass, with_readers};
 use crate::resting::{pause_for, rest};
 use crate::sealed::Sealed;
-use crate::word::Word;
+use crate::word::LogLength;
 use audit::Calls;
-use clocks::{Clock, Looks};
+use clocks::{Clock, MonotonicClock};
 use gate_history::{
     Book, Call, Claimed, Entry, GaveUp, Got, History, Permit, Receipt, Spent, Step, Ticket,
 };
 use gate_port::Report;
-use gate_word::SharedWord;
+use gate_word::SharedLogLength;
 use limit_laws::Limit;
 use limiter_core::{Counters, Outcome};
 use partitions::Part;
@@ -40,7 +40,7 @@ use std::time::Clock as SystemClock;
 #[derive(Drop)]
 pub struct SharedGate<L: Limit, M: GateNaming> {
     book: Mutex<Sealed<L, M>>,
-    pub(crate) word: SharedWord<Entry>,
+    pub(crate) word: SharedLogLength<Entry>,
     freed: Condvar,
     ghost named: { word ≡ M.word },
 }
@@ -51,9 +51,9 @@ impl<L: Limit, M: GateNaming> SharedGate<L, M> {
     /// knows of an entry. Fails where memory for them can't be had, which drops book and passes.
     pub fn new(
         alloc: Global,
-        word: Word,
+        word: LogLength,
         book: Book<L, M>,
-        passes: Vec<gate_history::Pass<M>>,
+        passes: Vec<gate_history::BookPass<M>>,
     ) -> Result<(SharedGate<L, M>, Vec<Pass<M>>), AllocError>
         requires word { word ≡ M.word }
         requires sealed { book.is_sealed ≡ true }
@@ -155,7 +155,7 @@ impl<L: Limit, M: GateNaming> SharedGate<L, M> {
         pass: &mut Pass<M>,
         part: Part,
         now: u64,
-        looks: &mut Looks<'_, C, ()>,
+        looks: &mut MonotonicClock<'_, C, ()>,
         deadline: u64,
     ) -> Waited<M>
         ensures { Waits pass.old pass.new part now deadline looks.new.latest result }
@@ -187,7 +187,7 @@ impl<L: Limit, M: GateNaming> SharedGate<L, M> {
         &self,
         rt: &R,
         number: u64,
-        looks: &mut Looks<'_, C, ()>,
+        looks: &mut MonotonicClock<'_, C, ()>,
         deadline: u64,
     ) -> bool
         ensures { result ≡ true → deadline ≤ looks.new.latest }

@@ -25,7 +25,7 @@ mod word;
 
 pub use answers::Waited;
 pub use audit::{Calls, Cause};
-pub use clocks::{Clock, Looks, ProgramClock};
+pub use clocks::{Clock, MonotonicClock, ProgramClock};
 pub use closing::AuditFault;
 pub use gate::SharedGate;
 pub use gate_history::{Claimed, GaveUp, Got};
@@ -35,4 +35,4 @@ pub use laws::{
 };
 pub use naming::GateNaming;
 pub use pass::Pass;
-pub use word::Word;
+pub use word::LogLength;

@@ -7,7 +7,7 @@ ghost use Rattle.shared_gate.specs.Log.{CallsLegal};
 use crate::gate::SharedGate;
 use crate::naming::GateNaming;
 use crate::pass::Pass;
-use crate::word::Word;
+use crate::word::LogLength;
 use gate_history::Book;
 use limit_laws::Limit;
 use std::alloc::{AllocError, Global};
@@ -19,7 +19,7 @@ impl<L: Limit, M: GateNaming> SharedGate<L, M> {
     /// for, that is out of memory too.
     pub fn open(
         alloc: Global,
-        word: Word,
+        word: LogLength,
         mut book: Book<L, M>,
         count: usize,
     ) -> Result<(SharedGate<L, M>, Vec<Pass<M>>), AllocError>
@@ -44,7 +44,7 @@ fn make_passes<L: Limit, M: GateNaming>(
     alloc: Global,
     book: &mut Book<L, M>,
     count: usize,
-) -> Result<Vec<gate_history::Pass<M>>, AllocError>
+) -> Result<Vec<gate_history::BookPass<M>>, AllocError>
     ensures passes { IfOk result (λ passes. passes.items ≡ replicate count 0) }
     ensures journal { OnOk result (book.new.journal ≡ book.old.journal) }
     ensures few { OnOk result (book.new.tally.passes ≡ book.old.tally.passes + count) }

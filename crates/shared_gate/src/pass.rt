@@ -4,7 +4,7 @@ ghost use Rattle.shared_gate.specs.Calls.{pass_of, seen_by};
 
 use crate::naming::GateNaming;
 use gate_history::Entry;
-use gate_word::{Keeper, Reader, SharedWord};
+use gate_word::{Keeper, Reader, SharedLogLength};
 use std::alloc::{AllocError, Global};
 use std::marker::Model;
 
@@ -12,7 +12,7 @@ use std::marker::Model;
 /// of the gate's log that it knows, which is legal.
 #[derive(Drop)]
 pub struct Pass<M: GateNaming> {
-    pub(crate) pass: gate_history::Pass<M>,
+    pub(crate) pass: gate_history::BookPass<M>,
     pub(crate) reader: Reader<Entry>,
     pub(crate) seen: u64,
 }
@@ -57,9 +57,9 @@ impl<M: GateNaming> Pass<M> {
 /// The passes of a book, each with a reader who knows of no entry.
 pub(crate) fn with_readers<M: GateNaming>(
     alloc: Global,
-    word: &SharedWord<Entry>,
+    word: &SharedLogLength<Entry>,
     keeper: &mut Keeper<Entry>,
-    passes: Vec<gate_history::Pass<M>>,
+    passes: Vec<gate_history::BookPass<M>>,
 ) -> Result<Vec<Pass<M>>, AllocError>
     requires word { word.now ≡ M.word }
     requires keeper { keeper.old.table ≡ M.word }

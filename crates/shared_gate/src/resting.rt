@@ -1,7 +1,7 @@
 // Rests of who waits.
 ghost use Rattle.std.specs.Prelude.{◌≡◌, ◌≤◌, true};
 
-use clocks::{Clock, Looks};
+use clocks::{Clock, MonotonicClock};
 use std::sync::Wait;
 use std::thread;
 use std::time::{Clock as SystemClock, Duration};
@@ -24,7 +24,7 @@ pub(crate) fn pause_for(left: u64) -> Duration {
 /// steps behind it.
 pub(crate) fn rest<R: Wait + SystemClock, C: Clock>(
     rt: &R,
-    looks: &mut Looks<'_, C, ()>,
+    looks: &mut MonotonicClock<'_, C, ()>,
     deadline: u64,
     is_over: bool,
 )

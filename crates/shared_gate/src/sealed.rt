@@ -14,7 +14,7 @@ use audit::Calls;
 use gate_history::{Book, Call, Entry, Journal, Step};
 use gate_journal::rolling_runs_are_legal;
 use gate_port::{Report, report_of};
-use gate_word::{Keeper, SharedWord};
+use gate_word::{Keeper, SharedLogLength};
 use limit_laws::Limit;
 use limiter_core::counters_add_up;
 use std::marker::{Brand, Model};
@@ -47,7 +47,7 @@ impl<L: Limit, M: GateNaming> Sealed<L, M> {
     #[inline(always)]
     pub(crate) fn step(
         &mut self,
-        word: &SharedWord<Entry>,
+        word: &SharedLogLength<Entry>,
         pass: &mut Pass<M>,
         call: Call<M>,
     ) -> Step<M>
@@ -68,7 +68,7 @@ impl<L: Limit, M: GateNaming> Sealed<L, M> {
     /// Takes passes back, by which no more calls are made, and tells how many calls there were and
     /// how many were made by these: they are in the log, and are all calls where these are all
     /// passes.
-    pub(crate) fn take_back(&mut self, word: &SharedWord<Entry>, passes: Vec<Pass<M>>) -> Calls
+    pub(crate) fn take_back(&mut self, word: &SharedLogLength<Entry>, passes: Vec<Pass<M>>) -> Calls
         requires { word.now ≡ M.word }
         ensures book { result.book ≡ calls_of self.old }
         ensures sum { result.sum ≡ calls_by passes.items }

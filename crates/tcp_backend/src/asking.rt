@@ -31,7 +31,7 @@ const LAST_MILLIS: u64 = 20;
 /// What came of a request over a connection, whether it was written whole, what the clock told when
 /// the answer was last read for, and the connection's end then.
 #[derive(Drop)]
-pub(crate) struct Asked<E> {
+pub(crate) struct Attempt<E> {
     pub(crate) answer: Result<Response, WireFault>,
     pub(crate) is_sent: bool,
     pub(crate) looked: u64,
@@ -51,7 +51,7 @@ pub(crate) fn ask<S, E, C>(
     behind: &mut WriteBuffer,
     request: &Request,
     host: &str,
-) -> Asked<E>
+) -> Attempt<E>
 where
     S: Read + OpenStream + AsRawFd,
     E: RequestOutlet<S> + Copy,
@@ -64,7 +64,7 @@ where
     let reader = AnswerRead::new(&mut *stream, call.countdown());
     if !is_sent {
         let (answer, looked) = read_early(alloc, reader, ahead, request);
-        return Asked {
+        return Attempt {
             answer,
             is_sent,
             looked,
@@ -74,7 +74,7 @@ where
     let mut reader = Counted::new(BufferedRead::new(reader, ahead));
     let answer = read_response(alloc, &mut reader, &request.method);
     let looked = reader.inner().inner().looked();
-    Asked {
+    Attempt {
         answer,
         is_sent,
         looked,

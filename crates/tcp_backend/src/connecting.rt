@@ -6,7 +6,7 @@ ghost use Rattle.wire.specs.declared.answer.BackendAnswer.TheVariants.{Late, Not
 ghost use Rattle.tcp_backend.specs.CallTime.{call_deadline};
 ghost use Rattle.tcp_backend.specs.Connecting.{connector_of, host_of, limit_of};
 
-use crate::asking::{Asked, answer_of, ask, read_on};
+use crate::asking::{Attempt, answer_of, ask, read_on};
 use crate::call_time::{CallTime, connect_time};
 use crate::dialing::Connector;
 use crate::watch::BackendWatch;
@@ -159,7 +159,7 @@ fn forward_over<K: Connector, W: BackendWatch, C: Clock>(
         Ok(made) => made,
         Err(error) => return unconnected(&call, watch, &error),
     };
-    let Asked {
+    let Attempt {
         answer: asked,
         looked,
         ..

@@ -4,14 +4,14 @@ ghost use Rattle.trace.specs.Trace.{trace_of};
 
 use super::arrival::Arrival;
 use super::calls::read_calls;
-use script::{LineFault, Opening, Settings, read_settings};
+use script::{LineFault, Opening, ScriptSettings, read_settings};
 use std::alloc::{AllocError, Global};
 
 /// A trace: its settings, and its calls up to its end or to the first line at fault.
 #[derive(Drop)]
 pub struct Trace<'a> {
     /// The settings.
-    pub settings: Settings<'a>,
+    pub settings: ScriptSettings<'a>,
     /// The calls, in the order of their lines.
     pub arrivals: Vec<Arrival>,
     /// The line at fault, if one is.

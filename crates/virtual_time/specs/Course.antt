@@ -7,8 +7,8 @@ use Rattle.limiter_core.specs.declared.event.Reply.{Reply}
 use Rattle.limiter_core.specs.declared.event.Entry.{Entry}
 use Rattle.limiter_core.specs.declared.event.Entry.TheVariants.{Call, Promotion}
 use Rattle.gate_journal.specs.Journal.{Journal}
-use Rattle.load_driver.specs.declared.asked.Asked.{Asked}
-use Rattle.load_driver.specs.declared.asked.Asked.TheVariants.{Event}
+use Rattle.load_driver.specs.declared.asked.SessionCall.{SessionCall}
+use Rattle.load_driver.specs.declared.asked.SessionCall.TheVariants.{Event}
 use Rattle.load_driver.specs.Replay.{Open, open_of, ending_of, told_of, asked_text}
 use Rattle.trace.specs.declared.arrival.Arrival.{Arrival}
 use Rattle.virtual_time.specs.declared.action.Kind.{Kind}
@@ -19,12 +19,12 @@ use Rattle.virtual_time.specs.Pending.{IsPending}
 use Rattle.virtual_time.specs.Next.{IsNext}
 
 -- what is asked to do an action of an arrival, under the permits that are open
-abbrev pub asked_by : Open → Arrival → Action → Kind → Asked
+abbrev pub asked_by : Open → Arrival → Action → Kind → SessionCall
 asked_by by_number a d Arriving = Event (Acquire a.part a.bypass a.wait d.moment)
 asked_by by_number a d GivingUp = Event (GiveUp d.number)
 asked_by by_number a d Ending = ending_of (by_number d.number) a.outcome d.moment
 
-abbrev pub asked_of : Open → Arrival → Action → Asked
+abbrev pub asked_of : Open → Arrival → Action → SessionCall
 asked_of by_number a d = asked_by by_number a d d.kind
 
 -- what an action is answered: the entries that it adds, and what is written of it
@@ -37,7 +37,7 @@ abbrev pub Limiter : Type 0
 Limiter = List Entry → Arrival → Action → Answered
 
 -- that of a journal, which has all entries so far, however often it rolled since
-abbrev pub answered_in : {S : Type 0} → Algorithm S → Journal S → Asked → Answered
+abbrev pub answered_in : {S : Type 0} → Algorithm S → Journal S → SessionCall → Answered
 answered_in rules j asked = record { told = told_of rules j asked; out = asked_text rules j asked }
 
 abbrev pub journal_with : {S : Type 0} → Journal S → List Entry → Journal S

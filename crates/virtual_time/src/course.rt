@@ -13,23 +13,23 @@ use super::calendar::Calendar;
 use super::pending::left;
 use limit_laws::Limit;
 use limiter_core::{Entry, Event, Reply};
-use load_driver::{Asked, Session, answer, read_end};
+use load_driver::{Session, SessionCall, answer, read_end};
 use std::alloc::{AllocError, Global};
 use trace::Arrival;
 
 /// What is asked to do an action.
-fn asked_of<L: Limit>(session: &Session<L>, arrival: &Arrival, action: Action) -> Asked
+fn asked_of<L: Limit>(session: &Session<L>, arrival: &Arrival, action: Action) -> SessionCall
     ensures asked { result ≡ asked_of (open_in session.now) arrival.now action }
     ensures named { IfEvent result (IsOpen (open_in session.now)) }
 {
     match action.kind {
-        Kind::Arriving => Asked::Event(Event::Acquire {
+        Kind::Arriving => SessionCall::Event(Event::Acquire {
             part: arrival.part,
             bypass: arrival.bypass,
             wait: arrival.wait,
             now: action.moment,
         }),
-        Kind::GivingUp => Asked::Event(Event::GiveUp {
+        Kind::GivingUp => SessionCall::Event(Event::GiveUp {
             number: action.number,
         }),
         Kind::Ending => read_end(session, action.number, arrival.outcome, action.moment),

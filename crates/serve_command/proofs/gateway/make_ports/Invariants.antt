@@ -1,5 +1,5 @@
 use Rattle.std.proofs.Common.{◌≡◌, map}
-use Rattle.ports.specs.declared.asked.Asked.TheVariants.{Nothing}
+use Rattle.ports.specs.declared.asked.Receipts.TheVariants.{Nothing}
 use Rattle.ports.specs.Asked.{port_in}
 use Rattle.serve_command.proofs.gateway.make_ports.Given as goal
 

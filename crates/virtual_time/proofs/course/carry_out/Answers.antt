@@ -1,7 +1,7 @@
 use Rattle.std.proofs.Common.{◌≡◌, ◌++◌, List, length, sym, ap, ◌∙◌, subst, string_bytes}
 use Rattle.limiter_core.specs.declared.event.Entry.{Entry}
 use Rattle.gate_journal.specs.Journal.{Journal}
-use Rattle.load_driver.specs.declared.asked.Asked.{Asked}
+use Rattle.load_driver.specs.declared.asked.SessionCall.{SessionCall}
 use Rattle.load_driver.specs.Replay.{open_of, told_of, asked_text}
 use Rattle.load_driver.specs.Session.{open_in}
 use Rattle.load_driver.specs.Stretches.{StandsFor}
@@ -16,7 +16,7 @@ module _ (g : Over) (c : goal.In_ok-extend_from_slice g) (j : Journal g.row.L.De
   abbrev w : Journal g.row.L.Denot
   w = journal_with j c.args.entries.now.items
 
-  abbrev asks : Asked
+  abbrev asks : SessionCall
   asks = asked_of (open_of w) c.args.arrival.now c.args.action
 
   asked_now : c.asked_of-asked.result ≡ asks
@@ -41,14 +41,15 @@ module _ (g : Over) (c : goal.In_ok-extend_from_slice g) (j : Journal g.row.L.De
       ≡ string_bytes c.args.text.now ++ asked_text g.L.Limit.rules w asks
   text_then =
       c.in_ok-added.ensures.text w stands
-      ∙ ap (λ (a : Asked). string_bytes c.args.text.now ++ asked_text g.L.Limit.rules w a) asked_now
+      ∙ ap (λ (a : SessionCall). string_bytes c.args.text.now
+      ++ asked_text g.L.Limit.rules w a) asked_now
 
   stands_then : StandsFor g.L.Limit.rules (journal_with j c.extend_from_slice.new.self.items)
       c.answer.new.session
   stands_then =
       subst (λ (v : Journal g.row.L.Denot). StandsFor g.L.Limit.rules v c.answer.new.session)
       (grown g.L.Limit.rules w c.asked_of-asked.result
-      ∙ ap (λ (a : Asked). journal_with j
+      ∙ ap (λ (a : SessionCall). journal_with j
       (c.args.entries.now.items ++ told_of g.L.Limit.rules w a)) asked_now
       ∙ ap (journal_with j) (sym entries_then))
       (c.in_ok-added.ensures.stands w stands)

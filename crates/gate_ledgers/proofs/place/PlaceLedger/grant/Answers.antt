@@ -1,0 +1,8 @@
+use Rattle.std.proofs.Common.{rules}
+use Rattle.gate_ledgers.proofs.place.PlaceLedger.grant.Goals as goal
+
+pub returns-clause-total : goal.returns-clause-total
+returns-clause-total c = search rules
+
+pub returns-clause-granted : goal.returns-clause-granted
+returns-clause-granted c = search rules

@@ -1,5 +1,0 @@
-use Rattle.std.proofs.Common.{rules}
-use Rattle.script.proofs.settings.Settings.limit.Goals as goal
-
-pub returns : goal.returns
-returns c = search rules
