@@ -123,8 +123,8 @@ told_of_runs rules m Gives Came workers most passes counters calls (Some it) all
       behind = subst (λ (c : Counters). AreCountersBehind rules m passes c) (sym some.0) behind;
       balance = ap calls_told some.0 ∙ some.1 ∙ is;
     }
-told_of_runs rules m Gives Came workers most passes counters calls None all ran behind is some none =
-    record {
+told_of_runs rules m Gives Came workers most passes counters calls None all ran behind is some
+    none = record {
       passes = passes;
       all = all;
       counters = counters;

@@ -66,9 +66,9 @@ pub record HasServed {F L W : Type 0} (Opened : F → Type 0) (remaining : F →
   pub flushed : is_flushed new ≡ true
 
 -- A FAULT OF SERVING ITSELF, by the addresses, by how many threads were refused before and after,
--- and by what is miscounted: an address couldn't be bound, of clients, of the operator or of whoever
--- looks; or that of clients was, and memory was lacking, the system refused a thread, or all have
--- served, and the gate's counters tell of calls that none of them made
+-- and by what is miscounted: an address couldn't be bound, of clients, of the operator or of
+-- whoever looks; or that of clients was, and memory was lacking, the system refused a thread, or
+-- all have served, and the gate's counters tell of other calls than these made
 abbrev pub IsOfServing : {L : Type 0} → (List ℕ → L → Type 0) → (List ℕ → Type 0)
     → List ℕ → Option SocketAddrV4 → Option SocketAddrV4 → ℕ → ℕ → Type 0 → ServiceFault → Type 0
 IsOfServing Bound Unbound listen admin status before after Miscounts (Service.Config fault) = ⊥
