@@ -169,5 +169,7 @@ Exits with status 0 once all workers have ended, with 2 for a wrong command line
   admission: memory        out of memory: lower the workers, the limit, `backlog` or `keep`
   admission: thread        a thread can't be started, and those that were have ended: take fewer
                            workers, or raise the system's limit on threads
+  admission: miscounted    the gate's counters tell of calls that no worker made: never seen, and to
+                           be reported
   admission: write         standard output can't be written: a full disk, a closed pipe"
 );
