@@ -10,6 +10,7 @@ import select
 import socket
 import threading
 import time
+import typing
 from collections.abc import Callable, Iterator
 from concurrent.futures import ThreadPoolExecutor
 
@@ -17,6 +18,7 @@ from beside import Beside
 from ending import is_between
 from large import LINGERS, MEGABYTE, post
 from large import answer as response
+from lingering import breaks_behind
 from loopback import BODY, Backend, Gateway, Later, Scripted, read_all, read_head
 from operating import HELD, Operated
 from operator_rows import DONE, NOTHING, request, told
@@ -29,6 +31,7 @@ from sockets import (
     comes_to_rest,
     passed_on,
     processor_time,
+    standing_still,
     timed,
     tried,
     unbroken,
@@ -219,31 +222,44 @@ class Edges(Beside):
                 found = [*pool.map(gate.ask, asked)]
             self.judge("clients meanwhile", [passed_on(BODY), local(400), local(501)] * 8, found)
 
-    def reports_by_the_clock(self, backend: Backend) -> None:
-        """Reports come each second by the clock, however long each takes, and after a pause one comes, not all that
-        were missed."""
-        gate = self.gateway(backend, each=1_000_000, words=("--report-seconds", "1"))
+    def reported(self, backend: Backend, **how: typing.Any) -> tuple[Gateway, list[float]]:
+        """A gateway that reports each second, and when each of its reports was seen."""
+        gate = self.gateway(backend, each=1_000_000, words=("--report-seconds", "1"), **how)
         moments: list[float] = []
 
         def follow() -> None:
-            seen = 0
             while gate.process.poll() is None:
-                found = len(lines_of(gate, REPORT))
-                moments.extend([time.monotonic()] * (found - seen))
-                seen = found
+                moments.extend([time.monotonic()] * (len(lines_of(gate, REPORT)) - len(moments)))
                 time.sleep(0.02)
 
         threading.Thread(target=follow, daemon=True).start()
-        self.judge("ten reports", True, until(lambda: len(moments) >= 10))
-        late = [at - moments[0] - place for place, at in enumerate(moments)]
-        self.judge("they don't drift", True, min(late[-3:]) < 0.5 or late)
-        os.kill(gate.process.pid, 19)
-        time.sleep(4.5)
-        count, begun = len(moments), time.monotonic()
-        os.kill(gate.process.pid, 18)
+        return gate, moments
+
+    def reports_by_the_clock(self, backend: Backend) -> None:
+        """Reports come each second by the clock, however long each takes, which is 0.3 seconds here."""
+        late = tried(functools.partial(self.drift_of_reports, backend), 0.5)
+        self.judge("ten reports don't drift", True, late[-1] < 0.5 or late)
+
+    def drift_of_reports(self, backend: Backend) -> float:
+        """How many seconds one of the last of ten reports is late, by the first one."""
+        slowly = {"LD_PRELOAD": self.library, "WRITES_TAKE": "300"}
+        gate, moments = self.reported(backend, variables=slowly)
+        self.judge("ten reports", True, until(lambda: len(moments) >= 10, seconds=2 * PATIENCE))
+        gate.process.kill()
+        return min(at - moments[0] - place for place, at in [*enumerate(moments[:10])][-3:])
+
+    def reports_once_behind_a_pause(self, backend: Backend) -> None:
+        """Behind a pause one report comes, not all that were missed."""
+        gate, moments = self.reported(backend)
+        self.judge("two reports", True, until(lambda: len(moments) >= 2))
+        with standing_still(gate.process):
+            time.sleep(4.5)
+            count = len(moments)
+            begun = time.monotonic()
         self.judge("a report behind a pause", True, until(lambda: len(moments) > count))
         until(lambda: time.monotonic() - begun > 0.8)
-        self.judge("how many at once", True, len(moments) - count <= 2)
+        more, seconds = len(moments) - count, time.monotonic() - begun
+        self.judge("how many at once", True, more <= 2 or more <= 1 + seconds or (more, seconds))
         self.judge("they go on", True, until(lambda: len(moments) >= count + 3))
 
     def lets_many_wait(self, backend: Backend) -> None:
@@ -388,6 +404,9 @@ class Edges(Beside):
                         # By now it is answered, and what wasn't lingered for was reset.
                         time.sleep(0.1)
                         self.judge(f"{words!r} and {len(more)} bytes", (wanted, None), unbroken(client, b""))
+                        if more:
+                            # It goes on sending behind its answer, and isn't reset for that.
+                            self.judge(f"{words!r} and {len(more)} bytes, and then more", None, breaks_behind(client))
 
     def ends_before_its_operators(self, backend: Backend) -> None:
         """Behind the last connection of its workers it ends, whoever waits at its operator's address."""

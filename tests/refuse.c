@@ -1,6 +1,7 @@
 // Refuses the allocation whose number is in REFUSED, the thread whose number is in THREAD_REFUSED, and the socket whose
 // number is in SOCKET_REFUSED, as a system does that has no descriptor free; with COUNTED set, prints the number of
-// allocations. Where REFUSED_FROM names a file, allocations are counted once that file is there.
+// allocations. Where REFUSED_FROM names a file, allocations are counted once that file is there. Each write to standard
+// error takes WRITES_TAKE milliseconds.
 #define _GNU_SOURCE
 #include <dlfcn.h>
 #include <errno.h>
@@ -59,6 +60,15 @@ int socket(int domain, int type, int protocol)
         return -1;
     }
     return inner(domain, type, protocol);
+}
+
+ssize_t write(int file, const void *bytes, size_t count)
+{
+    ssize_t (*inner)(int, const void *, size_t) = dlsym(RTLD_NEXT, "write");
+    const char *millis = getenv("WRITES_TAKE");
+    if (millis && file == STDERR_FILENO)
+        usleep(1000 * atoi(millis));
+    return inner(file, bytes, count);
 }
 
 __attribute__((destructor)) static void tell(void)
