@@ -12,6 +12,7 @@ import time
 import typing
 from collections.abc import Callable
 
+from ending import timers
 from loopback import BODY, Backend, Gateway, Later, Scripted, read_all
 from operating import ALWAYS, HELD, SETTABLE, Operated, Operating, or_refused
 from operator_rows import BUSY, CLOSING, DONE, DRAINED, LEFT, MARK, NOTHING, OTHER, OTHER_QUERY, request, told
@@ -75,11 +76,12 @@ class Beside(Operating):
         own = f"Host: 127.0.0.1:{gate.operator}"
 
         def left(words: bytes, leave: Callable[[socket.socket], object]) -> socket.socket:
-            # The end has come behind the request before either is heard.
+            # The end has come behind the request before either is heard, also where the system is late with it.
             with standing_still(gate.process):
                 client = socket.create_connection(("127.0.0.1", gate.operator), timeout=PATIENCE)
                 client.sendall(words)
                 leave(client)
+                until(lambda: not timers(gate.operator, 1))
             return client
 
         def half_closed(words: bytes) -> bytes:
