@@ -3,9 +3,9 @@
 //! A [`Watcher`] hears of each exchange and trouble, and logs what is to be logged. A
 //! [`RateLimitedLog`] tells what happens often once in ten seconds, with how often it happened. An
 //! [`AnswerTally`] counts the gateway's own answers, a [`RefusalTally`] whom the gate refused, and
-//! [`Moments`] know since when permits are out. [`report_text`] makes the text of a report, as the log has it every so often, and
-//! [`write_counters`] writes the line of a gate's counters at the end, without memory. `specs/` has
-//! both texts.
+//! [`Moments`] know since when permits are out. [`report_text`] makes the text of a report, as the
+//! log has it every so often, and [`write_counters`] writes the line of a gate's counters at the
+//! end, without memory. `specs/` has both texts.
 #![tactic(auto)]
 
 mod counters_line;
