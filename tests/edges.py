@@ -292,7 +292,8 @@ class Edges(Beside):
                 ("before its body", head),
                 ("in it", head + b"a"),
             ):
-                least, most = millis / 1000, millis / 1000 + 0.4
+                # The system waits by its ticks, of up to 10 ms, and where these are late a wait is shorter by some.
+                least, most = millis / 1000 - 0.02, millis / 1000 + 0.4
                 took = tried(functools.partial(cut_off, gate, text), most)
                 self.judge(f"one of {millis} ms that is {what}", True, is_between(min(took), (least, most)) or took)
 
