@@ -7,7 +7,7 @@ import time
 from collections.abc import Callable
 
 from loopback import BODY, WHOLE, Backend, Gateway, Later, Scripted, read_all, read_head
-from running import PATIENCE, free_port, until
+from running import PATIENCE, closed_port, until
 from sockets import LONG_TIME, MUCH, PLAIN, TRIES, Sockets, drips, passed_on, timed, tried, unbroken
 from telling import BROKEN, reports, troubles
 from wires import local
@@ -112,7 +112,7 @@ class Ending(Sockets):
                 self.judge(f"{path!r} with {words}", local(502), gate.ask(text))
             self.judge(f"counters with {words}", {"admitted": 4, "success": 1, "dropped": 3}, gate.ending())
             self.judge(f"nothing is late with {words}", [], [it for it in gate.log if "in time" in it])
-        gate = Gateway(self.program, self.room, free_port(), ONE, words=("--backend-timeout-ms", "5000"))
+        gate = Gateway(self.program, self.room, closed_port(), ONE, words=("--backend-timeout-ms", "5000"))
         self.judge("nobody there", local(502), gate.ask(PLAIN))
         self.judge("counters of nobody there", {"admitted": 1, "ignored": 1}, gate.ending())
 

@@ -13,6 +13,7 @@ if sys.version_info < (3, 11):
 PATIENCE = 20
 
 chosen: set[int] = set()
+taken: list[socket.socket] = []
 choosing = threading.Lock()
 
 
@@ -26,6 +27,15 @@ def free_port() -> int:
             if port not in chosen:
                 chosen.add(port)
                 return port
+
+
+def closed_port() -> int:
+    """A port that refuses connections for as long as this process runs: it is taken, and nobody listens at it."""
+    held = socket.socket()
+    held.bind(("127.0.0.1", 0))
+    taken.append(held)
+    port: int = held.getsockname()[1]
+    return port
 
 
 def until(holds: Callable[..., object], *given: object, seconds: float = PATIENCE) -> bool:

@@ -12,7 +12,7 @@ import time
 import typing
 
 from loopback import BODY, Backend, Gateway, Later, Scripted, read_head
-from running import PATIENCE, free_port, until
+from running import PATIENCE, closed_port, until
 from served import Served
 from sockets import MUCH, PLAIN, TRIES, passed_on
 from wires import local, reset
@@ -163,7 +163,7 @@ class Telling(Served):
 
     def tells_troubles(self, backend: Backend) -> None:
         """Refused connections and broken answers are told once in ten seconds, with their count."""
-        gate = Gateway(self.program, self.room, free_port(), workers=2, each=1_000_000)
+        gate = Gateway(self.program, self.room, closed_port(), workers=2, each=1_000_000)
         other = self.gateway(backend, workers=2, each=1_000_000)
         began = time.monotonic()
         for _ in range(30):
@@ -235,7 +235,7 @@ class Telling(Served):
         clients, since who takes the last free one tells that too."""
         read_end, write_end = os.pipe()
         fcntl.fcntl(write_end, fcntl.F_SETPIPE_SZ, 4096)
-        gate = Gateway(self.program, self.room, free_port(), workers=8, each=1_000_000, log_to=write_end)
+        gate = Gateway(self.program, self.room, closed_port(), workers=8, each=1_000_000, log_to=write_end)
         told = b""
         while b"listening" not in told and (piece := os.read(read_end, 4096)):
             told += piece
@@ -270,7 +270,7 @@ class Telling(Served):
         """Whether workers exceed the descriptors is told by the limit that holds."""
         for soft, count in ((135, 1), (136, 0)):
             front = ("sh", "-c", f'ulimit -Sn {soft} && exec "$@"', "sh")
-            gate = Gateway(self.program, self.room, free_port(), "backlog = 0", workers=64, front=front)
+            gate = Gateway(self.program, self.room, closed_port(), "backlog = 0", workers=64, front=front)
             wanted = [
                 "[WARN  admission] too few descriptors for the workers: requests are answered 502, or not at all "
                 f"descriptors={soft} wanted=136"
