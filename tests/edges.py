@@ -244,7 +244,7 @@ class Edges(Beside):
         """How many seconds one of the last of ten reports is late, by the first one."""
         slowly = {"LD_PRELOAD": self.library, "WRITES_TAKE": "300"}
         gate, moments = self.reported(backend, variables=slowly)
-        self.judge("ten reports", True, until(lambda: len(moments) >= 10, seconds=2 * PATIENCE))
+        self.judge("ten reports", True, until(lambda: len(moments) >= 10))
         gate.process.kill()
         return min(at - moments[0] - place for place, at in [*enumerate(moments[:10])][-3:])
 

@@ -255,7 +255,7 @@ class Gateway:
     def ending(self) -> typing.Any:
         """The counters that it printed, by name, once it has ended with status 0."""
         try:
-            self.process.wait(timeout=2 * PATIENCE)
+            self.process.wait(timeout=PATIENCE)
         except subprocess.TimeoutExpired:
             self.process.kill()
             return "didn't end"
