@@ -1,4 +1,7 @@
 """Programs that a script runs on loopback: a port for each, a wait for what comes of them, and their end."""
+import contextlib
+import pathlib
+import random
 import socket
 import subprocess
 import sys
@@ -11,6 +14,10 @@ if sys.version_info < (3, 11):
 
 # The seconds that a script waits for anything.
 PATIENCE = 20
+# Clients on loopback get their own ports from this range: the system may hand one out, which was free a moment ago,
+# before the program that is to listen there has started.
+OF_CLIENTS = range(*map(int, pathlib.Path("/proc/sys/net/ipv4/ip_local_port_range").read_text("ascii").split()))
+PORTS = [it for it in range(10_000, 65_536) if it not in OF_CLIENTS]
 
 chosen: set[int] = set()
 taken: list[socket.socket] = []
@@ -21,12 +28,12 @@ def free_port() -> int:
     """A port that was free a moment ago, another one at each call: programs that start side by side share none."""
     with choosing:
         while True:
-            with socket.socket() as found:
-                found.bind(("127.0.0.1", 0))
-                port = found.getsockname()[1]
-            if port not in chosen:
-                chosen.add(port)
-                return port
+            port = random.choice(PORTS)
+            with socket.socket() as found, contextlib.suppress(OSError):
+                found.bind(("127.0.0.1", port))
+                if port not in chosen:
+                    chosen.add(port)
+                    return port
 
 
 def closed_port() -> int:
