@@ -168,6 +168,7 @@ class Operating(Served):
             "granted": 0,
             "class_in_flight": {"live": 2},
             "class_share": {"live": 2, "batch": 1},
+            "class_waiting": {},
             "class_refused_total": {"unknown,full": 1},
             "decisions_total": {"admitted": 2, "bypassed": 1, "full": 1},
             "outcomes_total": {},
@@ -178,7 +179,7 @@ class Operating(Served):
         self.judge("the numbers while two are inside", True, gate.shows(**wanted))
         classes = ["live", "batch", "unknown"]
         found = gate.metrics()
-        self.judge("classes of the numbers", classes, [*found["class_in_flight"]])
+        self.judge("classes of the numbers", [classes] * 2, [[*found["class_in_flight"]], [*found["class_waiting"]]])
         causes = [f"{name},{cause}" for name in classes for cause in ("full", "backlog", "timed-out")]
         self.judge("causes of the refusals", causes, [*found["class_refused_total"]])
         backend.release.set()
@@ -243,15 +244,12 @@ class Operating(Served):
         """Who finds a place of its own class waits while others fill everybody's, and each class is told by itself."""
         gate = self.operated(backend, PLACED, workers=12, version=3)
         later: list[Later] = []
-        for name, inside, waiting in (
-            (b"live", 1, 0),
-            (b"batch", 2, 0),
-            (b"batch", 2, 1),
-            (b"live", 2, 2),
-            (b"live", 2, 3),
+        for name, inside, wanted in (
+            *(("live", 1, {}), ("batch", 2, {}), ("batch", 2, {"batch": 1})),
+            *(("live", 2, {"batch": 1, "live": 1}), ("live", 2, {"batch": 1, "live": 2})),
         ):
-            later.append(Later(gate.ask, HELD_BY % name))
-            self.judge(f"{waiting} wait", True, gate.shows(in_flight=inside, waiting=waiting))
+            later.append(Later(gate.ask, HELD_BY % name.encode()))
+            self.judge(f"{wanted} wait", True, gate.shows(in_flight=inside, class_waiting=wanted))
         for name in (b"live", b"batch", b"unknown", b"batch"):
             refused = gate.ask(HELD_BY.replace(b"/held", b"/") % name)
             self.judge(f"one more of {name!r}", b"HTTP/1.1 429 ", refused[:13])
@@ -260,7 +258,7 @@ class Operating(Served):
         self.judge("who was refused", True, gate.shows(waiting=3, class_refused_total=told_of, **numbers))
         backend.release.set()
         self.judge("all others are served", [passed_on(BODY)] * 5, [it.result() for it in later])
-        self.judge("nobody waits", True, gate.shows(waiting=0, class_refused_total=told_of))
+        self.judge("nobody waits", True, gate.shows(waiting=0, class_waiting={}, class_refused_total=told_of))
 
     def resets_what_was_learned(self, backend: Backend) -> None:
         """A limit that learned goes back to its beginning; and it isn't set by hand."""

@@ -38,6 +38,7 @@ FAMILIES = {
     "admission_granted": ("gauge", None),
     "admission_class_in_flight": ("gauge", "class"),
     "admission_class_share": ("gauge", "class"),
+    "admission_class_waiting": ("gauge", "class"),
     "admission_class_refused_total": ("counter", "class,cause"),
     "admission_decisions_total": ("counter", "decision"),
     "admission_outcomes_total": ("counter", "outcome"),

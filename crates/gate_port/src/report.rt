@@ -23,6 +23,8 @@ pub struct Report {
     pub counts: [u32; 5],
     /// The shares of the same partitions at this limit.
     pub shares: [u32; 5],
+    /// How many of the same partitions wait.
+    pub waiting: [u32; 5],
     /// How many replies, promotions and outcomes of each kind there were so far.
     pub counters: Counters,
 }
@@ -52,6 +54,13 @@ pub fn report_of<L: Limit>(core: &Core<L>) -> Report
             table.share(Part::Known(2), limit),
             table.share(Part::Known(3), limit),
             table.share(Part::Unknown, limit),
+        ],
+        waiting: [
+            core.waiting_of(Part::Known(0)),
+            core.waiting_of(Part::Known(1)),
+            core.waiting_of(Part::Known(2)),
+            core.waiting_of(Part::Known(3)),
+            core.waiting_of(Part::Unknown),
         ],
         counters: core.counters(),
     }

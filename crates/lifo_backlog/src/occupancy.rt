@@ -54,6 +54,14 @@ impl Occupancy {
         self.counts[place] -= 1;
     }
 
+    /// How many wait at a place.
+    pub fn count(&self, place: usize) -> u32
+        requires { place < 5 }
+        ensures { result ≡ slice_index self.now place }
+    {
+        self.counts[place]
+    }
+
     /// Whether a place of a backlog of this room is free for one more of a partition: one of its
     /// own places, or one of everybody's.
     pub fn has_place(&self, table: &PartitionTable, place: usize, room: u32) -> bool

@@ -62,13 +62,15 @@ refusals_text rows t =
     ++ class_refused_text rows t 2 ++ class_refused_text rows t 3
     ++ refused_text (codes "unknown") t 4
 
--- how many of each class are in flight, its share, and whom of it the gate refused
+-- how many of each class are in flight, its share, how many of it wait, and whom the gate refused
 abbrev pub by_class_text : Report → List Row → RefusalTally → List ℕ
 by_class_text r rows t =
     classes_text (codes "admission_class_in_flight")
     (codes "Permits of a class that haven't ended.") rows r.counts
     ++ classes_text (codes "admission_class_share")
     (codes "The share of a class at this limit, in permits.") rows r.shares
+    ++ classes_text (codes "admission_class_waiting")
+    (codes "Callers of a class that wait for a permit.") rows r.waiting
     ++ refusals_text rows t
 
 -- how often each reply and promotion was
@@ -135,7 +137,7 @@ program_text seconds =
     (codes "Always 1, labelled with the version of the program.")
     ++ sample_text (codes "admission_build_info") (codes "version") version 1
 
--- THE TEXT OF THE METRICS: seventeen families
+-- THE TEXT OF THE METRICS: eighteen families
 abbrev pub metrics_text : Report → List Row → GatewayStats → List ℕ
 metrics_text r rows n =
     standing_text r ++ by_class_text r rows n.refusals ++ decisions_text r.counters

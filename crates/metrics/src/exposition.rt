@@ -60,7 +60,8 @@ fn push_standing(text: &mut String, report: &Report) -> Result<(), AllocError>
     push_gauge(text, "admission_granted", help, report.granted as u64)
 }
 
-/// Adds how many of each class are in flight, its share, and whom of it the gate refused.
+/// Adds how many of each class are in flight, its share, how many of it wait, and whom of it the
+/// gate refused.
 fn push_by_class(
     text: &mut String,
     report: &Report,
@@ -80,6 +81,14 @@ fn push_by_class(
     )?;
     let help = "The share of a class at this limit, in permits.";
     push_classes(text, "admission_class_share", help, table, &report.shares)?;
+    let help = "Callers of a class that wait for a permit.";
+    push_classes(
+        text,
+        "admission_class_waiting",
+        help,
+        table,
+        &report.waiting,
+    )?;
     push_refusals(text, table, refusals)
 }
 

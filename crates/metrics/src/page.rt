@@ -111,9 +111,9 @@ const PANELS = [
   { title: 'Refusals a second, by class', series: told => classesOf(told).map((name, place) => ({
     color: colorOf(name, place), value: look => look.refused[name],
     said: `${name} ${(lastAnswer.refused[name] ?? 0).toFixed(1)}` })) },
-  { title: 'Waiting for a permit', series: told => [
-    { color: '#56b4e9', value: look => look.told.admission_waiting,
-      said: `waiting ${told.admission_waiting}` }] },
+  { title: 'Waiting for a permit, by class', series: told => classesOf(told).map((name, place) => ({
+    color: colorOf(name, place), value: look => look.told.admission_class_waiting[name],
+    said: `${name} ${told.admission_class_waiting[name]}` })) },
   { title: 'Busy workers', series: told => [
     { color: '#7f9f7f', value: look => look.told.admission_busy_workers,
       said: `busy ${told.admission_busy_workers}` },

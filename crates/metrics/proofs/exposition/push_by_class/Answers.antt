@@ -4,4 +4,5 @@ use Rattle.metrics.proofs.exposition.push_by_class.Goals as goal
 pub returns : goal.returns
 returns c =
     let first = joined _ _ _ _ _ c.in_ok-push_classes.ensures c.in_ok-push_classes-2.ensures in
-    grown c.push_refusals.result _ _ _ _ _ first c.push_refusals.ensures
+    let second = joined _ _ _ _ _ first c.in_ok-push_classes-3.ensures in
+    grown c.push_refusals.result _ _ _ _ _ second c.push_refusals.ensures
