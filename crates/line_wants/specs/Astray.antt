@@ -2,7 +2,8 @@
 use Rattle.std.specs.Prelude.{ℕ, max, List, fold}
 use Rattle.std.specs.List.{common_prefix_len}
 use Rattle.script.specs.declared.forms.TextKind.{TextKind}
-use Rattle.script.specs.Forms.{Wanted, fits, forms_of}
+use Rattle.script.specs.Forms.{Wanted, fits}
+use Rattle.script.specs.LineForms.{forms_of}
 
 -- how many words of a line stand where a form wants them, from the first one on
 abbrev pub reach : List (List ℕ) → List Wanted → ℕ

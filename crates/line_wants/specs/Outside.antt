@@ -7,7 +7,8 @@ use Rattle.script.specs.Words.{number_of}
 use Rattle.script.specs.declared.forms.TextKind.{TextKind}
 use Rattle.script.specs.declared.place.RangeEnd.{RangeEnd}
 use Rattle.script.specs.declared.place.RangeEnd.TheVariants.{At, Of}
-use Rattle.script.specs.Forms.{Wanted, number, name, forms_of}
+use Rattle.script.specs.Forms.{Wanted, number, name}
+use Rattle.script.specs.LineForms.{forms_of}
 use Rattle.line_wants.specs.Astray.{reach}
 
 -- the number that an end of a range is in a line

@@ -1,5 +1,6 @@
 pub mod Limits
 pub mod Words
+pub mod Forms
 pub mod LimitLine
 pub mod WindowLine
 pub mod Setting
@@ -11,4 +12,4 @@ pub mod TraceLine
 pub mod Settings
 pub mod Opening
 pub mod Faults
-pub mod Forms
+pub mod LineForms

@@ -1,11 +1,17 @@
--- What follows `limit`.
-use Rattle.std.specs.Prelude.{ℕ, List, Option, Some, option_map, option_and_then}
+-- The lines that give a limit: what follows `limit`, and their forms.
+use Rattle.std.specs.Prelude.{ℕ, List, [], ◌∷◌, Option, Some, option_map, option_and_then, codes}
+use Rattle.limit_laws.specs.Facts.{hour}
+use Rattle.limit_laws.specs.Algorithm.{greatest_limit}
+use Rattle.aimd.specs.AimdRules.{least_ratio, greatest_ratio}
+use Rattle.vegas.specs.VegasRules.{most_queue, most_probe}
 use Rattle.limit_kinds.specs.declared.kind.LimitKind.{LimitKind}
 use Rattle.limit_kinds.specs.declared.kind.LimitKind.TheVariants as kind
 use Rattle.limit_kinds.specs.declared.spec.Limits.{Limits}
 use Rattle.limit_kinds.specs.declared.spec.LimitSpec.{LimitSpec}
 use Rattle.limit_kinds.specs.declared.spec.LimitSpec.TheVariants.{Fixed, Settable, Aimd, Vegas, Auto}
 use Rattle.limit_kinds.specs.Kind.{kind_named}
+use Rattle.script.specs.declared.place.RangeEnd.TheVariants.{At, Of}
+use Rattle.script.specs.Forms.{Wanted, one_of, number, word, from_to}
 use Rattle.script.specs.Words.{with_count, with_word, alone, lone_number, in_32_bits}
 
 -- the three limits in front, the least, the first and the greatest one, and the words behind them
@@ -59,3 +65,21 @@ line_of_kind kind.Auto ws = option_map Auto (limits_line ws)
 abbrev pub limit_line : List (List ℕ) → Option LimitSpec
 limit_line ws =
     with_word (λ word rest. option_and_then (λ kind. line_of_kind kind rest) (kind_named word)) ws
+
+-- the least limit, the first and the greatest one, behind the words of the line
+abbrev pub limits : List Wanted → List Wanted
+limits behind =
+    from_to 1 greatest_limit ∷ number (Of 2) (At greatest_limit)
+    ∷ number (Of 3) (At greatest_limit) ∷ behind
+
+-- the forms of these lines
+abbrev pub limit_forms : List (List Wanted)
+limit_forms =
+    (word (codes "limit") ∷ word (codes "fixed") ∷ from_to 1 greatest_limit ∷ [])
+    ∷ (word (codes "limit") ∷ one_of (codes "settable" ∷ codes "auto" ∷ []) ∷ limits [])
+    ∷ (word (codes "limit") ∷ word (codes "aimd") ∷ limits
+    (from_to least_ratio greatest_ratio ∷ from_to 1 hour ∷ []))
+    ∷ (word (codes "limit") ∷ word (codes "vegas") ∷ limits
+    (from_to 1 most_queue ∷ number (Of 5) (At most_queue)
+    ∷ from_to 0 most_probe ∷ []))
+    ∷ []

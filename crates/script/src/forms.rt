@@ -1,7 +1,9 @@
 // The forms of lines: the one table of what stands at each place.
 ghost use Rattle.std.specs.Prelude.{◌≡◌, map};
-ghost use Rattle.script.specs.Forms.{form_of, forms_of};
+ghost use Rattle.script.specs.Forms.{form_of};
+ghost use Rattle.script.specs.LineForms.{forms_of};
 
+use crate::limit_line::with_limits;
 use crate::place::{NumberPlace, RangeEnd, WordPlace};
 use config_words::key_row;
 use limit_laws::HOUR;
@@ -113,34 +115,7 @@ const OUTCOME: WordPlace = word!("success" "ignored" "dropped");
 /// The forms of the lines that set, and these behind them.
 macro_rules! with_settings {
     ($($form:expr),* $(,)?) => {
-        [
-            &[word!("limit"), word!("fixed"), number_of!("N", LimitInitial)],
-            &[
-                word!("limit"),
-                word!("settable" "auto"),
-                number_of!("LO", LimitMin),
-                number_of!("N", LimitMax, 2),
-                number_of!("HI", LimitMax, 3),
-            ],
-            &[
-                word!("limit"),
-                word!("aimd"),
-                number_of!("LO", LimitMin),
-                number_of!("N", LimitMax, 2),
-                number_of!("HI", LimitMax, 3),
-                number_of!("RATIO", LimitRatio),
-                number!("TIMEOUT", "a longer round trip is a drop, nanoseconds, ", 1, HOUR),
-            ],
-            &[
-                word!("limit"),
-                word!("vegas"),
-                number_of!("LO", LimitMin),
-                number_of!("N", LimitMax, 2),
-                number_of!("HI", LimitMax, 3),
-                number_of!("ALPHA", LimitAlpha),
-                number_of!("BETA", LimitBeta, 5),
-                number_of!("PROBE", LimitProbeEvery),
-            ],
+        with_limits![
             &[
                 word!("window"),
                 number_of!("SIZE", WindowSize),

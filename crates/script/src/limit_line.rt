@@ -88,3 +88,41 @@ pub(crate) fn read_limit(line: &[u8]) -> Option<LimitSpec>
         LimitKind::Auto => Some(LimitSpec::Auto(read_limits(line)?)),
     }
 }
+
+/// The forms of these lines, and others behind them.
+macro_rules! with_limits {
+    ($($form:expr),* $(,)?) => {
+        [
+            &[word!("limit"), word!("fixed"), number_of!("N", LimitInitial)],
+            &[
+                word!("limit"),
+                word!("settable" "auto"),
+                number_of!("LO", LimitMin),
+                number_of!("N", LimitMax, 2),
+                number_of!("HI", LimitMax, 3),
+            ],
+            &[
+                word!("limit"),
+                word!("aimd"),
+                number_of!("LO", LimitMin),
+                number_of!("N", LimitMax, 2),
+                number_of!("HI", LimitMax, 3),
+                number_of!("RATIO", LimitRatio),
+                number!("TIMEOUT", "a longer round trip is a drop, nanoseconds, ", 1, HOUR),
+            ],
+            &[
+                word!("limit"),
+                word!("vegas"),
+                number_of!("LO", LimitMin),
+                number_of!("N", LimitMax, 2),
+                number_of!("HI", LimitMax, 3),
+                number_of!("ALPHA", LimitAlpha),
+                number_of!("BETA", LimitBeta, 5),
+                number_of!("PROBE", LimitProbeEvery),
+            ],
+            $($form),*
+        ]
+    };
+}
+
+pub(crate) use with_limits;

@@ -40,7 +40,7 @@ A small configuration, for 64 workers, is
   backlog = 10                 # callers that may wait
 
   [limit]
-  kind = \"fixed\"               # or settable, aimd, vegas; in version 3 auto
+  kind = \"fixed\"               # or another of those below
   initial = 40                 # requests at the backend at once
 
 The keys, with unit, range and default. An omitted key takes its default, or the nearer end of its
