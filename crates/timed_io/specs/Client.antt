@@ -4,7 +4,7 @@ use Rattle.counted_io.specs.declared.counted.Counted.{Counted}
 use Rattle.counted_io.specs.Counted.{calls_of, failures_of, flushes_of, inner_of, is_flushed}
 use Rattle.lent_io.specs.declared.reading.BufferedRead.{BufferedRead}
 use Rattle.lent_io.specs.declared.writing.BufferedWrite.{BufferedWrite}
-use Rattle.lent_io.specs.Through.{held_by, left_of, writer_below}
+use Rattle.lent_io.specs.Through.{held_by, left_of, reader_below, writer_below}
 use Rattle.timed_io.specs.declared.client_ends.ClientEnds.{ClientEnds}
 use Rattle.timed_io.specs.declared.connection.Lent.{Lent}
 use Rattle.timed_io.specs.declared.first_byte.FirstByte.{FirstByte}
@@ -34,7 +34,12 @@ abbrev pub written_of : {S O C : Type 0} → (O → Option (List ℕ))
 written_of contents writer =
     held_by (λ below. contents (end_of (writer_in (uninterrupted_in below)))) writer
 
--- the end by which a client is written to
+-- the end by which a client is read, and the one by which it is written to
+abbrev pub inlet_in : {S I C P : Type 0}
+    → Counted (BufferedRead (Uninterrupted (TimedReader (FirstByte (Lent S I) P) C))) → I
+inlet_in reader =
+    end_of (first_in (reader_in (uninterrupted_in (reader_below (inner_of reader)))))
+
 abbrev pub outlet_in : {S O C : Type 0}
     → Counted (BufferedWrite (Uninterrupted (TimedWriter (Lent S O) C))) → O
 outlet_in writer = end_of (writer_in (uninterrupted_in (writer_below (inner_of writer))))

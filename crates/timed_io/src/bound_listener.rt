@@ -62,7 +62,7 @@ impl Listener for BoundListener {
         let (stream, _) = self.listener.accept()?;
         Ok(AcceptedClient {
             stream,
-            ends: ClientEnds::new(OpaqueEnd {}, OpaqueEnd {}),
+            ends: ClientEnds::new(OpaqueEnd::new(), OpaqueEnd::new()),
         })
     }
 

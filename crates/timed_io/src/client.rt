@@ -2,7 +2,8 @@
 ghost use Rattle.std.specs.Prelude.{◌≡◌, [], IsTrue};
 ghost use Rattle.counted_io.specs.Counted.{inner_of};
 ghost use Rattle.lent_io.specs.Through.{pending_of};
-ghost use Rattle.timed_io.specs.Client.{IsUnused, from_of, outlet_in, to_of, unread_of, written_of};
+ghost use Rattle.timed_io.specs.Client.{IsUnused, from_of, inlet_in, outlet_in, to_of};
+ghost use Rattle.timed_io.specs.Client.{unread_of, written_of};
 
 use crate::client_ends::ClientEnds;
 use crate::connection::{Connection, Lent};
@@ -17,18 +18,16 @@ use lent_io::{BufferedRead, BufferedWrite, ReadBuffer, WriteBuffer};
 use std::alloc::{AllocError, Global};
 
 /// What reads a client: through a buffer, on through interruptions, within its time.
-pub type ClientReader<'s, 'c, 'b, S, I, C, P> = BufferedRead<
-    'b,
+pub type ClientReader<'s, 'c, S, I, C, P> = BufferedRead<
     Uninterrupted<TimedReader<'c, FirstByte<'s, Lent<'s, S, I>, P>, C>>,
 >;
 
 /// What writes to a client: the same, but for the first byte.
-pub type ClientWriter<'s, 'c, 'b, S, O, C> = BufferedWrite<
-    'b,
+pub type ClientWriter<'s, 'c, S, O, C> = BufferedWrite<
     Uninterrupted<TimedWriter<'c, Lent<'s, S, O>, C>>,
 >;
 
-/// The buffers that are kept for one client after another.
+/// The buffers that are handed from one client to the next.
 #[derive(Drop)]
 pub struct ClientBuffers {
     ahead: ReadBuffer,
@@ -59,14 +58,14 @@ pub struct ClientTime<'c, C> {
     pub most_ns: u64,
 }
 
-/// A client that is served: its reader and its writer, each with its counts. They have the two ends
-/// of its connection until it is closed.
+/// A client that is served: its reader and its writer, each with its counts. They own the two ends
+/// of its connection, and the buffers, until it is closed.
 #[derive(Drop)]
-pub struct Client<'s, 'c, 'b, S, I, O, C, P> {
+pub struct Client<'s, 'c, S, I, O, C, P> {
     /// What it sends.
-    pub reader: Counted<ClientReader<'s, 'c, 'b, S, I, C, P>>,
+    pub reader: Counted<ClientReader<'s, 'c, S, I, C, P>>,
     /// What is written to it.
-    pub writer: Counted<ClientWriter<'s, 'c, 'b, S, O, C>>,
+    pub writer: Counted<ClientWriter<'s, 'c, S, O, C>>,
 }
 
 /// What a client leaves that was served.
@@ -74,6 +73,8 @@ pub struct Client<'s, 'c, 'b, S, I, O, C, P> {
 pub struct ServedClient<I, O> {
     /// The ends of its connection, as they were left.
     pub ends: ClientEnds<I, O>,
+    /// Its buffers, with what it sent behind its request.
+    pub buffers: ClientBuffers,
     /// Whether all that was written to it was sent.
     pub is_sent: bool,
     /// How many bytes were sent to it, up to the greatest u64. No contract says so: it decides how
@@ -81,11 +82,11 @@ pub struct ServedClient<I, O> {
     pub sent: u64,
 }
 
-impl<'s, 'c, 'b, S, I, O, C, P> Client<'s, 'c, 'b, S, I, O, C, P>
+impl<'s, 'c, S, I, O, C, P> Client<'s, 'c, S, I, O, C, P>
 where
     S: Connection,
-    I: Inlet<S> + Copy,
-    O: Outlet<S> + Copy,
+    I: Inlet<S>,
+    O: Outlet<S>,
     C: Clock,
     P: Patience,
 {
@@ -96,8 +97,10 @@ where
         ends: ClientEnds<I, O>,
         patience: &'s P,
         time: &ClientTime<'c, C>,
-        buffers: &'b mut ClientBuffers,
-    ) -> Client<'s, 'c, 'b, S, I, O, C, P>
+        buffers: ClientBuffers,
+    ) -> Client<'s, 'c, S, I, O, C, P>
+        ensures from { inlet_in result.reader ≡ from_of ends }
+        ensures to { outlet_in result.writer ≡ to_of ends }
         ensures reader { unread_of I.remaining (inner_of result.reader)
             ≡ I.remaining (from_of ends) }
         ensures writer { written_of O.contents (inner_of result.writer)
@@ -106,28 +109,37 @@ where
         ensures unwritten { IsUnused result.writer }
     {
         let ClientEnds { from, to } = ends;
+        let ClientBuffers { ahead, behind } = buffers;
         let first = FirstByte::new(Lent::new(stream, from), patience);
         let timed = TimedReader::new(first, time.clock, time.most_ns);
-        let reader = BufferedRead::new(Uninterrupted::new(timed), &mut buffers.ahead);
+        let reader = BufferedRead::new(Uninterrupted::new(timed), ahead);
         let timed = TimedWriter::new(Lent::new(stream, to), time.clock, time.most_ns);
-        let writer = BufferedWrite::new(Uninterrupted::new(timed), &mut buffers.behind);
+        let writer = BufferedWrite::new(Uninterrupted::new(timed), behind);
         Client {
             reader: Counted::new(reader),
             writer: Counted::new(writer),
         }
     }
 
-    /// Gives the ends back, as they are now. What lies in the buffers and wasn't sent is lost.
-    pub fn close(&self) -> ServedClient<I, O>
-        ensures to { to_of result.ends ≡ outlet_in self.now.writer }
-        ensures sent { IsTrue result.is_sent → pending_of (inner_of self.now.writer) ≡ [] }
+    /// Gives the ends back, as they are now, and the buffers. What wasn't sent is lost.
+    pub fn close(self) -> ServedClient<I, O>
+        ensures from { from_of result.ends ≡ inlet_in self.entry.reader }
+        ensures to { to_of result.ends ≡ outlet_in self.entry.writer }
+        ensures sent { IsTrue result.is_sent → pending_of (inner_of self.entry.writer) ≡ [] }
     {
-        let below = self.writer.inner().inner().inner().inner();
-        let from = self.reader.inner().inner().inner().inner().inner().end();
+        let Client { reader, writer } = self;
+        let (reader, ahead) = reader.into_inner().into_parts();
+        let from = reader.into_inner().into_inner().into_inner().into_end();
+        let writer = writer.into_inner();
+        let is_sent = writer.is_sent();
+        let (writer, behind) = writer.into_parts();
+        let to = writer.into_inner().into_inner();
+        let sent = to.sent();
         ServedClient {
-            ends: ClientEnds::new(from, below.end()),
-            is_sent: self.writer.inner().is_sent(),
-            sent: below.sent(),
+            ends: ClientEnds::new(from, to.into_end()),
+            buffers: ClientBuffers { ahead, behind },
+            is_sent,
+            sent,
         }
     }
 }

@@ -8,9 +8,9 @@ use crate::ends::Inlet;
 use crate::lingering::linger;
 use clocks::Clock;
 
-/// The two ends of a client's connection, which have one owner. A [`Client`](crate::Client) takes
-/// them and gives them back; nobody else reads or writes by them, so whatever is written to a
-/// client shows here.
+/// The two ends of a client's connection, which have one owner and can't be copied. A
+/// [`Client`](crate::Client) takes them and gives them back; nobody else reads or writes by them, so
+/// whatever is written to a client shows here.
 #[derive(Drop)]
 pub struct ClientEnds<I, O> {
     pub(crate) from: I,
@@ -25,21 +25,22 @@ impl<I, O> ClientEnds<I, O> {
     {
         ClientEnds { from, to }
     }
-}
 
-impl<I: Copy, O> ClientEnds<I, O> {
-    /// Sees that a client that was answered gets to read its answer, by [`linger`]. Its connection
-    /// is closed then: what it still sends is dropped.
+    /// Sees that a client that was answered gets to read its answer, by [`linger`], and gives the
+    /// ends back. What the client still sends is dropped, and nothing is written to it.
     pub fn linger<S: Connection, C: Clock>(
-        &self,
+        self,
         stream: &S,
         time: &ClientTime<'_, C>,
         is_unread: bool,
         sent: u64,
-    )
+    ) -> ClientEnds<I, O>
     where
         I: Inlet<S>,
+        ensures { to_of result ≡ to_of self }
     {
-        linger(stream, self.from, time.clock, time.most_ns, is_unread, sent);
+        let ClientEnds { from, to } = self;
+        let from = linger(stream, from, time.clock, time.most_ns, is_unread, sent);
+        ClientEnds { from, to }
     }
 }

@@ -121,19 +121,22 @@ impl<'s, S: Connection, E> Lent<'s, S, E> {
 }
 
 impl<'s, S, E> Lent<'s, S, E> {
+    /// The end alone, by value: it is what its last read or write left.
+    pub fn into_end(self) -> E
+        ensures { result ≡ end_of self.entry }
+    {
+        let Lent {
+            connection: _,
+            end,
+            sent: _,
+        } = self;
+        end
+    }
+
     // How many bytes were written to it, up to the greatest u64. No contract says so: it decides
     // how closely an answer is looked after, and nothing else.
     pub(crate) fn sent(&self) -> u64 {
         self.sent
-    }
-}
-
-impl<'s, S, E: Copy> Lent<'s, S, E> {
-    // The end, as it is now. Nobody else is handed a copy of it.
-    pub(crate) fn end(&self) -> E
-        ensures { result ≡ end_of self.now }
-    {
-        self.end
     }
 }
 

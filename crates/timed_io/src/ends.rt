@@ -78,9 +78,19 @@ pub trait Outlet<S> {
         ensures allowed { allowed self.new ≡ 0 };
 }
 
-/// An end of a socket: it keeps nothing, takes no room, and tells no bytes.
-#[derive(Clone, Copy)]
-pub struct OpaqueEnd {}
+/// An end of a socket: it keeps nothing, takes no room, and tells no bytes. A listener alone makes
+/// one, and nobody can copy it.
+#[derive(Drop)]
+pub struct OpaqueEnd {
+    _made: (),
+}
+
+impl OpaqueEnd {
+    // An end of a new connection.
+    pub(crate) fn new() -> OpaqueEnd {
+        OpaqueEnd { _made: () }
+    }
+}
 
 impl Inlet<TcpStream> for OpaqueEnd {
     ghost use Rattle.std.specs.Prelude.{⊤, None};

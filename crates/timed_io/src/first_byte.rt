@@ -47,11 +47,17 @@ impl<'p, R: LimitedRead, P: Patience> FirstByte<'p, R, P> {
         }
     }
 
-    /// The reader inside.
-    pub fn inner(&self) -> &R
-        ensures { result.now ≡ first_in self.now }
+    /// The reader inside, by value.
+    pub fn into_inner(self) -> R
+        ensures { result ≡ first_in self.entry }
     {
-        &self.inner
+        let FirstByte {
+            inner,
+            patience: _,
+            waited: _,
+            has_begun: _,
+        } = self;
+        inner
     }
 
     // How long the next wait is, of so long that is left: up to the second that nobody is denied,

@@ -21,19 +21,21 @@ const ON_ITS_WAY: u64 = 8_192;
 /// what it still sends, up to its end or for so many nanoseconds, two seconds at most. A connection
 /// that is closed with bytes unread, or before what comes is read, is reset, and the client may
 /// lose the answer with it (RFC 9112, section 9.6). Until it has taken its answer is waited for as
-/// long at most, where more than some kilobytes were `sent`.
-pub fn linger<T: Connection, I: Inlet<T> + Copy, C: Clock>(
+/// long at most, where more than some kilobytes were `sent`. The end comes back as its last read
+/// left it.
+pub fn linger<T: Connection, I: Inlet<T>, C: Clock>(
     stream: &T,
     from: I,
     clock: &C,
     most_ns: u64,
     is_unread: bool,
     sent: u64,
-) {
+) -> I {
     let most_ns = most_ns.min(LONGEST_NS);
     if (is_unread || has_more(stream, most_ns, sent)) && stream.finish().is_ok() {
-        drop_rest(stream, from, clock, most_ns);
+        return drop_rest(stream, from, clock, most_ns);
     }
+    from
 }
 
 /// Whether the client hasn't taken its answer after so many nanoseconds, or sends more before it
@@ -43,19 +45,20 @@ fn has_more<T: Connection>(stream: &T, most_ns: u64, sent: u64) -> bool {
 }
 
 /// Reads and drops what comes, up to its end or for so many nanoseconds.
-fn drop_rest<T: Connection, I: Inlet<T> + Copy, C: Clock>(
+fn drop_rest<T: Connection, I: Inlet<T>, C: Clock>(
     stream: &T,
     from: I,
     clock: &C,
     most_ns: u64,
-) {
+) -> I {
     let timed = TimedReader::new(Lent::new(stream, from), clock, most_ns);
     let mut reader = Uninterrupted::new(timed);
     let mut dropped = [0u8; 4096];
     for _ in 0..MOST_READS {
         match reader.read(&mut dropped) {
-            Ok(0) | Err(_) => return,
+            Ok(0) | Err(_) => break,
             Ok(_) => {}
         }
     }
+    reader.into_inner().into_inner().into_end()
 }

@@ -31,10 +31,10 @@ pub trait Listener {
     type Stream: Connection;
 
     /// The end of it that is read.
-    type From: Inlet<Self::Stream> + Copy;
+    type From: Inlet<Self::Stream> + Drop;
 
     /// The end of it that is written.
-    type To: Outlet<Self::Stream> + Copy;
+    type To: Outlet<Self::Stream> + Drop;
 
     ghost use Rattle.std.specs.Prelude.{ℕ, Bool, List, Option};
 
