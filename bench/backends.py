@@ -35,6 +35,7 @@ class Backend:
             f"its own 429 above {it.pace:g} {'in each' if it.by_seconds else 'a'} second"
             if it.pace is not None
             else "",
+            f"{it.at_once:.0%} of them at once" if it.pace is not None and it.at_once != Faults().at_once else "",
             f"stops for {told(self.stops)} each 10 s" if self.stops else "",
         ]
         return ", ".join([f"{self.slots} × {told(self.seconds)}", *filter(None, more)])

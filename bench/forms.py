@@ -1,4 +1,5 @@
-"""Forms of the rule for drops beside that of the packaged limit, for bench/shedders.py. None of them is in the program.
+"""Forms of the rule for drops beside that of the packaged limit, for bench/shedders.py and bench/held_out.py. None of
+them is in the program.
 
 What the packaged limit does is in tests/reference.py: where drops found more in flight than answers did, the limit goes
 half way to what answers found.
@@ -106,3 +107,61 @@ class Trials(reference.Auto):
         super().end_dip(mean)
         if 6 * len(self.drops) > len(self.answers) + 6:
             self.roof, self.roof_left, self.roof_every, self.score = NO_ROOF, DEAF, 4, 0
+
+
+class MilderTrials(reference.Auto):
+    """Trials whose dips are as deep as any, and behind which as many answers are left out as were in flight there.
+
+    What a dip leaves free is asked for at once when it ends, which is more than a backend takes of which little may
+    come at once: its drops then find more in flight than the answers of the dip did. One drop in the dip says that
+    drops have nothing to do with the limit, and for 64 windows they teach nothing.
+    """
+
+    score = deaf = 0
+
+    def forget(self) -> None:
+        super().forget()
+        self.score = self.deaf = 0
+
+    def is_trial(self) -> bool:
+        return self.dips and self.score == ASKING
+
+    def learn(self, sample: reference.Sample) -> None:
+        if not sample.dropped:
+            self.score -= bool(self.score and not self.dips and not self.left_out)
+            super().learn(sample)
+        elif not self.left_out and not self.deaf and self.is_quick(sample.rtt):
+            if not self.dips or self.is_trial():
+                self.drops.append(sample.inflight)
+            if not self.dips:
+                self.hear()
+
+    def hear(self) -> None:
+        """A quick drop outside a dip."""
+        self.score = min(ASKING, self.score + ADDED)
+        if self.ends_early():
+            self.look(early=True)
+        elif self.answers and self.score == ASKING and self.top > self.least and not self.found_more():
+            self.try_lower()
+
+    def try_lower(self) -> None:
+        served = -(-sum(it[1] for it in self.answers) // len(self.answers))
+        to = max(self.least, min(served, self.top - 1))
+        same = to <= self.roof <= to + self.headroom()
+        self.left_out, self.roof, self.top = self.top, to, max(self.top - self.top // 2, to)
+        self.roof_left = self.roof_every = min(64, 4 * self.roof_every) if same else 4
+        self.pace = self.calm = 0
+        self.dips = True
+        self.clear()
+
+    def look(self, early: bool) -> None:
+        self.deaf = max(0, self.deaf - (not self.dips))
+        super().look(early)
+
+    def end_dip(self, mean: int) -> None:
+        low, is_trial = self.limit, self.is_trial()
+        super().end_dip(mean)
+        if is_trial and self.drops:
+            self.score, self.deaf, self.roof, self.roof_left, self.roof_every = 0, DEAF, 0, 0, 4
+        elif is_trial:
+            self.score, self.left_out = 0, low

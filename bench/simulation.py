@@ -11,7 +11,7 @@ import typing
 
 from backends import Backend, Day
 from virtual import DRAG, SECOND, reference
-from wayward import AS_EVER, ONE_AT_ONCE, ONE_IN_A_TENTH, REFUSING, Pace
+from wayward import AS_EVER, ONE_AT_ONCE, ONE_IN_A_TENTH, REFUSING
 
 WAY = SECOND // 2000
 STEP = SECOND // 10
@@ -77,8 +77,7 @@ class Simulated:
         self.own = 0
         self.queue: list[int] = []
         self.inside: set[int] = set()
-        faults = backend.faults
-        self.pace = Pace(faults.pace, faults.by_seconds) if faults.pace is not None else None
+        self.pace = backend.faults.counting()
         self.slots = Number(int(backend.slots * day.before) if day else backend.slots)
         self.speed, self.ahead = Number(1.0), Number(AS_EVER)
         self.is_up, self.hangs = True, False

@@ -43,7 +43,7 @@ class Times(typing.NamedTuple):
 class Faults(typing.NamedTuple):
     """What a backend does wrong at any time: a part of its answers is cut off, and a part of the calls is answered 503
     at once; and it refuses the next by a 429 of its own where more than `most` are inside, or above so many a second,
-    of which a tenth may come at once, or all of each second.
+    of which a part may come at once, or all of each second.
     """
 
     cut: float = 0.0
@@ -51,22 +51,28 @@ class Faults(typing.NamedTuple):
     most: int | None = None
     pace: float | None = None
     by_seconds: bool = False
+    at_once: float = 0.1
 
     @property
     def refuses(self) -> bool:
         return self.most is not None or self.pace is not None
 
+    def counting(self) -> "Pace | None":
+        """What counts the calls of each second, where it refuses above a rate."""
+        return None if self.pace is None else Pace(self.pace, self.by_seconds, self.at_once)
+
 
 class Pace:
-    """So many calls a second, and a tenth of a second's at once; or so many in each second, and all of them at once."""
+    """So many calls a second, and a part of a second's at once; or so many in each second, and all of them at once."""
 
-    def __init__(self, rate: float, by_seconds: bool = False) -> None:
-        self.rate, self.by_seconds, self.free, self.since = rate, by_seconds, 0.0, 0.0
+    def __init__(self, rate: float, by_seconds: bool, at_once: float) -> None:
+        self.rate, self.by_seconds, self.most = rate, by_seconds, 1 + rate * at_once
+        self.free = self.since = 0.0
 
     def takes(self, now: float) -> bool:
         """Whether one more is taken at this second."""
         if not self.by_seconds:
-            self.free = min(1 + self.rate / 10, self.free + (now - self.since) * self.rate)
+            self.free = min(self.most, self.free + (now - self.since) * self.rate)
         elif int(now) > int(self.since) or not self.since:
             self.free = self.rate
         self.since = now
@@ -117,7 +123,7 @@ class Wayward:
         self.served = 0
         self.queue: collections.deque[Exchange] = collections.deque()
         self.draw = random.Random(1)
-        self.pace = Pace(faults.pace, faults.by_seconds) if faults.pace is not None else None
+        self.pace = faults.counting()
 
     def __enter__(self) -> "Wayward":
         self.start()
