@@ -5,10 +5,10 @@ use crate::report::Report;
 pub trait GateView {
     ghost use Rattle.gate_port.specs.declared.report.Report.{Report};
 
-    // What its reports are.
-    ghost shows: { Report → Type 0 };
+    // What a report tells, of what is known before and after.
+    ghost tells: { Self → Self → Report → Type 0 };
 
     /// The state at one moment, and the counters so far.
-    fn report(&self) -> Report
-        ensures { shows result };
+    fn report(&mut self) -> Report
+        ensures { tells self.old self.new result };
 }
