@@ -33,6 +33,14 @@ pub record IsReportAfter {S : Type 0} (rules : Algorithm S) (m : Making) (log : 
 abbrev pub IsReportOf : {S : Type 0} → Algorithm S → Making → Report → Type 0
 IsReportOf rules m report = (log : List Entry) × IsReportAfter rules m log report
 
+-- A REPORT TO A PASS: it is one after all of the log that the pass knows then, of which it knew a
+-- beginning before. No call is counted on the pass
+pub record IsReportTo {S : Type 0} (rules : Algorithm S) (m : Making) (before after : Pass)
+    (report : Report) : Type 0 where
+  pub begins : IsPrefix before.log after.log
+  pub stands : IsReportAfter rules m after.log report
+  pub uncounted : after.count ≡ before.count
+
 -- THE COUNTERS of a gate that was made so: those of such a report
 abbrev pub AreCountersOf : {S : Type 0} → Algorithm S → Making → Counters → Type 0
 AreCountersOf rules m counters =

@@ -12,7 +12,7 @@ ghost use Rattle.shared_gate.specs.Calls.{pass_of};
 ghost use Rattle.shared_gate.specs.Closing.{FailsBy, IsKept, calls_by, is_missing};
 ghost use Rattle.shared_gate.specs.Log.{CallsLegal};
 ghost use Rattle.shared_gate.specs.Reported.{AreCountersBehind, AreCountersOf, AreCountersOfAll};
-ghost use Rattle.shared_gate.specs.Reported.{ArePassesMissing, IsReportOf};
+ghost use Rattle.shared_gate.specs.Reported.{ArePassesMissing, IsReportOf, IsReportTo};
 
 use crate::answers::Waited;
 use crate::closing::{AuditFault, count_calls, judge};
@@ -122,6 +122,15 @@ impl<L: Limit, M: GateNaming> SharedGate<L, M> {
         ensures { IsReportOf L.rules M.making result }
     {
         self.book.lock(rt).report()
+    }
+
+    /// The same by a pass: the log of the report begins with what the pass knew, and the pass knows
+    /// that log then. So what was changed by the pass before is in it, and the log of its next
+    /// report begins with this one.
+    pub fn report_to(&self, rt: &impl Wait, pass: &mut Pass<M>) -> Report
+        ensures { IsReportTo L.rules M.making pass.old pass.new result }
+    {
+        self.book.lock(rt).report_to(&self.word, pass)
     }
 
     /// Asks for a permit, or with `wait` for a place in line.

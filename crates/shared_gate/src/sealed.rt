@@ -5,7 +5,7 @@ ghost use Rattle.gate_history.specs.Book.{calls_of};
 ghost use Rattle.gate_history.specs.Steps.{event_of};
 ghost use Rattle.shared_gate.specs.Calls.{Tells};
 ghost use Rattle.shared_gate.specs.Closing.{calls_by};
-ghost use Rattle.shared_gate.specs.Reported.{IsReportAfter};
+ghost use Rattle.shared_gate.specs.Reported.{IsReportAfter, IsReportTo};
 
 use crate::closing::count_calls;
 use crate::naming::GateNaming;
@@ -18,6 +18,7 @@ use gate_word::{Keeper, SharedLogLength};
 use limit_laws::Limit;
 use limiter_core::counters_add_up;
 use std::marker::{Brand, Model};
+use std::mem;
 
 /// A book that gave as many passes as its gate has, and gives no more, and the keeper of the log of
 /// all its entries. Contracts see the log.
@@ -88,5 +89,17 @@ impl<L: Limit, M: GateNaming> Sealed<L, M> {
         let journal = self.book.journal();
         journal.invariant();
         report_of(journal.core())
+    }
+
+    /// The same to a pass, which knows the log then. The log stays as it is.
+    pub(crate) fn report_to(&mut self, word: &SharedLogLength<Entry>, pass: &mut Pass<M>) -> Report
+        requires { word.now ≡ M.word }
+        ensures { IsReportTo L.rules M.making pass.old pass.new result }
+    {
+        let reader = word.reader(&mut self.keeper);
+        let known = mem::replace(&mut pass.reader, reader);
+        word.take_back(&mut self.keeper, known);
+        pass.seen = self.book.journal().number();
+        self.report()
     }
 }
