@@ -77,7 +77,7 @@ impl ActiveWorkers {
 pub(crate) struct Reporter<'a, R, G, C, W> {
     pub(crate) rt: &'a R,
     pub(crate) active: &'a ActiveWorkers,
-    pub(crate) gate: &'a G,
+    pub(crate) gate: G,
     pub(crate) table: &'a PartitionTable,
     pub(crate) clock: &'a C,
     pub(crate) watch: &'a W,
@@ -95,7 +95,8 @@ where
 
     fn run(self) {
         if let Some(every_ns) = self.every_ns {
-            self.report_every(every_ns);
+            let mut reporter = self;
+            reporter.report_every(every_ns);
         }
     }
 }
@@ -107,13 +108,14 @@ where
     C: Clock,
     W: Watch,
 {
-    fn report_every(&self, every_ns: u64) {
+    fn report_every(&mut self, every_ns: u64) {
         let mut next = self.clock.now().saturating_add(every_ns);
         for _ in self.rt.forever() {
             if !self.active.rest(self.rt, self.clock, next) {
                 return;
             }
-            self.watch.report(self.table, &self.gate.report());
+            let report = self.gate.report();
+            self.watch.report(self.table, &report);
             next = after(next, every_ns, self.clock.now());
         }
     }

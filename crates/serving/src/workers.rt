@@ -44,7 +44,7 @@ pub fn serve<'l, R, G, P, T, L, C, S, W>(
     spawner: &mut Spawner<'_, R>,
     common: &WorkerSettings<'l, L, C, S, W>,
     settings: &Settings,
-    gate: &G,
+    gate: G,
     ports: Vec<P>,
     side_tasks: Vec<T>,
 ) -> Result<
@@ -53,7 +53,7 @@ pub fn serve<'l, R, G, P, T, L, C, S, W>(
 >
 where
     R: Net + Threads + Wait + SystemClock + Sync,
-    G: GateView + Sync,
+    G: GateView + Drop,
     P: GatePort + Send + Drop,
     T: Task<Done = ()> + Send + Drop,
     L: Listener + Sync,
