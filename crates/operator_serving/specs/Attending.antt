@@ -17,7 +17,7 @@ use Rattle.operator_calls.specs.declared.call.Call.TheVariants as call
 use Rattle.operator_calls.specs.declared.refusal.Refusal.{Refusal}
 use Rattle.operator_calls.specs.Calls.{call_of, heard}
 use Rattle.operator_serving.specs.declared.attending.Attended.{Attended}
-use Rattle.operator_serving.specs.Desk.{Deed, Sight}
+use Rattle.operator_serving.specs.Desk.{Deed, HasLooked, Sight}
 use Rattle.operator_serving.specs.Telling.{Tells, lines_of}
 use Rattle.operator_serving.specs.Words.{Words}
 
@@ -58,6 +58,13 @@ IsTold contents call method told writer writer' status is_written =
     (told_text_by method (lines_of call (told_length method told)) told)))
     ⊎ ((status ≡ 500) × (is_written ≡ true → Wrote contents writer writer' (local_text 500)))
 
+-- where there was no memory for an answer: nothing was changed
+abbrev pub IsUnanswered : {D : Type 0} → (D → D → Deed → Type 0) → Result Call Refusal → D → D
+    → Type 0
+IsUnanswered does (Ok (call.Look it)) old new = HasLooked does old new
+IsUnanswered does (Ok (call.Change it)) old new = new ≡ old
+IsUnanswered does (Err why) old new = new ≡ old
+
 module _ {D : Type 0} (rows : D → List Row) (shows : D → Sight → Type 0)
     (does : D → D → Deed → Type 0) where
   -- ANSWERED: what is told of a call, with its status, where all was written; or that there was no
@@ -67,7 +74,7 @@ module _ {D : Type 0} (rows : D → List Row) (shows : D → Sight → Type 0)
   IsAnswered contents page call method old new writer writer' status is_written =
       ((told : Words) × Tells rows shows does page call old new told × (status ≡ told.status)
       × (is_written ≡ true → Wrote contents writer writer' (told_text method call told)))
-      ⊎ ((new ≡ old) × (status ≡ 500)
+      ⊎ (IsUnanswered does call old new × (status ≡ 500)
       × (is_written ≡ true → Wrote contents writer writer' (local_text 500)))
 
   -- after a fault of reading nothing reaches the desk; else the call of what was read is answered,

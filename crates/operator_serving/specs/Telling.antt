@@ -20,8 +20,8 @@ use Rattle.operator_serving.specs.declared.desk.ChangeFault.{ChangeFault}
 use Rattle.operator_serving.specs.declared.desk.ChangeFault.TheVariants as fault
 use Rattle.operator_serving.specs.Words.{Words, words}
 use Rattle.operator_serving.specs.Desk.{Deed, Sight}
-use Rattle.operator_serving.specs.Desk.Deed.{SetTo, Begun, Drained, DrainedAfter}
-use Rattle.operator_serving.specs.Desk.Sight.{Stands, Notes, Accepts}
+use Rattle.operator_serving.specs.Desk.Deed.{Reported, SetTo, Begun, Drained, DrainedAfter}
+use Rattle.operator_serving.specs.Desk.Sight.{Notes, Accepts}
 
 -- what is told of a refusal
 abbrev pub refusal_text : Refusal → List ℕ
@@ -50,17 +50,17 @@ changed (Err fault.NotSettable) = words 409 (codes "the limit isn't of the kind 
 changed (Err fault.OutOfRange) = words 400 (codes "the number is out of the limit's range\n")
 changed (Err fault.Exhausted) = words 503 (codes "the history is exhausted\n")
 
--- WHAT A LOOK TELLS, by what the desk shows
-abbrev pub Shows : {D : Type 0} → (D → List Row) → (D → Sight → Type 0) → List ℕ → Look → D
-    → Words → Type 0
-Shows rows shows page look.Page desk told = told ≡ words 200 page
-Shows rows shows page look.Metrics desk told =
+-- WHAT A LOOK TELLS, by what the desk shows, and by the state of the gate that was told there
+abbrev pub Shows : {D : Type 0} → (D → List Row) → (D → Sight → Type 0) → (D → D → Deed → Type 0)
+    → List ℕ → Look → D → D → Words → Type 0
+Shows rows shows does page look.Page old new told = (new ≡ old) × (told ≡ words 200 page)
+Shows rows shows does page look.Metrics old new told =
     (report : Report) × (noted : GatewayStats)
-    × shows desk (Stands report) × shows desk (Notes noted)
-    × (told ≡ words 200 (metrics_text report (rows desk) noted))
-Shows rows shows page look.Health desk told =
-    (accepts : Bool) × (noted : GatewayStats)
-    × shows desk (Accepts accepts) × shows desk (Notes noted)
+    × does old new (Reported report) × shows new (Notes noted)
+    × (told ≡ words 200 (metrics_text report (rows new) noted))
+Shows rows shows does page look.Health old new told =
+    (new ≡ old) × (accepts : Bool) × (noted : GatewayStats)
+    × shows old (Accepts accepts) × shows old (Notes noted)
     × (told ≡ health accepts noted.workers)
 
 -- WHAT A CHANGE TELLS, by what is done at the desk for it
@@ -76,12 +76,13 @@ IsCarriedOut does change.Drain old new told =
 IsCarriedOut does (change.DrainAfter n) old new told =
     does old new (DrainedAfter n) × (told ≡ words 200 (codes "draining\n"))
 
--- WHAT IS TOLD of a call or a refusal: nothing but a change changes the desk
+-- WHAT IS TOLD of a call or a refusal: a look changes nothing, and a refusal leaves the desk as it
+-- is
 abbrev pub Tells : {D : Type 0} → (D → List Row) → (D → Sight → Type 0) → (D → D → Deed → Type 0)
     → List ℕ → Result Call Refusal → D → D → Words → Type 0
 Tells rows shows does page (Err why) old new told = (new ≡ old) × (told ≡ refused why)
 Tells rows shows does page (Ok (call.Look it)) old new told =
-    (new ≡ old) × Shows rows shows page it old told
+    Shows rows shows does page it old new told
 Tells rows shows does page (Ok (call.Change it)) old new told = IsCarriedOut does it old new told
 
 -- the type of what is told

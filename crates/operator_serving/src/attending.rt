@@ -6,6 +6,7 @@ ghost use Rattle.proxy.specs.Table.{fault_status, local_or_nothing};
 ghost use Rattle.operator_calls.specs.declared.audience.Audience.TheVariants.{Anyone};
 ghost use Rattle.operator_serving.specs.Attended.{was_answered, was_read};
 ghost use Rattle.operator_serving.specs.Attending.{IsAttended};
+ghost use Rattle.operator_serving.specs.Desk.{HasLooked};
 
 use crate::answering::{answer, write_local};
 use crate::caller::Caller;
@@ -53,8 +54,8 @@ impl Attended {
 /// After a fault of reading, or where the request is no call, the desk isn't changed; the client is
 /// answered with the fault's own status, after a fault of the reader, the writer or too many reads
 /// not at all. A change whose caller has left once its request was read isn't carried out. Out of
-/// memory is answered with 500, and then nothing was changed either. At an address for anyone the
-/// desk is never changed.
+/// memory is answered with 500, and then nothing was changed either. At an address for anyone
+/// nothing is ever changed.
 pub fn attend<D: Desk, K: Caller, R: BufRead, W: Write>(
     alloc: Global,
     audience: Audience<'_>,
@@ -67,7 +68,7 @@ pub fn attend<D: Desk, K: Caller, R: BufRead, W: Write>(
     ensures attended { IsAttended D.rows D.shows D.does (K.tells caller.now) audience.entry page.now
         desk.old desk.new (told_by R.remaining reader.old) (told_by R.remaining reader.new)
         (told_by W.contents writer.old) (told_by W.contents writer.new) result }
-    ensures looks { audience.entry ≡ Anyone → desk.new ≡ desk.old }
+    ensures looks { audience.entry ≡ Anyone → HasLooked D.does desk.old desk.new }
 {
     let request = match read_request(alloc, reader, writer) {
         Ok(request) => request,

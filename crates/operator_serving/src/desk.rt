@@ -1,7 +1,7 @@
 // What an operator looks at and changes.
 ghost use Rattle.std.specs.Prelude.{◌≡◌};
-ghost use Rattle.operator_serving.specs.Desk.Deed.{SetTo, Begun, Drained, DrainedAfter};
-ghost use Rattle.operator_serving.specs.Desk.Sight.{Stands, Notes, Accepts};
+ghost use Rattle.operator_serving.specs.Desk.Deed.{Reported, SetTo, Begun, Drained, DrainedAfter};
+ghost use Rattle.operator_serving.specs.Desk.Sight.{Notes, Accepts};
 
 use gate_port::Report;
 use partitions::PartitionTable;
@@ -37,9 +37,10 @@ pub trait Desk {
     fn table(&self) -> &PartitionTable
         ensures { result.now ≡ rows self.now };
 
-    /// The state of the gate.
-    fn report(&self) -> Report
-        ensures { shows self.now (Stands result) };
+    /// The state of the gate, as whatever was done at the desk before left it, or what others did
+    /// since.
+    fn report(&mut self) -> Report
+        ensures { does self.old self.new (Reported result) };
 
     /// What was noted of exchanges and troubles.
     fn noted(&self) -> GatewayStats

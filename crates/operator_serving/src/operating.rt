@@ -2,6 +2,7 @@
 ghost use Rattle.std.specs.Prelude.{◌≡◌, false};
 ghost use Rattle.operator_calls.specs.declared.audience.Audience.TheVariants.{Anyone};
 ghost use Rattle.operator_serving.specs.Attending.{AreServed, IsServed};
+ghost use Rattle.operator_serving.specs.Desk.{AreLooks, HasLooked};
 ghost use Rattle.timed_io.specs.Client.{from_of, to_of};
 
 use crate::attending::attend;
@@ -54,7 +55,7 @@ where
     D: Desk,
     ensures served { AreServed D.rows D.shows D.does (L.came common.now.listener.now)
         common.now.audience common.now.page.now desk.old desk.new }
-    ensures looks { common.now.audience ≡ Anyone → desk.new ≡ desk.old }
+    ensures looks { common.now.audience ≡ Anyone → AreLooks D.does desk.old desk.new }
     ensures ended { L.found common.now.listener.now false }
 {
     for _ in rt.forever() {
@@ -86,7 +87,7 @@ where
     D: Desk,
     ensures served { IsServed D.rows D.shows D.does common.now.audience common.now.page.now
         (I.remaining (from_of client.ends)) (O.contents (to_of client.ends)) desk.old desk.new }
-    ensures looks { common.now.audience ≡ Anyone → desk.new ≡ desk.old }
+    ensures looks { common.now.audience ≡ Anyone → HasLooked D.does desk.old desk.new }
 {
     let time = ClientTime {
         clock: common.clock,

@@ -1,6 +1,7 @@
 // What is told of a call.
-ghost use Rattle.std.specs.Prelude.{◌≡◌, [], IfOk};
+ghost use Rattle.std.specs.Prelude.{◌≡◌, [], IfOk, OnErr};
 ghost use Rattle.operator_calls.specs.declared.call.Look.TheVariants.{Metrics};
+ghost use Rattle.operator_serving.specs.Desk.{HasLooked};
 ghost use Rattle.operator_serving.specs.Telling.{IsCarriedOut, Shows, changed, health};
 ghost use Rattle.operator_serving.specs.Telling.{refusal_text, refused};
 
@@ -15,10 +16,12 @@ use std::alloc::{AllocError, Global};
 pub(crate) fn tell<'a, D: Desk>(
     alloc: Global,
     page: &'a str,
-    desk: &D,
+    desk: &mut D,
     look: &Look,
 ) -> Result<OperatorResponse<'a>, AllocError>
-    ensures { IfOk result (Shows D.rows D.shows page.now look.now desk.now) }
+    ensures told { IfOk result
+        (Shows D.rows D.shows D.does page.now look.now desk.old desk.new) }
+    ensures untold { OnErr result (HasLooked D.does desk.old desk.new) }
 {
     match look {
         Look::Page => Ok(OperatorResponse::new(200, page)),
@@ -31,8 +34,12 @@ pub(crate) fn tell<'a, D: Desk>(
 }
 
 /// The state at a desk, as a scraper reads it. It fails only out of memory.
-fn tell_metrics<'a, D: Desk>(alloc: Global, desk: &D) -> Result<OperatorResponse<'a>, AllocError>
-    ensures { IfOk result (Shows D.rows D.shows [] Metrics desk.now) }
+fn tell_metrics<'a, D: Desk>(
+    alloc: Global,
+    desk: &mut D,
+) -> Result<OperatorResponse<'a>, AllocError>
+    ensures told { IfOk result (Shows D.rows D.shows D.does [] Metrics desk.old desk.new) }
+    ensures untold { OnErr result (HasLooked D.does desk.old desk.new) }
 {
     let (report, noted) = (desk.report(), desk.noted());
     let text = metrics_text(alloc, &report, desk.table(), &noted)?;
