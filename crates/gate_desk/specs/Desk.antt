@@ -10,12 +10,14 @@ use Rattle.gate_ledgers.specs.Making.{Making}
 use Rattle.gate_ledgers.specs.Told.{Told}
 use Rattle.gate_history.specs.Refusal.{Refusal}
 use Rattle.shared_gate.specs.Calls.{Changes, Pass}
-use Rattle.shared_gate.specs.Reported.{IsReportOf}
+use Rattle.shared_gate.specs.Reported.{IsReportTo}
 use Rattle.operator_serving.specs.declared.desk.ChangeFault.{ChangeFault}
 use Rattle.operator_serving.specs.declared.desk.ChangeFault.TheVariants as fault
 use Rattle.operator_serving.specs.Desk.{Deed, Sight}
-use Rattle.operator_serving.specs.Desk.Deed.{SetTo, Begun, Drained, DrainedAfter}
-use Rattle.operator_serving.specs.Desk.Sight.{Stands, Notes, Accepts}
+use Rattle.operator_serving.specs.Desk.Deed.{Reported, SetTo, Begun, Drained, DrainedAfter}
+use Rattle.operator_serving.specs.Desk.Sight.{Notes, Accepts}
+use Rattle.gate_desk.specs.declared.desk.GateDesk.{GateDesk}
+use Rattle.gate_desk.specs.Listeners.{is_shut, listener_in}
 
 -- what became of a change, by its reply
 abbrev pub by_reply : Reply → Result (Unit {0}) ChangeFault
@@ -28,12 +30,10 @@ abbrev pub outcome_of : Result Told Refusal → Result (Unit {0}) ChangeFault
 outcome_of (Ok receipt) = by_reply receipt.reply
 outcome_of (Err refusal) = Err fault.Exhausted
 
--- a report is one of the gate that was made so; where clients come from isn't told as open once it
--- was closed at this desk
-abbrev pub ShownBy : {S : Type 0} → Algorithm S → Making → Bool → Sight → Type 0
-ShownBy rules made shut (Stands report) = IsReportOf rules made report
-ShownBy rules made shut (Notes noted) = ⊤
-ShownBy rules made shut (Accepts accepts) = shut ≡ true → accepts ≡ false
+-- where clients come from isn't told as open once it was closed at this desk
+abbrev pub ShownBy : Bool → Sight → Type 0
+ShownBy shut (Notes noted) = ⊤
+ShownBy shut (Accepts accepts) = shut ≡ true → accepts ≡ false
 
 -- a step of the history, by the desk's own pass, at some moment
 abbrev pub Steps : Pass → Pass → (ℕ → Event) → Result (Unit {0}) ChangeFault → Type 0
@@ -41,14 +41,32 @@ Steps before after event outcome =
     (now : ℕ) × (told : Result Told Refusal) × Changes before after (event now) told
     × (outcome ≡ outcome_of told)
 
--- WHAT IS DONE, by the desk's pass and by whether it has closed where clients come from: a change
--- of the limit is one step of the history, and lets clients come as before; a drain is none, and
--- closes where they come from
-abbrev pub DoneBy : Type 0 → Pass → Pass → Bool → Bool → Deed → Type 0
-DoneBy closed before after shut shut' (SetTo n outcome) =
-    Steps before after (SetLimit n) outcome × (shut' ≡ shut)
-DoneBy closed before after shut shut' (Begun outcome) =
-    Steps before after Reset outcome × (shut' ≡ shut)
-DoneBy closed before after shut shut' Drained = (after ≡ before) × (shut' ≡ true) × closed
-DoneBy closed before after shut shut' (DrainedAfter delay) =
-    (after ≡ before) × (shut' ≡ true) × closed
+-- a desk as it was before, but for its pass
+pub record IsSameDesk {G M R L C W : Type 0} (before after : GateDesk G M R L C W) : Type 0 where
+  pub rt : after.rt ≡ before.rt
+  pub gate : after.gate ≡ before.gate
+  pub watch : after.watch ≡ before.watch
+  pub front : after.front ≡ before.front
+  pub own : after.own ≡ before.own
+  pub lame_duck : after.lame_duck ≡ before.lame_duck
+  pub clock : after.clock ≡ before.clock
+  pub table : after.table ≡ before.table
+  pub most : after.most ≡ before.most
+
+-- WHAT IS DONE, by the desk's pass and by whether it has closed where clients come from: a report
+-- has a log that begins with what the pass knew, which knows that log then, so that it shows what
+-- was changed at the desk before; a change of the limit is one step of the history, and lets clients
+-- come as before; a drain is none, and closes where they come from
+abbrev pub DoneBy : {S G M R L C W : Type 0} → Algorithm S → Making → (L → Type 0)
+    → GateDesk G M R L C W → GateDesk G M R L C W → Deed → Type 0
+DoneBy rules made closed before after (Reported report) =
+    IsReportTo rules made before.pass after.pass report × IsSameDesk before after
+DoneBy rules made closed before after (SetTo n outcome) =
+    Steps before.pass after.pass (SetLimit n) outcome
+    × (is_shut after.front ≡ is_shut before.front)
+DoneBy rules made closed before after (Begun outcome) =
+    Steps before.pass after.pass Reset outcome × (is_shut after.front ≡ is_shut before.front)
+DoneBy rules made closed before after Drained =
+    (after.pass ≡ before.pass) × (is_shut after.front ≡ true) × closed (listener_in after.front)
+DoneBy rules made closed before after (DrainedAfter delay) =
+    (after.pass ≡ before.pass) × (is_shut after.front ≡ true) × closed (listener_in after.front)

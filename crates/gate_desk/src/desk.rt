@@ -28,7 +28,7 @@ pub struct GateDesk<'a, G: Limit, M: GateNaming, R, L, C, W> {
     pub rt: &'a R,
     /// The gate that stands between clients and the backend.
     pub gate: &'a SharedGate<G, M>,
-    /// The pass by which its limit is changed.
+    /// The pass by which its limit is changed, and its state is told.
     pub pass: Pass<M>,
     /// What noted exchanges and troubles, and hears of what is changed.
     pub watch: W,
@@ -56,22 +56,20 @@ where
     W: DeskWatch,
 {
     ghost use Rattle.gate_desk.specs.Desk.{DoneBy, ShownBy};
-    ghost use Rattle.gate_desk.specs.Listeners.{is_shut, listener_in};
+    ghost use Rattle.gate_desk.specs.Listeners.{is_shut};
 
     ghost rows = { λ desk. desk.table };
 
-    ghost shows = { λ desk sight. ShownBy G.rules M.making (is_shut desk.front) sight };
+    ghost shows = { λ desk sight. ShownBy (is_shut desk.front) sight };
 
-    ghost does = { λ before after deed. DoneBy
-        (L.closed (listener_in after.front)) before.pass after.pass (is_shut before.front)
-        (is_shut after.front) deed };
+    ghost does = { DoneBy G.rules M.making L.closed };
 
     fn table(&self) -> &PartitionTable {
         &self.table
     }
 
-    fn report(&self) -> Report {
-        self.gate.report(self.rt)
+    fn report(&mut self) -> Report {
+        self.gate.report_to(self.rt, &mut self.pass)
     }
 
     fn noted(&self) -> GatewayStats {

@@ -1,4 +1,7 @@
 // The thread of an operator.
+ghost use Rattle.std.specs.Prelude.{◌≡◌};
+ghost use Rattle.shared_gate.specs.Calls.{pass_of};
+
 use crate::desk::GateDesk;
 use crate::watch::DeskWatch;
 use clocks::Clock;
@@ -22,12 +25,15 @@ pub struct Operator<'a, G: Limit, M: GateNaming, R, L, C, W> {
 }
 
 impl<'a, G: Limit, M: GateNaming, R, L, C, W: Drop> Operator<'a, G, M, R, L, C, W> {
-    /// One who was asked nothing yet. It fails only out of memory.
+    /// One who was asked nothing yet, and by whose pass nobody has called. It fails only out of
+    /// memory.
     pub fn new(
         common: &'a Operating<'a, L, C>,
         desk: GateDesk<'a, G, M, R, L, C, W>,
         also: Option<&'a L>,
-    ) -> Result<Operator<'a, G, M, R, L, C, W>, AllocError> {
+    ) -> Result<Operator<'a, G, M, R, L, C, W>, AllocError>
+        requires { desk.pass ≡ pass_of 0 }
+    {
         let buffers = ClientBuffers::new(common.alloc)?;
         Ok(Operator {
             common,
@@ -52,14 +58,11 @@ where
 
     ghost use Rattle.std.specs.Prelude.{false};
     ghost use Rattle.gate_desk.specs.Desk.{DoneBy, ShownBy};
-    ghost use Rattle.gate_desk.specs.Listeners.{is_shut, listener_in};
+    ghost use Rattle.gate_desk.specs.Listeners.{is_shut};
     ghost use Rattle.gate_desk.specs.Operator.{HasOperated};
 
     ghost makes = { λ operator _. HasOperated operator.desk (λ desk. desk.table)
-        (λ desk sight. ShownBy G.rules M.making (is_shut desk.front) sight)
-        (λ before after deed. DoneBy
-        (L.closed (listener_in after.front)) before.pass after.pass (is_shut before.front)
-        (is_shut after.front) deed)
+        (λ desk sight. ShownBy (is_shut desk.front) sight) (DoneBy G.rules M.making L.closed)
         (L.came operator.common.now.listener.now)
         (L.found operator.common.now.listener.now false)
         operator.common.now.audience operator.common.now.page.now };
