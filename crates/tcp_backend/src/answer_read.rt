@@ -18,15 +18,27 @@ const MOST_TURNS: u32 = 1 << 24;
 /// A connection from which an answer is read, up to the deadline of its call where that has one: a
 /// read that finds it reached fails and reads nothing, and another waits no longer than until it.
 #[derive(Drop)]
-pub(crate) struct AnswerRead<'s, 'c, S, C> {
-    stream: &'s mut S,
+pub(crate) struct AnswerRead<'c, S, C> {
+    stream: S,
     time: Option<Countdown<'c, C>>,
     pause: Option<Duration>,
 }
 
-impl<'s, 'c, S: Read + OpenStream + AsRawFd, C: Clock> AnswerRead<'s, 'c, S, C> {
+impl<'c, S, C> AnswerRead<'c, S, C> {
+    // The connection, by value.
+    pub(crate) fn into_stream(self) -> S {
+        let AnswerRead {
+            stream,
+            time: _,
+            pause: _,
+        } = self;
+        stream
+    }
+}
+
+impl<'c, S: Read + OpenStream + AsRawFd, C: Clock> AnswerRead<'c, S, C> {
     // A connection, and the time that is left for reading it.
-    pub(crate) fn new(stream: &'s mut S, time: Option<Countdown<'c, C>>) -> AnswerRead<'s, 'c, S, C>
+    pub(crate) fn new(stream: S, time: Option<Countdown<'c, C>>) -> AnswerRead<'c, S, C>
         ensures { reader_time result ≡ time.entry }
     {
         AnswerRead {
@@ -70,7 +82,7 @@ impl<'s, 'c, S: Read + OpenStream + AsRawFd, C: Clock> AnswerRead<'s, 'c, S, C> 
             return self.stream.read(buf);
         };
         let left = time.left()?;
-        match read_ready(&*self.stream, buf) {
+        match read_ready(&self.stream, buf) {
             Err(fault) if fault.kind() == ErrorKind::WouldBlock => {}
             outcome => return outcome,
         }
@@ -90,7 +102,7 @@ impl<'s, 'c, S: Read + OpenStream + AsRawFd, C: Clock> AnswerRead<'s, 'c, S, C> 
     }
 }
 
-impl<'s, 'c, S: Read + OpenStream + AsRawFd, C: Clock> Read for AnswerRead<'s, 'c, S, C> {
+impl<'c, S: Read + OpenStream + AsRawFd, C: Clock> Read for AnswerRead<'c, S, C> {
     ghost use Rattle.std.specs.Prelude.{None};
 
     ghost remaining = { λ _. None };

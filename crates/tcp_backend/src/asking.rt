@@ -6,6 +6,7 @@ ghost use Rattle.tcp_backend.specs.Answers.{answer_of};
 ghost use Rattle.tcp_backend.specs.Sent.{IsCut};
 
 use crate::answer_read::AnswerRead;
+use crate::call_buffers::CallBuffers;
 use crate::call_time::CallTime;
 use crate::early::EarlyRead;
 use crate::ends::RequestOutlet;
@@ -28,14 +29,59 @@ const LAST_READS: u32 = 16;
 /// How long each of them may take, in milliseconds.
 const LAST_MILLIS: u64 = 20;
 
-/// What came of a request over a connection, whether it was written whole, what the clock told when
-/// the answer was last read for, and the connection's end then.
+/// What came of a request over a connection, whether it was written whole, and what the clock told
+/// when the answer was last read for; and the connection, with its end and the buffers, as the call
+/// leaves them.
 #[derive(Drop)]
-pub(crate) struct Attempt<E> {
+pub(crate) struct Attempt<S, E> {
     pub(crate) answer: Result<Response, WireFault>,
     pub(crate) is_sent: bool,
     pub(crate) looked: u64,
+    pub(crate) stream: S,
     pub(crate) end: E,
+    pub(crate) buffers: CallBuffers,
+}
+
+/// What writing a request leaves, and whether it was written whole.
+#[derive(Drop)]
+struct SentRequest<S, E> {
+    is_sent: bool,
+    stream: S,
+    end: E,
+    behind: WriteBuffer,
+}
+
+/// What reading an answer leaves: the answer, and what the clock told when it was last read for.
+#[derive(Drop)]
+struct ReadAnswer<S> {
+    answer: Result<Response, WireFault>,
+    looked: u64,
+    stream: S,
+    ahead: ReadBuffer,
+}
+
+impl<S> ReadAnswer<S> {
+    // With what was written before.
+    fn behind_request<E>(self, is_sent: bool, end: E, behind: WriteBuffer) -> Attempt<S, E>
+        ensures answer { result.answer ≡ self.answer }
+        ensures sent { result.is_sent ≡ is_sent }
+        ensures end { result.end ≡ end }
+    {
+        let ReadAnswer {
+            answer,
+            looked,
+            stream,
+            ahead,
+        } = self;
+        Attempt {
+            answer,
+            is_sent,
+            looked,
+            stream,
+            end,
+            buffers: CallBuffers { ahead, behind },
+        }
+    }
 }
 
 // Writes the request and reads its answer. A backend may answer before it has read the whole
@@ -45,73 +91,90 @@ pub(crate) struct Attempt<E> {
 pub(crate) fn ask<S, E, C>(
     alloc: Global,
     call: &CallTime<'_, C>,
-    stream: &mut S,
+    stream: S,
     end: E,
-    ahead: &mut ReadBuffer,
-    behind: &mut WriteBuffer,
+    buffers: CallBuffers,
     request: &Request,
     host: &str,
-) -> Attempt<E>
+) -> Attempt<S, E>
 where
     S: Read + OpenStream + AsRawFd,
-    E: RequestOutlet<S> + Copy,
+    E: RequestOutlet<S>,
     C: Clock,
     ensures sent { result.is_sent ≡ true → Appends (E.contents end) (E.contents result.end)
         (request_text host.now request.now) }
     ensures cut { result.is_sent ≡ false → IfErr result.answer IsCut }
 {
-    let (end, is_sent) = send(&mut *stream, end, call.countdown(), behind, request, host);
-    let reader = AnswerRead::new(&mut *stream, call.countdown());
-    if !is_sent {
-        let (answer, looked) = read_early(alloc, reader, ahead, request);
-        return Attempt {
-            answer,
-            is_sent,
-            looked,
-            end,
-        };
-    }
-    let mut reader = Counted::new(BufferedRead::new(reader, ahead));
-    let answer = read_response(alloc, &mut reader, &request.method);
-    let looked = reader.inner().inner().looked();
-    Attempt {
-        answer,
+    let CallBuffers { ahead, behind } = buffers;
+    let SentRequest {
         is_sent,
-        looked,
+        stream,
         end,
+        behind,
+    } = send(stream, end, call.countdown(), behind, request, host);
+    let reader = AnswerRead::new(stream, call.countdown());
+    if !is_sent {
+        let read = read_early(alloc, reader, ahead, request);
+        return read.behind_request(is_sent, end, behind);
     }
+    let read = read_answer(alloc, reader, ahead, request);
+    read.behind_request(is_sent, end, behind)
 }
 
 // Writes the request, and tells whether it was written whole.
-fn send<S: OpenStream, E: RequestOutlet<S> + Copy, C: Clock>(
-    stream: &mut S,
+fn send<S: OpenStream, E: RequestOutlet<S>, C: Clock>(
+    stream: S,
     end: E,
     time: Option<Countdown<'_, C>>,
-    behind: &mut WriteBuffer,
+    behind: WriteBuffer,
     request: &Request,
     host: &str,
-) -> (E, bool)
-    ensures { result.1 ≡ true → Appends (E.contents end) (E.contents result.0)
+) -> SentRequest<S, E>
+    ensures { result.is_sent ≡ true → Appends (E.contents end) (E.contents result.end)
         (request_text host.now request.now) }
 {
     let unanswered = UnansweredWrite::new(stream, end, time);
     let mut writer = Counted::new(BufferedWrite::new(unanswered, behind));
     let written = write_request(&mut writer, request, host);
-    let is_sent = written.is_ok() && writer.inner().is_sent();
-    let end = writer.inner().inner().end();
-    (end, is_sent)
+    let writer = writer.into_inner();
+    let is_sent = written.is_ok() && writer.is_sent();
+    let (writer, behind) = writer.into_parts();
+    let (stream, end) = writer.into_parts();
+    SentRequest {
+        is_sent,
+        stream,
+        end,
+        behind,
+    }
+}
+
+// The answer behind a request that was written whole.
+fn read_answer<S: Read + OpenStream + AsRawFd, C: Clock>(
+    alloc: Global,
+    reader: AnswerRead<'_, S, C>,
+    ahead: ReadBuffer,
+    request: &Request,
+) -> ReadAnswer<S> {
+    let mut reader = Counted::new(BufferedRead::new(reader, ahead));
+    let answer = read_response(alloc, &mut reader, &request.method);
+    let (reader, ahead) = reader.into_inner().into_parts();
+    ReadAnswer {
+        answer,
+        looked: reader.looked(),
+        stream: reader.into_stream(),
+        ahead,
+    }
 }
 
 // The answer that came before the request was written. It has to say its own length: its end may be
-// a cut. Where there is none, the fault is that of the write. What the clock told when it was last
-// read for comes with it.
+// a cut. Where there is none, the fault is that of the write.
 fn read_early<S: Read + OpenStream + AsRawFd, C: Clock>(
     alloc: Global,
-    reader: AnswerRead<'_, '_, S, C>,
-    ahead: &mut ReadBuffer,
+    reader: AnswerRead<'_, S, C>,
+    ahead: ReadBuffer,
     request: &Request,
-) -> (Result<Response, WireFault>, u64)
-    ensures { IfErr result.0 IsCut }
+) -> ReadAnswer<S>
+    ensures { IfErr result.answer IsCut }
 {
     let mut reader = Counted::new(BufferedRead::new(EarlyRead::new(reader), ahead));
     let answer = match read_response(alloc, &mut reader, &request.method) {
@@ -119,7 +182,14 @@ fn read_early<S: Read + OpenStream + AsRawFd, C: Clock>(
         Err(WireFault::Memory) => Err(WireFault::Memory),
         Err(_) => Err(WireFault::Write),
     };
-    (answer, reader.inner().inner().inner().looked())
+    let (reader, ahead) = reader.into_inner().into_parts();
+    let reader = reader.into_inner();
+    ReadAnswer {
+        answer,
+        looked: reader.looked(),
+        stream: reader.into_stream(),
+        ahead,
+    }
 }
 
 // Reads and drops what follows an answer, so that a backend which closes its connection does so

@@ -7,14 +7,13 @@ ghost use Rattle.tcp_backend.specs.CallTime.{call_deadline};
 ghost use Rattle.tcp_backend.specs.Connecting.{connector_of, host_of, limit_of};
 
 use crate::asking::{Attempt, answer_of, ask, read_on};
+use crate::call_buffers::CallBuffers;
 use crate::call_time::{CallTime, connect_time};
 use crate::dialing::Connector;
 use crate::watch::BackendWatch;
 use arrayvec::ArrayString;
 use clocks::Clock;
-use counted_io::PIECE;
 use itoa::Buffer;
-use lent_io::{ReadBuffer, WriteBuffer};
 use message_parts::Request;
 use std::alloc::{AllocError, Global};
 use std::io::Error;
@@ -45,14 +44,44 @@ pub struct TcpBackend<'c, K, S, W, C> {
 }
 
 /// What serves one connection after another, and the one whose answer was read last, until it is
-/// left.
+/// left. A call takes the buffers, and puts them back.
 #[derive(Drop)]
 struct Line<S> {
     alloc: Global,
     host: ArrayString<21>,
-    ahead: ReadBuffer,
-    behind: WriteBuffer,
+    buffers: Option<CallBuffers>,
     answered: Option<S>,
+}
+
+impl<S> Line<S> {
+    // The buffers, by value; new ones where a call kept them, which none does.
+    fn take_buffers(&mut self) -> Result<CallBuffers, AllocError> {
+        match self.buffers.take() {
+            Some(buffers) => Ok(buffers),
+            None => CallBuffers::new(self.alloc),
+        }
+    }
+
+    // Puts the buffers of a call back; what became of its request, and its connection. The end of
+    // it that was written is of no more use.
+    fn put_back<E: Drop, C: Clock>(
+        &mut self,
+        call: &CallTime<'_, C>,
+        attempt: Attempt<S, E>,
+    ) -> (BackendAnswer, S)
+        ensures { call_deadline call.now ≡ None → ¬ (result.0 ≡ Late) }
+    {
+        let Attempt {
+            answer,
+            is_sent: _,
+            looked,
+            stream,
+            end: _,
+            buffers,
+        } = attempt;
+        self.buffers = Some(buffers);
+        (answer_of(answer, call.is_over(looked)), stream)
+    }
 }
 
 /// How long a call may take, in nanoseconds of a clock, where that is limited.
@@ -81,8 +110,7 @@ impl<'c, K: Connector + Drop, W: Drop, C> TcpBackend<'c, K, K::Stream, W, C> {
         let line = Line {
             alloc,
             host: host_text(connector.address()),
-            ahead: ReadBuffer::new(alloc, PIECE)?,
-            behind: WriteBuffer::new(alloc, PIECE)?,
+            buffers: Some(CallBuffers::new(alloc)?),
             answered: None,
         };
         Ok(TcpBackend {
@@ -155,25 +183,16 @@ fn forward_over<K: Connector, W: BackendWatch, C: Clock>(
 {
     line.answered = None;
     let call = CallTime::begin(limit.clock, limit.most_ns);
-    let (mut stream, end) = match connector.connect(connect_time(limit.most_ns)) {
+    let (stream, end) = match connector.connect(connect_time(limit.most_ns)) {
         Ok(made) => made,
         Err(error) => return unconnected(&call, watch, &error),
     };
-    let Attempt {
-        answer: asked,
-        looked,
-        ..
-    } = ask(
-        line.alloc,
-        &call,
-        &mut stream,
-        end,
-        &mut line.ahead,
-        &mut line.behind,
-        request,
-        line.host.as_str(),
-    );
-    let answer = answer_of(asked, call.is_over(looked));
+    let Ok(buffers) = line.take_buffers() else {
+        return BackendAnswer::Memory;
+    };
+    let host = line.host.as_str();
+    let attempt = ask(line.alloc, &call, stream, end, buffers, request, host);
+    let (answer, stream) = line.put_back(&call, attempt);
     match &answer {
         BackendAnswer::Answered(_) => line.answered = Some(stream),
         BackendAnswer::Broken(fault) => watch.broken(*fault),

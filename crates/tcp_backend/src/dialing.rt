@@ -22,7 +22,7 @@ pub trait Connector {
     type Stream: Read + Write + OpenStream + AsRawFd + Drop;
 
     /// Where it is written to.
-    type End: RequestOutlet<Self::Stream> + Copy;
+    type End: RequestOutlet<Self::Stream> + Drop;
 
     ghost use Rattle.std.specs.Prelude.{ℕ, List};
 
@@ -86,7 +86,7 @@ impl<R: Net> Connector for Dialer<R> {
         let stream = TcpStream::connect_timeout(&self.rt, &SocketAddr::V4(self.address), most)?;
         ask_after(&stream);
         end_untaken(&stream, Duration::from_millis(UNTAKEN_MS));
-        Ok((stream, OpaqueEnd {}))
+        Ok((stream, OpaqueEnd::new()))
     }
 
     fn address(&self) -> SocketAddrV4 {

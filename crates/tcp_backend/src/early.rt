@@ -13,14 +13,14 @@ const SILENCE_MILLIS: u64 = 2_000;
 /// is a fault: nobody knows whether more was to come. A backend that stops in its answer, to wait
 /// for what it won't get, is told after a while that nothing more is written.
 #[derive(Drop)]
-pub(crate) struct EarlyRead<'s, 'c, S, C> {
-    reader: AnswerRead<'s, 'c, S, C>,
+pub(crate) struct EarlyRead<'c, S, C> {
+    reader: AnswerRead<'c, S, C>,
     is_told: bool,
 }
 
-impl<'s, 'c, S: Read + OpenStream + AsRawFd, C: Clock> EarlyRead<'s, 'c, S, C> {
+impl<'c, S: Read + OpenStream + AsRawFd, C: Clock> EarlyRead<'c, S, C> {
     // A connection whose reads can't be given a limit is read as ever.
-    pub(crate) fn new(mut reader: AnswerRead<'s, 'c, S, C>) -> EarlyRead<'s, 'c, S, C> {
+    pub(crate) fn new(mut reader: AnswerRead<'c, S, C>) -> EarlyRead<'c, S, C> {
         let _ = reader.pause_after(Some(Duration::from_millis(SILENCE_MILLIS)));
         EarlyRead {
             reader,
@@ -28,9 +28,10 @@ impl<'s, 'c, S: Read + OpenStream + AsRawFd, C: Clock> EarlyRead<'s, 'c, S, C> {
         }
     }
 
-    // The reader inside.
-    pub(crate) fn inner(&self) -> &AnswerRead<'s, 'c, S, C> {
-        &self.reader
+    // The reader inside, by value.
+    pub(crate) fn into_inner(self) -> AnswerRead<'c, S, C> {
+        let EarlyRead { reader, is_told: _ } = self;
+        reader
     }
 
     // Ends the request, and from now on waits for as long as the backend takes, and the call may.
@@ -41,7 +42,7 @@ impl<'s, 'c, S: Read + OpenStream + AsRawFd, C: Clock> EarlyRead<'s, 'c, S, C> {
     }
 }
 
-impl<'s, 'c, S: Read + OpenStream + AsRawFd, C: Clock> Read for EarlyRead<'s, 'c, S, C> {
+impl<'c, S: Read + OpenStream + AsRawFd, C: Clock> Read for EarlyRead<'c, S, C> {
     fn read(&mut self, buf: &mut [u8]) -> Result<usize> {
         let mut outcome = self.reader.read(buf);
         if !self.is_told && is_pause(&outcome) {

@@ -22,9 +22,19 @@ pub trait RequestOutlet<S> {
         ensures bytes { Keeps (contents self.old) (contents self.new) };
 }
 
-/// The end of a socket. It shows nothing, and takes no room.
-#[derive(Clone, Copy)]
-pub struct OpaqueEnd {}
+/// The end of a socket. It shows nothing, and takes no room. A [`Dialer`](crate::Dialer) alone makes
+/// one, and nobody can copy it.
+#[derive(Drop)]
+pub struct OpaqueEnd {
+    _made: (),
+}
+
+impl OpaqueEnd {
+    // The end of a new connection.
+    pub(crate) fn new() -> OpaqueEnd {
+        OpaqueEnd { _made: () }
+    }
+}
 
 impl<S: Write> RequestOutlet<S> for OpaqueEnd {
     ghost use Rattle.std.specs.Prelude.{None};

@@ -5,12 +5,14 @@
 //! one that comes before all of the request is written, and then the connection to its end, so that
 //! the backend closes first and the gateway's own ports are free again. A backend that keeps the
 //! connection open isn't waited for, and one that answers before it reads isn't written to until it
-//! has: where a write stands still and an answer lies there, the answer is read. Buffers are made
-//! once and serve all connections.
+//! has: where a write stands still and an answer lies there, the answer is read. The end of a
+//! connection that is written can't be copied, and comes back with the answer: what was written to
+//! it is what its value tells. Buffers are made once and serve all connections.
 #![tactic(auto)]
 
 mod answer_read;
 mod asking;
+mod call_buffers;
 mod call_time;
 mod connecting;
 mod dialing;

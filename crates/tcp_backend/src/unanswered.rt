@@ -30,21 +30,21 @@ const STATUS_PLACE: usize = 9;
 /// answer goes on for as long as the backend takes, up to the deadline of the call where that has
 /// one: a write that finds it reached fails.
 #[derive(Drop)]
-pub(crate) struct UnansweredWrite<'s, 'c, S, E, C> {
-    stream: &'s mut S,
+pub(crate) struct UnansweredWrite<'c, S, E, C> {
+    stream: S,
     end: E,
     time: Option<Countdown<'c, C>>,
     // What is left of the first room, until a write may have to wait.
     room: Option<usize>,
 }
 
-impl<'s, 'c, S: OpenStream, E, C: Clock> UnansweredWrite<'s, 'c, S, E, C> {
+impl<'c, S: OpenStream, E, C: Clock> UnansweredWrite<'c, S, E, C> {
     // A new connection, and the time that is left for the call.
     pub(crate) fn new(
-        stream: &'s mut S,
+        stream: S,
         end: E,
         time: Option<Countdown<'c, C>>,
-    ) -> UnansweredWrite<'s, 'c, S, E, C>
+    ) -> UnansweredWrite<'c, S, E, C>
         ensures end { end_of result ≡ end }
         ensures time { writer_time result ≡ time.entry }
     {
@@ -82,17 +82,22 @@ impl<'s, 'c, S: OpenStream, E, C: Clock> UnansweredWrite<'s, 'c, S, E, C> {
     }
 }
 
-impl<'s, 'c, S, E: Copy, C> UnansweredWrite<'s, 'c, S, E, C> {
-    // The end, as it is now.
-    pub(crate) fn end(&self) -> E
-        ensures { result ≡ end_of self.now }
+impl<'c, S, E, C> UnansweredWrite<'c, S, E, C> {
+    // The connection and its end, by value: the end is what the last write left.
+    pub(crate) fn into_parts(self) -> (S, E)
+        ensures { result.1 ≡ end_of self.entry }
     {
-        self.end
+        let UnansweredWrite {
+            stream,
+            end,
+            time: _,
+            room: _,
+        } = self;
+        (stream, end)
     }
 }
 
-impl<'s, 'c, S: OpenStream, E: RequestOutlet<S>, C: Clock> Write
-    for UnansweredWrite<'s, 'c, S, E, C> {
+impl<'c, S: OpenStream, E: RequestOutlet<S>, C: Clock> Write for UnansweredWrite<'c, S, E, C> {
     ghost contents = { λ writer. E.contents (end_of writer) };
 
     #[tactic(auto, using(crate::proofs::Known::anew))]
@@ -107,11 +112,11 @@ impl<'s, 'c, S: OpenStream, E: RequestOutlet<S>, C: Clock> Write
         let mut has_stalled = false;
         for _ in 0..MOST_TURNS {
             self.limit(buf.len())?;
-            match self.end.send(&mut *self.stream, buf) {
+            match self.end.send(&mut self.stream, buf) {
                 Ok(count) => return Ok(count),
                 Err(fault) if fault.kind() == ErrorKind::Interrupted => {}
                 Err(fault) if fault.kind() == ErrorKind::WouldBlock => {
-                    if has_stalled && is_answered(&*self.stream) {
+                    if has_stalled && is_answered(&self.stream) {
                         return Err(fault);
                     }
                     has_stalled = true;
@@ -125,7 +130,7 @@ impl<'s, 'c, S: OpenStream, E: RequestOutlet<S>, C: Clock> Write
     fn flush(&mut self) -> Result<()>
         ensures { Keeps (E.contents (end_of self.old)) (E.contents (end_of self.new)) }
     {
-        self.end.flush(&mut *self.stream)
+        self.end.flush(&mut self.stream)
     }
 }
 
