@@ -18,10 +18,10 @@ pub trait Accepts {
     type Stream: Connection;
 
     /// The end of it that is read.
-    type From: Inlet<Self::Stream> + Copy;
+    type From: Inlet<Self::Stream>;
 
     /// The end of it that is written.
-    type To: Outlet<Self::Stream> + Copy;
+    type To: Outlet<Self::Stream>;
 
     ghost use Rattle.std.specs.Prelude.{ℕ, Bool, List, Option};
     ghost use Rattle.serving.specs.Visits.{Visits};

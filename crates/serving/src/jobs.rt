@@ -134,7 +134,7 @@ where
         mut door,
         mut port,
         mut backend,
-        mut buffers,
+        buffers,
     } = worker;
     let tally = work(
         context.rt,
@@ -143,7 +143,7 @@ where
         &mut door,
         &mut port,
         &mut backend,
-        &mut buffers,
+        buffers,
     );
     JobResult::Worked(WorkerExit {
         door,

@@ -16,7 +16,7 @@ use std::thread;
 use std::time::{Clock as SystemClock, Duration};
 use timed_io::{
     AcceptedClient, Client, ClientBuffers, ClientEnds, ClientTime, Connection, Inlet, Outlet,
-    Patience,
+    Patience, ServedClient,
 };
 use wire::Backend;
 
@@ -87,7 +87,7 @@ pub fn work<R, A, P, B, C, L, S, W>(
     door: &mut A,
     port: &mut P,
     backend: &mut B,
-    buffers: &mut ClientBuffers,
+    buffers: ClientBuffers,
 ) -> TurnCounts
 where
     R: SystemClock,
@@ -134,6 +134,7 @@ where
     ensures failed { A.failed door.old + common.now.per_worker ≤ count_end →
         A.failed door.new ≡ A.failed door.old + result.unaccepted }
 {
+    let mut buffers = buffers;
     let mut tally = TurnCounts {
         accepted: 0,
         unaccepted: 0,
@@ -141,9 +142,10 @@ where
     for _ in 0..common.per_worker {
         match door.accept() {
             Ok(client) => {
-                let (client, served) = serve_client(
+                let (client, served, used) = serve_client(
                     common, settings, client, port, backend, buffers,
                 );
+                buffers = used;
                 door.close(client, served);
                 backend.leave();
                 tally.accepted += 1;
@@ -171,12 +173,12 @@ fn serve_client<T, I, O, P, B, C, L, S, W>(
     client: AcceptedClient<T, I, O>,
     port: &mut P,
     backend: &mut B,
-    buffers: &mut ClientBuffers,
-) -> (AcceptedClient<T, I, O>, Exchange)
+    buffers: ClientBuffers,
+) -> (AcceptedClient<T, I, O>, Exchange, ClientBuffers)
 where
     T: Connection,
-    I: Inlet<T> + Copy,
-    O: Outlet<T> + Copy,
+    I: Inlet<T>,
+    O: Outlet<T>,
     P: GatePort,
     B: Backend,
     C: Clock,
@@ -201,10 +203,10 @@ where
         watch: common.watch,
     };
     let AcceptedClient { stream, ends } = client;
-    let (ends, served) = serve_over(
+    let (ends, served, buffers) = serve_over(
         common, settings, &stream, ends, &patience, port, backend, buffers,
     );
-    (AcceptedClient { stream, ends }, served)
+    (AcceptedClient { stream, ends }, served, buffers)
 }
 
 /// The same over a connection and its ends, by somebody's patience with who sends nothing.
@@ -216,12 +218,12 @@ fn serve_over<'s, T, I, O, P, B, C, L, S, W, A>(
     patience: &'s A,
     port: &mut P,
     backend: &mut B,
-    buffers: &mut ClientBuffers,
-) -> (ClientEnds<I, O>, Exchange)
+    buffers: ClientBuffers,
+) -> (ClientEnds<I, O>, Exchange, ClientBuffers)
 where
     T: Connection,
-    I: Inlet<T> + Copy,
-    O: Outlet<T> + Copy,
+    I: Inlet<T>,
+    O: Outlet<T>,
     P: GatePort,
     B: Backend,
     C: Clock,
@@ -264,11 +266,31 @@ where
     let client = Client { reader, writer };
     let left = client.close();
     let served = served.with_sent(left.is_sent);
-    if is_answered(&served) {
-        let is_unread = served.summary().class.is_none() || buffers.has_unread();
-        left.ends.linger(stream, &time, is_unread, left.sent);
+    let (ends, buffers) = linger_behind(left, &served, stream, &time);
+    (ends, served, buffers)
+}
+
+/// Sees that a client that was served by this exchange gets to read its answer, where it has one,
+/// and gives the ends of its connection back, with the buffers. Nothing more is written to it.
+fn linger_behind<T: Connection, I: Inlet<T>, O, C: Clock>(
+    left: ServedClient<I, O>,
+    served: &Exchange,
+    stream: &T,
+    time: &ClientTime<'_, C>,
+) -> (ClientEnds<I, O>, ClientBuffers)
+    ensures { to_of result.0 ≡ to_of left.ends }
+{
+    let ServedClient {
+        ends,
+        buffers,
+        is_sent: _,
+        sent,
+    } = left;
+    if !is_answered(served) {
+        return (ends, buffers);
     }
-    (left.ends, served)
+    let is_unread = served.summary().class.is_none() || buffers.has_unread();
+    (ends.linger(stream, time, is_unread, sent), buffers)
 }
 
 /// The workers that are free for others than who sends nothing.

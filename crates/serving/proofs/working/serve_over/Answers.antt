@@ -20,7 +20,7 @@ returns g c =
     (search rules) made.exchanged made.written made.reads made.writes (
       pending_of (inner_of to),
       ap (λ end. append_known (g.O.Outlet.contents end) (pending_of (inner_of to)))
-          (sym c.close-left.ensures.to),
+          (sym (c.linger_behind-ends.ensures ∙ c.close-left.ensures.to)),
       λ (sent : c.close-left.result.is_sent ≡ true).
           let none : pending_of (inner_of to) ≡ [] = search rules in
           none,
