@@ -71,10 +71,10 @@ where
         let Operator {
             common,
             mut desk,
-            mut buffers,
+            buffers,
             also,
         } = self;
-        operate(desk.rt, common, &mut desk, &mut buffers);
+        operate(desk.rt, common, &mut desk, buffers);
         if let Some(also) = also {
             also.close(desk.rt, Duration::ZERO);
         }

@@ -16,7 +16,7 @@ use std::thread;
 use std::time::{Clock as SystemClock, Duration};
 use timed_io::{
     AcceptedClient, Client, ClientBuffers, ClientTime, Connection, Inlet, Listener, Outlet,
-    Patience,
+    Patience, ServedClient,
 };
 
 /// How long to rest where no connection could be had, in milliseconds.
@@ -45,7 +45,7 @@ pub fn operate<R, L, C, D>(
     rt: &R,
     common: &Operating<'_, L, C>,
     desk: &mut D,
-    buffers: &mut ClientBuffers,
+    buffers: ClientBuffers,
 )
 where
     R: Wait + SystemClock,
@@ -58,9 +58,10 @@ where
     ensures looks { common.now.audience ≡ Anyone → AreLooks D.does desk.old desk.new }
     ensures ended { L.found common.now.listener.now false }
 {
+    let mut buffers = buffers;
     for _ in rt.forever() {
         match common.listener.accept() {
-            Ok(client) => serve_operator(common, client, desk, buffers),
+            Ok(client) => buffers = serve_operator(common, client, desk, buffers),
             Err(_) => {
                 if !common.listener.is_open() {
                     return;
@@ -72,17 +73,17 @@ where
 }
 
 /// Attends to one client over the two ends of its connection, which last as long as it may take,
-/// and sees that it gets to read its answer.
+/// and sees that it gets to read its answer. The buffers come back.
 fn serve_operator<T, I, O, L, C, D>(
     common: &Operating<'_, L, C>,
     client: AcceptedClient<T, I, O>,
     desk: &mut D,
-    buffers: &mut ClientBuffers,
-)
+    buffers: ClientBuffers,
+) -> ClientBuffers
 where
     T: Connection + Drop,
-    I: Inlet<T> + Copy,
-    O: Outlet<T> + Copy,
+    I: Inlet<T> + Drop,
+    O: Outlet<T> + Drop,
     C: Clock,
     D: Desk,
     ensures served { IsServed D.rows D.shows D.does common.now.audience common.now.page.now
@@ -111,11 +112,17 @@ where
         &mut writer,
     );
     let client = Client { reader, writer };
-    let left = client.close();
+    let ServedClient {
+        ends,
+        buffers,
+        is_sent: _,
+        sent,
+    } = client.close();
     let is_unread = !attended.is_read() || buffers.has_unread();
     if attended.end() {
-        left.ends.linger(&stream, &time, is_unread, left.sent);
+        let _left = ends.linger(&stream, &time, is_unread, sent);
     }
+    buffers
 }
 
 /// Nobody else is kept waiting by a client that has sent nothing: its own time bounds that.
