@@ -79,7 +79,7 @@ impl Connection for Fake {
 }
 
 /// An end of it, which tells no bytes.
-#[derive(Clone, Copy)]
+#[derive(Drop)]
 struct End {}
 
 impl Inlet<Fake> for End {
@@ -239,12 +239,12 @@ fn an_interrupted_call_begins_anew_within_its_time(rt: HostRuntime) {
 
 /// How many bytes and flushes come through a buffer, by a write and a flush.
 fn through_a_buffer(alloc: Global) -> (usize, u64) {
-    let Ok(mut buffer) = WriteBuffer::new(alloc, 8) else {
+    let Ok(buffer) = WriteBuffer::new(alloc, 8) else {
         return (0, 0);
     };
-    let mut valve = valve_of(None);
-    let mut writer = BufferedWrite::new(&mut valve, &mut buffer);
+    let mut writer = BufferedWrite::new(valve_of(None), buffer);
     let is_well = writer.write(b"four").is_ok() && writer.flush().is_ok();
+    let (valve, _buffer) = writer.into_parts();
     if is_well {
         (valve.taken, valve.flushed)
     } else {
