@@ -250,9 +250,9 @@ class Operating(Served):
         ):
             later.append(Later(gate.ask, HELD_BY % name.encode()))
             self.judge(f"{wanted} wait", True, gate.shows(in_flight=inside, class_waiting=wanted))
-        for name in (b"live", b"batch", b"unknown", b"batch"):
-            refused = gate.ask(HELD_BY.replace(b"/held", b"/") % name)
-            self.judge(f"one more of {name!r}", b"HTTP/1.1 429 ", refused[:13])
+        for one in (b"live", b"batch", b"unknown", b"batch"):
+            refused = gate.ask(HELD_BY.replace(b"/held", b"/") % one)
+            self.judge(f"one more of {one!r}", b"HTTP/1.1 429 ", refused[:13])
         told_of = {"live,backlog": 1, "batch,backlog": 2, "unknown,backlog": 1}
         numbers = {"decisions_total": {"admitted": 2, "waiting": 3, "backlog": 4}, "answers_total": {"429": 4}}
         self.judge("who was refused", True, gate.shows(waiting=3, class_refused_total=told_of, **numbers))
