@@ -87,7 +87,7 @@ pub(crate) struct Reporter<'a, R, G, C, W> {
 impl<'a, R, G, C, W> Task for Reporter<'a, R, G, C, W>
 where
     R: Wait + SystemClock,
-    G: GateView,
+    G: GateView + Drop,
     C: Clock,
     W: Watch,
 {
