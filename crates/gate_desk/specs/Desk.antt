@@ -1,6 +1,7 @@
 -- What an operator sees and does at the desk of a gateway.
 use Rattle.std.specs.Prelude.{◌≡◌, ⊤, ℕ, Bool, true, false, Result, Ok, Err}
 use Rattle.limit_laws.specs.Algorithm.{Algorithm}
+use Rattle.limit_laws.specs.declared.limit.Limit.{Ghosts as LimitGhosts}
 use Rattle.limit_laws.specs.declared.limit.SetFault.TheVariants.{NotSettable, OutOfRange}
 use Rattle.limiter_core.specs.declared.event.Event.{Event}
 use Rattle.limiter_core.specs.declared.event.Event.TheVariants.{SetLimit, Reset}
@@ -9,6 +10,7 @@ use Rattle.limiter_core.specs.declared.event.Reply.TheVariants.{Refused}
 use Rattle.gate_ledgers.specs.Making.{Making}
 use Rattle.gate_ledgers.specs.Told.{Told}
 use Rattle.gate_history.specs.Refusal.{Refusal}
+use Rattle.shared_gate.specs.declared.naming.GateNaming.{Ghosts as NamingGhosts}
 use Rattle.shared_gate.specs.Calls.{Changes, Pass}
 use Rattle.shared_gate.specs.Reported.{IsReportTo}
 use Rattle.operator_serving.specs.declared.desk.ChangeFault.{ChangeFault}
@@ -42,7 +44,8 @@ Steps before after event outcome =
     × (outcome ≡ outcome_of told)
 
 -- a desk as it was before, but for its pass
-pub record IsSameDesk {G M R L C W : Type 0} (before after : GateDesk G M R L C W) : Type 0 where
+pub record IsSameDesk {G M R L C W : Type 0} {g : LimitGhosts G} {m : NamingGhosts M}
+    (before after : GateDesk G M R L C W g m) : Type 0 where
   pub rt : after.rt ≡ before.rt
   pub gate : after.gate ≡ before.gate
   pub watch : after.watch ≡ before.watch
@@ -57,8 +60,9 @@ pub record IsSameDesk {G M R L C W : Type 0} (before after : GateDesk G M R L C 
 -- has a log that begins with what the pass knew, which knows that log then, so that it shows what
 -- was changed at the desk before; a change of the limit is one step of the history, and lets clients
 -- come as before; a drain is none, and closes where they come from
-abbrev pub DoneBy : {S G M R L C W : Type 0} → Algorithm S → Making → (L → Type 0)
-    → GateDesk G M R L C W → GateDesk G M R L C W → Deed → Type 0
+abbrev pub DoneBy : {S G M R L C W : Type 0} {g : LimitGhosts G} {m : NamingGhosts M}
+    → Algorithm S → Making → (L → Type 0)
+    → GateDesk G M R L C W g m → GateDesk G M R L C W g m → Deed → Type 0
 DoneBy rules made closed before after (Reported report) =
     IsReportTo rules made before.pass after.pass report × IsSameDesk before after
 DoneBy rules made closed before after (SetTo n outcome) =

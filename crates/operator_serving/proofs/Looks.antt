@@ -1,5 +1,5 @@
 -- A call that changes nothing leaves the desk as it is, but for what was looked at.
-use Rattle.std.proofs.Common.{◌≡◌, inl, inr, ℕ, Bool, true, false, List, Option, Result, Ok, Err, IfOk}
+use Rattle.std.proofs.Common.{inl, inr, ℕ, Bool, true, false, List, Option, Result, Ok, Err, IfOk}
 use Rattle.counted_io.specs.declared.counted.Counted.{Counted}
 use Rattle.partitions.specs.Table.{Row}
 use Rattle.operator_calls.specs.declared.call.Call.{Call}

@@ -1,3 +1,4 @@
+pub mod Beside
 pub mod Command
 pub mod Runs
 pub mod ServiceFault

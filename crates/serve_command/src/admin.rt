@@ -1,5 +1,6 @@
 // The addresses beside that of clients: a gateway's operator's, and that of whoever looks.
 ghost use Rattle.std.specs.Prelude.{◌≡◌, ◌≤◌};
+ghost use Rattle.serve_command.specs.Beside.{count_at, count_beside};
 
 use gate_desk::LameDuck;
 use metrics::PAGE;
@@ -52,7 +53,8 @@ impl<'a, L, C> SideAddresses<'a, L, C> {
 
     /// How many serve at them together.
     pub(crate) fn count(&self) -> usize
-        ensures { result ≤ 8 }
+        ensures few { result ≤ 8 }
+        ensures all { result ≡ count_beside self.now }
     {
         count_at(&self.admin) + count_at(&self.status)
     }
@@ -60,7 +62,8 @@ impl<'a, L, C> SideAddresses<'a, L, C> {
 
 /// How many serve at an address, where there is one.
 fn count_at<L, C>(operating: &Option<Operating<'_, L, C>>) -> usize
-    ensures { result ≤ 4 }
+    ensures few { result ≤ 4 }
+    ensures all { result ≡ count_at operating.now }
 {
     if operating.is_some() { AT_ONCE } else { 0 }
 }

@@ -12,6 +12,7 @@ ghost use Rattle.gate_opening.specs.Opening.{journal_of, making_of};
 ghost use Rattle.ports.specs.declared.asked.Receipts.TheVariants.{Nothing};
 ghost use Rattle.ports.specs.Asked.{port_in};
 ghost use Rattle.serving.specs.Workers.{ended_in};
+ghost use Rattle.serve_command.specs.Beside.{IsUnused, count_beside};
 ghost use Rattle.serve_command.specs.Runs.{AreToldOfRuns, calls_told};
 
 use crate::admin::SideAddresses;
@@ -27,7 +28,7 @@ use ports::{Port, View};
 use serve_reports::Watcher;
 use serving::{JobResult, ServeFault, Source, WorkerSettings, serve};
 use shared_gate::{GateNaming, LogLength, Pass, SharedGate};
-use std::alloc::{AllocError, Global};
+use std::alloc::AllocError;
 use std::marker::Brand;
 use std::net::Net;
 use std::sync::Wait;
@@ -80,12 +81,12 @@ where
 {
     let word = LogLength::new(gateway.common.alloc)?;
     let blanks = Blanks::new();
-    let others = gateway.side.count();
+    let others = gateway.side.count() + 1;
     serve_named::<Brand, R, L, C, S>(spawner, gateway, blanks, word, others)
 }
 
 /// Serves clients through the gate of the gateway's settings, which has these names, with so many
-/// passes beside those of its workers.
+/// passes beside those of its workers: one for each who serves beside them, and one for reports.
 fn serve_named<M, R, L, C, S>(
     spawner: &mut Spawner<'_, R>,
     gateway: &Gateway<'_, R, L, C, S>,
@@ -108,7 +109,8 @@ where
     requires parts { AreWhole blanks }
     requires word { word ≡ M.word }
     requires passes { M.passes ≡ gateway.now.workers + others }
-    requires beside { others ≤ 8 }
+    requires beside { others ≡ count_beside gateway.now.side.now + 1 }
+    requires few_beside { others ≤ 9 }
     requires making { M.making ≡ making_of gateway.now.workers gateway.now.settings.now }
     requires sound { AreSound gateway.now.settings.now }
     requires legal { CallsLegal any_rules
@@ -136,13 +138,14 @@ where
 }
 
 /// Serves clients through a gate, by one worker for each pass, and those at the addresses beside
-/// theirs by passes of their own. Which limit the gate has isn't told apart here.
+/// theirs by passes of their own, the last of which is for reports. Nobody has called by any of
+/// these. Which limit the gate has isn't told apart here.
 fn serve_through<M, R, G, L, C, S>(
     spawner: &mut Spawner<'_, R>,
     gateway: &Gateway<'_, R, L, C, S>,
     gate: &SharedGate<G, M>,
     passes: Vec<Pass<M>>,
-    own: Vec<Pass<M>>,
+    mut own: Vec<Pass<M>>,
 ) -> Result<Option<Counters>, ServeFault>
 where
     M: GateNaming + Send + Sync,
@@ -157,6 +160,8 @@ where
     R::Stream: Send + Sync,
     R::Listener: Send + Sync,
     requires unused { All (λ pass. pass.log ≡ []) passes.items }
+    requires unused_beside { All IsUnused own.items }
+    requires beside { vec_len own ≡ count_beside gateway.now.side.now + 1 }
     ensures counted { IfOk result (AreToldOfRuns G.rules M.making
         (S.gives gateway.now.common.now.source.now)
         (L.came gateway.now.common.now.listener.now) (vec_len passes)
@@ -165,16 +170,19 @@ where
         refused_of spawner.new ≡ raised (refused_of spawner.old) }
 {
     let (rt, common) = (gateway.rt, gateway.common);
+    let Some(last) = own.pop() else {
+        unreachable!()
+    };
+    let view = View::new(rt, gate, last);
     let operators = make_operators(gateway, gate, own)?;
     let kept = Vec::with_capacity(common.alloc, passes.len())?;
-    let ports = make_ports(rt, common.alloc, gate, common.clock, common.watch, passes)?;
-    let view = View::new(rt, gate);
+    let ports = make_ports(gateway, gate, passes)?;
     let lefts = serve(
         rt,
         spawner,
         common,
         gateway.settings,
-        &view,
+        view,
         ports,
         operators,
     )?;
@@ -221,28 +229,26 @@ fn take_own<M: GateNaming>(
     requires { passes.old.items ≡ replicate (first + others) (pass_of 0) }
     ensures all { OnOk result (vec_len passes.new ≡ first) }
     ensures unused { OnOk result (All (λ pass. pass.log ≡ []) passes.new.items) }
+    ensures others { IfOk result (λ own. vec_len own ≡ others) }
+    ensures unused_too { IfOk result (λ own. All IsUnused own.items) }
 {
     passes.split_off(first)
 }
 
 /// A port for each pass.
-fn make_ports<'a, M: GateNaming, R, G: Limit, C>(
-    rt: &'a R,
-    alloc: Global,
-    gate: &'a SharedGate<G, M>,
-    clock: &'a C,
-    watch: &'a Watcher<'a, R>,
+fn make_ports<'g, M: GateNaming, R: SystemClock, G: Limit, L, C, S>(
+    gateway: &Gateway<'g, R, L, C, S>,
+    gate: &'g SharedGate<G, M>,
     passes: Vec<Pass<M>>,
-) -> Result<Vec<Port<'a, G, M, R, C>>, AllocError>
-where
-    R: SystemClock,
+) -> Result<Vec<Port<'g, G, M, R, C>>, AllocError>
     ensures { IfOk result (λ ports.
         ports.items ≡ map (λ pass. port_in pass Nothing 0) passes.items) }
 {
-    let mut ports = Vec::new(alloc);
+    let common = gateway.common;
+    let mut ports = Vec::new(common.alloc);
     for pass in passes {
-        let port = Port::new(rt, gate, pass, clock);
-        ports.push(noting(port, watch, ports.len()))?;
+        let port = Port::new(gateway.rt, gate, pass, common.clock);
+        ports.push(noting(port, common.watch, ports.len()))?;
     }
     Ok(ports)
 }

@@ -1,4 +1,7 @@
 // Who serves at the addresses beside that of clients.
+ghost use Rattle.std.specs.Prelude.{◌≡◌, All, IfOk, vec_len};
+ghost use Rattle.serve_command.specs.Beside.{IsUnused, count_beside};
+
 use crate::admin::AT_ONCE;
 use crate::desk_log::DeskLog;
 use crate::gateway::Gateway;
@@ -12,12 +15,17 @@ use std::time::{Clock as SystemClock, Duration};
 /// One for each pass, each at a desk of its own: at first those for whoever looks, where there is
 /// an address for that, and then the operator's, who close the listener of the former as they end.
 /// So where a thread is refused to one of the latter, none of the former has begun: the last is
-/// begun first. It fails only out of memory.
+/// begun first. There is a pass for each who serves there, and nobody has called by any of them. It
+/// fails only out of memory.
 pub(crate) fn make_operators<'g, M: GateNaming, R: SystemClock, G: Limit, L, C, S>(
     gateway: &Gateway<'g, R, L, C, S>,
     gate: &'g SharedGate<G, M>,
     passes: Vec<Pass<M>>,
-) -> Result<Vec<Operator<'g, G, M, R, L, C, DeskLog<'g, R>>>, AllocError> {
+) -> Result<Vec<Operator<'g, G, M, R, L, C, DeskLog<'g, R>>>, AllocError>
+    requires unused { All IsUnused passes.items }
+    requires count { vec_len passes ≡ count_beside gateway.now.side.now }
+    ensures { IfOk result (λ made. vec_len made ≡ vec_len passes) }
+{
     let side = gateway.side;
     let mut operators = Vec::with_capacity(gateway.common.alloc, passes.len())?;
     for pass in passes {
@@ -25,7 +33,7 @@ pub(crate) fn make_operators<'g, M: GateNaming, R: SystemClock, G: Limit, L, C, 
             (_, Some(status)) if operators.len() < AT_ONCE => (status, None),
             (Some(admin), status) => (admin, listener_at(status)),
             (None, Some(status)) => (status, None),
-            (None, None) => return Ok(operators),
+            (None, None) => unreachable!(),
         };
         let desk = make_desk(gateway, gate, operating, pass)?;
         operators.push(Operator::new(operating, desk, also)?)?;
@@ -47,7 +55,9 @@ fn make_desk<'g, M: GateNaming, R: SystemClock, G: Limit, L, C, S>(
     gate: &'g SharedGate<G, M>,
     operating: &Operating<'g, L, C>,
     pass: Pass<M>,
-) -> Result<GateDesk<'g, G, M, R, L, C, DeskLog<'g, R>>, AllocError> {
+) -> Result<GateDesk<'g, G, M, R, L, C, DeskLog<'g, R>>, AllocError>
+    ensures { IfOk result (λ desk. desk.pass ≡ pass) }
+{
     let Ok(table) = gateway.settings.table.copy() else {
         return Err(AllocError);
     };
