@@ -58,8 +58,8 @@ pub record IsSameDesk {G M R L C W : Type 0} {g : LimitGhosts G} {m : NamingGhos
 
 -- WHAT IS DONE, by the desk's pass and by whether it has closed where clients come from: a report
 -- has a log that begins with what the pass knew, which knows that log then, so that it shows what
--- was changed at the desk before; a change of the limit is one step of the history, and lets clients
--- come as before; a drain is none, and closes where they come from
+-- was changed at the desk before; a change of the limit is one step of the history, and lets
+-- clients come as before; a drain is none, and closes where they come from
 abbrev pub DoneBy : {S G M R L C W : Type 0} {g : LimitGhosts G} {m : NamingGhosts M}
     → Algorithm S → Making → (L → Type 0)
     → GateDesk G M R L C W g m → GateDesk G M R L C W g m → Deed → Type 0

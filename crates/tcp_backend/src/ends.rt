@@ -22,7 +22,7 @@ pub trait RequestOutlet<S> {
         ensures bytes { Keeps (contents self.old) (contents self.new) };
 }
 
-/// The end of a socket. It shows nothing, and takes no room. A [`Dialer`](crate::Dialer) alone makes
+/// The end of a socket. It shows nothing, and takes no room. Only a [`Dialer`](crate::Dialer) makes
 /// one, and nobody can copy it.
 #[derive(Drop)]
 pub struct OpaqueEnd {

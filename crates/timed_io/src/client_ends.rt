@@ -9,8 +9,8 @@ use crate::lingering::linger;
 use clocks::Clock;
 
 /// The two ends of a client's connection, which have one owner and can't be copied. A
-/// [`Client`](crate::Client) takes them and gives them back; nobody else reads or writes by them, so
-/// whatever is written to a client shows here.
+/// [`Client`](crate::Client) takes them and gives them back; nobody else reads or writes by them,
+/// so whatever is written to a client shows here.
 #[derive(Drop)]
 pub struct ClientEnds<I, O> {
     pub(crate) from: I,

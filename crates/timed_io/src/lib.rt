@@ -14,9 +14,9 @@
 //! system less. A [`FirstByte`] lets somebody go who sends nothing, where a [`Patience`] says so.
 //! An [`Uninterrupted`] reader or writer begins a call anew that a signal cut short. A [`Client`]
 //! is all of these over one connection, behind buffers (`lent_io`), for an exchange or for an
-//! operator's call: it owns the two ends, which can't be copied, and gives them back. [`linger`] sees that a client
-//! gets to read its answer. `specs/` has the words. Nothing is promised of what a clock tells, or
-//! of how long a call takes.
+//! operator's call: it owns the two ends, which can't be copied, and gives them back. [`linger`]
+//! sees that a client gets to read its answer. `specs/` has the words. Nothing is promised of what
+//! a clock tells, or of how long a call takes.
 #![tactic(auto)]
 
 mod binding;
