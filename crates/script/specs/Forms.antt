@@ -4,7 +4,7 @@ use Rattle.std.specs.List.{list_any}
 use Rattle.std.specs.Borrow.{Bor}
 use Rattle.script.specs.Words.{is_number}
 use Rattle.script.specs.declared.place.RangeEnd.{RangeEnd}
-use Rattle.script.specs.declared.place.RangeEnd.TheVariants.{At, Of}
+use Rattle.script.specs.declared.place.RangeEnd.TheVariants.{At}
 use Rattle.script.specs.declared.place.WordPlace.{WordPlace}
 use Rattle.script.specs.declared.place.WordPlace.TheVariants.{Words, Number, Name, Class}
 

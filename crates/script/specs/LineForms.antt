@@ -1,5 +1,5 @@
 -- The forms of lines: what stands at each place.
-use Rattle.std.specs.Prelude.{ℕ, ◌^◌, ◌-◌, List, [], ◌∷◌, ◌++◌, codes}
+use Rattle.std.specs.Prelude.{◌^◌, ◌-◌, List, [], ◌∷◌, ◌++◌, codes}
 use Rattle.limit_laws.specs.Facts.{hour}
 use Rattle.windowed.specs.Totals.{most_samples}
 use Rattle.script.specs.declared.forms.TextKind.{TextKind}

@@ -141,7 +141,7 @@ macro_rules! with_settings {
 }
 
 /// The forms of a script's lines.
-static SCRIPT: [&[WordPlace]; 22] = with_settings![
+static SCRIPT: &[&[WordPlace]] = &with_settings![
     &[word!("acquire"), WordPlace::Class, NOW],
     &[word!("acquire"), WordPlace::Class, NOW, word!("wait")],
     &[word!("bypass"), NOW],
@@ -158,7 +158,7 @@ static SCRIPT: [&[WordPlace]; 22] = with_settings![
 ];
 
 /// Those of a trace's.
-static TRACE: [&[WordPlace]; 16] = with_settings![
+static TRACE: &[&[WordPlace]] = &with_settings![
     &[word!("arrive"), WordPlace::Class, AT, HELD, OUTCOME],
     &[
         word!("arrive"),
@@ -176,7 +176,7 @@ pub fn line_forms(kind: TextKind) -> &'static [&'static [WordPlace]]
     ensures { map form_of result.now ≡ forms_of kind }
 {
     match kind {
-        TextKind::Script => &SCRIPT,
-        TextKind::Trace => &TRACE,
+        TextKind::Script => SCRIPT,
+        TextKind::Trace => TRACE,
     }
 }
