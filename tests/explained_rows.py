@@ -14,6 +14,7 @@ from config_texts import (
     VEGAS,
     WINDOW,
 )
+from kind_rows import OF_THE_KEY
 
 # What `--explain` says of a configuration, behind the version, the addresses and what stands before: its lines but that
 # which shows the text. `{}` stands for the number of the line.
@@ -38,8 +39,7 @@ OF_FAULTS = [
         "",
         "[limit]\ninitial = 1\n",
         "",
-        'line 4: [limit]\nlimit.kind isn\'t there: "fixed", "settable", "aimd", "vegas" or, in version 3, "auto"; '
-        "required\n",
+        f"line 4: [limit]\nlimit.kind isn't there: {OF_THE_KEY}\n",
         "missing limit.kind",
     ),
     (
@@ -79,8 +79,7 @@ OF_FAULTS = [
         "",
         'limit = { kind = "none" }\n',
         "",
-        'line 4: limit = { kind = "none" }\nlimit.kind: "fixed", "settable", "aimd", "vegas" or, in version 3, '
-        '"auto"; required\n',
+        f'line 4: limit = {{ kind = "none" }}\nlimit.kind: {OF_THE_KEY}\n',
         "value limit.kind",
     ),
     (

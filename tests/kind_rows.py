@@ -2,6 +2,9 @@
 from config_texts import limit_of
 
 HOUR = 3_600_000_000_000
+# The kinds, as --explain lists what may follow `limit` and what `limit.kind` holds.
+BEHIND_LIMIT = "fixed, settable, auto, aimd or vegas"
+OF_THE_KEY = '"fixed", "settable", "aimd", "vegas" or, in version 3, "auto"; required'
 
 # Lines that give a limit: taken, with wrong words, and with a number outside its range.
 # fmt: off

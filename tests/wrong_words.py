@@ -1,4 +1,5 @@
 """Rows of `tests/lines`: which word of a line `--explain` names, and what it says is wanted there."""
+from kind_rows import BEHIND_LIMIT
 
 HOUR = "3600000000000"
 SETTINGS = "limit, window, share, class, places, backlog, keep, promote, timeout"
@@ -17,8 +18,8 @@ OF_SCRIPTS = [
     ("\tbypass 1", r'1, "\tbypass"', REQUESTS),
     ("\ufefflimit fixed 1", r'1, "\xef\xbb\xbflimit"', REQUESTS),
     ("x" * 61, f'1, "{"x" * 60}.."', REQUESTS),
-    ("limit", "2 isn't there", "fixed, settable, auto, aimd or vegas"),
-    ("limit slow 1", '2, "slow"', "fixed, settable, auto, aimd or vegas"),
+    ("limit", "2 isn't there", BEHIND_LIMIT),
+    ("limit slow 1", '2, "slow"', BEHIND_LIMIT),
     ("limit fixed", "3 isn't there", "N in digits, permits, 1 to 10000"),
     ("limit fixed -1", '3, "-1"', "N in digits, permits, 1 to 10000"),
     ("limit fixed 1 2", '4, "2"', "nothing more"),
