@@ -24,6 +24,10 @@ abbrev pub is_connection_option : List Header → List ℕ → Bool
 is_connection_option lines name =
     list_any (λ part. same_name part name) (parts_named (codes "connection") lines)
 
+-- a Connection line among the lines has the option `close`: the connection ends with the message
+abbrev pub asks_close : List Header → Bool
+asks_close lines = is_connection_option lines (codes "close")
+
 -- a line of a message with these lines is passed on: Host always, and any other line where it is
 -- of no field of one connection and no Connection line names its field
 abbrev pub is_passed : List Header → Header → Bool

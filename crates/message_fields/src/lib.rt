@@ -20,5 +20,6 @@ pub use lines::{
     asks_continue, count_codings_and_lengths, count_hosts, count_named, first_value, has_host,
     is_chunked_alone,
 };
+pub use passed::asks_close;
 pub use passing::Passing;
 pub use target::{authority, is_target, is_whole_server, local_part, wants_slash};

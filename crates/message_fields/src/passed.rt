@@ -4,7 +4,7 @@ ghost use Rattle.std.specs.List.{list_any};
 ghost use Rattle.message_parts.specs.Names.{same_name};
 ghost use Rattle.message_fields.specs.Lines.{is_named};
 ghost use Rattle.message_fields.specs.Parts.{parts};
-ghost use Rattle.message_fields.specs.Passed.{is_connection_option, is_passed, is_passed_in_request};
+ghost use Rattle.message_fields.specs.Passed.{asks_close, is_connection_option, is_passed, is_passed_in_request};
 ghost use Rattle.message_fields.specs.Passing.{lines_of};
 
 use super::fields::{is_connection, is_expect, is_host, is_own};
@@ -34,6 +34,14 @@ fn is_connection_option(lines: &[Header], name: &[u8]) -> bool
     ensures { result ≡ is_connection_option lines.now name.now }
 {
     lines.iter().any(|line| names_field(line, name))
+}
+
+/// Whether a Connection line has the option `close`: the connection ends with the message
+/// (RFC 9112, section 9.6).
+pub fn asks_close(lines: &[Header]) -> bool
+    ensures { result ≡ asks_close lines.now }
+{
+    is_connection_option(lines, b"close")
 }
 
 /// How long the value of a Connection line is; 0 of any other line.

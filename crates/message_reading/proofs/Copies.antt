@@ -36,6 +36,6 @@ same_request h method target minor lines a b c d = rw (a, b, c, d) refl
 
 pub same_response : (h : ResponseText) (status minor : ℕ) (lines : List Header)
     → status ≡ status_code h → minor ≡ h.minor → lines ≡ map line_of h.fields
-    → ◌≡◌ {A = ResponseHead} (record { status = status; minor = minor; lines = lines })
-    (response_head h)
+    → ◌≡◌ {A = ResponseHead}
+    (record { status = status; minor = minor; interim = 0; lines = lines }) (response_head h)
 same_response h status minor lines a b c = rw (a, b, c) refl

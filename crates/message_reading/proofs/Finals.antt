@@ -6,7 +6,7 @@ use Rattle.message_reading.specs.declared.fault.MessageFault.{MessageFault}
 use Rattle.message_reading.specs.declared.fault.MessageFault.TheVariants.{Memory, Read, TurnLimit, Bytes}
 use Rattle.message_reading.specs.Reading.{Gives, Reading}
 use Rattle.message_reading.specs.declared.response_head.ResponseHead.{ResponseHead}
-use Rattle.message_reading.specs.Heads.{IsFinalHead, IsResponseHead, is_final, is_interim}
+use Rattle.message_reading.specs.Heads.{IsFinalHead, IsResponseHead, behind, is_final, is_interim}
 
 -- what the heads that a reader has left give, all that it had gives
 abbrev pub GoOn : Option (List ℕ) → Option (List ℕ) → ℕ → Type 0
@@ -37,7 +37,7 @@ finals_more (Some xs) (Some ys) (Some zs) left head on given last more some = λ
 
 pub final_found : (old mid new : Option (List ℕ)) (left : ℕ) (head : ResponseHead)
     → GoOn old mid left → GivesHead mid new (Ok head) → is_final head.status ≡ true
-    → GivesFinal old new (Ok head)
+    → GivesFinal old new (Ok (behind (16 - left) head))
 final_found None mid new left head on given last = search rules
 final_found (Some xs) None new left head on given last = absurd on
 final_found (Some xs) (Some ys) None left head on given last = absurd given

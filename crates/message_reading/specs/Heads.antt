@@ -1,5 +1,5 @@
 -- The heads of messages.
-use Rattle.std.specs.Prelude.{◌≡◌, ◌⊎◌, ◌+◌, ℕ, Bool, true, false, ◌&&◌, ◌||◌, ◌==◌, nat_le, nat_lt, List, Result, Ok, Err}
+use Rattle.std.specs.Prelude.{◌≡◌, ◌⊎◌, ◌+◌, ◌-◌, ℕ, Bool, true, false, ◌&&◌, ◌||◌, ◌==◌, nat_le, nat_lt, List, Result, Ok, Err}
 use Rattle.message_reading.specs.declared.fault.Fault.{Fault}
 use Rattle.message_reading.specs.declared.fault.Fault.TheVariants.{Malformed}
 use Rattle.message_reading.specs.Reading.{By, Reading, Then, checked}
@@ -35,13 +35,22 @@ is_interim status = (status == 100) || (nat_le 102 status && nat_lt status 200)
 abbrev pub is_final : ℕ → Bool
 is_final status = nat_le 200 status
 
--- the head of the final response, where so many interim ones may still come
+-- the head behind so many interim ones
+abbrev pub behind : ℕ → ResponseHead → ResponseHead
+behind interim head = record {
+  status = head.status;
+  minor = head.minor;
+  interim = interim;
+  lines = head.lines;
+}
+
+-- the head of the final response, where so many interim ones may still come of the 16 that may
 pub data IsFinalHead : ℕ → List ℕ → Reading ResponseHead → Type 0 where
   head_fails : (left : ℕ) (bytes : List ℕ) (f : Fault) → IsResponseHead bytes (Err f)
       → IsFinalHead left bytes (Err f)
   final : (left : ℕ) (bytes rest : List ℕ) (head : ResponseHead)
       → IsResponseHead bytes (Ok (head, rest)) → is_final head.status ≡ true
-      → IsFinalHead left bytes (Ok (head, rest))
+      → IsFinalHead left bytes (Ok (behind (16 - left) head, rest))
   refused : (left : ℕ) (bytes rest : List ℕ) (head : ResponseHead)
       → IsResponseHead bytes (Ok (head, rest)) → is_final head.status ≡ false
       → (left ≡ 0) ⊎ (is_interim head.status ≡ false) → IsFinalHead left bytes (Err Malformed)

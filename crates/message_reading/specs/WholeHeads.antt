@@ -67,11 +67,12 @@ request_head h = record {
   lines = map line_of h.fields;
 }
 
--- what a response head says
+-- what a response head says; those before it aren't known here
 abbrev pub response_head : ResponseText → ResponseHead
 response_head h = record {
   status = status_code h;
   minor = h.minor;
+  interim = 0;
   lines = map line_of h.fields;
 }
 

@@ -2,7 +2,7 @@
 ghost use Rattle.std.specs.Prelude.{◌≡◌, ◌≤◌, IfOk};
 ghost use Rattle.counted_io.specs.Counted.{calls_of};
 ghost use Rattle.message_reading.specs.Reading.{Reads, ReadsWithin, once_more};
-ghost use Rattle.message_reading.specs.Heads.{IsFinalHead, IsResponseHead, is_final, is_interim};
+ghost use Rattle.message_reading.specs.Heads.{IsFinalHead, IsResponseHead, behind, is_final, is_interim};
 
 use crate::fault::{Fault, MessageFault};
 use crate::head_bytes::read_head;
@@ -49,7 +49,25 @@ fn is_final(status: u16) -> bool
     status >= 200
 }
 
-/// The head of the final response, behind at most 16 interim ones, which are dropped.
+// The head, behind so many interim ones.
+fn behind(head: ResponseHead, interim: u8) -> ResponseHead
+    ensures { result ≡ behind interim head }
+{
+    let ResponseHead {
+        status,
+        minor,
+        interim: _,
+        lines,
+    } = head;
+    ResponseHead {
+        status,
+        minor,
+        interim,
+        lines,
+    }
+}
+
+/// The head of the final response, behind at most 16 interim ones, which are counted and dropped.
 ///
 /// The 17th interim head is `Malformed`, and so is one with the status 101 or one below 100.
 #[tactic(auto, using(crate::proofs::Finals::final_steps))]
@@ -67,7 +85,7 @@ pub fn read_final_head<R: BufRead>(
     loop {
         let head = read_response_head(alloc, reader, limit)?;
         if is_final(head.status) {
-            return Ok(head);
+            return Ok(behind(head, MOST_INTERIM - left));
         }
         if left == 0 || !is_interim(head.status) {
             return Err(MessageFault::Bytes(Fault::Malformed));

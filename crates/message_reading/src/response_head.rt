@@ -22,6 +22,8 @@ pub struct ResponseHead {
     pub status: u16,
     /// The minor version: 0 for `HTTP/1.0` and 1 for `HTTP/1.1`.
     pub minor: u8,
+    /// How many interim heads came before it, at most 16.
+    pub interim: u8,
     pub lines: Headers,
 }
 
@@ -71,6 +73,7 @@ pub(crate) fn head_at(
     Ok(ResponseHead {
         status: found.code,
         minor: found.version,
+        interim: 0,
         lines,
     })
 }

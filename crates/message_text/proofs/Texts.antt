@@ -9,9 +9,10 @@ use Rattle.std.proofs.lemmas.Grind.{flat_map-append}
 use Rattle.message_parts.specs.Header.{Header}
 use Rattle.message_fields.specs.Passed.{request_lines, response_lines}
 use Rattle.message_fields.specs.Target.{authority_of, ends_authority, forwarded_target, is_absolute}
-use Rattle.message_text.specs.Line.{line_text, lines_text, close_line}
+use Rattle.message_text.specs.Line.{line_of, line_text, lines_text, close_lines}
 use Rattle.message_text.specs.Forwarded.{ForwardedValue, hosted, host_lines, length_lines, via_line, first_text, forwarded_lines, forwarded_text}
-use Rattle.message_text.specs.Answer.{AnswerValue, told_lines, answer_lines, answer_text, status_text, written_body, local_text}
+use Rattle.message_text.specs.declared.persistence.Persistence.{Persistence}
+use Rattle.message_text.specs.Answer.{AnswerValue, told_lines, answer_lines, answer_text, status_text, written_body, local_text, marked_text}
 
 -- a front was written, and then the rest
 pub wrote_then : {T E : Type 0} (r : Result T E) (a b c : Option (List ℕ)) (x y text : List ℕ)
@@ -26,36 +27,23 @@ lines_text-append : (one other : List Header)
 unfolding lines_text
 lines_text-append one other = flat_map-append line_text one other
 
--- the last line, and the empty line behind it
-closed : lines_text (close_line ∷ []) ++ codes "\r\n" ≡ codes "Connection: close\r\n\r\n"
-unfolding lines_text line_text
-closed = refl
-
--- a line, the last line, and the empty line behind it
-via_closed : (line : Header) → lines_text (line ∷ close_line ∷ []) ++ codes "\r\n"
-    ≡ line_text line ++ codes "Connection: close\r\n\r\n"
-unfolding lines_text
-via_closed line =
-    append_assoc (line_text line) (lines_text (close_line ∷ [])) (codes "\r\n")
-    ∙ ap (λ (t : List ℕ). line_text line ++ t) closed
-
 -- the lines of an answer and the empty line, in two pieces
 pub answer_pieces : (answer : AnswerValue)
     → lines_text (answer_lines answer) ++ codes "\r\n"
     ≡ lines_text (response_lines answer.headers)
-    ++ (lines_text (told_lines answer) ++ codes "Connection: close\r\n\r\n")
+    ++ (lines_text (told_lines answer)
+    ++ (lines_text (close_lines answer.persistence) ++ codes "\r\n"))
 unfolding answer_lines
 answer_pieces answer =
     let one = response_lines answer.headers in
     let two = told_lines answer in
-    let last = close_line ∷ [] in
+    let last = close_lines answer.persistence in
     let split : lines_text (one ++ two ++ last)
     ≡ lines_text one ++ lines_text two ++ lines_text last
     = simp lines_text-append in
     ap (λ (t : List ℕ). t ++ codes "\r\n") split
     ∙ append_assoc (lines_text one ++ lines_text two) (lines_text last) (codes "\r\n")
-    ∙ ap (λ (t : List ℕ). (lines_text one ++ lines_text two) ++ t) closed
-    ∙ append_assoc (lines_text one) (lines_text two) (codes "Connection: close\r\n\r\n")
+    ∙ append_assoc (lines_text one) (lines_text two) (lines_text last ++ codes "\r\n")
 
 -- an answer, in three pieces
 pub answer_whole : (answer : AnswerValue)
@@ -66,32 +54,42 @@ unfolding answer_text
 answer_whole answer = simp (append_assoc, append-nil)
 
 -- the gateway's own answer, in two pieces
-pub local_whole : (status : ℕ)
-    → local_text status
-    ≡ status_text status ++ codes "Content-Length: 0\r\nConnection: close\r\n\r\n"
-unfolding local_text lines_text line_text
-local_whole status = refl
+pub local_whole : (persistence : Persistence) (status : ℕ)
+    → local_text persistence status
+    ≡ status_text status
+    ++ (lines_text (line_of (codes "Content-Length") (codes "0") ∷ close_lines persistence)
+    ++ codes "\r\n")
+unfolding local_text
+local_whole persistence status = simp (append_assoc, append-nil)
+
+-- the same with a mark, in three pieces
+pub marked_whole : (persistence : Persistence) (status : ℕ) (mark : List ℕ)
+    → marked_text persistence status mark
+    ≡ (status_text status ++ line_text (line_of (codes "X-Admission") mark))
+    ++ (lines_text (line_of (codes "Content-Length") (codes "0") ∷ close_lines persistence)
+    ++ codes "\r\n")
+unfolding marked_text lines_text
+marked_whole persistence status mark = simp (append_assoc, append-nil)
 
 -- the lines of a forwarded request and the empty line, in four pieces
 pub forwarded_pieces : (request : ForwardedValue)
     → lines_text (forwarded_lines request) ++ codes "\r\n"
     ≡ ((lines_text (map (hosted (authority_of request.target)) (request_lines request.headers))
     ++ lines_text (host_lines request)) ++ lines_text (length_lines request.body))
-    ++ (line_text (via_line request.is_old) ++ codes "Connection: close\r\n\r\n")
-unfolding forwarded_lines
+    ++ (line_text (via_line request.is_old) ++ lines_text (close_lines request.persistence)
+    ++ codes "\r\n")
+unfolding forwarded_lines lines_text
 forwarded_pieces request =
     let kept = map (hosted (authority_of request.target)) (request_lines request.headers) in
     let host = host_lines request in
     let size = length_lines request.body in
     let via = via_line request.is_old in
+    let last = close_lines request.persistence in
     let front : List ℕ = lines_text kept ++ lines_text host ++ lines_text size in
-    let split : lines_text (kept ++ host ++ size ++ (via ∷ close_line ∷ []))
-    ≡ front ++ lines_text (via ∷ close_line ∷ []) = simp lines_text-append in
-    let pair : lines_text (via ∷ close_line ∷ []) ++ codes "\r\n"
-    ≡ line_text via ++ codes "Connection: close\r\n\r\n" = via_closed via in
+    let split : lines_text (kept ++ host ++ size ++ (via ∷ last))
+    ≡ front ++ lines_text (via ∷ last) = simp lines_text-append in
     ap (λ (t : List ℕ). t ++ codes "\r\n") split
-    ∙ append_assoc front (lines_text (via ∷ close_line ∷ [])) (codes "\r\n")
-    ∙ ap (λ (t : List ℕ). front ++ t) pair
+    ∙ append_assoc front (lines_text (via ∷ last)) (codes "\r\n")
 
 -- a target without an authority isn't absolute
 not_absolute : (target : List ℕ) → authority_of target ≡ None → is_absolute target ≡ false

@@ -11,7 +11,9 @@ use Rattle.message_parts.specs.Names.{same_name}
 use Rattle.message_fields.specs.Lines.{is_named, count_named}
 use Rattle.message_fields.specs.Passed.{is_passed, is_passed_in_request, request_lines, response_lines}
 use Rattle.message_fields.specs.Target.{authority_of}
-use Rattle.message_text.specs.Line.{close_line, line_of}
+use Rattle.message_text.specs.Line.{close_lines, line_of}
+use Rattle.message_text.specs.declared.persistence.Persistence.{Persistence}
+use Rattle.message_text.specs.declared.persistence.Persistence.TheVariants.{Close, Keep}
 use Rattle.message_text.specs.Forwarded.{ForwardedValue, forwarded_lines, host_lines, length_lines, via_line, hosted}
 use Rattle.message_text.specs.Answer.{AnswerValue, answer_lines, told_lines, is_bodiless, received_lines}
 use Rattle.message_text.specs.Laws.{TellsOneHost, TellsItsLength, TellsNoCoding, AnswersItsLength, AnswersNoCoding}
@@ -65,24 +67,25 @@ length_tells None = (refl, refl)
 length_tells (Some body) = (refl, refl)
 
 -- the last lines tell neither
-last_tell : (is_old : Bool)
-    → (filter (is_named (codes "transfer-encoding")) (via_line is_old ∷ close_line ∷ []) ≡ [])
-    × (filter (is_named (codes "content-length")) (via_line is_old ∷ close_line ∷ []) ≡ [])
-    × (filter (is_named (codes "host")) (via_line is_old ∷ close_line ∷ []) ≡ [])
+last_tell : (is_old : Bool) (it : Persistence)
+    → (filter (is_named (codes "transfer-encoding")) (via_line is_old ∷ close_lines it) ≡ [])
+    × (filter (is_named (codes "content-length")) (via_line is_old ∷ close_lines it) ≡ [])
+    × (filter (is_named (codes "host")) (via_line is_old ∷ close_lines it) ≡ [])
 unfolding same_name via_line
-last_tell is_old = (refl, refl, refl)
+last_tell is_old Close = (refl, refl, refl)
+last_tell is_old Keep = (refl, refl, refl)
 
 pub tells_no_coding : (request : ForwardedValue) → TellsNoCoding request
 unfolding forwarded_lines
 tells_no_coding request =
     filter_four (is_named (codes "transfer-encoding"))
     (map (hosted (authority_of request.target)) (request_lines request.headers))
-    (host_lines request) (length_lines request.body) (via_line request.is_old ∷ close_line ∷ [])
+    (host_lines request) (length_lines request.body) (via_line request.is_old ∷ close_lines request.persistence)
     ∙ rw (
       kept_coding request,
       (host_apart request).0,
       (length_tells request.body).0,
-      (last_tell request.is_old).0,
+      (last_tell request.is_old request.persistence).0,
     ) refl
 
 pub tells_its_length : (request : ForwardedValue) → TellsItsLength request
@@ -90,12 +93,12 @@ unfolding forwarded_lines
 tells_its_length request =
     filter_four (is_named (codes "content-length"))
     (map (hosted (authority_of request.target)) (request_lines request.headers))
-    (host_lines request) (length_lines request.body) (via_line request.is_old ∷ close_line ∷ [])
+    (host_lines request) (length_lines request.body) (via_line request.is_old ∷ close_lines request.persistence)
     ∙ rw (
       kept_length request,
       (host_apart request).1,
       (length_tells request.body).1,
-      (last_tell request.is_old).1,
+      (last_tell request.is_old request.persistence).1,
     ) (append-nil (length_lines request.body))
 
 -- the line of a length that came tells a length, and no coding
@@ -147,33 +150,35 @@ passed_none name lines apart =
     ∙ none_kept name (is_passed lines) (λ line. line) (λ line. refl) apart lines
 
 -- the last line tells neither
-close_tells : (filter (is_named (codes "transfer-encoding")) (close_line ∷ []) ≡ [])
-    × (filter (is_named (codes "content-length")) (close_line ∷ []) ≡ [])
+close_tells : (it : Persistence)
+    → (filter (is_named (codes "transfer-encoding")) (close_lines it) ≡ [])
+    × (filter (is_named (codes "content-length")) (close_lines it) ≡ [])
 unfolding same_name
-close_tells = (refl, refl)
+close_tells Close = (refl, refl)
+close_tells Keep = (refl, refl)
 
 pub answers_no_coding : (answer : AnswerValue) → AnswersNoCoding answer
 unfolding answer_lines
 answers_no_coding answer =
     filter_three (is_named (codes "transfer-encoding")) (response_lines answer.headers)
-    (told_lines answer) (close_line ∷ [])
+    (told_lines answer) (close_lines answer.persistence)
     ∙ rw (
       passed_none (codes "transfer-encoding") answer.headers
           (λ line passed. (passed_apart answer.headers line passed).0),
       (told_tell answer).0,
-      close_tells.0,
+      (close_tells answer.persistence).0,
     ) refl
 
 pub answers_its_length : (answer : AnswerValue) → AnswersItsLength answer
 unfolding answer_lines
 answers_its_length answer =
     filter_three (is_named (codes "content-length")) (response_lines answer.headers)
-    (told_lines answer) (close_line ∷ [])
+    (told_lines answer) (close_lines answer.persistence)
     ∙ rw (
       passed_none (codes "content-length") answer.headers
           (λ line passed. (passed_apart answer.headers line passed).1),
       (told_tell answer).1,
-      close_tells.1,
+      (close_tells answer.persistence).1,
     ) (append-nil (told_lines answer))
 
 -- the Host lines that are kept are those that came
@@ -241,12 +246,12 @@ tells_one_host request few =
     let host : Header → Bool = is_named (codes "host") in
     let kept : List Header =
     map (hosted (authority_of request.target)) (request_lines request.headers) in
-    let last : List Header = via_line request.is_old ∷ close_line ∷ [] in
+    let last : List Header = via_line request.is_old ∷ close_lines request.persistence in
     let parts = filter_four host kept (host_lines request) (length_lines request.body) last in
     let none : filter host kept ++ filter host (host_lines request)
     ++ filter host (length_lines request.body) ++ filter host last
     ≡ filter host kept ++ filter host (host_lines request) =
-    rw (length_not_host request.body, (last_tell request.is_old).2)
+    rw (length_not_host request.body, (last_tell request.is_old request.persistence).2)
     (append-nil _ ∙ append-nil _) in
     let came = hosts_kept request.headers (authority_of request.target) request.headers
     ∙ length-filter host request.headers in

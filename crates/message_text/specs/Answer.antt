@@ -5,8 +5,9 @@ use Rattle.http.specs.StatusCode.{reason_phrase}
 use Rattle.message_parts.specs.Header.{Header}
 use Rattle.message_fields.specs.Passed.{response_lines}
 use Rattle.message_fields.specs.Lengths.{length_digits}
-use Rattle.message_text.specs.Line.{line_of, lines_text, close_line}
+use Rattle.message_text.specs.Line.{line_of, lines_text, close_lines}
 use Rattle.message_text.specs.declared.answer.Answer.{Answer}
+use Rattle.message_text.specs.declared.persistence.Persistence.{Persistence}
 use Rattle.message_text.specs.Forwarded.{lent, length_lines}
 
 -- what an answer is written from: the method is that of the request
@@ -15,6 +16,7 @@ pub record AnswerValue : Type 0 where
   pub status : ℕ
   pub headers : List Header
   pub body : Option (List ℕ)
+  pub persistence : Persistence
 
 -- what is seen of an answer that is to be written
 abbrev pub seen : Answer → AnswerValue
@@ -23,6 +25,7 @@ seen answer = record {
   status = answer.status;
   headers = answer.headers.now;
   body = lent answer.body;
+  persistence = answer.persistence;
 }
 
 -- the phrase of a status, which may be empty
@@ -54,7 +57,7 @@ told_lines answer =
 -- the lines of an answer
 unfoldable pub answer_lines : AnswerValue → List Header
 answer_lines answer =
-    response_lines answer.headers ++ told_lines answer ++ close_line ∷ []
+    response_lines answer.headers ++ told_lines answer ++ close_lines answer.persistence
 
 -- the first line of an answer
 unfoldable pub status_text : ℕ → List ℕ
@@ -68,8 +71,16 @@ answer_text answer =
     ∷ codes "\r\n" ∷ unwrap_or (written_body answer) [] ∷ [])
 
 -- the gateway's own answer of a status
-unfoldable pub local_text : ℕ → List ℕ
-local_text status =
+unfoldable pub local_text : Persistence → ℕ → List ℕ
+local_text persistence status =
     concat (status_text status
-    ∷ lines_text (line_of (codes "Content-Length") (codes "0") ∷ close_line ∷ [])
+    ∷ lines_text (line_of (codes "Content-Length") (codes "0") ∷ close_lines persistence)
+    ∷ codes "\r\n" ∷ [])
+
+-- the same with a mark, a word that needs no escape, which tells why the gateway answers itself
+unfoldable pub marked_text : Persistence → ℕ → List ℕ → List ℕ
+marked_text persistence status mark =
+    concat (status_text status
+    ∷ lines_text (line_of (codes "X-Admission") mark
+    ∷ line_of (codes "Content-Length") (codes "0") ∷ close_lines persistence)
     ∷ codes "\r\n" ∷ [])

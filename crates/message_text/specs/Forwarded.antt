@@ -7,7 +7,8 @@ use Rattle.message_fields.specs.Lines.{is_named, count_named}
 use Rattle.message_fields.specs.Passed.{request_lines}
 use Rattle.message_fields.specs.Target.{authority_of, forwarded_target}
 use Rattle.message_text.specs.declared.forwarded.Forwarded.{Forwarded}
-use Rattle.message_text.specs.Line.{line_of, lines_text, length_line, close_line}
+use Rattle.message_text.specs.declared.persistence.Persistence.{Persistence}
+use Rattle.message_text.specs.Line.{line_of, lines_text, length_line, close_lines}
 
 -- bytes that are lent, where there are any
 abbrev pub lent : Option (Bor (List ℕ)) → Option (List ℕ)
@@ -21,6 +22,7 @@ pub record ForwardedValue : Type 0 where
   pub headers : List Header
   pub body : Option (List ℕ)
   pub backend : List ℕ
+  pub persistence : Persistence
 
 -- what is seen of a request that is to be forwarded
 abbrev pub seen : Forwarded → ForwardedValue
@@ -31,6 +33,7 @@ seen request = record {
   headers = request.headers.now;
   body = lent request.body;
   backend = request.backend.now;
+  persistence = request.persistence;
 }
 
 -- a line of a request whose target has this authority, if it has one, which Host then tells
@@ -61,7 +64,7 @@ unfoldable pub forwarded_lines : ForwardedValue → List Header
 forwarded_lines request =
     map (hosted (authority_of request.target)) (request_lines request.headers)
     ++ host_lines request ++ length_lines request.body
-    ++ via_line request.is_old ∷ close_line ∷ []
+    ++ via_line request.is_old ∷ close_lines request.persistence
 
 -- the first line of a request as it is forwarded
 abbrev pub first_text : ForwardedValue → List ℕ

@@ -2,6 +2,8 @@
 use Rattle.std.specs.Prelude.{ℕ, List, [], ◌∷◌, codes, decimal, length}
 use Rattle.std.specs.List.{concat, flat_map}
 use Rattle.message_parts.specs.Header.{Header}
+use Rattle.message_text.specs.declared.persistence.Persistence.{Persistence}
+use Rattle.message_text.specs.declared.persistence.Persistence.TheVariants.{Close, Keep}
 
 -- the line of a name and a value
 abbrev pub line_of : List ℕ → List ℕ → Header
@@ -22,3 +24,8 @@ length_line body = line_of (codes "Content-Length") (decimal (length body))
 -- the line that says that the connection ends with the message
 abbrev pub close_line : Header
 close_line = line_of (codes "Connection") (codes "close")
+
+-- that line, where the connection ends, and none where it is kept
+abbrev pub close_lines : Persistence → List Header
+close_lines Close = close_line ∷ []
+close_lines Keep = []

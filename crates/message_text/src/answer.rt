@@ -1,21 +1,25 @@
 // A response as it is written to the client.
-ghost use Rattle.std.specs.Prelude.{◌≡◌, ◌≤◌, true, OnOk, OnErr, IfSome, codes, option_map, unwrap_or, if◌then◌else◌, [], ◌++◌};
+ghost use Rattle.std.specs.Prelude.{◌≡◌, ◌≤◌, true, OnOk, OnErr, IfSome, codes, option_map, unwrap_or, if◌then◌else◌, [], ◌∷◌, ◌++◌};
 ghost use Rattle.counted_io.specs.Counted.{failures_of, flushes_of, is_flushed};
 ghost use Rattle.counted_io.specs.Count.{raised};
 ghost use Rattle.counted_io.specs.Effects.{Wrote};
 ghost use Rattle.counted_io.specs.Causes.{IsWriteCause};
-ghost use Rattle.message_text.specs.Line.{lines_text};
+ghost use Rattle.message_text.specs.Line.{close_lines, line_of, lines_text};
 ghost use Rattle.message_fields.specs.Lengths.{length_digits};
 ghost use Rattle.message_text.specs.Forwarded.{lent};
-ghost use Rattle.message_text.specs.Answer.{seen, is_bodiless, written_body, received_lines, told_lines, answer_lines, status_text, answer_text, local_text};
+ghost use Rattle.message_text.specs.Answer.{seen, is_bodiless, written_body, received_lines, told_lines, answer_lines, status_text, answer_text, local_text, marked_text};
 
 use super::lines::{bytes_of, write_length, write_line, write_response_lines};
 use super::number::write_decimal;
+use super::persistence::{Persistence, head_end};
 use super::phrase::phrase_of;
 use counted_io::{Counted, WriteFault, write_all, write_and_flush};
 use message_fields::length_digits;
 use message_parts::Header;
 use std::io::Write;
+
+/// The last lines of the gateway's own answer, and the empty line behind them.
+const WITHOUT_A_BODY: &[u8] = b"Content-Length: 0\r\nConnection: close\r\n\r\n";
 
 /// What an answer to the client is written from.
 #[derive(Drop)]
@@ -28,6 +32,8 @@ pub struct Answer<'a> {
     pub headers: &'a [Header],
     /// The body, where the response has one.
     pub body: Option<&'a [u8]>,
+    /// What it says of its connection.
+    pub persistence: Persistence,
 }
 
 /// The first line of an answer with one of the commonest statuses.
@@ -99,26 +105,28 @@ impl Answer<'_> {
         }
     }
 
-    /// Writes the length that is told, the line that ends the connection, and the empty line behind
-    /// them.
+    /// Writes the length that is told, the line that ends the connection where it ends, and the
+    /// empty line behind them.
     #[tactic(auto, using(crate::proofs::Kept::one_line), unfolding(crate::specs::Line::lines_text))]
     fn write_last<W: Write>(&self, writer: &mut Counted<W>) -> Result<(), WriteFault>
         ensures all { OnOk result (Wrote W.contents writer.old writer.new
-            (lines_text (told_lines (seen self.now)) ++ codes "Connection: close\r\n\r\n")) }
+            (lines_text (told_lines (seen self.now))
+            ++ (lines_text (close_lines self.now.persistence) ++ codes "\r\n"))) }
         ensures unfailing { OnOk result (failures_of writer.new ≡ failures_of writer.old) }
         ensures failed { OnErr result (IsWriteCause writer.old writer.new) }
         ensures flushes { flushes_of writer.new ≡ flushes_of writer.old }
     {
+        let end = head_end(self.persistence);
         if self.status == 204 {
-            return write_all(writer, b"Connection: close\r\n\r\n");
+            return write_all(writer, end);
         }
         if is_bodiless(self.method, self.status) {
             self.write_received(writer)?;
-            return write_all(writer, b"Connection: close\r\n\r\n");
+            return write_all(writer, end);
         }
         match self.body {
-            Some(body) => write_length(writer, body, b"Connection: close\r\n\r\n"),
-            None => write_all(writer, b"Connection: close\r\n\r\n"),
+            Some(body) => write_length(writer, body, end),
+            None => write_all(writer, end),
         }
     }
 
@@ -153,17 +161,57 @@ impl Answer<'_> {
     }
 }
 
-/// Writes the gateway's own answer of a status: no body, and the connection ends. It flushes once.
+/// What stands behind the first line of an answer without a body.
+#[tactic(auto, unfolding(crate::specs::Line::lines_text, crate::specs::Line::line_text))]
+fn local_rest(persistence: Persistence) -> &'static [u8]
+    ensures { result.now
+        ≡ lines_text (line_of (codes "Content-Length") (codes "0") ∷ close_lines persistence)
+        ++ codes "\r\n" }
+{
+    match persistence {
+        Persistence::Close => b"Content-Length: 0\r\nConnection: close\r\n\r\n",
+        Persistence::Keep => b"Content-Length: 0\r\n\r\n",
+    }
+}
+
+/// Writes the gateway's own answer of a status, without a body. It flushes once.
 ///
 /// The one fault comes where the writer failed; then nothing is said of how much was written.
-pub fn write_local_answer<W: Write>(writer: &mut Counted<W>, status: u16) -> Result<(), WriteFault>
+pub fn write_local_answer<W: Write>(
+    writer: &mut Counted<W>,
+    status: u16,
+    persistence: Persistence,
+) -> Result<(), WriteFault>
     requires three_digits { (100 ≤ status) × (status ≤ 999) }
-    ensures all { OnOk result (Wrote W.contents writer.old writer.new (local_text status)) }
+    ensures all { OnOk result
+        (Wrote W.contents writer.old writer.new (local_text persistence status)) }
     ensures unfailing { OnOk result (failures_of writer.new ≡ failures_of writer.old) }
     ensures flushed { OnOk result (is_flushed writer.new ≡ true) }
     ensures flushes { OnOk result (flushes_of writer.new ≡ raised (flushes_of writer.old)) }
     ensures failed { OnErr result (IsWriteCause writer.old writer.new) }
 {
     write_status(writer, status)?;
-    write_and_flush(writer, b"Content-Length: 0\r\nConnection: close\r\n\r\n")
+    write_and_flush(writer, local_rest(persistence))
+}
+
+/// Writes the same with a mark: the line `X-Admission` with a word that needs no escape.
+///
+/// The one fault comes where the writer failed; then nothing is said of how much was written.
+pub fn write_marked_answer<W: Write>(
+    writer: &mut Counted<W>,
+    status: u16,
+    mark: &str,
+    persistence: Persistence,
+) -> Result<(), WriteFault>
+    requires three_digits { (100 ≤ status) × (status ≤ 999) }
+    ensures all { OnOk result (Wrote W.contents writer.old writer.new
+        (marked_text persistence status mark.now)) }
+    ensures unfailing { OnOk result (failures_of writer.new ≡ failures_of writer.old) }
+    ensures flushed { OnOk result (is_flushed writer.new ≡ true) }
+    ensures flushes { OnOk result (flushes_of writer.new ≡ raised (flushes_of writer.old)) }
+    ensures failed { OnErr result (IsWriteCause writer.old writer.new) }
+{
+    write_status(writer, status)?;
+    write_line(writer, b"X-Admission", mark.as_bytes())?;
+    write_and_flush(writer, local_rest(persistence))
 }

@@ -5,10 +5,11 @@ ghost use Rattle.counted_io.specs.Count.{raised};
 ghost use Rattle.counted_io.specs.Effects.{Wrote};
 ghost use Rattle.counted_io.specs.Causes.{IsWriteCause};
 ghost use Rattle.message_fields.specs.Target.{authority_of, turned, forwarded_target};
-ghost use Rattle.message_text.specs.Line.{lines_text, line_text, close_line};
+ghost use Rattle.message_text.specs.Line.{lines_text, line_text, close_lines};
 ghost use Rattle.message_text.specs.Forwarded.{lent, seen, first_text, forwarded_lines, forwarded_text, host_lines, via_line};
 
 use super::lines::{bytes_of, write_body_length, write_line, write_request_lines};
+use super::persistence::{Persistence, forwarded_end};
 use counted_io::{Counted, WriteFault, write_all, write_and_flush};
 use message_fields::{authority, has_host, is_whole_server, local_part, wants_slash};
 use message_parts::{Header, Method};
@@ -28,6 +29,8 @@ pub struct Forwarded<'a> {
     pub body: Option<&'a [u8]>,
     /// The backend's address, for a request that names no host.
     pub backend: &'a [u8],
+    /// What it says of its connection.
+    pub persistence: Persistence,
 }
 
 /// Writes a target without scheme and authority.
@@ -117,21 +120,17 @@ impl Forwarded<'_> {
         write_line(writer, b"Host", authority.unwrap_or(self.backend))
     }
 
-    /// Writes the line that tells of the gateway, the one that ends the connection, and the empty
-    /// line behind them.
-    #[tactic(auto, unfolding(crate::specs::Line::line_text, crate::specs::Forwarded::via_line))]
+    /// Writes the line that tells of the gateway, the one that ends the connection where it ends,
+    /// and the empty line behind them.
     fn write_last<W: Write>(&self, writer: &mut Counted<W>) -> Result<(), WriteFault>
         ensures all { OnOk result (Wrote W.contents writer.old writer.new
-            (line_text (via_line self.now.is_old) ++ codes "Connection: close\r\n\r\n")) }
+            (line_text (via_line self.now.is_old) ++ lines_text (close_lines self.now.persistence)
+            ++ codes "\r\n")) }
         ensures unfailing { OnOk result (failures_of writer.new ≡ failures_of writer.old) }
         ensures failed { OnErr result (IsWriteCause writer.old writer.new) }
         ensures flushes { flushes_of writer.new ≡ flushes_of writer.old }
     {
-        if self.is_old {
-            write_all(writer, b"Via: 1.0 admission\r\nConnection: close\r\n\r\n")
-        } else {
-            write_all(writer, b"Via: 1.1 admission\r\nConnection: close\r\n\r\n")
-        }
+        write_all(writer, forwarded_end(self.is_old, self.persistence))
     }
 
     /// Writes the lines that are forwarded, and the empty line behind them.

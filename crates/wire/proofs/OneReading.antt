@@ -1,5 +1,5 @@
 -- Bytes are one message at most.
-use Rattle.std.proofs.Common.{rules, arith, inl, inr, ◌≡◌, ◌+◌, ◌⊎◌, ◌∙◌, sym, ap, subst, refl, ℕ, Bool, true, false, List}
+use Rattle.std.proofs.Common.{rules, arith, inl, inr, ◌≡◌, ◌+◌, ◌-◌, ◌⊎◌, ◌∙◌, sym, ap, subst, refl, ℕ, Bool, true, false, List}
 use Rattle.std.specs.Prelude.{Option, Ok, Err}
 use Rattle.message_reading.specs.declared.fault.Fault.{Fault}
 use Rattle.message_reading.specs.Laws.{IsOne, RequestsAreOne, ResponsesAreOne}
@@ -12,7 +12,7 @@ use Rattle.message_reading.specs.declared.framing.Framing.{Framing}
 use Rattle.message_reading.specs.declared.framing.Framing.TheVariants.{Bodiless, Sized, Chunked, ToEnd}
 use Rattle.message_reading.specs.Body.{IsBody, IsWithBody, some_body}
 use Rattle.message_reading.specs.Framing.{request_framing, response_framing}
-use Rattle.message_reading.specs.Heads.{IsCheckedHead, IsFinalHead, IsRequestHead, IsResponseHead, framed, is_final, is_interim}
+use Rattle.message_reading.specs.Heads.{IsCheckedHead, IsFinalHead, IsRequestHead, IsResponseHead, behind, framed, is_final, is_interim}
 use Rattle.wire.specs.Messages.{IsRequest, IsResponse, IsResponseRest, request_of, response_of}
 
 one_value : {A : Type 0} (a b : A) (rest after : List ℕ)
@@ -126,7 +126,8 @@ final_one heads left bytes r q (IsFinalHead.final _ _ rest a x last_x)
     absurd (no_head heads bytes rest a g y x)
 final_one heads left bytes r q (IsFinalHead.final _ _ rest a x last_x)
     (IsFinalHead.final _ _ after b y last_y) =
-    let same = same_head heads bytes rest after a b x y in rw (same.0, same.1) refl
+    let same = same_head heads bytes rest after a b x y in
+    rw (ap (behind (16 - left)) same.0, same.1) refl
 final_one heads left bytes r q (IsFinalHead.final _ _ rest a x last_x)
     (IsFinalHead.refused _ _ after b y last_y why_y) =
     absurd (both_ways Final a b (same_head heads bytes rest after a b x y).0 last_x last_y)
@@ -174,6 +175,6 @@ pub responses_one : ResponsesAreOne → IsOne (IsChunks 0) → (method : List �
 responses_one heads chunks method =
     then_one (IsFinalHead 16) (IsResponseRest method) (final_one heads 16)
     (λ head. then_one (By (checked (response_framing method head)))
-    (λ framing. IsWithBody (response_of head) framing)
+    (λ framing. IsWithBody (response_of head framing) framing)
     (by_one (checked (response_framing method head)))
-    (λ framing. made_one (response_of head) framing chunks))
+    (λ framing. made_one (response_of head framing) framing chunks))

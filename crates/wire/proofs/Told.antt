@@ -142,7 +142,7 @@ module _ (method : List ℕ) where
   TellsResponse = Gives {X = ResponseValue} (λ response. response) (IsResponse method)
 
   abbrev Behind : ResponseHead → Framing → List ℕ → Reading ResponseValue → Type 0
-  Behind head framing = IsWithBody (response_of head) framing
+  Behind head framing = IsWithBody (response_of head framing) framing
 
   abbrev IsFramed : ResponseHead → List ℕ → Reading Framing → Type 0
   IsFramed head = By (checked (response_framing method head))
@@ -184,10 +184,10 @@ module _ (method : List ℕ) where
       (then_next (λ h. h) (IsFinalHead 16) (λ r. r) (IsResponseRest method) old mid new head
       (Err e) one
       (then_next (λ f. f) (IsFramed head) (λ r. r) (Behind head) mid mid new framing (Err e)
-      (framed mid head framing two) (body_cut (response_of head) framing mid new e three)))
+      (framed mid head framing two) (body_cut (response_of head framing) framing mid new e three)))
 
   pub response_whole : (old mid new : Option (List ℕ)) (head : ResponseHead) (framing : Framing)
-      (body : Option (List ℕ)) (r : ResponseValue) → r ≡ response_of head body
+      (body : Option (List ℕ)) (r : ResponseValue) → r ≡ response_of head framing body
       → GivesFinal old mid (Ok head) → response_framing method head ≡ Ok framing
       → GivesBody framing mid new (Ok body) → TellsResponse old new (Ok r)
   response_whole old mid new head framing body r is one two three =
@@ -195,4 +195,5 @@ module _ (method : List ℕ) where
       (then_next (λ h. h) (IsFinalHead 16) (λ r. r) (IsResponseRest method) old mid new head
       (Ok r) one
       (then_next (λ f. f) (IsFramed head) (λ r. r) (Behind head) mid mid new framing (Ok r)
-      (framed mid head framing two) (body_made (response_of head) framing mid new body r is three)))
+      (framed mid head framing two)
+      (body_made (response_of head framing) framing mid new body r is three)))

@@ -210,7 +210,7 @@ module _ (method : List ℕ) (response : ResponseValue) (rest : List ℕ) where
   rest_unambiguous head bytes r tells (Then.first_fails _ f x) is =
       absurd (no_value f (response, rest) is)
   rest_unambiguous head bytes r tells (Then.goes_on _ mid framing _ x y) is =
-      let made = made_of (response_of head) framing response rest mid r y is in
+      let made = made_of (response_of head framing) framing response rest mid r y is in
       let status : head.status ≡ response.status = ap (λ (v : ResponseValue). v.status) made.1 in
       let lines : head.lines ≡ response.headers = ap (λ (v : ResponseValue). v.headers) made.1 in
       let told : is_bodiless method head.status ≡ false =

@@ -3,4 +3,5 @@ pub mod Forwards
 pub mod Laws
 pub mod Messages
 pub mod Response
+pub mod Reuse
 pub mod Written

@@ -5,6 +5,7 @@ use Rattle.message_fields.specs.Target.{path_of}
 use Rattle.message_reading.specs.Reading.{By, Reading, Then, checked}
 use Rattle.message_reading.specs.declared.request_head.RequestHead.{RequestHead}
 use Rattle.message_reading.specs.declared.response_head.ResponseHead.{ResponseHead}
+use Rattle.message_reading.specs.declared.framing.Framing.{Framing}
 use Rattle.message_reading.specs.Framing.{response_framing}
 use Rattle.message_reading.specs.Heads.{IsCheckedHead, IsFinalHead}
 use Rattle.message_reading.specs.Body.{IsWithBody}
@@ -15,6 +16,7 @@ use Rattle.message_parts.specs.declared.request.Version.{Version}
 use Rattle.message_parts.specs.declared.request.Version.TheVariants.{Http10, Http11}
 use Rattle.wire.specs.Fault.{bytes_fault}
 use Rattle.wire.specs.Response.{ResponseValue}
+use Rattle.wire.specs.Reuse.{reuse_of}
 
 -- HTTP/1.0 or HTTP/1.1
 abbrev pub version_of : ℕ → Version
@@ -35,15 +37,20 @@ request_of head body = record {
 abbrev pub IsRequest : List ℕ → Reading Request → Type 0
 IsRequest = Then IsCheckedHead (λ checked. IsWithBody (request_of checked.0) checked.1)
 
--- the response with this head and body
-abbrev pub response_of : ResponseHead → Option (List ℕ) → ResponseValue
-response_of head body = record { status = head.status; headers = head.lines; body = body }
+-- the response with this head and body, where the body is delimited so
+abbrev pub response_of : ResponseHead → Framing → Option (List ℕ) → ResponseValue
+response_of head framing body = record {
+  status = head.status;
+  headers = head.lines;
+  body = body;
+  reuse = reuse_of head framing;
+}
 
 -- what follows the head of a response to a request of this method: its lengths and its body
 abbrev pub IsResponseRest : List ℕ → ResponseHead → List ℕ → Reading ResponseValue → Type 0
 IsResponseRest method head =
     Then (By (checked (response_framing method head)))
-    (λ framing. IsWithBody (response_of head) framing)
+    (λ framing. IsWithBody (response_of head framing) framing)
 
 -- a response to a request of this method: at most 16 interim heads, its head, lengths and body
 abbrev pub IsResponse : List ℕ → List ℕ → Reading ResponseValue → Type 0

@@ -9,7 +9,7 @@ ghost use Rattle.wire.specs.Written.{response_text};
 use crate::response::Response;
 use counted_io::{Counted, WriteFault};
 use message_parts::Method;
-use message_text::Answer;
+use message_text::{Answer, Persistence};
 use std::io::Write;
 
 /// The bytes of a response's body, in place.
@@ -22,7 +22,8 @@ fn body_of(response: &Response) -> Option<&[u8]>
     }
 }
 
-/// Writes a response to a client that asked by this method, and flushes once. Takes no memory.
+/// Writes a response to a client that asked by this method, and whose connection ends with it or is
+/// kept, and flushes once. Takes no memory.
 ///
 /// To HEAD, and with status 204 or 304, no body is written, and to HEAD and with 304 the length
 /// that came is passed on. The one fault comes where the writer failed; then nothing is said of how
@@ -31,9 +32,11 @@ pub fn write_response<W: Write>(
     writer: &mut Counted<W>,
     response: &Response,
     method: &Method,
+    persistence: Persistence,
 ) -> Result<(), WriteFault>
     ensures all { OnOk result
-        (Wrote W.contents writer.old writer.new (response_text method.now response.now)) }
+        (Wrote W.contents writer.old writer.new
+        (response_text persistence method.now response.now)) }
     ensures unfailing { OnOk result (failures_of writer.new ≡ failures_of writer.old) }
     ensures flushed { OnOk result (is_flushed writer.new ≡ true) }
     ensures flushes { OnOk result (flushes_of writer.new ≡ raised (flushes_of writer.old)) }
@@ -44,6 +47,7 @@ pub fn write_response<W: Write>(
         status: response.status(),
         headers: response.headers().as_slice(),
         body: body_of(response),
+        persistence,
     };
     answer.write(writer)
 }

@@ -8,7 +8,7 @@ ghost use Rattle.wire.specs.Written.{is_old, request_text};
 
 use counted_io::{Counted, WriteFault};
 use message_parts::{Bytes, Request, Version};
-use message_text::Forwarded;
+use message_text::{Forwarded, Persistence};
 use std::io::Write;
 
 /// Whether the version is HTTP/1.0.
@@ -32,16 +32,19 @@ fn bytes_of(body: &Option<Bytes>) -> Option<&[u8]>
 }
 
 /// Writes a request as it is forwarded to a backend, whose address stands in for a host where the
-/// request names none, and flushes once. Takes no memory.
+/// request names none, by a connection that ends with the exchange or is kept, and flushes once.
+/// Takes no memory.
 ///
 /// The one fault comes where the writer failed; then nothing is said of how much was written.
 pub fn write_request<W: Write>(
     writer: &mut Counted<W>,
     request: &Request,
     backend: &str,
+    persistence: Persistence,
 ) -> Result<(), WriteFault>
     ensures all { OnOk result
-        (Wrote W.contents writer.old writer.new (request_text backend.now request.now)) }
+        (Wrote W.contents writer.old writer.new
+        (request_text persistence backend.now request.now)) }
     ensures unfailing { OnOk result (failures_of writer.new ≡ failures_of writer.old) }
     ensures flushed { OnOk result (is_flushed writer.new ≡ true) }
     ensures flushes { OnOk result (flushes_of writer.new ≡ raised (flushes_of writer.old)) }
@@ -54,6 +57,7 @@ pub fn write_request<W: Write>(
         headers: request.headers.as_slice(),
         body: bytes_of(&request.body),
         backend: backend.as_bytes(),
+        persistence,
     };
     forwarded.write(writer)
 }

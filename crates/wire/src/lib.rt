@@ -21,6 +21,7 @@ mod path;
 mod request_reading;
 mod response;
 mod response_reading;
+mod reuse;
 
 pub use answer::BackendAnswer;
 pub use answering::write_response;
@@ -29,6 +30,8 @@ pub use fault::WireFault;
 pub use forwarding::write_request;
 pub use laws::{messages_are_unambiguous, messages_have_one_reading};
 pub use message_parts::{Request, Version};
+pub use message_text::Persistence;
 pub use request_reading::read_request;
 pub use response::Response;
 pub use response_reading::read_response;
+pub use reuse::Reuse;

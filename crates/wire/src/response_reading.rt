@@ -9,6 +9,7 @@ ghost use Rattle.wire.specs.Messages.{IsResponse};
 use crate::fault::WireFault;
 use crate::request_reading::MOST_READS;
 use crate::response::Response;
+use crate::reuse::reuse_of;
 use counted_io::Counted;
 use message_parts::Method;
 use message_reading::{frame_response, read_body, read_final_head};
@@ -16,7 +17,8 @@ use std::alloc::Global;
 use std::io::BufRead;
 
 /// The final response that the reader's bytes begin with, to a request of this method; what follows
-/// it stays unread. A response without lengths runs to the end of the connection.
+/// it stays unread. A response without lengths runs to the end of the connection. It tells what may
+/// come of the connection behind it.
 ///
 /// At most 16 interim responses before it are read and dropped. `Memory`, `Read` and `TurnLimit`
 /// come where a growth was refused, the reader failed, or 100,000,000 reads were made; each other
@@ -39,5 +41,6 @@ pub fn read_response<R: BufRead>(
     let head = read_final_head(alloc, reader, limit)?;
     let framing = frame_response(method, &head)?;
     let body = read_body(alloc, reader, limit, framing)?;
-    Ok(Response::new(head.status, head.lines, body))
+    let reuse = reuse_of(&head, framing);
+    Ok(Response::new(head.status, head.lines, body, reuse))
 }

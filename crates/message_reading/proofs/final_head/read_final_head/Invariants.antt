@@ -10,6 +10,7 @@ invariant-loop-head g l =
       on : GoOn (remaining (inner_of l.fn.reader)) (remaining (inner_of l.reader)) l.left;
       failures : failures_of l.reader ≡ failures_of l.fn.reader;
       few : calls_of l.reader ≤ max l.limit (calls_of l.fn.reader);
+      few_left : l.left ≤ 16;
       goes_on : calls_of l.fn.reader ≤ calls_of l.reader;
     }
 

@@ -3,5 +3,5 @@ use Rattle.message_text.proofs.answer.write_local_answer.Goals as goal
 
 pub returns-clause-all : goal.returns-clause-all
 returns-clause-all g c =
-    wrote_then c.write_and_flush.result _ _ _ _ _ _ (local_whole c.args.status)
-    c.in_ok-write_status.ensures.all c.write_and_flush.ensures.all
+    wrote_then c.write_and_flush.result _ _ _ _ _ _ (local_whole c.args.persistence c.args.status)
+    c.in_ok-write_status.ensures.all (rw c.local_rest.ensures at c.write_and_flush.ensures.all)

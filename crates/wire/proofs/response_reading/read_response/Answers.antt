@@ -42,7 +42,8 @@ returns-clause-response g c =
     ≡ Ok c.in_ok-framing.framing = search rules in
     response_whole c.args.method.now (left (inner_of c.args.reader.now))
     (left (inner_of c.read_final_head.new.reader)) (left (inner_of c.read_body.new.reader))
-    c.in_ok-head.head c.in_ok-framing.framing c.in_ok-body.body c.new.result c.new.ensures
+    c.in_ok-head.head c.in_ok-framing.framing c.in_ok-body.body c.new.result
+    (rw c.reuse_of-reuse.ensures at c.new.ensures)
     c.in_ok-head.ensures.head framed c.in_ok-body.ensures.body
 
 pub returns-in_err-head-clause-read : goal.returns-in_err-head-clause-read
