@@ -6,6 +6,8 @@ use crate::bound_listener::BoundListener;
 use crate::listener::Listener;
 use std::io::Result;
 use std::net::{Net, SocketAddr, SocketAddrV4};
+use std::sync::Wait;
+use std::time::Clock;
 
 /// Where addresses are bound, to listen there.
 pub trait Binder {
@@ -39,8 +41,8 @@ impl<'a, N> SystemAddresses<'a, N> {
     }
 }
 
-impl<N: Net> Binder for SystemAddresses<'_, N> {
-    type Bound = BoundListener;
+impl<'a, N: Net + Wait + Clock> Binder for SystemAddresses<'a, N> {
+    type Bound = BoundListener<'a, N>;
 
     ghost use Rattle.std.specs.Prelude.{⊤};
 
@@ -48,7 +50,7 @@ impl<N: Net> Binder for SystemAddresses<'_, N> {
 
     ghost unbound = { λ _. ⊤ };
 
-    fn bind(&self, address: SocketAddrV4) -> Result<BoundListener> {
+    fn bind(&self, address: SocketAddrV4) -> Result<BoundListener<'a, N>> {
         BoundListener::bind(self.net, SocketAddr::V4(address))
     }
 }

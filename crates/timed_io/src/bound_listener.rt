@@ -1,13 +1,17 @@
 // Clients over TCP.
 use crate::client_ends::ClientEnds;
 use crate::ends::OpaqueEnd;
-use crate::keeping::{ask_after, end_untaken};
+use crate::keeping::{ask_after, end_untaken, send_at_once};
 use crate::listener::{AcceptedClient, Listener};
+use crate::room::{Came, Room};
+use crate::seats::Places;
 use libc::net::{POLLIN, SHUT_RD, listen, poll, shutdown};
 use libc::types::pollfd;
-use std::io::Result;
+use std::alloc::Global;
+use std::io::{Error, ErrorKind, Result};
 use std::net::{Net, SocketAddr, TcpListener, TcpStream};
 use std::os::fd::{AsFd, AsRawFd, RawFd};
+use std::sync::Wait;
 use std::sync::atomic::{AtomicBool, Ordering};
 use std::thread;
 use std::time::{Clock, Duration};
@@ -19,31 +23,86 @@ const TURN_MS: u64 = 1;
 /// alone who wait.
 const OPEN_TO_ALL_MS: u64 = 500;
 
-/// Clients over TCP.
+/// For how long it waits for one who came and hasn't sent anything yet, in milliseconds.
+const NEWCOMER_MS: u64 = 500;
+
+/// Clients over TCP. Where it has places, those who have sent nothing wait there, and are given to
+/// nobody before they have sent something, or have left.
 #[derive(Drop)]
-pub struct BoundListener {
+pub struct BoundListener<'r, R> {
+    rt: &'r R,
     listener: TcpListener,
+    room: Room<'r, R>,
     open: AtomicBool,
 }
 
-impl BoundListener {
+impl<'r, R: Net + Wait + Clock> BoundListener<'r, R> {
     /// Binds the address; the fault is the system's, mostly that another program has it. As many
     /// clients may wait to be accepted as the system allows, 4,096 by default; std's own number is
     /// 128, and a client that finds the queue full tries again a second later. The system asks
-    /// after clients that are silent, and ends the connections of those who are gone.
-    pub fn bind<R: Net>(rt: &R, address: SocketAddr) -> Result<BoundListener> {
+    /// after clients that are silent, ends the connections of those who are gone, and sends what is
+    /// written to a client at once.
+    pub fn bind(rt: &'r R, address: SocketAddr) -> Result<BoundListener<'r, R>> {
         let queue = mio::net::TcpListener::bind(rt, address)?;
         let listener = TcpListener::from(queue.as_fd().try_clone_to_owned()?);
-        listener.set_nonblocking(false)?;
         ask_after(&listener);
+        send_at_once(&listener);
+        let room = Room::new(rt, &listener)?;
         Ok(BoundListener {
+            rt,
             listener,
+            room,
             open: AtomicBool::new(true),
         })
     }
+
+    // The next event, and the client that comes of it.
+    fn next(&self) -> Result<Option<TcpStream>> {
+        match self.room.wait() {
+            Came::Nothing => Ok(None),
+            Came::Client(client) => Ok(Some(client)),
+            Came::Connection => self.welcome(),
+        }
+    }
+
+    // Accepts a connection, and has the next one be told of to whoever waits; none came where
+    // another one was quicker.
+    fn welcome(&self) -> Result<Option<TcpStream>> {
+        let accepted = self.listener.accept();
+        self.room.watch_listener(&self.listener)?;
+        match accepted {
+            Ok((client, _)) => Ok(self.room.admit(client)),
+            Err(fault) if fault.kind() == ErrorKind::WouldBlock => Ok(None),
+            Err(fault) => Err(fault),
+        }
+    }
+
+    // Whether a connection waits to be accepted, or somebody who was accepted waits to be served,
+    // or may be about to send its request.
+    fn has_waiting(&self) -> bool {
+        has_waiting(self.listener.as_raw_fd())
+            || has_waiting(self.room.as_raw_fd())
+            || self.room.has_newcomer(Duration::from_millis(NEWCOMER_MS))
+    }
+
+    // Waits until nobody waits, until so long behind a moment at most, and tells whether nobody
+    // does. Many short sleeps take longer than they are told to, so the clock is looked at; where
+    // it fails, their number bounds the wait.
+    fn await_empty<C: Clock>(&self, rt: &C, began: Option<Duration>, most: Duration) -> bool {
+        for _ in 0..most.as_millis() / u128::from(TURN_MS) {
+            if !self.has_waiting() {
+                return true;
+            }
+            if has_passed(rt, began, most) {
+                return false;
+            }
+            thread::sleep(rt, Duration::from_millis(TURN_MS));
+        }
+        false
+    }
 }
 
-impl Listener for BoundListener {
+impl<'r, R: Net + Wait + Clock> Listener for BoundListener<'r, R> {
     type Stream = TcpStream;
 
     type From = OpaqueEnd;
@@ -59,11 +118,19 @@ impl Listener for BoundListener {
     ghost closed = { λ _. ⊤ };
 
     fn accept(&self) -> Result<AcceptedClient<TcpStream, OpaqueEnd, OpaqueEnd>> {
-        let (stream, _) = self.listener.accept()?;
-        Ok(AcceptedClient {
-            stream,
-            ends: ClientEnds::new(OpaqueEnd::new(), OpaqueEnd::new()),
-        })
+        for _ in self.rt.forever() {
+            if let Some(stream) = self.next()? {
+                return Ok(AcceptedClient {
+                    stream,
+                    ends: ClientEnds::new(OpaqueEnd::new(), OpaqueEnd::new()),
+                });
+            }
+        }
+        Err(Error::from(ErrorKind::NotConnected))
+    }
+
+    fn offer_places(&self, alloc: Global, places: Places) {
+        self.room.offer(alloc, places);
     }
 
     fn end_untaken(&self, most: Duration) {
@@ -77,34 +144,19 @@ impl Listener for BoundListener {
     // Only the first time: a socket that was shut down would listen anew. The queue is made short
     // where it doesn't get empty by itself alone: a client that finds it full isn't refused by the
     // system, and tries again a second later.
-    fn close<R: Clock>(&self, rt: &R, most: Duration) {
+    fn close<C: Clock>(&self, rt: &C, most: Duration) {
         if self.open.swap(false, Ordering::SeqCst) {
             let file = self.listener.as_raw_fd();
             let began = rt.monotonic().ok();
             let first = most.min(Duration::from_millis(OPEN_TO_ALL_MS));
-            if !await_empty(rt, file, began, first) {
+            if !self.await_empty(rt, began, first) {
                 listen(file, 0);
-                await_empty(rt, file, began, most);
+                self.await_empty(rt, began, most);
             }
             shutdown(file, SHUT_RD);
+            self.room.close();
         }
     }
-}
-
-/// Waits until no connection waits to be accepted, until so long behind a moment at most, and tells
-/// whether none does. Many short sleeps take longer than they are told to, so the clock is looked
-/// at; where it fails, their number bounds the wait.
-fn await_empty<R: Clock>(rt: &R, file: RawFd, began: Option<Duration>, most: Duration) -> bool {
-    for _ in 0..most.as_millis() / u128::from(TURN_MS) {
-        if !has_waiting(file) {
-            return true;
-        }
-        if has_passed(rt, began, most) {
-            return false;
-        }
-        thread::sleep(rt, Duration::from_millis(TURN_MS));
-    }
-    false
 }
 
 /// Whether so long has gone by since a moment, as far as the clock tells.
@@ -115,7 +167,7 @@ fn has_passed<R: Clock>(rt: &R, began: Option<Duration>, most: Duration) -> bool
     }
 }
 
-/// Whether a connection waits to be accepted.
+/// Whether something is to be had of it: of a listener a connection, of a set an event.
 fn has_waiting(file: RawFd) -> bool {
     let mut watched = [pollfd {
         fd: file,

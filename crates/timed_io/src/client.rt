@@ -8,7 +8,7 @@ ghost use Rattle.timed_io.specs.Client.{unread_of, written_of};
 use crate::client_ends::ClientEnds;
 use crate::connection::{Connection, Lent};
 use crate::ends::{Inlet, Outlet};
-use crate::first_byte::{FirstByte, Patience};
+use crate::patient_read::{Patience, PatientRead};
 use crate::reading::TimedReader;
 use crate::uninterrupted::Uninterrupted;
 use crate::writing::TimedWriter;
@@ -19,10 +19,10 @@ use std::alloc::{AllocError, Global};
 
 /// What reads a client: through a buffer, on through interruptions, within its time.
 pub type ClientReader<'s, 'c, S, I, C, P> = BufferedRead<
-    Uninterrupted<TimedReader<'c, FirstByte<'s, Lent<'s, S, I>, P>, C>>,
+    Uninterrupted<TimedReader<'c, PatientRead<'s, Lent<'s, S, I>, P>, C>>,
 >;
 
-/// What writes to a client: the same, but for the first byte.
+/// What writes to a client: the same, but for the patience.
 pub type ClientWriter<'s, 'c, S, O, C> = BufferedWrite<
     Uninterrupted<TimedWriter<'c, Lent<'s, S, O>, C>>,
 >;
@@ -90,8 +90,8 @@ where
     C: Clock,
     P: Patience,
 {
-    /// The client at the other side of a connection, by the two ends of it. As long as it has sent
-    /// nothing it is waited for as the patience says.
+    /// The client at the other side of a connection, by the two ends of it. As long as its head
+    /// isn't whole it is waited for as the patience says.
     pub fn open(
         stream: &'s S,
         ends: ClientEnds<I, O>,
@@ -110,8 +110,8 @@ where
     {
         let ClientEnds { from, to } = ends;
         let ClientBuffers { ahead, behind } = buffers;
-        let first = FirstByte::new(Lent::new(stream, from), patience);
-        let timed = TimedReader::new(first, time.clock, time.most_ns);
+        let patient = PatientRead::new(Lent::new(stream, from), patience);
+        let timed = TimedReader::new(patient, time.clock, time.most_ns);
         let reader = BufferedRead::new(Uninterrupted::new(timed), ahead);
         let timed = TimedWriter::new(Lent::new(stream, to), time.clock, time.most_ns);
         let writer = BufferedWrite::new(Uninterrupted::new(timed), behind);

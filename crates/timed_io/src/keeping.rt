@@ -1,6 +1,6 @@
-// Connections whose other side is gone.
+// How the system keeps connections.
 use libc::net::{
-    IPPROTO_TCP, SO_KEEPALIVE, SOL_SOCKET, TCP_KEEPCNT, TCP_KEEPIDLE, TCP_KEEPINTVL,
+    IPPROTO_TCP, SO_KEEPALIVE, SOL_SOCKET, TCP_KEEPCNT, TCP_KEEPIDLE, TCP_KEEPINTVL, TCP_NODELAY,
     TCP_USER_TIMEOUT, setsockopt,
 };
 use std::os::fd::AsRawFd;
@@ -49,6 +49,15 @@ pub fn end_untaken<S: AsRawFd>(socket: &S, most: Duration) {
             &number(millis),
             4,
         );
+    }
+}
+
+/// Has the system send at once what is written, and not wait until the other side has acknowledged
+/// what was sent before (`TCP_NODELAY` of tcp(7)). The connections that a listening socket gives
+/// have it from that. A socket that can't be given it is left as it was.
+pub fn send_at_once<S: AsRawFd>(socket: &S) {
+    unsafe {
+        setsockopt(socket.as_raw_fd(), IPPROTO_TCP, TCP_NODELAY, &number(1), 4);
     }
 }
 

@@ -5,6 +5,8 @@ ghost use Rattle.timed_io.specs.Client.{from_of, to_of};
 use crate::client_ends::ClientEnds;
 use crate::connection::Connection;
 use crate::ends::{Inlet, Outlet};
+use crate::seats::Places;
+use std::alloc::Global;
 use std::io::Result;
 use std::time::{Clock, Duration};
 
@@ -55,6 +57,11 @@ pub trait Listener {
         ensures unwritten { IfOk result (λ client.
             IfSome (Self.To.contents (to_of client.ends)) (λ written. written ≡ [])) };
 
+    /// From now on so many who have sent nothing may wait beside those who are served, each for so
+    /// long; where all places are taken, who has waited longest goes. Without places `accept` gives
+    /// each as it comes.
+    fn offer_places(&self, alloc: Global, places: Places);
+
     /// From now on the system ends the connections of those who come, where for so long nothing is
     /// taken of what was sent to them.
     fn end_untaken(&self, most: Duration);
@@ -66,6 +73,7 @@ pub trait Listener {
 
     /// Closes it for good, with all who wait in `accept`. Connections that wait are still accepted,
     /// for so long at most; it returns once there are none, and whoever connects then is refused.
+    /// Who has sent nothing for a while is let go.
     fn close<R: Clock>(&self, rt: &R, most: Duration)
         ensures { closed self.now };
 }

@@ -1,0 +1,181 @@
+// Where clients wait until they send something.
+use crate::connection::is_silent;
+use crate::seats::{Places, Seats};
+use libc::net::{EPOLL_CTL_ADD, EPOLL_CTL_MOD, EPOLLIN, EPOLLONESHOT, EPOLLRDHUP};
+use os::{EpollEvent, epoll_ctl, epoll_wait};
+use std::alloc::Global;
+use std::io::{Error, Result};
+use std::net::{Net, TcpStream};
+use std::os::fd::{AsRawFd, RawFd};
+use std::sync::{Mutex, Wait};
+use std::time::{Clock, Duration};
+
+/// The number of the listener among the events: no seat has it.
+const LISTENER: u64 = u64::MAX;
+
+/// How long a wait is at most, in milliseconds: so often whoever waits looks for those whose time
+/// is over.
+const LONGEST_WAIT_MS: i32 = 1_000;
+
+/// How many of those are let go before the next look at who comes.
+const MOST_AT_ONCE: u32 = 64;
+
+/// What came of a wait.
+pub(crate) enum Came {
+    /// Nothing yet.
+    Nothing,
+    /// A connection lies at the listener, or that was closed.
+    Connection,
+    /// Someone who waited has sent something, or has left.
+    Client(TcpStream),
+}
+
+/// Where clients wait until they send something: a set of the system's (`epoll(7)`) that all who
+/// serve them wait at, and their seats. Each event is told to one of these alone, once.
+#[derive(Drop)]
+pub(crate) struct Room<'r, R> {
+    rt: &'r R,
+    set: mio::Poll,
+    // None until places are offered, and once it is closed.
+    seats: Mutex<Option<Seats<TcpStream>>>,
+}
+
+impl<'r, R: Net + Wait + Clock> Room<'r, R> {
+    /// A room without places, before a listener.
+    pub(crate) fn new<L: AsRawFd>(rt: &'r R, listener: &L) -> Result<Room<'r, R>> {
+        let set = mio::Poll::new(rt)?;
+        let room = Room {
+            rt,
+            set,
+            seats: Mutex::new(None),
+        };
+        room.watch(EPOLL_CTL_ADD, listener.as_raw_fd(), LISTENER)?;
+        Ok(room)
+    }
+
+    /// From now on there are these places.
+    pub(crate) fn offer(&self, alloc: Global, places: Places) {
+        *self.seats.lock(self.rt) = Some(Seats::new(alloc, places));
+    }
+
+    /// Nobody waits any more: who does is let go, and there are no places.
+    pub(crate) fn close(&self) {
+        let _gone = self.seats.lock(self.rt).take();
+    }
+
+    /// Lets those go whose time is over, and waits for the next event, or for a second.
+    pub(crate) fn wait(&self) -> Came {
+        let mut events = [EpollEvent { events: 0, data: 0 }];
+        let most = self.let_late_go();
+        if epoll_wait(self.set.as_raw_fd(), &mut events, most) == 0 {
+            return Came::Nothing;
+        }
+        match events[0].data {
+            LISTENER => Came::Connection,
+            number => match self.take(number) {
+                Some(client) => Came::Client(client),
+                None => Came::Nothing,
+            },
+        }
+    }
+
+    /// Has the next connection at the listener be told of.
+    pub(crate) fn watch_listener<L: AsRawFd>(&self, listener: &L) -> Result<()> {
+        self.watch(EPOLL_CTL_MOD, listener.as_raw_fd(), LISTENER)
+    }
+
+    /// Who came just now is handed back where it has sent something, or can't wait; else it waits.
+    pub(crate) fn admit(&self, client: TcpStream) -> Option<TcpStream> {
+        if is_silent(&client) {
+            self.seat(client)
+        } else {
+            Some(client)
+        }
+    }
+
+    /// The set's descriptor, which can be read where there is an event.
+    pub(crate) fn as_raw_fd(&self) -> RawFd {
+        self.set.as_raw_fd()
+    }
+
+    /// Whether somebody waits who came less than so long ago.
+    pub(crate) fn has_newcomer(&self, newest: Duration) -> bool {
+        let Ok(now) = self.rt.monotonic() else {
+            return false;
+        };
+        match &*self.seats.lock(self.rt) {
+            Some(seats) => seats.last_waited(now).is_some_and(|waited| waited < newest),
+            None => false,
+        }
+    }
+
+    // Has the client wait. It is seated and watched under one lock: who is told of it finds it
+    // there, and nobody lets it go in between.
+    fn seat(&self, client: TcpStream) -> Option<TcpStream> {
+        let Ok(now) = self.rt.monotonic() else {
+            return Some(client);
+        };
+        let file = client.as_raw_fd();
+        let mut places = self.seats.lock(self.rt);
+        let Some(seats) = &mut *places else {
+            return Some(client);
+        };
+        match seats.seat(client, now) {
+            Ok(seat) => match self.watch(EPOLL_CTL_ADD, file, seat.number) {
+                Ok(()) => None,
+                Err(_) => seats.take(seat.number),
+            },
+            Err(client) => Some(client),
+        }
+    }
+
+    fn take(&self, number: u64) -> Option<TcpStream> {
+        match &mut *self.seats.lock(self.rt) {
+            Some(seats) => seats.take(number),
+            None => None,
+        }
+    }
+
+    // Lets some of those go whose time is over, and tells for how many milliseconds to wait: until
+    // the next one's is, or for a second; without places for as long as it takes.
+    fn let_late_go(&self) -> i32 {
+        let Ok(now) = self.rt.monotonic() else {
+            return LONGEST_WAIT_MS;
+        };
+        for _ in 0..MOST_AT_ONCE {
+            if self.take_late(now).is_none() {
+                return self.until_next(now);
+            }
+        }
+        0
+    }
+
+    fn take_late(&self, now: Duration) -> Option<TcpStream> {
+        match &mut *self.seats.lock(self.rt) {
+            Some(seats) => seats.take_late(now),
+            None => None,
+        }
+    }
+
+    fn until_next(&self, now: Duration) -> i32 {
+        let Some(seats) = &*self.seats.lock(self.rt) else {
+            return -1;
+        };
+        match seats.left(now) {
+            Some(left) => i32::try_from(left.as_millis())
+                .unwrap_or(i32::MAX)
+                .saturating_add(1)
+                .min(LONGEST_WAIT_MS),
+            None => LONGEST_WAIT_MS,
+        }
+    }
+
+    // Has the system tell once when something comes of this descriptor, by this number.
+    fn watch(&self, how: i32, file: RawFd, number: u64) -> Result<()> {
+        let wanted = EPOLLIN | EPOLLRDHUP | EPOLLONESHOT;
+        if epoll_ctl(self.set.as_raw_fd(), how, file, wanted, number) < 0 {
+            return Err(Error::from_raw_os_error(os::errno()));
+        }
+        Ok(())
+    }
+}
