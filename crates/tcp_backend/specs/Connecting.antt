@@ -4,20 +4,20 @@ use Rattle.std.specs.Net.Text.{socket_v4_text}
 use Rattle.tcp_backend.specs.declared.connecting.TcpBackend.{TcpBackend}
 use Rattle.tcp_backend.specs.declared.dialing.Dialer.{Dialer}
 
--- how often it was asked to connect
-abbrev pub dialed_of : {R : Type 0} → Dialer R → ℕ
+-- how often it was asked for a connection
+abbrev pub dialed_of : {R S : Type 0} → Dialer R S → ℕ
 dialed_of dialer = dialer.connects
 
 -- the text of the address that it connects to
-abbrev pub address_of : {R : Type 0} → Dialer R → List ℕ
+abbrev pub address_of : {R S : Type 0} → Dialer R S → List ℕ
 address_of dialer = socket_v4_text dialer.address
 
 -- what makes its connections
 abbrev pub connector_of : {K S W C : Type 0} → TcpBackend K S W C → K
 connector_of backend = backend.connector
 
--- how many requests it was given: it connects once for each
-abbrev pub count_of : {R S W C : Type 0} → TcpBackend (Dialer R) S W C → ℕ
+-- how many requests it was given: it asks once for each
+abbrev pub count_of : {R S W C : Type 0} → TcpBackend (Dialer R S) S W C → ℕ
 count_of backend = dialed_of (connector_of backend)
 
 -- the host of a request that names none

@@ -1,5 +1,6 @@
 pub mod Answers
 pub mod CallTime
 pub mod Connecting
+pub mod Kept
 pub mod Reading
 pub mod Sent

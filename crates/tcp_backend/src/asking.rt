@@ -6,6 +6,7 @@ ghost use Rattle.tcp_backend.specs.Answers.{answer_of};
 ghost use Rattle.tcp_backend.specs.Sent.{IsCut};
 
 use crate::answer_read::AnswerRead;
+use crate::attempt::Attempt;
 use crate::call_buffers::CallBuffers;
 use crate::call_time::CallTime;
 use crate::early::EarlyRead;
@@ -21,7 +22,7 @@ use std::net::OpenStream;
 use std::os::fd::AsRawFd;
 use std::time::Duration;
 use timed_io::{Countdown, read_ready};
-use wire::{BackendAnswer, Response, WireFault, read_response, write_request};
+use wire::{BackendAnswer, Persistence, Response, WireFault, read_response, write_request};
 
 /// How many reads the end of a connection may take, behind an answer that was read whole.
 const LAST_READS: u32 = 16;
@@ -29,17 +30,14 @@ const LAST_READS: u32 = 16;
 /// How long each of them may take, in milliseconds.
 const LAST_MILLIS: u64 = 20;
 
-/// What came of a request over a connection, whether it was written whole, and what the clock told
-/// when the answer was last read for; and the connection, with its end and the buffers, as the call
-/// leaves them.
-#[derive(Drop)]
-pub(crate) struct Attempt<S, E> {
-    pub(crate) answer: Result<Response, WireFault>,
-    pub(crate) is_sent: bool,
-    pub(crate) looked: u64,
-    pub(crate) stream: S,
-    pub(crate) end: E,
-    pub(crate) buffers: CallBuffers,
+/// A request that is to be sent.
+#[derive(Clone, Copy)]
+pub(crate) struct Sending<'a> {
+    pub(crate) request: &'a Request,
+    /// The host of a request that names none.
+    pub(crate) host: &'a str,
+    /// What it says of its connection.
+    pub(crate) persistence: Persistence,
 }
 
 /// What writing a request leaves, and whether it was written whole.
@@ -94,15 +92,14 @@ pub(crate) fn ask<S, E, C>(
     stream: S,
     end: E,
     buffers: CallBuffers,
-    request: &Request,
-    host: &str,
+    sending: &Sending<'_>,
 ) -> Attempt<S, E>
 where
     S: Read + OpenStream + AsRawFd,
     E: RequestOutlet<S>,
     C: Clock,
     ensures sent { result.is_sent ≡ true → Appends (E.contents end) (E.contents result.end)
-        (request_text host.now request.now) }
+        (request_text sending.now.persistence sending.now.host.now sending.now.request.now) }
     ensures cut { result.is_sent ≡ false → IfErr result.answer IsCut }
 {
     let CallBuffers { ahead, behind } = buffers;
@@ -111,13 +108,13 @@ where
         stream,
         end,
         behind,
-    } = send(stream, end, call.countdown(), behind, request, host);
+    } = send(stream, end, call.countdown(), behind, sending);
     let reader = AnswerRead::new(stream, call.countdown());
     if !is_sent {
-        let read = read_early(alloc, reader, ahead, request);
+        let read = read_early(alloc, reader, ahead, sending.request);
         return read.behind_request(is_sent, end, behind);
     }
-    let read = read_answer(alloc, reader, ahead, request);
+    let read = read_answer(alloc, reader, ahead, sending.request);
     read.behind_request(is_sent, end, behind)
 }
 
@@ -127,15 +124,19 @@ fn send<S: OpenStream, E: RequestOutlet<S>, C: Clock>(
     end: E,
     time: Option<Countdown<'_, C>>,
     behind: WriteBuffer,
-    request: &Request,
-    host: &str,
+    sending: &Sending<'_>,
 ) -> SentRequest<S, E>
     ensures { result.is_sent ≡ true → Appends (E.contents end) (E.contents result.end)
-        (request_text host.now request.now) }
+        (request_text sending.now.persistence sending.now.host.now sending.now.request.now) }
 {
+    let Sending {
+        request,
+        host,
+        persistence,
+    } = *sending;
     let unanswered = UnansweredWrite::new(stream, end, time);
     let mut writer = Counted::new(BufferedWrite::new(unanswered, behind));
-    let written = write_request(&mut writer, request, host);
+    let written = write_request(&mut writer, request, host, persistence);
     let writer = writer.into_inner();
     let is_sent = written.is_ok() && writer.is_sent();
     let (writer, behind) = writer.into_parts();

@@ -1,24 +1,27 @@
 // A backend at an address.
-ghost use Rattle.std.specs.Prelude.{◌≡◌, ◌⊎◌, IfOk, None};
+ghost use Rattle.std.specs.Prelude.{◌≡◌, ◌⊎◌, IfOk, None, false};
 ghost use Rattle.std.specs.Net.Text.{socket_v4_text};
 ghost use Rattle.counted_io.specs.Count.{raised};
 ghost use Rattle.wire.specs.declared.answer.BackendAnswer.TheVariants.{Late, NotConnected};
 ghost use Rattle.tcp_backend.specs.CallTime.{call_deadline};
+ghost use Rattle.message_text.specs.declared.persistence.Persistence.TheVariants.{Close};
 ghost use Rattle.tcp_backend.specs.Connecting.{connector_of, host_of, limit_of};
+ghost use Rattle.tcp_backend.specs.Kept.{carries_on, is_kept};
 
-use crate::asking::{Attempt, answer_of, ask, read_on};
+use crate::asking::{Sending, answer_of, ask, read_on};
+use crate::attempt::{Attempt, Leftover, Settled};
 use crate::call_buffers::CallBuffers;
 use crate::call_time::{CallTime, connect_time};
 use crate::dialing::Connector;
-use crate::watch::BackendWatch;
+use crate::watch::{BackendWatch, ConnectionEvent};
 use arrayvec::ArrayString;
 use clocks::Clock;
 use itoa::Buffer;
-use message_parts::Request;
+use message_parts::{Method, Request};
 use std::alloc::{AllocError, Global};
 use std::io::Error;
 use std::net::SocketAddrV4;
-use wire::{Backend, BackendAnswer};
+use wire::{Backend, BackendAnswer, Persistence};
 
 /// Why a backend was not made.
 #[derive(Clone, Copy, Drop)]
@@ -33,8 +36,8 @@ impl From<AllocError> for BackendFault {
     }
 }
 
-/// A backend at the address of its connector, with one connection for each request, and what hears
-/// of its troubles.
+/// A backend at the address of its connector, which it asks for one connection for each request,
+/// and what hears of its troubles.
 #[derive(Drop)]
 pub struct TcpBackend<'c, K, S, W, C> {
     connector: K,
@@ -53,7 +56,7 @@ struct Line<S> {
     answered: Option<S>,
 }
 
-impl<S> Line<S> {
+impl<S: Drop> Line<S> {
     // The buffers, by value; new ones where a call kept them, which none does.
     fn take_buffers(&mut self) -> Result<CallBuffers, AllocError> {
         match self.buffers.take() {
@@ -62,25 +65,25 @@ impl<S> Line<S> {
         }
     }
 
-    // Puts the buffers of a call back; what became of its request, and its connection. The end of
-    // it that was written is of no more use.
+    // Puts the buffers of a call back; what became of its request, which said so of its connection,
+    // and what is left of that. The end of it that was written is of no more use where it ends.
     fn put_back<E: Drop, C: Clock>(
         &mut self,
         call: &CallTime<'_, C>,
         attempt: Attempt<S, E>,
-    ) -> (BackendAnswer, S)
-        ensures { call_deadline call.now ≡ None → ¬ (result.0 ≡ Late) }
+        persistence: Persistence,
+    ) -> (BackendAnswer, Leftover<S, E>)
+        ensures unlimited { call_deadline call.now ≡ None → ¬ (result.0 ≡ Late) }
+        ensures kept { is_kept result.1 ≡ carries_on persistence attempt }
     {
-        let Attempt {
+        let Settled {
             answer,
-            is_sent: _,
             looked,
-            stream,
-            end: _,
+            left,
             buffers,
-        } = attempt;
+        } = attempt.settle(persistence);
         self.buffers = Some(buffers);
-        (answer_of(answer, call.is_over(looked)), stream)
+        (answer_of(answer, call.is_over(looked)), left)
     }
 }
 
@@ -130,7 +133,9 @@ impl<'c, K: Connector, W: BackendWatch, C: Clock> Backend for TcpBackend<'c, K, 
 
     ghost shown = { λ _. None };
 
-    /// Connects once, writes the request and reads one response. Where there is no connection, that
+    /// Asks for a connection once, writes the request and reads one response. A connection that was
+    /// kept may have been closed by the backend meanwhile: then that is `Broken`, and the request
+    /// isn't sent again (RFC 9110, section 9.2.2). Where there is no connection, that
     /// is `NotConnected`; each later fault is `Broken`, but out of memory is `Memory`; and where
     /// the time of the call is over before, all that is `Late`. A response that says its own length
     /// is read behind a write that failed or stands still, too: the backend may have answered
@@ -169,7 +174,8 @@ impl<'c, K: Connector, W: BackendWatch, C: Clock> Backend for TcpBackend<'c, K, 
     }
 }
 
-// Forwards a request over one connection: whatever fails, there is no second one.
+// Forwards a request over one connection, which was kept or is new: whatever fails, there is no
+// second one. It is put back only where it carries on.
 fn forward_over<K: Connector, W: BackendWatch, C: Clock>(
     connector: &mut K,
     line: &mut Line<K::Stream>,
@@ -183,23 +189,53 @@ fn forward_over<K: Connector, W: BackendWatch, C: Clock>(
 {
     line.answered = None;
     let call = CallTime::begin(limit.clock, limit.most_ns);
-    let (stream, end) = match connector.connect(connect_time(limit.most_ns)) {
+    let most = connect_time(limit.most_ns);
+    let (stream, end) = match connector.connect(limit.clock, watch, most) {
         Ok(made) => made,
         Err(error) => return unconnected(&call, watch, &error),
     };
     let Ok(buffers) = line.take_buffers() else {
         return BackendAnswer::Memory;
     };
-    let host = line.host.as_str();
-    let attempt = ask(line.alloc, &call, stream, end, buffers, request, host);
-    let (answer, stream) = line.put_back(&call, attempt);
-    match &answer {
-        BackendAnswer::Answered(_) => line.answered = Some(stream),
-        BackendAnswer::Broken(fault) => watch.broken(*fault),
-        BackendAnswer::Late => watch.late(),
-        BackendAnswer::NotConnected | BackendAnswer::Memory => {}
+    let persistence = persistence_for(connector.keeps(), &request.method);
+    let sending = Sending {
+        request,
+        host: line.host.as_str(),
+        persistence,
+    };
+    let attempt = ask(line.alloc, &call, stream, end, buffers, &sending);
+    let (answer, left) = line.put_back(&call, attempt, persistence);
+    tell(watch, &answer);
+    match left {
+        Leftover::Ready(connection) => connector.keep(limit.clock, watch, connection),
+        Leftover::Ending(stream) => {
+            line.answered = Some(stream);
+            watch.connection(ConnectionEvent::Closed);
+        }
+        Leftover::Closed => watch.connection(ConnectionEvent::Closed),
     }
     answer
+}
+
+// Tells of an answer that is none.
+fn tell<W: BackendWatch>(watch: &W, answer: &BackendAnswer) {
+    match answer {
+        BackendAnswer::Broken(fault) => watch.broken(*fault),
+        BackendAnswer::Late => watch.late(),
+        BackendAnswer::Answered(_) | BackendAnswer::NotConnected | BackendAnswer::Memory => {}
+    }
+}
+
+// What a request by this method says of its connection, where such are kept or not. One behind HEAD
+// isn't, so that the backend is to close it.
+fn persistence_for(keeps: bool, method: &Method) -> Persistence
+    ensures { keeps ≡ false → result ≡ Close }
+{
+    if keeps && method.as_slice() != b"HEAD".as_slice() {
+        Persistence::Keep
+    } else {
+        Persistence::Close
+    }
 }
 
 // What becomes of a request where no connection was to be had, for this cause.

@@ -1,13 +1,19 @@
 // Where connections to a backend come from.
-ghost use Rattle.std.specs.Prelude.{◌≡◌};
+ghost use Rattle.std.specs.Prelude.{◌≡◌, IfOk, IfSome};
 ghost use Rattle.counted_io.specs.Count.{raised};
 ghost use Rattle.std.specs.Net.Text.{socket_v4_text};
 ghost use Rattle.tcp_backend.specs.Connecting.{address_of, dialed_of};
+ghost use Rattle.tcp_backend.specs.Kept.{dialed_at};
 
 use crate::ends::{OpaqueEnd, RequestOutlet};
+use crate::pool::{ConnectionPool, ReadyConnection};
+use crate::watch::{BackendWatch, ConnectionEvent};
+use clocks::Clock;
+use std::alloc::Global;
 use std::io::{Read, Result, Write};
 use std::net::{Net, OpenStream, SocketAddr, SocketAddrV4, TcpStream};
 use std::os::fd::AsRawFd;
+use std::sync::{Arc, Wait};
 use std::time::Duration;
 use timed_io::{ask_after, end_untaken};
 
@@ -15,8 +21,8 @@ use timed_io::{ask_after, end_untaken};
 /// the connection.
 const UNTAKEN_MS: u64 = 5_000;
 
-/// What makes connections to one address, and counts how often it was asked to. A backend has no
-/// other way to one.
+/// What has connections to one address, new ones and those that were put back, and counts how often
+/// it was asked for one. A backend has no other way to one.
 pub trait Connector {
     /// A connection, which is closed where its value ends.
     type Stream: Read + Write + OpenStream + AsRawFd + Drop;
@@ -32,9 +38,29 @@ pub trait Connector {
     // The text of the address that it connects to.
     ghost reaches: { Self → List ℕ };
 
-    /// A new connection, or why none can be had within this time.
-    fn connect(&mut self, most: Duration) -> Result<(Self::Stream, Self::End)>
+    /// A connection for one request: one that was put back here and waits in silence, or else a new
+    /// one; or why none can be had within this time.
+    fn connect<C: Clock, W: BackendWatch>(
+        &mut self,
+        clock: &C,
+        watch: &W,
+        most: Duration,
+    ) -> Result<(Self::Stream, Self::End)>
         ensures connects { connects self.new ≡ raised (connects self.old) }
+        ensures reaches { reaches self.new ≡ reaches self.old }
+        ensures dialed { IfOk result (λ made. Self.End.dialed made.1 ≡ reaches self.old) };
+
+    /// Whether connections are kept behind their requests, which then don't say that these end.
+    fn keeps(&self) -> bool;
+
+    /// Takes a connection back that may carry another request.
+    fn keep<C: Clock, W: BackendWatch>(
+        &mut self,
+        clock: &C,
+        watch: &W,
+        connection: ReadyConnection<Self::Stream, Self::End>,
+    )
+        ensures connects { connects self.new ≡ connects self.old }
         ensures reaches { reaches self.new ≡ reaches self.old };
 
     /// The address that it connects to.
@@ -46,17 +72,22 @@ pub trait Connector {
         ensures { result ≡ connects self.now };
 }
 
-/// Connections over TCP to one address.
+/// Connections over TCP to one address: each is made for one request, or kept in a pool behind it.
 #[derive(Drop)]
-pub struct Dialer<R> {
+pub struct Dialer<R, S> {
     rt: R,
     address: SocketAddrV4,
     connects: u64,
+    pool: Option<Arc<ConnectionPool<S>, Global>>,
 }
 
-impl<R: Net> Dialer<R> {
-    /// Nothing is connected yet.
-    pub fn new(rt: R, address: SocketAddrV4) -> Dialer<R>
+impl<R: Net, S> Dialer<R, S> {
+    /// Nothing is connected yet. Without a pool no connection is kept.
+    pub fn new(
+        rt: R,
+        address: SocketAddrV4,
+        pool: Option<Arc<ConnectionPool<S>, Global>>,
+    ) -> Dialer<R, S>
         ensures unused { dialed_of result ≡ 0 }
         ensures address { address_of result ≡ socket_v4_text address }
     {
@@ -64,11 +95,38 @@ impl<R: Net> Dialer<R> {
             rt,
             address,
             connects: 0,
+            pool,
         }
     }
 }
 
-impl<R: Net> Connector for Dialer<R> {
+impl<R: Net + Wait> Dialer<R, R::Stream> {
+    // A connection that was kept, where one still waits in silence.
+    fn take_kept<C: Clock, W: BackendWatch>(
+        &self,
+        clock: &C,
+        watch: &W,
+    ) -> Option<ReadyConnection<R::Stream, OpaqueEnd>>
+        ensures { IfSome result (λ taken. dialed_at taken.end ≡ address_of self.now) }
+    {
+        match &self.pool {
+            Some(pool) => pool.take(&self.rt, watch, self.address, clock.now()),
+            None => None,
+        }
+    }
+
+    // A new connection. The system asks after a backend that is silent, and ends a connection whose
+    // backend is gone, or takes nothing of its request; and what is written goes out at once.
+    fn dial(&self, most: Duration) -> Result<R::Stream> {
+        let stream = TcpStream::connect_timeout(&self.rt, &SocketAddr::V4(self.address), most)?;
+        ask_after(&stream);
+        end_untaken(&stream, Duration::from_millis(UNTAKEN_MS));
+        let _ = stream.set_nodelay(true);
+        Ok(stream)
+    }
+}
+
+impl<R: Net + Wait> Connector for Dialer<R, R::Stream> {
     type Stream = R::Stream;
 
     type End = OpaqueEnd;
@@ -79,14 +137,41 @@ impl<R: Net> Connector for Dialer<R> {
 
     ghost reaches = { address_of };
 
-    // The system asks after a backend that is silent, and ends a connection whose backend is gone,
-    // or takes nothing of its request.
-    fn connect(&mut self, most: Duration) -> Result<(R::Stream, OpaqueEnd)> {
+    fn connect<C: Clock, W: BackendWatch>(
+        &mut self,
+        clock: &C,
+        watch: &W,
+        most: Duration,
+    ) -> Result<(R::Stream, OpaqueEnd)> {
         self.connects = self.connects.saturating_add(1);
-        let stream = TcpStream::connect_timeout(&self.rt, &SocketAddr::V4(self.address), most)?;
-        ask_after(&stream);
-        end_untaken(&stream, Duration::from_millis(UNTAKEN_MS));
-        Ok((stream, OpaqueEnd::new()))
+        if let Some(kept) = self.take_kept(clock, watch) {
+            return Ok((kept.stream, kept.end));
+        }
+        let stream = self.dial(most)?;
+        watch.connection(ConnectionEvent::Opened);
+        let end = OpaqueEnd {
+            address: self.address,
+        };
+        Ok((stream, end))
+    }
+
+    fn keeps(&self) -> bool {
+        self.pool.is_some()
+    }
+
+    fn keep<C: Clock, W: BackendWatch>(
+        &mut self,
+        clock: &C,
+        watch: &W,
+        connection: ReadyConnection<R::Stream, OpaqueEnd>,
+    )
+        ensures connects { dialed_of self.new ≡ dialed_of self.old }
+        ensures reaches { address_of self.new ≡ address_of self.old }
+    {
+        match &self.pool {
+            Some(pool) => pool.put_back(&self.rt, watch, connection, clock.now()),
+            None => watch.connection(ConnectionEvent::Closed),
+        }
     }
 
     fn address(&self) -> SocketAddrV4 {

@@ -12,16 +12,19 @@
 
 mod answer_read;
 mod asking;
+mod attempt;
 mod call_buffers;
 mod call_time;
 mod connecting;
 mod dialing;
 mod early;
 mod ends;
+mod pool;
 mod unanswered;
 mod watch;
 
 pub use connecting::{BackendFault, TcpBackend};
 pub use dialing::{Connector, Dialer};
 pub use ends::{OpaqueEnd, RequestOutlet};
-pub use watch::BackendWatch;
+pub use pool::{ConnectionPool, ReadyConnection};
+pub use watch::{BackendWatch, ConnectionEvent};
