@@ -24,6 +24,15 @@ macro_rules! key_row {
         TimeoutMs "  timeout_ms    " "the longest wait in milliseconds, "
             [1 to 3600000; default 1000];
     } };
+    (Backends [$($row:tt)*] $($given:tt)*) => { $($row)*! { $($given)*
+        Backends "  backends      version 3: " "connections to the backend that are kept, "
+            [0 to 64; default 64];
+    } };
+    (BackendIdleMs [$($row:tt)*] $($given:tt)*) => { $($row)*! { $($given)*
+        BackendIdleMs "  backend_idle_ms  version 3: "
+            "how long one may be idle and be used again, "
+            [1 to 3600000; default 1000];
+    } };
     (Keep [$($row:tt)*] $($given:tt)*) => { $($row)*! { $($given)*
         Keep "  keep          " "entries of the history that are kept, "
             [1 to 1000000; default 4096];
@@ -167,10 +176,10 @@ macro_rules! key_rows {
     ($rows:ident, $($given:tt)*) => {
         $crate::key_rows! {
             @ $rows [$($given)*]
-            Version Listen Backend Backlog Wait TimeoutMs Keep Promote Limit LimitKind LimitMin
-            LimitMax LimitInitial LimitRatio LimitTimeoutUs LimitAlpha LimitBeta LimitProbeEvery
-            Window WindowSize WindowMinUs WindowMaxUs WindowMinRttUs Class ClassName ClassShare
-            ClassPercent ClassPlaces Resolver ResolverKind ResolverHeader ResolverMethod
+            Version Listen Backend Backlog Wait TimeoutMs Backends BackendIdleMs Keep Promote Limit
+            LimitKind LimitMin LimitMax LimitInitial LimitRatio LimitTimeoutUs LimitAlpha LimitBeta
+            LimitProbeEvery Window WindowSize WindowMinUs WindowMaxUs WindowMinRttUs Class ClassName
+            ClassShare ClassPercent ClassPlaces Resolver ResolverKind ResolverHeader ResolverMethod
             ResolverClass ResolverRoutes Bypass BypassKind BypassMethod BypassPrefix BypassHeader
             BypassEquals
         }

@@ -18,7 +18,7 @@ pub record IsRead (v : Version) (t : Members) : Type 0 where
   pub top : Values
   pub limit : Members × LimitSpec
   pub window : Option (Members × WindowNumbers)
-  pub is_top : section_values [] top_rows t ≡ Ok top
+  pub is_top : section_values [] (top_rows v) t ≡ Ok top
   pub is_limit : limit_of v t ≡ Ok limit
   pub is_window : window_of t ≡ Ok window
 
@@ -27,7 +27,7 @@ abbrev pub is_read : (v : Version) (t : Members) (top : Result TopKeys ConfigFau
     (limit : Result (TableRef × LimitSpec) ConfigFault)
     (window : Result (Option (TableRef × WindowNumbers)) ConfigFault)
     (a : TopKeys) (b : TableRef × LimitSpec) (c : Option (TableRef × WindowNumbers)) →
-    result_map top_values top ≡ section_values [] top_rows t →
+    result_map top_values top ≡ section_values [] (top_rows v) t →
     result_map limit_member limit ≡ limit_of v t →
     result_map (option_map window_member) window ≡ window_of t →
     top ≡ Ok a → limit ≡ Ok b → window ≡ Ok c → IsRead v t

@@ -5,3 +5,4 @@ mod Documents
 mod Made
 mod Told
 mod Places
+mod Tops

@@ -115,7 +115,7 @@ rules_of version backlog t =
 -- every key in a version, in the order of the rows
 abbrev pub document_of : Version → Members → Result DocumentValues ConfigFault
 document_of version t =
-    section_values [] top_rows t >>= λ top.
+    section_values [] (top_rows version) t >>= λ top.
     limit_of version t >>= λ limit.
     window_of t >>= λ window.
     classes_in version (number_at (codes "backlog") top) t >>= λ classes.

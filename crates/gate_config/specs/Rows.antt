@@ -1,7 +1,7 @@
 -- The table of keys: which keys there are, in the order in which faults are looked for, and what
 -- each may hold. The share of a class is told in percent by version 1, and in thousandths since
--- version 2; a limit without numbers and the places of a class came with version 3. All else is
--- that of each version.
+-- version 2; a limit without numbers, the places of a class and the connections that are kept came
+-- with version 3. All else is that of each version.
 use Rattle.std.specs.Prelude.{ℕ, Bool, true, List, [], ◌∷◌, ◌++◌, map, Option, Some, None, codes}
 use Rattle.limit_laws.specs.Algorithm.{greatest_limit}
 use Rattle.aimd.specs.AimdRules.{least_ratio, greatest_ratio}
@@ -82,16 +82,34 @@ all = codes "all"
 abbrev pub promote_rules : List (List ℕ)
 promote_rules = newest ∷ all ∷ []
 
-abbrev pub top_rows : List Row
-top_rows =
+-- addresses, and who waits
+abbrev pub front_rows : List Row
+front_rows =
     row Key.Listen address
     ∷ row Key.Backend address
     ∷ row Key.Backlog (number (at 0) (at 10000) (Some 100))
     ∷ row Key.Wait (flag true)
     ∷ row Key.TimeoutMs (number (at 1) (at 3600000) (Some 1000))
-    ∷ row Key.Keep (number (at 1) (at 1000000) (Some 4096))
+    ∷ []
+
+-- the connections that are kept
+abbrev pub kept_rows : Version → List Row
+kept_rows Three =
+    row Key.Backends (number (at 0) (at 64) (Some 64))
+    ∷ row Key.BackendIdleMs (number (at 1) (at 3600000) (Some 1000))
+    ∷ []
+kept_rows _ = []
+
+-- the history, and who is promoted
+abbrev pub gate_rows : List Row
+gate_rows =
+    row Key.Keep (number (at 1) (at 1000000) (Some 4096))
     ∷ row Key.Promote (choice promote_rules newest)
     ∷ []
+
+-- the keys outside all tables
+abbrev pub top_rows : Version → List Row
+top_rows version = front_rows ++ kept_rows version ++ gate_rows
 
 -- what each limit has that moves by numbers
 abbrev pub moving_rows : List Row
@@ -170,5 +188,5 @@ bypass_rows =
 -- all rows, of each version
 abbrev pub all_rows : List Row
 all_rows =
-    top_rows ++ limit_rows Three ++ window_rows ++ class_rows One ++ class_rows Three
+    top_rows Three ++ limit_rows Three ++ window_rows ++ class_rows One ++ class_rows Three
     ++ resolver_rows ++ bypass_rows

@@ -43,7 +43,7 @@ abbrev pub promote_named : List ℕ → Promote
 promote_named word = if bytes_eq word all then All else Newest
 
 -- the settings that keys make with these resolvers: everybody's places and the classes' own are one
--- backlog, and times are in nanoseconds
+-- backlog, times are in nanoseconds, and a version without keys of connections keeps none
 abbrev pub settings_with : DocumentValues → List Resolver → Settings
 settings_with d resolvers = record {
   listen = text_at (codes "listen") d.top;
@@ -51,6 +51,8 @@ settings_with d resolvers = record {
   backlog = number_at (codes "backlog") d.top + placed d.classes.1;
   wait = flag_at (codes "wait") d.top;
   timeout_ns = number_at (codes "timeout_ms") d.top * 1000000;
+  backends = number_at (codes "backends") d.top;
+  backend_idle_ns = number_at (codes "backend_idle_ms") d.top * 1000000;
   keep = number_at (codes "keep") d.top;
   promote = promote_named (text_at (codes "promote") d.top);
   limit =
@@ -97,5 +99,7 @@ pub record AreSound (s : Settings) : Type 0 where
   pub places_within : placed s.table ≤ s.backlog
   pub timeout_least : 1000000 ≤ s.timeout_ns
   pub timeout_most : s.timeout_ns ≤ 3600000000000
+  pub backends_most : s.backends ≤ 64
+  pub backend_idle_most : s.backend_idle_ns ≤ 3600000000000
   pub keep_least : 1 ≤ s.keep
   pub keep_most : s.keep ≤ 1000000

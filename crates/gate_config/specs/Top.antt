@@ -1,20 +1,42 @@
 -- The keys outside all tables, as values, and their ranges.
-use Rattle.std.specs.Prelude.{◌≤◌, [], ◌∷◌, codes}
+use Rattle.std.specs.Option.{ForSome}
+use Rattle.std.specs.Prelude.{◌≤◌, [], ◌∷◌, ◌++◌, codes, Option, Some, None}
+use Rattle.gate_config.specs.declared.top.FrontKeys.{FrontKeys}
+use Rattle.gate_config.specs.declared.top.KeptKeys.{KeptKeys}
+use Rattle.gate_config.specs.declared.top.GateKeys.{GateKeys}
 use Rattle.gate_config.specs.declared.top.TopKeys.{TopKeys}
 use Rattle.gate_config.specs.Promote.{rule_word}
 use Rattle.gate_config.specs.Section.{Values, flag_is, number_is, text_is}
 
-abbrev pub top_values : TopKeys → Values
-top_values k =
+abbrev pub front_values : FrontKeys → Values
+front_values k =
     (codes "listen", text_is k.listen) ∷ (codes "backend", text_is k.backend)
     ∷ (codes "backlog", number_is k.backlog) ∷ (codes "wait", flag_is k.wait)
-    ∷ (codes "timeout_ms", number_is k.timeout_ms) ∷ (codes "keep", number_is k.keep)
-    ∷ (codes "promote", text_is (rule_word k.promote)) ∷ []
+    ∷ (codes "timeout_ms", number_is k.timeout_ms) ∷ []
+
+abbrev pub kept_values : Option KeptKeys → Values
+kept_values None = []
+kept_values (Some k) =
+    (codes "backends", number_is k.backends)
+    ∷ (codes "backend_idle_ms", number_is k.backend_idle_ms) ∷ []
+
+abbrev pub gate_values : GateKeys → Values
+gate_values k =
+    (codes "keep", number_is k.keep) ∷ (codes "promote", text_is (rule_word k.promote)) ∷ []
+
+abbrev pub top_values : TopKeys → Values
+top_values k = front_values k.front ++ kept_values k.kept ++ gate_values k.gate
+
+-- the numbers of connections that are kept are in their ranges
+pub record AreKept (k : KeptKeys) : Type 0 where
+  pub backends_most : k.backends ≤ 64
+  pub idle_most : k.backend_idle_ms ≤ 3600000
 
 -- the numbers are in their ranges
 pub record IsTop (k : TopKeys) : Type 0 where
-  pub backlog_most : k.backlog ≤ 10000
-  pub timeout_least : 1 ≤ k.timeout_ms
-  pub timeout_most : k.timeout_ms ≤ 3600000
-  pub keep_least : 1 ≤ k.keep
-  pub keep_most : k.keep ≤ 1000000
+  pub backlog_most : k.front.backlog ≤ 10000
+  pub timeout_least : 1 ≤ k.front.timeout_ms
+  pub timeout_most : k.front.timeout_ms ≤ 3600000
+  pub kept : ForSome k.kept AreKept
+  pub keep_least : 1 ≤ k.gate.keep
+  pub keep_most : k.gate.keep ≤ 1000000

@@ -20,9 +20,9 @@ window_keys (Auto n) = []
 window_keys _ = Key.Window ∷ []
 
 -- the keys that no section holds: the version, those of the rows, and those of the tables
-abbrev pub top_names : LimitSpec → List (List ℕ)
-top_names spec =
-    map name_of (Key.Version ∷ map (λ row. row.key) top_rows
+abbrev pub top_names : Version → LimitSpec → List (List ℕ)
+top_names version spec =
+    map name_of (Key.Version ∷ map (λ row. row.key) (top_rows version)
     ++ Key.Limit ∷ window_keys spec ++ Key.Class ∷ Key.Resolver ∷ Key.Bypass ∷ [])
 
 abbrev pub window_unknown_keys : Option (Members × WindowNumbers) → List UnknownKey
@@ -43,7 +43,7 @@ bypass_unknown_keys b = unknown_keys_in In.Bypass (names_of bypass_rows b.1) b.0
 -- all of them, in a version
 abbrev pub unknown_keys_of : Version → Members → DocumentValues → List UnknownKey
 unknown_keys_of version t d =
-    unknown_keys_in In.Top (top_names d.limit.1) t
+    unknown_keys_in In.Top (top_names version d.limit.1) t
     ++ unknown_keys_in In.Limit (limit_names d.limit.1) d.limit.0
     ++ window_unknown_keys d.window ++ flat_map (class_unknown_keys version) d.classes.0
     ++ flat_map resolver_unknown_keys d.resolvers ++ flat_map bypass_unknown_keys d.bypasses

@@ -58,15 +58,15 @@ pub fn read_document<'a>(
     ensures window { IfOk result
         (λ d. ForSome d.window (λ window. IsOk (windows_made window.1))) }
     ensures places { IfOk result (λ d.
-        d.top.backlog + placed (map class_row d.rules.classes.1.items) ≤ 10000) }
+        d.top.front.backlog + placed (map class_row d.rules.classes.1.items) ≤ 10000) }
     ensures said { Answers document_values (document_of version (table_view table.now)) result }
     ensures fault { (fault : FaultValue) →
         document_of version (table_view table.now) ≡ Err fault → IsErrOf result fault }
 {
-    let top = read_top(table)?;
+    let top = read_top(version, table)?;
     let limit = limit_in(version, table)?;
     let window = window_in(table)?;
-    let rules = rules_in(alloc, version, top.backlog, table)?;
+    let rules = rules_in(alloc, version, top.front.backlog, table)?;
     Ok(Document {
         top,
         limit,

@@ -40,6 +40,8 @@ pub enum Key {
     Backlog,
     Wait,
     TimeoutMs,
+    Backends,
+    BackendIdleMs,
     Keep,
     Promote,
     Limit,
@@ -88,6 +90,8 @@ impl Key {
             | Key::Backlog
             | Key::Wait
             | Key::TimeoutMs
+            | Key::Backends
+            | Key::BackendIdleMs
             | Key::Keep
             | Key::Promote
             | Key::Limit
@@ -134,6 +138,8 @@ impl Key {
             Key::Backlog => "backlog",
             Key::Wait => "wait",
             Key::TimeoutMs => "timeout_ms",
+            Key::Backends => "backends",
+            Key::BackendIdleMs => "backend_idle_ms",
             Key::Keep => "keep",
             Key::Promote => "promote",
             Key::Limit => "limit",

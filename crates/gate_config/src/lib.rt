@@ -50,7 +50,10 @@ pub use resolver::{ResolverKeys, check_resolvers, read_resolvers};
 pub use settings::Settings;
 pub use table::{read_optional_table, read_table, read_tables};
 pub use text::{read_prefix, read_text, read_token, string_of};
-pub use top::{NO_WINDOW, TOP_KEYS, TopKeys, read_top};
+pub use top::{
+    FrontKeys, GateKeys, KeptKeys, NO_WINDOW, OLD_NO_WINDOW, OLD_TOP_KEYS, TOP_KEYS, TopKeys,
+    read_top,
+};
 pub use unknown::{UnknownAtFault, UnknownKey, least_unknown};
 pub use version::Version;
 pub use window::{WINDOW_KEYS, read_window};

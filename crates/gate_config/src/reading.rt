@@ -12,7 +12,8 @@ ghost use Rattle.gate_config.specs.Outcomes.{Answers};
 ghost use Rattle.gate_config.specs.Bypass.{bypass_member};
 ghost use Rattle.gate_config.specs.ClassRows.{class_row};
 ghost use Rattle.gate_config.specs.Resolver.{resolver_member};
-ghost use Rattle.gate_config.specs.Top.{IsTop};
+ghost use Rattle.gate_config.specs.Section.{number_at};
+ghost use Rattle.gate_config.specs.Top.{AreKept, IsTop, kept_values};
 ghost use Rattle.gate_config.specs.Document.{document_values, rule_values};
 ghost use Rattle.gate_config.specs.Rules.{Makes, bypass_from, resolvers_after};
 ghost use Rattle.gate_config.specs.Settings.{AreSound, IsOfKey, Reads, made_of, settings_of, version_of};
@@ -23,7 +24,7 @@ use crate::build::rules::{add, make_bypass, make_resolver, partitions_of};
 use crate::document::{Document, RuleKeys, read_document};
 use crate::settings::Settings;
 use crate::unknown_keys::least_unknown_key;
-use crate::{BypassKeys, ConfigFault, Key, ResolverKeys, Version, value_at};
+use crate::{BypassKeys, ConfigFault, KeptKeys, Key, ResolverKeys, TopKeys, Version, value_at};
 use classifier::{Bypass, Resolver, Rules};
 use partitions::PartitionTable;
 use std::alloc::{AllocError, Global};
@@ -109,7 +110,7 @@ fn made_of(alloc: Global, document: Document) -> Result<Settings, ConfigFault>
     requires top { IsTop document.top }
     requires limit { IsOk (limit_made document.limit.1) }
     requires window { ForSome document.window (λ window. IsOk (windows_made window.1)) }
-    requires places { document.top.backlog
+    requires places { document.top.front.backlog
         + placed (map class_row document.rules.classes.1.items) ≤ 10000 }
     ensures sound { IfOk result AreSound }
     ensures said { Makes (λ settings. settings) (made_of (document_values document.entry)) result }
@@ -123,18 +124,40 @@ fn made_of(alloc: Global, document: Document) -> Result<Settings, ConfigFault>
     } = document;
     let limit = any_limit(limit.1, window.map(|window| window.1));
     let places = table.placed() as u32;
+    let TopKeys { front, kept, gate } = top;
+    let KeptKeys {
+        backends,
+        backend_idle_ms,
+    } = kept_of(kept);
     Ok(Settings {
-        listen: top.listen,
-        backend: top.backend,
-        backlog: top.backlog + places,
-        wait: top.wait,
-        timeout_ns: u64::from(top.timeout_ms) * MILLI,
-        keep: top.keep,
-        promote: promote_of(top.promote),
+        listen: front.listen,
+        backend: front.backend,
+        backlog: front.backlog + places,
+        wait: front.wait,
+        timeout_ns: u64::from(front.timeout_ms) * MILLI,
+        backends,
+        backend_idle_ns: u64::from(backend_idle_ms) * MILLI,
+        keep: gate.keep,
+        promote: promote_of(gate.promote),
         limit,
         table,
         rules,
     })
+}
+
+/// The connections that are kept: none where the version keeps none.
+fn kept_of(kept: Option<KeptKeys>) -> KeptKeys
+    ensures most { ForSome kept AreKept → AreKept result }
+    ensures backends { result.backends ≡ number_at (codes "backends") (kept_values kept) }
+    ensures idle { result.backend_idle_ms ≡ number_at (codes "backend_idle_ms") (kept_values kept) }
+{
+    match kept {
+        Some(kept) => kept,
+        None => KeptKeys {
+            backends: 0,
+            backend_idle_ms: 0,
+        },
+    }
 }
 
 /// The classes, and the rules among them.

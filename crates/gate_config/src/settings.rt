@@ -19,6 +19,10 @@ pub struct Settings {
     pub wait: bool,
     /// The longest wait, in nanoseconds: a millisecond to an hour.
     pub timeout_ns: u64,
+    /// How many connections to the backend are kept, up to 64.
+    pub backends: u32,
+    /// How long one of them may be idle and be used again, in nanoseconds: up to an hour.
+    pub backend_idle_ns: u64,
     /// How many entries of the history are kept, from 1 to 1,000,000.
     pub keep: u32,
     /// Which waiters get the room that falls free.

@@ -1,18 +1,57 @@
 // The keys outside all tables.
-ghost use Rattle.std.specs.Prelude.{◌≡◌, [], IfOk};
+ghost use Rattle.std.specs.Option.{ForSome};
+ghost use Rattle.std.specs.Prelude.{◌≡◌, ◌≤◌, ◌++◌, [], IfOk, Ok, Some, fold};
 ghost use Rattle.toml.specs.View.{table_view};
+ghost use Rattle.gate_config.specs.declared.version.Version.TheVariants.{Three};
 ghost use Rattle.gate_config.specs.Outcomes.{result_map};
-ghost use Rattle.gate_config.specs.Rows.{top_rows};
-ghost use Rattle.gate_config.specs.Section.{section_values};
-ghost use Rattle.gate_config.specs.Top.{IsTop, top_values};
+ghost use Rattle.gate_config.specs.Rows.{front_rows, gate_rows, kept_rows, top_rows};
+ghost use Rattle.gate_config.specs.Section.{Values, read_row, section_values};
+ghost use Rattle.gate_config.specs.Top.{AreKept, IsTop, front_values, gate_values, kept_values, top_values};
 
 use crate::promote::{PromoteRule, read_promote};
-use crate::{Address, ConfigFault, Key, Range, read_address, read_flag, read_number};
+use crate::{Address, ConfigFault, Key, Range, Version, read_address, read_flag, read_number};
 use config_words::{default_of, range_of};
 use toml::Table;
 
-/// The keys outside all tables.
-pub const TOP_KEYS: [Key; 13] = [
+/// The keys outside all tables, in version 3.
+pub const TOP_KEYS: [Key; 15] = [
+    Key::Version,
+    Key::Listen,
+    Key::Backend,
+    Key::Backlog,
+    Key::Wait,
+    Key::TimeoutMs,
+    Key::Backends,
+    Key::BackendIdleMs,
+    Key::Keep,
+    Key::Promote,
+    Key::Limit,
+    Key::Window,
+    Key::Class,
+    Key::Resolver,
+    Key::Bypass,
+];
+
+/// Those beside a limit that has windows of its own.
+pub const NO_WINDOW: [Key; 14] = [
+    Key::Version,
+    Key::Listen,
+    Key::Backend,
+    Key::Backlog,
+    Key::Wait,
+    Key::TimeoutMs,
+    Key::Backends,
+    Key::BackendIdleMs,
+    Key::Keep,
+    Key::Promote,
+    Key::Limit,
+    Key::Class,
+    Key::Resolver,
+    Key::Bypass,
+];
+
+/// The keys outside all tables, in versions that keep no connection.
+pub const OLD_TOP_KEYS: [Key; 13] = [
     Key::Version,
     Key::Listen,
     Key::Backend,
@@ -28,8 +67,8 @@ pub const TOP_KEYS: [Key; 13] = [
     Key::Bypass,
 ];
 
-/// Those beside a limit that has windows of its own.
-pub const NO_WINDOW: [Key; 12] = [
+/// Those of them beside a limit that has windows of its own.
+pub const OLD_NO_WINDOW: [Key; 12] = [
     Key::Version,
     Key::Listen,
     Key::Backend,
@@ -47,6 +86,15 @@ pub const NO_WINDOW: [Key; 12] = [
 /// What the keys outside all tables hold.
 #[derive(Drop)]
 pub struct TopKeys {
+    pub front: FrontKeys,
+    /// The connections that are kept, in a version that keeps some.
+    pub kept: Option<KeptKeys>,
+    pub gate: GateKeys,
+}
+
+/// The addresses, and who waits.
+#[derive(Drop)]
+pub struct FrontKeys {
     pub listen: Address,
     pub backend: Address,
     /// How many callers may wait, beside those in the classes' own places.
@@ -55,32 +103,96 @@ pub struct TopKeys {
     pub wait: bool,
     /// The longest wait, in milliseconds.
     pub timeout_ms: u32,
+}
+
+/// The connections that are kept.
+#[derive(Clone, Copy, Drop)]
+pub struct KeptKeys {
+    /// How many connections to the backend are kept.
+    pub backends: u32,
+    /// How long one may be idle and be used again, in milliseconds.
+    pub backend_idle_ms: u32,
+}
+
+/// The history, and who is promoted.
+#[derive(Drop)]
+pub struct GateKeys {
     /// How many entries of the history are kept.
     pub keep: u32,
     /// Which waiters get the room that falls free.
     pub promote: PromoteRule,
 }
 
-/// The keys outside all tables.
-pub fn read_top(table: &Table) -> Result<TopKeys, ConfigFault>
+/// The keys outside all tables, in a version.
+pub fn read_top(version: Version, table: &Table) -> Result<TopKeys, ConfigFault>
     ensures within { IfOk result IsTop }
     ensures value { result_map top_values result
-        ≡ section_values [] top_rows (table_view table.now) }
+        ≡ section_values [] (top_rows version) (table_view table.now) }
+{
+    let front = read_front(table)?;
+    let kept = read_kept(version, table)?;
+    let gate = read_gate(table)?;
+    Ok(TopKeys { front, kept, gate })
+}
+
+/// The addresses, and who waits.
+fn read_front(table: &Table) -> Result<FrontKeys, ConfigFault>
+    ensures backlog { IfOk result (λ k. k.backlog ≤ 10000) }
+    ensures timeout { IfOk result (λ k. (1 ≤ k.timeout_ms) × (k.timeout_ms ≤ 3600000)) }
+    ensures value { result_map front_values result
+        ≡ section_values [] front_rows (table_view table.now) }
 {
     let listen = read_address(table, Key::Listen)?;
     let backend = read_address(table, Key::Backend)?;
     let backlog = read_number(table, Key::Backlog, range_of!(Backlog))?;
     let wait = read_flag(table, Key::Wait, default_of!(Wait))?;
     let timeout_ms = read_number(table, Key::TimeoutMs, range_of!(TimeoutMs))?;
-    let keep = read_number(table, Key::Keep, range_of!(Keep))?;
-    let promote = read_promote(table)?;
-    Ok(TopKeys {
+    Ok(FrontKeys {
         listen,
         backend,
         backlog,
         wait,
         timeout_ms,
-        keep,
-        promote,
     })
+}
+
+/// The connections that are kept, behind what was read, in a version that keeps some.
+fn read_kept(version: Version, table: &Table) -> Result<Option<KeptKeys>, ConfigFault>
+    ensures within { IfOk result (λ kept. ForSome kept AreKept) }
+    ensures value { (before : Values) → result_map (λ kept. before ++ kept_values kept) result
+        ≡ fold (read_row [] (table_view table.now)) (Ok before) (kept_rows version) }
+{
+    match version {
+        Version::One | Version::Two => Ok(None),
+        Version::Three => match read_kept_keys(table) {
+            Ok(kept) => Ok(Some(kept)),
+            Err(fault) => Err(fault),
+        },
+    }
+}
+
+/// The keys of connections that are kept, behind what was read.
+fn read_kept_keys(table: &Table) -> Result<KeptKeys, ConfigFault>
+    ensures within { IfOk result AreKept }
+    ensures value { (before : Values)
+        → result_map (λ kept. before ++ kept_values (Some kept)) result
+        ≡ fold (read_row [] (table_view table.now)) (Ok before) (kept_rows Three) }
+{
+    let backends = read_number(table, Key::Backends, range_of!(Backends))?;
+    let backend_idle_ms = read_number(table, Key::BackendIdleMs, range_of!(BackendIdleMs))?;
+    Ok(KeptKeys {
+        backends,
+        backend_idle_ms,
+    })
+}
+
+/// The history, and who is promoted, behind what was read.
+fn read_gate(table: &Table) -> Result<GateKeys, ConfigFault>
+    ensures within { IfOk result (λ k. (1 ≤ k.keep) × (k.keep ≤ 1000000)) }
+    ensures value { (before : Values) → result_map (λ k. before ++ gate_values k) result
+        ≡ fold (read_row [] (table_view table.now)) (Ok before) gate_rows }
+{
+    let keep = read_number(table, Key::Keep, range_of!(Keep))?;
+    let promote = read_promote(table)?;
+    Ok(GateKeys { keep, promote })
 }

@@ -3,6 +3,7 @@ ghost use Rattle.std.specs.Prelude.{◌≡◌, flat_map, fold, map, option_map};
 ghost use Rattle.toml.specs.View.{table_view};
 ghost use Rattle.gate_config.specs.Key.{name_of};
 ghost use Rattle.gate_config.specs.Table.{tables_among};
+ghost use Rattle.gate_config.specs.declared.version.Version.TheVariants.{One, Two, Three};
 ghost use Rattle.gate_config.specs.Unknown.{least, lesser, unknown_key_of};
 ghost use Rattle.gate_config.specs.Bypass.{bypass_member};
 ghost use Rattle.gate_config.specs.Resolver.{resolver_member};
@@ -11,8 +12,8 @@ ghost use Rattle.gate_config.specs.UnknownKeys.{bypass_unknown_keys, class_unkno
 
 use crate::document::Document;
 use crate::{
-    BypassKeys, Key, NO_WINDOW, ResolverKeys, Section, TOP_KEYS, UnknownKey, Version, WINDOW_KEYS,
-    class_keys, least_unknown, limit_keys,
+    BypassKeys, Key, NO_WINDOW, OLD_NO_WINDOW, OLD_TOP_KEYS, ResolverKeys, Section, TOP_KEYS,
+    UnknownKey, Version, WINDOW_KEYS, class_keys, least_unknown, limit_keys,
 };
 use limit_kinds::LimitSpec;
 use toml::{Table, Value};
@@ -27,7 +28,7 @@ pub fn least_unknown_key<'a>(
         ≡ least (unknown_keys_of version (table_view table.now) (document_values document.now)) }
 {
     let (limit, spec) = &document.limit;
-    let mut least = least_unknown(None, Section::Top, None, top_keys(spec), table);
+    let mut least = least_unknown(None, Section::Top, None, top_keys(version, spec), table);
     least = least_unknown(least, Section::Limit, None, limit_keys(spec), limit);
     if let Some((window, _)) = &document.window {
         least = least_unknown(least, Section::Window, None, &WINDOW_KEYS, window);
@@ -37,13 +38,34 @@ pub fn least_unknown_key<'a>(
     least_of_bypasses(least, &document.rules.bypasses)
 }
 
-/// The keys outside all tables beside a limit.
-fn top_keys(spec: &LimitSpec) -> &'static [Key]
-    ensures { map name_of result.now ≡ top_names spec.now }
+/// The keys outside all tables beside a limit, in a version.
+fn top_keys(version: Version, spec: &LimitSpec) -> &'static [Key]
+    ensures { map name_of result.now ≡ top_names version spec.now }
+{
+    match version {
+        Version::Three => top_keys_of_three(spec),
+        Version::One | Version::Two => old_top_keys(spec),
+    }
+}
+
+/// The same in version 3.
+fn top_keys_of_three(spec: &LimitSpec) -> &'static [Key]
+    ensures { map name_of result.now ≡ top_names Three spec.now }
 {
     match spec {
         LimitSpec::Auto(_) => &NO_WINDOW,
         _ => &TOP_KEYS,
+    }
+}
+
+/// The same in a version before.
+fn old_top_keys(spec: &LimitSpec) -> &'static [Key]
+    ensures one { map name_of result.now ≡ top_names One spec.now }
+    ensures two { map name_of result.now ≡ top_names Two spec.now }
+{
+    match spec {
+        LimitSpec::Auto(_) => &OLD_NO_WINDOW,
+        _ => &OLD_TOP_KEYS,
     }
 }
 

@@ -38,7 +38,7 @@ pub fn log_listening<R: Log, F: Opener>(
         warn!(rt; target: "admission", inside, workers, wanted;
             "limit, shares and backlog exceed the workers: past these nobody is served or refused");
     }
-    log_descriptors(rt, files, alloc, workers);
+    log_descriptors(rt, files, alloc, workers, settings.backends);
     let address = settings.listen.socket();
     let backend = settings.backend.socket();
     if leads_back(address, backend) {
@@ -87,10 +87,17 @@ pub fn log_unbound<R: Log>(rt: &R, address: SocketAddrV4, error: &Error) {
     error!(rt; target: "admission", address:%, error:%; "the address can't be bound");
 }
 
-/// Logs a warning where each worker with a client and a backend would want more descriptors than
-/// the system gives, with some for the program itself.
-fn log_descriptors<R: Log, F: Opener>(rt: &R, files: &F, alloc: Global, workers: u32) {
-    let wanted = 2 * u64::from(workers) + 8;
+/// Logs a warning where each worker with a client and a backend, and so many connections to the
+/// backend that are kept, would want more descriptors than the system gives, with some for the
+/// program itself.
+fn log_descriptors<R: Log, F: Opener>(
+    rt: &R,
+    files: &F,
+    alloc: Global,
+    workers: u32,
+    backends: u32,
+) {
+    let wanted = 2 * u64::from(workers) + u64::from(backends) + 8;
     let Some(descriptors) = most_descriptors(files, alloc) else {
         return;
     };

@@ -10,10 +10,10 @@ returns-in_err-rules-clause-fault c = λ fault said.
     c.in_ok-limit.limit c.in_ok-window.window c.read_top.ensures.value c.limit_in.ensures.said
     c.window_in.ensures.said c.in_ok-top.was c.in_ok-limit.was c.in_ok-window.was in
     let whole = document_read c.args.version (table_view c.args.table.now) read
-    c.in_ok-top.top.backlog refl in
-    let key : rules_of c.args.version c.in_ok-top.top.backlog (table_view c.args.table.now)
+    c.in_ok-top.top.front.backlog refl in
+    let key : rules_of c.args.version c.in_ok-top.top.front.backlog (table_view c.args.table.now)
     ≡ Err fault =
-    same_fault (rules_of c.args.version c.in_ok-top.top.backlog (table_view c.args.table.now))
+    same_fault (rules_of c.args.version c.in_ok-top.top.front.backlog (table_view c.args.table.now))
     (with_rules read) fault (rw whole at said) in
     let told : IsErrOf c.rules_in.result fault = c.rules_in.ensures.fault fault key in
     search rules
@@ -24,7 +24,7 @@ returns-in_err-rules-clause-said c =
     c.in_ok-limit.limit c.in_ok-window.window c.read_top.ensures.value c.limit_in.ensures.said
     c.window_in.ensures.said c.in_ok-top.was c.in_ok-limit.was c.in_ok-window.was in
     let whole = document_read c.args.version (table_view c.args.table.now) read
-    c.in_ok-top.top.backlog refl in
+    c.in_ok-top.top.front.backlog refl in
     search rules
 
 pub returns-clause-said : goal.returns-clause-said
@@ -33,7 +33,7 @@ returns-clause-said c =
     c.in_ok-limit.limit c.in_ok-window.window c.read_top.ensures.value c.limit_in.ensures.said
     c.window_in.ensures.said c.in_ok-top.was c.in_ok-limit.was c.in_ok-window.was in
     let whole = document_read c.args.version (table_view c.args.table.now) read
-    c.in_ok-top.top.backlog refl in
+    c.in_ok-top.top.front.backlog refl in
     search rules
 
 pub returns-clause-fault : goal.returns-clause-fault
@@ -42,7 +42,7 @@ returns-clause-fault c =
     c.in_ok-limit.limit c.in_ok-window.window c.read_top.ensures.value c.limit_in.ensures.said
     c.window_in.ensures.said c.in_ok-top.was c.in_ok-limit.was c.in_ok-window.was in
     let whole = document_read c.args.version (table_view c.args.table.now) read
-    c.in_ok-top.top.backlog refl in
+    c.in_ok-top.top.front.backlog refl in
     search rules
 
 pub returns-in_err-top-clause-said : goal.returns-in_err-top-clause-said

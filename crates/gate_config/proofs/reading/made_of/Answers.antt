@@ -1,4 +1,5 @@
 use Rattle.std.proofs.Common.{rules}
+use Rattle.gate_config.proofs.Tops.{read_at}
 use Rattle.gate_config.proofs.reading.made_of.Goals as goal
 
 pub returns-in_err-table-clause-sound : goal.returns-in_err-table-clause-sound
@@ -11,4 +12,4 @@ pub returns-clause-sound : goal.returns-clause-sound
 returns-clause-sound c = search rules
 
 pub returns-clause-said : goal.returns-clause-said
-returns-clause-said c = search rules
+returns-clause-said c = search (rules, read_at)

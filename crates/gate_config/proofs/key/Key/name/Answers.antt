@@ -19,6 +19,12 @@ returns-in-Wait c = search rules
 pub returns-in-TimeoutMs : goal.returns-in-TimeoutMs
 returns-in-TimeoutMs c = search rules
 
+pub returns-in-Backends : goal.returns-in-Backends
+returns-in-Backends c = search rules
+
+pub returns-in-BackendIdleMs : goal.returns-in-BackendIdleMs
+returns-in-BackendIdleMs c = search rules
+
 pub returns-in-Keep : goal.returns-in-Keep
 returns-in-Keep c = search rules
 
