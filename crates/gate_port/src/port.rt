@@ -1,4 +1,5 @@
 // Where permits are asked for and ended.
+ghost use Rattle.std.specs.Prelude.{◌≡◌};
 ghost use Rattle.gate_port.specs.Asking.{Admits};
 ghost use Rattle.gate_port.specs.Ending.{Ends};
 ghost use Rattle.gate_port.specs.Log.{AdmitsIn, EndsIn};
@@ -69,6 +70,11 @@ pub trait GatePort {
             result }
         ensures log { AdmitsIn part bypass deadline now (known self.old) (known self.new) facts
             result };
+
+    /// The moment at which a permit started: that of its asking, or where its caller waited that of
+    /// the ending which promoted it.
+    fn start(permit: &Self::Permit) -> u64
+        ensures { result ≡ (facts permit.now).start };
 
     /// Ends a permit with an outcome.
     fn end(&mut self, permit: Self::Permit, outcome: Outcome, now: u64) -> Self::Receipt

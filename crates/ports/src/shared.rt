@@ -296,6 +296,11 @@ impl<'a, L: Limit, M: GateNaming, R: Wait + SystemClock, C: Clock> GatePort
         admission
     }
 
+    #[inline(always)]
+    fn start(permit: &Permit<M>) -> u64 {
+        permit.facts().start
+    }
+
     /// Ends a permit, in one call by the pass.
     #[inline(always)]
     fn end(&mut self, permit: Permit<M>, outcome: Outcome, now: u64) -> Receipt<M>

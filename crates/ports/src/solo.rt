@@ -128,6 +128,10 @@ impl<L: Limit, N: Naming> GatePort for SoloPort<L, N> {
         }
     }
 
+    fn start(permit: &Permit<N>) -> u64 {
+        permit.facts().start
+    }
+
     fn end(&mut self, permit: Permit<N>, outcome: Outcome, now: u64) -> Receipt<N> {
         let call = Call::End {
             permit,
