@@ -15,8 +15,9 @@ use Rattle.gate_port.specs.Ending.{Ends, IsEnding}
 use Rattle.gate_port.specs.Log.{AdmitsIn, EndsIn, Grows, IsAskedIn, IsEndedIn}
 use Rattle.gate_port.specs.Shown.{Adds, Shown}
 use Rattle.wire.specs.declared.answer.BackendAnswer.{BackendAnswer}
+use Rattle.proxy.specs.declared.told.PermitTimes.{PermitTimes}
 use Rattle.proxy.specs.declared.told.Verdict.TheVariants as verdict
-use Rattle.proxy.specs.Settling.{Serves, ServesIn, asked_for}
+use Rattle.proxy.specs.Settling.{Serves, ServesIn, asked_for, times_between}
 use Rattle.proxy.specs.Table.{outcome_of}
 
 -- one stretch of entries, and then another
@@ -104,14 +105,15 @@ asks_in s class class' deadline until now old new facts answer a waits is same p
 module _ (ask : Ask) (now : ℕ) where
   -- who was admitted is asked for, and then ended
   pub serves_admitted : (old mid new : Option Shown) (permit : PermitFacts) (answer : BackendAnswer)
-      (outcome : Outcome) (end : ℕ)
+      (outcome : Outcome) (times : Option PermitTimes) (end : ℕ)
       → Adds old mid (λ before added. IsAsked ask before now added (admission.Admitted permit))
+      → times ≡ Some (times_between now permit.start end)
       → outcome ≡ outcome_of answer → Ends permit outcome end mid new
-      → Adds old new (Serves ask verdict.Admitted (Some answer) now end)
-  serves_admitted old mid new permit answer outcome end p same q =
+      → Adds old new (Serves ask verdict.Admitted times (Some answer) now end)
+  serves_admitted old mid new permit answer outcome times end p timed same q =
       adds_then old mid new (λ s a. IsAsked ask s now a (admission.Admitted permit))
       (IsEnding permit (outcome_of answer) end)
-      (Serves ask verdict.Admitted (Some answer) now end) p
+      (Serves ask verdict.Admitted times (Some answer) now end) p
       (subst (λ (o : Outcome). Ends permit o end mid new) same q)
       (λ (s : Shown) (a b : List Entry) asked ended. record {
         asked = a;
@@ -120,16 +122,17 @@ module _ (ask : Ask) (now : ℕ) where
         both = refl;
         asking = asked;
         verdict = refl;
+        timed = timed;
         ending = ended;
       })
 
   -- nobody else is ended
   pub serves_bypassed : (old new : Option Shown) (answer : BackendAnswer) (end : ℕ)
       → Adds old new (λ before added. IsAsked ask before now added admission.Bypassed)
-      → Adds old new (Serves ask verdict.Bypassed (Some answer) now end)
+      → Adds old new (Serves ask verdict.Bypassed None (Some answer) now end)
   serves_bypassed old new answer end p =
       adds_map old new (λ s a. IsAsked ask s now a admission.Bypassed)
-      (Serves ask verdict.Bypassed (Some answer) now end) p
+      (Serves ask verdict.Bypassed None (Some answer) now end) p
       (λ (s : Shown) (a : List Entry) asked. record {
         asked = a;
         ended = [];
@@ -137,15 +140,16 @@ module _ (ask : Ask) (now : ℕ) where
         both = sym (append-nil a);
         asking = asked;
         verdict = refl;
+        timed = refl;
         ending = refl;
       })
 
   pub serves_refused : (old new : Option Shown) (why : Why) (end : ℕ)
       → Adds old new (λ before added. IsAsked ask before now added (admission.Refused why))
-      → Adds old new (Serves ask (verdict.Refused why) None now end)
+      → Adds old new (Serves ask (verdict.Refused why) None None now end)
   serves_refused old new why end p =
       adds_map old new (λ s a. IsAsked ask s now a (admission.Refused why))
-      (Serves ask (verdict.Refused why) None now end) p
+      (Serves ask (verdict.Refused why) None None now end) p
       (λ (s : Shown) (a : List Entry) asked. record {
         asked = a;
         ended = [];
@@ -153,6 +157,7 @@ module _ (ask : Ask) (now : ℕ) where
         both = sym (append-nil a);
         asking = asked;
         verdict = refl;
+        timed = refl;
         ending = refl;
       })
 
@@ -172,48 +177,52 @@ grows_map (Some o) None P R p f = absurd p
 grows_map (Some o) (Some n) P R p f = f o n p
 
 module _ (ask : Ask) (now : ℕ) where
-  pub logs_admitted : (old mid new : Option (List Entry)) (permit : PermitFacts) (answer : BackendAnswer)
-      (outcome : Outcome) (end : ℕ)
+  pub logs_admitted : (old mid new : Option (List Entry)) (permit : PermitFacts)
+      (answer : BackendAnswer) (outcome : Outcome) (times : Option PermitTimes) (end : ℕ)
       → Grows old mid (λ before after. IsAskedIn ask before now after (admission.Admitted permit))
+      → times ≡ Some (times_between now permit.start end)
       → outcome ≡ outcome_of answer → EndsIn permit outcome end mid new
-      → Grows old new (ServesIn ask verdict.Admitted (Some answer) now end)
-  logs_admitted old mid new permit answer outcome end p same q =
+      → Grows old new (ServesIn ask verdict.Admitted times (Some answer) now end)
+  logs_admitted old mid new permit answer outcome times end p timed same q =
       grows_then old mid new (λ a b. IsAskedIn ask a now b (admission.Admitted permit))
       (IsEndedIn permit (outcome_of answer) end)
-      (ServesIn ask verdict.Admitted (Some answer) now end) p
+      (ServesIn ask verdict.Admitted times (Some answer) now end) p
       (subst (λ (o : Outcome). EndsIn permit o end mid new) same q)
       (λ (a b c : List Entry) asked ended. record {
         mid = b;
         admission = admission.Admitted permit;
         asking = asked;
         verdict = refl;
+        timed = timed;
         ending = ended;
       })
 
   pub logs_bypassed : (old new : Option (List Entry)) (answer : BackendAnswer) (end : ℕ)
       → Grows old new (λ before after. IsAskedIn ask before now after admission.Bypassed)
-      → Grows old new (ServesIn ask verdict.Bypassed (Some answer) now end)
+      → Grows old new (ServesIn ask verdict.Bypassed None (Some answer) now end)
   logs_bypassed old new answer end p =
       grows_map old new (λ a b. IsAskedIn ask a now b admission.Bypassed)
-      (ServesIn ask verdict.Bypassed (Some answer) now end) p
+      (ServesIn ask verdict.Bypassed None (Some answer) now end) p
       (λ (a b : List Entry) asked. record {
         mid = b;
         admission = admission.Bypassed;
         asking = asked;
         verdict = refl;
+        timed = refl;
         ending = refl;
       })
 
   pub logs_refused : (old new : Option (List Entry)) (why : Why) (end : ℕ)
       → Grows old new (λ before after. IsAskedIn ask before now after (admission.Refused why))
-      → Grows old new (ServesIn ask (verdict.Refused why) None now end)
+      → Grows old new (ServesIn ask (verdict.Refused why) None None now end)
   logs_refused old new why end p =
       grows_map old new (λ a b. IsAskedIn ask a now b (admission.Refused why))
-      (ServesIn ask (verdict.Refused why) None now end) p
+      (ServesIn ask (verdict.Refused why) None None now end) p
       (λ (a b : List Entry) asked. record {
         mid = b;
         admission = admission.Refused why;
         asking = asked;
         verdict = refl;
+        timed = refl;
         ending = refl;
       })

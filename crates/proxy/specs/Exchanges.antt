@@ -40,6 +40,11 @@ told_by bytes c = record {
   is_flushed = c.is_flushed;
 }
 
+-- what exchanges are made by: settings, and whether own answers have marks
+pub record Policy : Type 0 where
+  pub settings : Settings
+  pub marks : Bool
+
 -- what an exchange finds and leaves: the client's two ends, the gate's entries where they are
 -- shown, what is known of its log where that is told, the looks at the clock, how many requests the
 -- backend was given, and which where it shows them
@@ -72,13 +77,13 @@ pub record IsRead (reader reader' writer writer' : Counted Bytes) (asked : Bytes
 abbrev pub Deals : Settings → World → World → Result Request WireFault
     → Option BackendAnswer → ExchangeSummary → Type 0
 Deals s old new (Err f) answer x =
-    (x.class ≡ None) × (x.admission ≡ verdict.NotAsked) × (answer ≡ None)
+    (x.class ≡ None) × (x.admission ≡ verdict.NotAsked) × (x.permit ≡ None) × (answer ≡ None)
     × (new.shown ≡ old.shown) × (new.count ≡ old.count) × (new.log ≡ old.log)
     × (new.looks ≡ old.looks) × (new.known ≡ old.known)
 Deals s old new (Ok request) answer x =
     (x.class ≡ Some (class_by s request))
     × IsSettled s request old.shown new.shown old.known new.known old.looks new.looks
-    old.count new.count old.log new.log (class_by s request) x.admission answer
+    old.count new.count old.log new.log (class_by s request) x.admission x.permit answer
 
 -- the bytes end inside the message, and one read was made: it found their end
 abbrev pub is_empty : WireFault → ℕ → ℕ → Bool
@@ -91,18 +96,18 @@ is_unsent (Err f) before reads = is_empty f before reads
 is_unsent (Ok request) before reads = false
 
 -- AN EXCHANGE: something is read, and dealt with; what is told of it, and without a fault of
--- writing what is written to the client, is by the table of answers. A fault of writing as
--- something was read is reported as such
-pub record IsExchange (s : Settings) (old new : World) (x : ExchangeSummary) : Type 0 where
+-- writing what is written to the client, is by the table of answers, its own answers with marks or
+-- without. A fault of writing as something was read is reported as such
+pub record IsExchange (p : Policy) (old new : World) (x : ExchangeSummary) : Type 0 where
   pub read : Result Request WireFault
   pub asked : Bytes
   pub answer : Option BackendAnswer
   pub reading : IsRead old.reader new.reader old.writer new.writer asked read
-  pub deals : Deals s old new read answer x
+  pub deals : Deals p.settings old new read answer x
   pub status : x.answer ≡ sent_status read answer
   pub own : x.is_own ≡ is_sent_own read answer
   pub empty : x.is_empty ≡ is_unsent read old.reader.calls new.reader.calls
   pub outcome : x.outcome ≡ outcome_at answer
   pub text : x.written_fault ≡ None
-      → Appends asked (inner_of new.writer) (sent_text read answer)
+      → Appends asked (inner_of new.writer) (sent_text p.marks read x.admission answer)
   pub unasked : IsErrOf read fault.Write → x.written_fault ≡ Some fault.Write

@@ -1,6 +1,6 @@
 -- What becomes of a request that was read, at the gate and at the backend.
-use Rattle.std.specs.Prelude.{◌≡◌, ◌≢◌, ℕ, ◌≤◌, List, [], ◌++◌, Bool, true, false, Option, None}
-use Rattle.std.specs.Prelude.{Some, is_some, if◌then◌else◌}
+use Rattle.std.specs.Prelude.{◌≡◌, ◌≢◌, ℕ, ◌-◌, ◌≤◌, List, [], ◌++◌, Bool, true, false, Option}
+use Rattle.std.specs.Prelude.{None, Some, is_some, if◌then◌else◌}
 use Rattle.counted_io.specs.Count.{raised}
 use Rattle.clocks.specs.Looks.{Looked, looked}
 use Rattle.limiter_core.specs.declared.event.Entry.{Entry}
@@ -17,6 +17,7 @@ use Rattle.gate_port.specs.Log.{Grows, IsAskedIn, IsEndedIn}
 use Rattle.gate_port.specs.Shown.{Adds, Shown}
 use Rattle.wire.specs.declared.answer.BackendAnswer.{BackendAnswer}
 use Rattle.wire.specs.Forwards.{Forwarded, Logs}
+use Rattle.proxy.specs.declared.told.PermitTimes.{PermitTimes}
 use Rattle.proxy.specs.declared.told.Verdict.{Verdict}
 use Rattle.proxy.specs.declared.told.Verdict.TheVariants as verdict
 use Rattle.proxy.specs.Table.{outcome_of}
@@ -65,16 +66,26 @@ Closes (admission.Admitted permit) (Some answer) end ended =
 Closes (admission.Admitted permit) None end ended = ⊥
 Closes _ answer end ended = ended ≡ []
 
+-- HOW LONG a permit was waited for and held, by the moments of its asking, its start and its end;
+-- nobody else has one
+abbrev pub times_between : ℕ → ℕ → ℕ → PermitTimes
+times_between asked start end = record { waited = start - asked; round_trip = end - start }
+
+abbrev pub times_of : Admission PermitFacts → ℕ → ℕ → Option PermitTimes
+times_of (admission.Admitted permit) asked end = Some (times_between asked permit.start end)
+times_of _ asked end = None
+
 -- THE ENTRIES of one asking at this moment, where this was shown before, and of the ending of what
 -- it got
-pub record Serves (ask : Ask) (said : Verdict) (answer : Option BackendAnswer) (now end : ℕ)
-    (old : Shown) (added : List Entry) : Type 0 where
+pub record Serves (ask : Ask) (said : Verdict) (times : Option PermitTimes)
+    (answer : Option BackendAnswer) (now end : ℕ) (old : Shown) (added : List Entry) : Type 0 where
   pub asked : List Entry
   pub ended : List Entry
   pub admission : Admission PermitFacts
   pub both : added ≡ asked ++ ended
   pub asking : IsAsked ask old now asked admission
   pub verdict : said ≡ verdict_of admission
+  pub timed : times ≡ times_of admission now end
   pub ending : Closes admission answer end ended
 
 -- and the same in a log: an admitted permit's ending stands in it, and nothing else is added
@@ -87,12 +98,13 @@ ClosesIn _ answer end old new = new ≡ old
 
 -- IN A LOG of which this was known: one asking at this moment, and behind it the ending of what it
 -- got, with others' calls between
-pub record ServesIn (ask : Ask) (said : Verdict) (answer : Option BackendAnswer) (now end : ℕ)
-    (old new : List Entry) : Type 0 where
+pub record ServesIn (ask : Ask) (said : Verdict) (times : Option PermitTimes)
+    (answer : Option BackendAnswer) (now end : ℕ) (old new : List Entry) : Type 0 where
   pub mid : List Entry
   pub admission : Admission PermitFacts
   pub asking : IsAskedIn ask old now mid admission
   pub verdict : said ≡ verdict_of admission
+  pub timed : times ≡ times_of admission now end
   pub ending : ClosesIn admission answer end mid new
 
 -- SETTLED: what was read is asked for by its class; it is forwarded once where it is let through,
@@ -102,7 +114,8 @@ pub record ServesIn (ask : Ask) (said : Verdict) (answer : Option BackendAnswer)
 pub record IsSettled (s : Settings) (request : Request) (shown shown' : Option Shown)
     (known known' : Option (List Entry)) (looks looks' : Looked BackendAnswer)
     (count count' : ℕ) (log log' : Option (List Forwarded))
-    (class : Class) (said : Verdict) (answer : Option BackendAnswer) : Type 0 where
+    (class : Class) (said : Verdict) (times : Option PermitTimes) (answer : Option BackendAnswer)
+    : Type 0 where
   pub class_is : class ≡ class_by s request
   pub counted : count' ≡ (if is_through said then raised count else count)
   pub answered : is_some answer ≡ is_through said
@@ -113,6 +126,7 @@ pub record IsSettled (s : Settings) (request : Request) (shown shown' : Option S
   pub looked : looks' ≡ looks_of said answer now end looks
   pub since : looks.latest ≤ now
   pub later : now ≤ end
-  pub entries : Adds shown shown' (Serves (asked_for s (class_by s request)) said answer now end)
+  pub entries : Adds shown shown'
+      (Serves (asked_for s (class_by s request)) said times answer now end)
   pub logged : Grows known known'
-      (ServesIn (asked_for s (class_by s request)) said answer now end)
+      (ServesIn (asked_for s (class_by s request)) said times answer now end)

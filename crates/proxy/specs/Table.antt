@@ -1,9 +1,12 @@
 -- The table of answers: what a backend's answer tells the gate, and what the client gets.
-use Rattle.std.specs.Prelude.{ℕ, ◌||◌, List, [], Option, None, Some, Result, Ok, Err, nat_eq}
+use Rattle.std.specs.Prelude.{ℕ, ◌||◌, List, [], codes, Option, None, Some, Result, Ok, Err, nat_eq}
 use Rattle.std.specs.Prelude.{nat_lt, if◌then◌else◌, Bool, is_err, is_some}
 use Rattle.limiter_core.specs.declared.event.Outcome.{Outcome}
 use Rattle.limiter_core.specs.declared.event.Outcome.TheVariants.{Success, Ignored, Dropped}
-use Rattle.message_text.specs.Answer.{local_text}
+use Rattle.gate_port.specs.declared.port.Why.{Why}
+use Rattle.gate_port.specs.declared.port.Why.TheVariants as why
+use Rattle.message_text.specs.declared.persistence.Persistence.TheVariants.{Close}
+use Rattle.message_text.specs.Answer.{local_text, marked_text}
 use Rattle.wire.specs.declared.fault.WireFault.{WireFault}
 use Rattle.wire.specs.declared.fault.WireFault.TheVariants as fault
 use Rattle.message_parts.specs.declared.request.Request.{Request}
@@ -12,6 +15,8 @@ use Rattle.wire.specs.Written.{response_text}
 use Rattle.wire.specs.declared.answer.BackendAnswer.{BackendAnswer}
 use Rattle.wire.specs.declared.answer.BackendAnswer.TheVariants.{Answered, NotConnected, Broken}
 use Rattle.wire.specs.declared.answer.BackendAnswer.TheVariants.{Late, Memory}
+use Rattle.proxy.specs.declared.told.Verdict.{Verdict}
+use Rattle.proxy.specs.declared.told.Verdict.TheVariants.{Refused}
 
 -- WHAT A STATUS TELLS THE GATE: a backend that had too much to do, or sent no final response, has
 -- dropped the request; of its load an other fault of the server's says nothing
@@ -62,10 +67,46 @@ abbrev pub status_of : Result ResponseValue ℕ → ℕ
 status_of (Ok response) = response.status
 status_of (Err status) = status
 
--- and its text, where the request has this method
-abbrev pub text_of : List ℕ → Result ResponseValue ℕ → List ℕ
-text_of method (Ok response) = response_text method response
-text_of method (Err status) = local_text status
+-- THE MARK of an own answer, a word that tells why the gateway answers itself: it refused the
+-- request, for this cause
+abbrev pub refusal_mark : Why → List ℕ
+refusal_mark why.Full = codes "full"
+refusal_mark why.BacklogFull = codes "backlog"
+refusal_mark why.TimedOut = codes "waited"
+refusal_mark why.Lost = codes "lost"
+refusal_mark why.Exhausted = codes "exhausted"
+
+-- the backend gave no response that may be passed on
+abbrev pub backend_mark : BackendAnswer → List ℕ
+backend_mark (Answered response) = codes "broken"
+backend_mark NotConnected = codes "unreached"
+backend_mark (Broken f) = codes "broken"
+backend_mark Late = codes "late"
+backend_mark Memory = codes "memory"
+
+-- or the request couldn't be read
+abbrev pub fault_mark : WireFault → List ℕ
+fault_mark fault.Memory = codes "memory"
+fault_mark f = codes "unread"
+
+abbrev pub mark_of : Verdict → Option BackendAnswer → Option (List ℕ)
+mark_of said (Some answer) = Some (backend_mark answer)
+mark_of (Refused cause) None = Some (refusal_mark cause)
+mark_of said None = None
+
+-- it is marked where marks are asked for
+abbrev pub if_marked : Bool → Option (List ℕ) → Option (List ℕ)
+if_marked marks mark = if marks then mark else None
+
+-- the gateway's own answer of a status, with this mark
+abbrev pub own_text : Option (List ℕ) → ℕ → List ℕ
+own_text None status = local_text Close status
+own_text (Some mark) status = marked_text Close status mark
+
+-- and its text, where the request has this method; the backend's response is never marked
+abbrev pub text_of : Option (List ℕ) → List ℕ → Result ResponseValue ℕ → List ℕ
+text_of mark method (Ok response) = response_text Close method response
+text_of mark method (Err status) = own_text mark status
 
 abbrev pub reply_status : Option BackendAnswer → ℕ
 reply_status answer = status_of (reply_of answer)
@@ -74,12 +115,12 @@ reply_status answer = status_of (reply_of answer)
 abbrev pub is_own : Option BackendAnswer → Bool
 is_own answer = is_err (reply_of answer)
 
-abbrev pub reply_text : List ℕ → Option BackendAnswer → List ℕ
-reply_text method answer = text_of method (reply_of answer)
+abbrev pub reply_text : Option (List ℕ) → List ℕ → Option BackendAnswer → List ℕ
+reply_text mark method answer = text_of mark method (reply_of answer)
 
-abbrev pub local_or_nothing : Option ℕ → List ℕ
-local_or_nothing None = []
-local_or_nothing (Some status) = local_text status
+abbrev pub own_or_nothing : Option (List ℕ) → Option ℕ → List ℕ
+own_or_nothing mark None = []
+own_or_nothing mark (Some status) = own_text mark status
 
 -- the status and the text that the client gets, by what was read
 abbrev pub sent_status : Result Request WireFault → Option BackendAnswer → Option ℕ
@@ -91,6 +132,8 @@ abbrev pub is_sent_own : Result Request WireFault → Option BackendAnswer → B
 is_sent_own (Err f) answer = is_some (fault_status f)
 is_sent_own (Ok request) answer = is_own answer
 
-abbrev pub sent_text : Result Request WireFault → Option BackendAnswer → List ℕ
-sent_text (Err f) answer = local_or_nothing (fault_status f)
-sent_text (Ok request) answer = reply_text request.method answer
+abbrev pub sent_text : Bool → Result Request WireFault → Verdict → Option BackendAnswer → List ℕ
+sent_text marks (Err f) said answer =
+    own_or_nothing (if_marked marks (Some (fault_mark f))) (fault_status f)
+sent_text marks (Ok request) said answer =
+    reply_text (if_marked marks (mark_of said answer)) request.method answer

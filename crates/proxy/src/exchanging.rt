@@ -3,18 +3,19 @@ ghost use Rattle.std.specs.Prelude.{◌≡◌, ◌⊎◌, None, Some, IfSome, is
 ghost use Rattle.counted_io.specs.Causes.{IsWriteCause};
 ghost use Rattle.counted_io.specs.Counted.{failures_of, is_flushed};
 ghost use Rattle.counted_io.specs.Effects.{Wrote};
-ghost use Rattle.proxy.specs.Table.{fault_status, local_or_nothing};
+ghost use Rattle.proxy.specs.Table.{fault_mark, fault_status, if_marked, own_or_nothing};
 ghost use Rattle.proxy.specs.Exchanges.{IsExchange, is_empty, told_by};
 ghost use Rattle.proxy.specs.Made.{counts_of, is_all_sent, reads_of, summary_of, writes_of};
 
-use crate::replying::{fault_status, is_own, reply, reply_status};
+use crate::replying::{
+    fault_mark, fault_status, is_own, reply, reply_mark, reply_status, write_own,
+};
 use crate::settling::{outcome_at, settle};
 use crate::told::{CallCounts, Exchange, ExchangeSummary, Verdict};
 use clocks::{Clock, MonotonicClock};
 use counted_io::Counted;
 use gate_config::Settings;
 use gate_port::GatePort;
-use message_text::write_local_answer;
 use std::alloc::Global;
 use std::io::{BufRead, Write};
 use wire::{Backend, BackendAnswer, WireFault, read_request};
@@ -25,18 +26,20 @@ use wire::{Backend, BackendAnswer, WireFault, read_request};
 /// After a fault of reading the gate isn't asked and nothing is forwarded; the client gets the
 /// fault's own status, or after `Read`, `Write` and `TurnLimit` nothing. The clock is looked at as
 /// the gate is asked, and where a permit was got once more as the backend has answered. Where the
-/// client is answered and no write fails, a flush comes last. `written_fault` comes only where the
+/// client is answered and no write fails, a flush comes last. With `marks` each of the gateway's
+/// own answers has the line `X-Admission` with its word. `written_fault` comes only where the
 /// writer failed; by then an admitted permit is ended.
 pub fn exchange<P: GatePort, B: Backend, C: Clock, R: BufRead, W: Write>(
     alloc: Global,
     port: &mut P,
     backend: &mut B,
     settings: &Settings,
+    marks: bool,
     looks: &mut MonotonicClock<'_, C, BackendAnswer>,
     reader: &mut Counted<R>,
     writer: &mut Counted<W>,
 ) -> Exchange
-    ensures exchanged { IsExchange settings.now
+    ensures exchanged { IsExchange (record { settings = settings.now; marks = marks })
         (record {
           reader = told_by R.remaining reader.old;
           writer = told_by W.contents writer.old;
@@ -71,7 +74,7 @@ pub fn exchange<P: GatePort, B: Backend, C: Clock, R: BufRead, W: Write>(
         Ok(request) => request,
         Err(fault) => {
             let is_empty = is_empty(fault, before, reader.calls());
-            let told = unread(fault, is_empty, writer);
+            let told = unread(fault, is_empty, marks, writer);
             return Exchange {
                 told,
                 reads: CallCounts::of(reader),
@@ -81,10 +84,12 @@ pub fn exchange<P: GatePort, B: Backend, C: Clock, R: BufRead, W: Write>(
         }
     };
     let settled = settle(port, backend, settings, looks, &request);
-    let written_fault = reply(writer, &settled.answer, &request.method);
+    let mark = reply_mark(marks, settled.admission, &settled.answer);
+    let written_fault = reply(writer, mark, &settled.answer, &request.method);
     let told = ExchangeSummary {
         class: Some(settled.class),
         admission: settled.admission,
+        permit: settled.permit,
         answer: Some(reply_status(&settled.answer)),
         is_own: is_own(&settled.answer),
         is_empty: false,
@@ -111,15 +116,21 @@ fn is_empty(fault: WireFault, before: u64, reads: u64) -> bool
 }
 
 /// Answers a request that was not read, of which nothing came at all where it is empty.
-fn unread<W: Write>(fault: WireFault, is_empty: bool, writer: &mut Counted<W>) -> ExchangeSummary
+fn unread<W: Write>(
+    fault: WireFault,
+    is_empty: bool,
+    marks: bool,
+    writer: &mut Counted<W>,
+) -> ExchangeSummary
     ensures empty { result.is_empty ≡ is_empty }
     ensures class { result.class ≡ None }
     ensures admission { result.admission ≡ Verdict.NotAsked }
+    ensures permit { result.permit ≡ None }
     ensures answer { result.answer ≡ fault_status fault }
     ensures own { result.is_own ≡ is_some (fault_status fault) }
     ensures outcome { result.outcome ≡ None }
     ensures text { result.written_fault ≡ None → Wrote W.contents writer.old writer.new
-        (local_or_nothing (fault_status fault)) }
+        (own_or_nothing (if_marked marks (Some (fault_mark fault))) (fault_status fault)) }
     ensures flushed { result.written_fault ≡ None → is_some result.answer ≡ true
         → is_flushed writer.new ≡ true }
     ensures unfailing { result.written_fault ≡ None →
@@ -131,7 +142,7 @@ fn unread<W: Write>(fault: WireFault, is_empty: bool, writer: &mut Counted<W>) -
 {
     let answer = fault_status(fault);
     let written_fault = match answer {
-        Some(status) => write_local_answer(writer, status)
+        Some(status) => write_own(writer, status, fault_mark(marks, fault))
             .err()
             .map(WireFault::from),
         None if fault == WireFault::Write => Some(fault),
@@ -140,6 +151,7 @@ fn unread<W: Write>(fault: WireFault, is_empty: bool, writer: &mut Counted<W>) -
     ExchangeSummary {
         class: None,
         admission: Verdict::NotAsked,
+        permit: None,
         answer,
         is_own: answer.is_some(),
         is_empty,

@@ -18,6 +18,6 @@ pub use classifier::Class;
 pub use exchanging::exchange;
 pub use gate_port::{GatePort, Why};
 pub use replying::fault_status;
-pub use told::{CallCounts, Exchange, ExchangeSummary, Verdict};
+pub use told::{CallCounts, Exchange, ExchangeSummary, PermitTimes, Verdict};
 pub use watch::Watch;
 pub use wire::{Backend, BackendAnswer};

@@ -1,13 +1,16 @@
 // What the client gets.
-ghost use Rattle.std.specs.Prelude.{◌≡◌, ◌≤◌, None, OnOk, OnErr, IfOk, IfErr, IfSome, true};
+ghost use Rattle.std.specs.Prelude.{◌≡◌, ◌≤◌, None, Some, option_map, OnOk, OnErr, IfOk, IfErr, IfSome, true};
 ghost use Rattle.counted_io.specs.Causes.{IsWriteCause};
 ghost use Rattle.counted_io.specs.Counted.{failures_of, is_flushed};
 ghost use Rattle.counted_io.specs.Effects.{Wrote};
-ghost use Rattle.proxy.specs.Table.{fault_status, is_own, reply_of, reply_status, reply_text};
+ghost use Rattle.proxy.specs.Table.{backend_mark, fault_mark, fault_status, if_marked, is_own, mark_of};
+ghost use Rattle.proxy.specs.Table.{own_text, refusal_mark, reply_of, reply_status, reply_text};
 
+use crate::told::Verdict;
 use counted_io::{Counted, WriteFault};
+use gate_port::Why;
 use message_parts::Method;
-use message_text::write_local_answer;
+use message_text::{Persistence, write_local_answer, write_marked_answer};
 use std::io::Write;
 use wire::{BackendAnswer, Response, WireFault, write_response};
 
@@ -52,20 +55,98 @@ pub(crate) fn is_own(answer: &Option<BackendAnswer>) -> bool
     reply_of(answer).is_err()
 }
 
-/// Writes and flushes what the client gets, and tells a fault of writing.
+/// The word of a refusal.
+fn refusal_mark(why: Why) -> &'static str
+    ensures { result.now ≡ refusal_mark why }
+{
+    match why {
+        Why::Full => "full",
+        Why::BacklogFull => "backlog",
+        Why::TimedOut => "waited",
+        Why::Lost => "lost",
+        Why::Exhausted => "exhausted",
+    }
+}
+
+/// The word of a backend that gave no response which may be passed on.
+fn backend_mark(answer: &BackendAnswer) -> &'static str
+    ensures { result.now ≡ backend_mark answer.now }
+{
+    match answer {
+        BackendAnswer::Answered(_) | BackendAnswer::Broken(_) => "broken",
+        BackendAnswer::NotConnected => "unreached",
+        BackendAnswer::Late => "late",
+        BackendAnswer::Memory => "memory",
+    }
+}
+
+/// The mark of the gateway's own answer to a request that was read, where marks are asked for.
+pub(crate) fn reply_mark(
+    marks: bool,
+    admission: Verdict,
+    answer: &Option<BackendAnswer>,
+) -> Option<&'static str>
+    ensures { option_map (λ mark. mark.now) result
+        ≡ if_marked marks (mark_of admission answer.now) }
+{
+    if !marks {
+        return None;
+    }
+    match (answer, admission) {
+        (Some(answer), _) => Some(backend_mark(answer)),
+        (None, Verdict::Refused(why)) => Some(refusal_mark(why)),
+        (None, _) => None,
+    }
+}
+
+/// The mark of the gateway's own answer after a fault of reading, where marks are asked for.
+pub(crate) fn fault_mark(marks: bool, fault: WireFault) -> Option<&'static str>
+    ensures { option_map (λ mark. mark.now) result ≡ if_marked marks (Some (fault_mark fault)) }
+{
+    if !marks {
+        return None;
+    }
+    match fault {
+        WireFault::Memory => Some("memory"),
+        _ => Some("unread"),
+    }
+}
+
+/// Writes and flushes the gateway's own answer of a status, with this mark.
+pub(crate) fn write_own<W: Write>(
+    writer: &mut Counted<W>,
+    status: u16,
+    mark: Option<&'static str>,
+) -> Result<(), WriteFault>
+    requires three_digits { (100 ≤ status) × (status ≤ 999) }
+    ensures all { OnOk result (Wrote W.contents writer.old writer.new
+        (own_text (option_map (λ mark. mark.now) mark.entry) status)) }
+    ensures flushed { OnOk result (is_flushed writer.new ≡ true) }
+    ensures unfailing { OnOk result (failures_of writer.new ≡ failures_of writer.old) }
+    ensures failed { OnErr result (IsWriteCause writer.old writer.new) }
+{
+    match mark {
+        Some(mark) => write_marked_answer(writer, status, mark, Persistence::Close),
+        None => write_local_answer(writer, status, Persistence::Close),
+    }
+}
+
+/// Writes and flushes what the client gets, and tells a fault of writing. The gateway's own answer
+/// has this mark.
 pub(crate) fn reply<W: Write>(
     writer: &mut Counted<W>,
+    mark: Option<&'static str>,
     answer: &Option<BackendAnswer>,
     method: &Method,
 ) -> Option<WireFault>
-    ensures all { result ≡ None →
-        Wrote W.contents writer.old writer.new (reply_text method.now answer.now) }
+    ensures all { result ≡ None → Wrote W.contents writer.old writer.new
+        (reply_text (option_map (λ mark. mark.now) mark.entry) method.now answer.now) }
     ensures flushed { result ≡ None → is_flushed writer.new ≡ true }
     ensures unfailing { result ≡ None → failures_of writer.new ≡ failures_of writer.old }
     ensures failed { IfSome result (λ fault.
         (fault ≡ WireFault.Write) × IsWriteCause writer.old writer.new) }
 {
-    match write_reply(writer, answer, method) {
+    match write_reply(writer, mark, answer, method) {
         Ok(()) => None,
         Err(_) => Some(WireFault::Write),
     }
@@ -75,18 +156,19 @@ pub(crate) fn reply<W: Write>(
 /// whatever the method.
 fn write_reply<W: Write>(
     writer: &mut Counted<W>,
+    mark: Option<&'static str>,
     answer: &Option<BackendAnswer>,
     method: &Method,
 ) -> Result<(), WriteFault>
-    ensures all { OnOk result
-        (Wrote W.contents writer.old writer.new (reply_text method.now answer.now)) }
+    ensures all { OnOk result (Wrote W.contents writer.old writer.new
+        (reply_text (option_map (λ mark. mark.now) mark.entry) method.now answer.now)) }
     ensures flushed { OnOk result (is_flushed writer.new ≡ true) }
     ensures unfailing { OnOk result (failures_of writer.new ≡ failures_of writer.old) }
     ensures failed { OnErr result (IsWriteCause writer.old writer.new) }
 {
     match reply_of(answer) {
-        Ok(response) => write_response(writer, response, method),
-        Err(status) => write_local_answer(writer, status),
+        Ok(response) => write_response(writer, response, method, Persistence::Close),
+        Err(status) => write_own(writer, status, mark),
     }
 }
 

@@ -3,7 +3,7 @@ ghost use Rattle.std.specs.Prelude.{◌≡◌, ◌+◌, ◌^◌, None, Some, min
 ghost use Rattle.proxy.specs.Table.{outcome_at, outcome_of, status_outcome};
 ghost use Rattle.proxy.specs.Settling.{IsSettled};
 
-use crate::told::Verdict;
+use crate::told::{PermitTimes, Verdict};
 use classifier::{Class, classify};
 use clocks::{Clock, MonotonicClock};
 use gate_config::Settings;
@@ -18,6 +18,7 @@ use wire::{Backend, BackendAnswer};
 pub(crate) struct Settled {
     pub(crate) class: Class,
     pub(crate) admission: Verdict,
+    pub(crate) permit: Option<PermitTimes>,
     pub(crate) answer: Option<BackendAnswer>,
 }
 
@@ -82,18 +83,20 @@ pub(crate) fn settle<P: GatePort, B: Backend, C: Clock>(
         (P.known port.old) (P.known port.new) looks.old looks.new
         (B.forwarded backend.old) (B.forwarded backend.new)
         (B.shown backend.old) (B.shown backend.new)
-        result.class result.admission result.answer }
+        result.class result.admission result.permit result.answer }
 {
     let class = classify(&settings.rules, &settings.table, request);
     let now = looks.look();
     match port.admit(class.part, class.bypass, deadline(settings, now), now) {
         Admission::Admitted(permit) => {
+            let start = P::start(&permit);
             let answer = backend.forward(request);
             let end = looks.look_knowing(&answer);
             let _receipt = port.end(permit, outcome(&answer), end);
             Settled {
                 class,
                 admission: Verdict::Admitted,
+                permit: Some(PermitTimes::between(now, start, end)),
                 answer: Some(answer),
             }
         }
@@ -102,12 +105,14 @@ pub(crate) fn settle<P: GatePort, B: Backend, C: Clock>(
             Settled {
                 class,
                 admission: Verdict::Bypassed,
+                permit: None,
                 answer: Some(answer),
             }
         }
         Admission::Refused(why) => Settled {
             class,
             admission: Verdict::Refused(why),
+            permit: None,
             answer: None,
         },
     }

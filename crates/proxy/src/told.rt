@@ -1,6 +1,7 @@
 // What is told of an exchange.
 ghost use Rattle.std.specs.Prelude.{◌≡◌};
 ghost use Rattle.proxy.specs.Made.{counts_of, is_all_sent, summary_of, with_sent};
+ghost use Rattle.proxy.specs.Settling.{times_between};
 
 use classifier::Class;
 use counted_io::Counted;
@@ -21,6 +22,29 @@ pub enum Verdict {
     Refused(Why),
 }
 
+/// How long a permit was waited for and held, in nanoseconds.
+#[derive(Clone, Copy)]
+pub struct PermitTimes {
+    /// From the asking to the permit's start: 0 of one that was got at once.
+    pub waited: u64,
+    /// From its start to its end, at which the backend has answered: the round trip that the limit
+    /// learns of.
+    pub round_trip: u64,
+}
+
+impl PermitTimes {
+    /// Those of a permit that was asked for, started and ended at these moments; 0 from a moment
+    /// to one before it.
+    pub(crate) fn between(asked: u64, start: u64, end: u64) -> PermitTimes
+        ensures { result ≡ times_between asked start end }
+    {
+        PermitTimes {
+            waited: start.saturating_sub(asked),
+            round_trip: end.saturating_sub(start),
+        }
+    }
+}
+
 /// What became of a connection.
 #[derive(Clone, Copy)]
 pub struct ExchangeSummary {
@@ -28,6 +52,8 @@ pub struct ExchangeSummary {
     pub class: Option<Class>,
     /// What the gate said.
     pub admission: Verdict,
+    /// How long its permit was waited for and held, where it got one.
+    pub permit: Option<PermitTimes>,
     /// The status of the text meant for the client; none where nothing more is written.
     pub answer: Option<u16>,
     /// Whether that text is an answer of the gateway's own, and not the backend's response.

@@ -6,11 +6,13 @@ use std::io::Error;
 
 /// What hears of exchanges and of the gate that they ask, from each thread that carries them out.
 pub trait Watch {
-    /// A client was accepted: the worker whose thread this is serves it now.
-    fn accepted(&self);
+    /// A client was accepted: the worker whose thread this is serves it now. It tells the moment,
+    /// in nanoseconds.
+    fn accepted(&self) -> u64;
 
-    /// That worker's exchange has ended, and it is free for another client.
-    fn ended(&self, exchange: &ExchangeSummary);
+    /// That worker's exchange has ended, whose client was accepted at this moment: its connection
+    /// is closed, and the worker is free for another one.
+    fn ended(&self, exchange: &ExchangeSummary, since: u64);
 
     /// Whether a worker is free for another client at this moment.
     fn has_free_worker(&self) -> bool;

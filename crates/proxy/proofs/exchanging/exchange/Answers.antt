@@ -1,10 +1,12 @@
-use Rattle.std.proofs.Common.{rules, ◌≡◌, ◌∙◌, ℕ, ◌<◌, ◌⊎◌, IfSome, None, Some, Result, Ok, Err, ap, is_ok}
+use Rattle.std.proofs.Common.{rules, ◌≡◌, ◌∙◌, ℕ, ◌<◌, ◌⊎◌, IfSome, List, Option, None, Some, Result, Ok, Err, ap, is_ok}
 use Rattle.std.proofs.Common.{is_some, refl, subst, sym, true≢false}
+use Rattle.std.specs.Io.KnownBytes.{Appends}
 use Rattle.counted_io.specs.Count.{count_end}
 use Rattle.counted_io.specs.Counted.{failures_of, inner_of}
 use Rattle.message_parts.specs.declared.request.Request.{Request}
 use Rattle.wire.specs.declared.fault.WireFault.{WireFault}
 use Rattle.wire.specs.declared.fault.WireFault.TheVariants.{Write}
+use Rattle.proxy.specs.Table.{reply_text}
 use Rattle.proxy.proofs.exchanging.exchange.Goals as goal
 
 -- the fault of a result that has one
@@ -28,7 +30,17 @@ returns-in-Err-clause-exchanged g c = record {
     reads = c.in-Err.ensures.reads;
     unfailing = c.in-Err.ensures.reads_well;
   };
-  deals = (c.unread-told.ensures.class, c.unread-told.ensures.admission, refl, refl, refl, refl, refl, refl);
+  deals = (
+    c.unread-told.ensures.class,
+    c.unread-told.ensures.admission,
+    c.unread-told.ensures.permit,
+    refl,
+    refl,
+    refl,
+    refl,
+    refl,
+    refl,
+  );
   status = c.unread-told.ensures.answer;
   own = c.unread-told.ensures.own;
   empty = search rules;
@@ -72,7 +84,12 @@ returns-clause-exchanged g c = record {
   own = c.is_own.ensures;
   empty = refl;
   outcome = c.outcome_at.ensures;
-  text = c.reply-written_fault.ensures.all;
+  text =
+      subst (λ (mark : Option (List ℕ)). c.reply-written_fault.result ≡ None
+      → Appends (g.W.Write.contents (inner_of c.read_request.new.writer))
+      (g.W.Write.contents (inner_of c.reply-written_fault.new.writer))
+      (reply_text mark c.in-Ok.request.method c.settle-settled.result.answer))
+      c.reply_mark-mark.ensures c.reply-written_fault.ensures.all;
   unasked = λ same. absurd (true≢false (ap is_ok same));
 }
 

@@ -14,7 +14,7 @@ pub returns-in-Ok-clause-failed : goal.returns-in-Ok-clause-failed
 returns-in-Ok-clause-failed g c = search rules
 
 pub returns-in-Err-clause-all : goal.returns-in-Err-clause-all
-returns-in-Err-clause-all g c = rw c.in-Err.ensures.own c.write_local_answer.ensures.all
+returns-in-Err-clause-all g c = rw c.in-Err.ensures.own c.write_own.ensures.all
 
 pub returns-in-Err-clause-flushed : goal.returns-in-Err-clause-flushed
 returns-in-Err-clause-flushed g c = search rules

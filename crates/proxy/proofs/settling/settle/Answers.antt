@@ -16,18 +16,20 @@ returns-in-Admitted g c = record {
   looked = search rules;
   since = search rules;
   later = search rules;
-  entries = serves_admitted _ _ _ _ _ _ _ _ _
+  entries = serves_admitted _ _ _ _ _ _ _ _ _ _
       (asks c.args.settings.now c.classify-class.result
       (class_by c.args.settings.now c.args.request.now)
       c.deadline.result _ c.look-now.result _ _ g.P.GatePort.facts c.admit.result _
       c.deadline.ensures c.in-Admitted.is c.classify-class.ensures c.admit.ensures.entries)
+      (search rules)
       c.outcome.ensures
       c.end-receipt.ensures.entries;
-  logged = logs_admitted _ _ _ _ _ _ _ _ _
+  logged = logs_admitted _ _ _ _ _ _ _ _ _ _
       (asks_in c.args.settings.now c.classify-class.result
       (class_by c.args.settings.now c.args.request.now)
       c.deadline.result _ c.look-now.result _ _ g.P.GatePort.facts c.admit.result _
       c.deadline.ensures c.in-Admitted.is c.classify-class.ensures c.admit.ensures.log)
+      (search rules)
       c.outcome.ensures
       c.end-receipt.ensures.log;
 }
