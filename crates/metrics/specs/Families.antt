@@ -18,10 +18,21 @@ unfoldable pub sample_text : List ℕ → List ℕ → List ℕ → ℕ → List
 sample_text name label word value = concat (
     name ∷ codes "{" ∷ label ∷ codes "=\"" ∷ word ∷ codes "\"} " ∷ decimal value ∷ codes "\n" ∷ [])
 
--- a sample of a class and a cause, which are such words
-unfoldable pub cause_text : List ℕ → List ℕ → List ℕ → ℕ → List ℕ
-cause_text name class cause value = concat (
-    name ∷ codes "{class=\"" ∷ class ∷ codes "\",cause=\"" ∷ cause ∷ codes "\"} " ∷ decimal value
+-- a sample of a class with one label more, whose values are such words
+unfoldable pub of_class_text : List ℕ → List ℕ → List ℕ → List ℕ → ℕ → List ℕ
+of_class_text name class label word value = concat (
+    name ∷ codes "{class=\"" ∷ class ∷ codes "\"," ∷ label ∷ codes "=\"" ∷ word ∷ codes "\"} "
+    ∷ decimal value ∷ codes "\n" ∷ [])
+
+-- the bucket of a histogram below this bound
+unfoldable pub bucket_text : List ℕ → List ℕ → ℕ → List ℕ
+bucket_text name bound count = concat (
+    name ∷ codes "_bucket{le=\"" ∷ bound ∷ codes "\"} " ∷ decimal count ∷ codes "\n" ∷ [])
+
+-- the sum of a histogram's times, in seconds, of which it has nanoseconds; and how many there are
+unfoldable pub totals_text : List ℕ → ℕ → ℕ → List ℕ
+totals_text name sum count = concat (
+    name ∷ codes "_sum " ∷ decimal sum ∷ codes "e-9\n" ∷ name ∷ codes "_count " ∷ decimal count
     ∷ codes "\n" ∷ [])
 
 -- a sample for each word
@@ -37,3 +48,10 @@ gauge_text name help value = head_text name (codes "gauge") help ++ number_text 
 abbrev pub counters_text : List ℕ → List ℕ → List ℕ → List (List ℕ × ℕ) → List ℕ
 counters_text name label help samples =
     head_text name (codes "counter") help ++ samples_text name label samples
+
+-- a histogram by its buckets, each a bound and its count
+abbrev pub histogram_text : List ℕ → List ℕ → List (List ℕ × ℕ) → ℕ → ℕ → List ℕ
+histogram_text name help buckets sum count =
+    head_text name (codes "histogram") help
+    ++ flat_map (λ bucket. bucket_text name bucket.0 bucket.1) buckets
+    ++ totals_text name sum count

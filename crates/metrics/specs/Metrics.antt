@@ -5,14 +5,20 @@ use Rattle.partitions.specs.declared.part.Part.TheVariants.{Known}
 use Rattle.partitions.specs.Table.{Row, name_of}
 use Rattle.limiter_core.specs.declared.counters.Counters.{Counters}
 use Rattle.gate_port.specs.declared.report.Report.{Report}
+use Rattle.histogram.specs.declared.histogram.Histogram.{Histogram}
 use Rattle.release.specs.Release.{version}
+use Rattle.serve_reports.specs.declared.connections.BackendConnections.{BackendConnections}
 use Rattle.serve_reports.specs.declared.noted.GatewayStats.{GatewayStats}
+use Rattle.serve_reports.specs.declared.noted.LimitRange.{LimitRange}
 use Rattle.serve_reports.specs.declared.noted.Troubles.{Troubles}
+use Rattle.serve_reports.specs.declared.outcomes.OutcomeTally.{OutcomeTally}
 use Rattle.serve_reports.specs.declared.outstanding.Outstanding.{Outstanding}
 use Rattle.serve_reports.specs.declared.refusals.RefusalTally.{RefusalTally}
 use Rattle.serve_reports.specs.declared.tally.AnswerTally.{AnswerTally}
+use Rattle.serve_reports.specs.declared.times.TimeTally.{TimeTally}
 use Rattle.serve_reports.specs.declared.workers.Workers.{Workers}
-use Rattle.metrics.specs.Families.{cause_text, counters_text, gauge_text, head_text, number_text, sample_text}
+use Rattle.metrics.specs.Families.{counters_text, gauge_text, head_text, histogram_text}
+use Rattle.metrics.specs.Families.{number_text, of_class_text, sample_text}
 
 -- the limit, and how many are in flight, wait and are granted
 abbrev pub standing_text : Report → List ℕ
@@ -22,6 +28,16 @@ standing_text r =
     ++ gauge_text (codes "admission_waiting") (codes "Callers that wait for a permit.") r.waiters
     ++ gauge_text (codes "admission_granted")
     (codes "Permits of waiters that were promoted and haven't taken them yet.") r.granted
+
+-- what the limit may be
+abbrev pub range_text : LimitRange → List ℕ
+range_text l =
+    gauge_text (codes "admission_limit_least") (codes "The least limit, in permits.") l.least
+    ++ gauge_text (codes "admission_limit_greatest") (codes "The greatest limit, in permits.")
+    l.greatest
+    ++ head_text (codes "admission_limit_info") (codes "gauge")
+    (codes "Always 1, labelled with the kind of the limit.")
+    ++ sample_text (codes "admission_limit_info") (codes "kind") l.kind.now 1
 
 -- the sample of the class in a row, of these numbers of all classes
 abbrev pub class_text : List ℕ → List Row → List ℕ → ℕ → List ℕ
@@ -41,12 +57,12 @@ classes_text name help rows numbers =
 -- how many requests of a class, told of at a place, were refused for each cause
 abbrev pub refused_text : List ℕ → RefusalTally → ℕ → List ℕ
 refused_text class t place =
-    cause_text (codes "admission_class_refused_total") class (codes "full")
+    of_class_text (codes "admission_class_refused_total") class (codes "cause") (codes "full")
     (slice_index t.full place)
-    ++ cause_text (codes "admission_class_refused_total") class (codes "backlog")
-    (slice_index t.backlog place)
-    ++ cause_text (codes "admission_class_refused_total") class (codes "timed-out")
-    (slice_index t.timed_out place)
+    ++ of_class_text (codes "admission_class_refused_total") class (codes "cause")
+    (codes "backlog") (slice_index t.backlog place)
+    ++ of_class_text (codes "admission_class_refused_total") class (codes "cause")
+    (codes "timed-out") (slice_index t.timed_out place)
 
 -- those of the class in a row
 abbrev pub class_refused_text : List Row → RefusalTally → ℕ → List ℕ
@@ -62,16 +78,41 @@ refusals_text rows t =
     ++ class_refused_text rows t 2 ++ class_refused_text rows t 3
     ++ refused_text (codes "unknown") t 4
 
--- how many of each class are in flight, its share, how many of it wait, and whom the gate refused
-abbrev pub by_class_text : Report → List Row → RefusalTally → List ℕ
-by_class_text r rows t =
+-- how many permits of a class, told of at a place, ended with each outcome
+abbrev pub ended_text : List ℕ → OutcomeTally → ℕ → List ℕ
+ended_text class t place =
+    of_class_text (codes "admission_class_outcomes_total") class (codes "outcome")
+    (codes "success") (slice_index t.success place)
+    ++ of_class_text (codes "admission_class_outcomes_total") class (codes "outcome")
+    (codes "ignored") (slice_index t.ignored place)
+    ++ of_class_text (codes "admission_class_outcomes_total") class (codes "outcome")
+    (codes "dropped") (slice_index t.dropped place)
+
+-- those of the class in a row
+abbrev pub class_ended_text : List Row → OutcomeTally → ℕ → List ℕ
+class_ended_text rows t row =
+    if nat_lt row (length rows) then ended_text (name_of rows (Known row)) t row else []
+
+-- those of each class, in their order, and of the callers of none
+unfoldable pub class_outcomes_text : List Row → OutcomeTally → List ℕ
+class_outcomes_text rows t =
+    head_text (codes "admission_class_outcomes_total") (codes "counter")
+    (codes "Permits of a class that ended, by what the limit learned.")
+    ++ class_ended_text rows t 0 ++ class_ended_text rows t 1
+    ++ class_ended_text rows t 2 ++ class_ended_text rows t 3
+    ++ ended_text (codes "unknown") t 4
+
+-- how many of each class are in flight, its share, how many of it wait, whom the gate refused, and
+-- how its permits ended
+abbrev pub by_class_text : Report → List Row → RefusalTally → OutcomeTally → List ℕ
+by_class_text r rows t o =
     classes_text (codes "admission_class_in_flight")
     (codes "Permits of a class that haven't ended.") rows r.counts
     ++ classes_text (codes "admission_class_share")
     (codes "The share of a class at this limit, in permits.") rows r.shares
     ++ classes_text (codes "admission_class_waiting")
     (codes "Callers of a class that wait for a permit.") rows r.waiting
-    ++ refusals_text rows t
+    ++ refusals_text rows t ++ class_outcomes_text rows o
 
 -- how often each reply and promotion was
 abbrev pub decisions_text : Counters → List ℕ
@@ -116,6 +157,17 @@ troubles_text t =
     ∷ (codes "backend-timeout", t.late) ∷ (codes "without-descriptor", t.without_descriptor)
     ∷ (codes "all-taken", t.all_taken) ∷ [])
 
+-- how many connections to the backend there are, and what became of those that there were
+abbrev pub connections_text : BackendConnections → List ℕ
+connections_text c =
+    counters_text (codes "admission_backend_connections_total") (codes "event")
+    (codes "Connections to the backend, by what became of them.")
+    ((codes "opened", c.opened) ∷ (codes "reused", c.reused) ∷ (codes "stale", c.stale) ∷ [])
+    ++ gauge_text (codes "admission_open_backend_connections")
+    (codes "Connections to the backend that are open.") c.open
+    ++ gauge_text (codes "admission_idle_backend_connections")
+    (codes "Open connections to the backend that wait for another request.") c.idle
+
 -- how many workers there are, and how many of them serve a client
 abbrev pub workers_text : Workers → List ℕ
 workers_text w =
@@ -137,10 +189,43 @@ program_text seconds =
     (codes "Always 1, labelled with the version of the program.")
     ++ sample_text (codes "admission_build_info") (codes "version") version 1
 
--- THE TEXT OF THE METRICS: eighteen families
+-- the buckets of a histogram, each with its bound in seconds, and at last all of its times
+abbrev pub buckets_of : Histogram → List (List ℕ × ℕ)
+buckets_of h =
+    (codes "0.0005", slice_index h.counts 0)
+    ∷ (codes "0.001", slice_index h.counts 1)
+    ∷ (codes "0.0025", slice_index h.counts 2)
+    ∷ (codes "0.005", slice_index h.counts 3)
+    ∷ (codes "0.01", slice_index h.counts 4)
+    ∷ (codes "0.025", slice_index h.counts 5)
+    ∷ (codes "0.05", slice_index h.counts 6)
+    ∷ (codes "0.1", slice_index h.counts 7)
+    ∷ (codes "0.25", slice_index h.counts 8)
+    ∷ (codes "0.5", slice_index h.counts 9)
+    ∷ (codes "1", slice_index h.counts 10)
+    ∷ (codes "2.5", slice_index h.counts 11)
+    ∷ (codes "5", slice_index h.counts 12)
+    ∷ (codes "10", slice_index h.counts 13)
+    ∷ (codes "+Inf", h.count) ∷ []
+
+unfoldable pub times_text : List ℕ → List ℕ → Histogram → List ℕ
+times_text name help h = histogram_text name help (buckets_of h) h.sum h.count
+
+-- how long permits were waited for and held, and how long exchanges took
+abbrev pub durations_text : TimeTally → List ℕ
+durations_text t =
+    times_text (codes "admission_permit_wait_seconds")
+    (codes "How long each permit was waited for, from its asking to its start.") t.waited
+    ++ times_text (codes "admission_round_trip_seconds")
+    (codes "How long each permit was held, until the backend had answered.") t.round_trip
+    ++ times_text (codes "admission_exchange_seconds")
+    (codes "How long each client kept its worker, from its accept to its close.") t.exchange
+
+-- THE TEXT OF THE METRICS: twenty-eight families
 abbrev pub metrics_text : Report → List Row → GatewayStats → List ℕ
 metrics_text r rows n =
-    standing_text r ++ by_class_text r rows n.refusals ++ decisions_text r.counters
-    ++ outcomes_text r.counters ++ answers_text n.answers ++ empty_text n.answers
-    ++ troubles_text n.troubles ++ workers_text n.workers ++ oldest_text n.outstanding
+    standing_text r ++ range_text n.limit ++ by_class_text r rows n.refusals n.outcomes
+    ++ decisions_text r.counters ++ outcomes_text r.counters ++ answers_text n.answers
+    ++ empty_text n.answers ++ troubles_text n.troubles ++ connections_text n.connections
+    ++ workers_text n.workers ++ oldest_text n.outstanding ++ durations_text n.times
     ++ program_text n.seconds

@@ -2,17 +2,21 @@
 ghost use Rattle.std.specs.Prelude.{◌≡◌, ◌++◌, ◌<◌, IfOk, OnOk, codes, string_bytes};
 ghost use Rattle.release.specs.Release.{version};
 ghost use Rattle.metrics.specs.Families.{sample_text};
-ghost use Rattle.metrics.specs.Metrics.{answers_text, by_class_text, class_refused_text, class_text, classes_text, decisions_text};
-ghost use Rattle.metrics.specs.Metrics.{empty_text, metrics_text, oldest_text, outcomes_text};
-ghost use Rattle.metrics.specs.Metrics.{program_text};
-ghost use Rattle.metrics.specs.Metrics.{refusals_text, refused_text, standing_text, troubles_text, workers_text};
+ghost use Rattle.metrics.specs.Metrics.{answers_text, by_class_text, class_text, classes_text};
+ghost use Rattle.metrics.specs.Metrics.{decisions_text, empty_text, metrics_text, oldest_text};
+ghost use Rattle.metrics.specs.Metrics.{outcomes_text, program_text, standing_text, troubles_text};
+ghost use Rattle.metrics.specs.Metrics.{connections_text, durations_text, range_text, workers_text};
 
-use crate::families::{push_cause, push_gauge, push_head, push_number, push_sample, push_samples};
+use crate::by_class::{push_class_outcomes, push_refusals};
+use crate::families::{push_gauge, push_head, push_number, push_sample, push_samples};
+use crate::times::push_durations;
 use gate_port::Report;
 use limiter_core::Counters;
 use partitions::{Part, PartitionTable};
 use release::version;
-use serve_reports::{AnswerTally, GatewayStats, Outstanding, RefusalTally, Troubles, Workers};
+use serve_reports::{
+    AnswerTally, BackendConnections, GatewayStats, LimitRange, Outstanding, Troubles, Workers,
+};
 use std::alloc::{AllocError, Global};
 
 /// The text of the metrics in the text format of Prometheus, version 0.0.4: of the state in a
@@ -29,14 +33,17 @@ pub fn metrics_text(
 {
     let mut text = String::new(alloc);
     push_standing(&mut text, report)?;
-    push_by_class(&mut text, report, table, &noted.refusals)?;
+    push_range(&mut text, &noted.limit)?;
+    push_by_class(&mut text, report, table, noted)?;
     push_decisions(&mut text, &report.counters)?;
     push_outcomes(&mut text, &report.counters)?;
     push_answers(&mut text, &noted.answers)?;
     push_empty(&mut text, &noted.answers)?;
     push_troubles(&mut text, &noted.troubles)?;
+    push_connections(&mut text, &noted.connections)?;
     push_workers(&mut text, &noted.workers)?;
     push_oldest(&mut text, &noted.outstanding)?;
+    push_durations(&mut text, &noted.times)?;
     push_program(&mut text, noted.seconds)?;
     Ok(text)
 }
@@ -60,16 +67,36 @@ fn push_standing(text: &mut String, report: &Report) -> Result<(), AllocError>
     push_gauge(text, "admission_granted", help, report.granted as u64)
 }
 
-/// Adds how many of each class are in flight, its share, how many of it wait, and whom of it the
-/// gate refused.
+/// Adds what the limit may be.
+fn push_range(text: &mut String, limit: &LimitRange) -> Result<(), AllocError>
+    ensures { OnOk result (string_bytes text.new
+        ≡ string_bytes text.old ++ range_text limit.now) }
+{
+    let help = "The least limit, in permits.";
+    push_gauge(text, "admission_limit_least", help, limit.least as u64)?;
+    let help = "The greatest limit, in permits.";
+    push_gauge(
+        text,
+        "admission_limit_greatest",
+        help,
+        limit.greatest as u64,
+    )?;
+    let name = "admission_limit_info";
+    let help = "Always 1, labelled with the kind of the limit.";
+    push_head(text, name, "gauge", help)?;
+    push_sample(text, name, "kind", limit.kind, 1)
+}
+
+/// Adds how many of each class are in flight, its share, how many of it wait, whom of it the gate
+/// refused, and how its permits ended.
 fn push_by_class(
     text: &mut String,
     report: &Report,
     table: &PartitionTable,
-    refusals: &RefusalTally,
+    noted: &GatewayStats,
 ) -> Result<(), AllocError>
-    ensures { OnOk result (string_bytes text.new
-        ≡ string_bytes text.old ++ by_class_text report.now table.now refusals.now) }
+    ensures { OnOk result (string_bytes text.new ≡ string_bytes text.old
+        ++ by_class_text report.now table.now noted.now.refusals noted.now.outcomes) }
 {
     let help = "Permits of a class that haven't ended.";
     push_classes(
@@ -89,60 +116,8 @@ fn push_by_class(
         table,
         &report.waiting,
     )?;
-    push_refusals(text, table, refusals)
-}
-
-/// Adds how many requests of each class the gate refused for each cause, and of callers of none.
-fn push_refusals(
-    text: &mut String,
-    table: &PartitionTable,
-    tally: &RefusalTally,
-) -> Result<(), AllocError>
-    ensures { OnOk result (string_bytes text.new
-        ≡ string_bytes text.old ++ refusals_text table.now tally.now) }
-{
-    let help = "Requests of a class that the gate refused, by the cause.";
-    push_head(text, "admission_class_refused_total", "counter", help)?;
-    push_class_refused(text, table, tally, 0)?;
-    push_class_refused(text, table, tally, 1)?;
-    push_class_refused(text, table, tally, 2)?;
-    push_class_refused(text, table, tally, 3)?;
-    push_refused(text, "unknown", tally, 4)
-}
-
-/// Adds the refusals of the class in a row of the table, where it has one.
-fn push_class_refused(
-    text: &mut String,
-    table: &PartitionTable,
-    tally: &RefusalTally,
-    row: u8,
-) -> Result<(), AllocError>
-    requires { row < 4 }
-    ensures { OnOk result (string_bytes text.new
-        ≡ string_bytes text.old ++ class_refused_text table.now tally.now row) }
-{
-    let place = usize::from(row);
-    if table.len() <= place {
-        return Ok(());
-    }
-    push_refused(text, table.name(Part::Known(row)), tally, place)
-}
-
-/// Adds the refusals of a class, by the cause.
-fn push_refused(
-    text: &mut String,
-    class: &str,
-    tally: &RefusalTally,
-    place: usize,
-) -> Result<(), AllocError>
-    requires { place < 5 }
-    ensures { OnOk result (string_bytes text.new
-        ≡ string_bytes text.old ++ refused_text class.now tally.now place) }
-{
-    let name = "admission_class_refused_total";
-    push_cause(text, name, class, "full", tally.full[place])?;
-    push_cause(text, name, class, "backlog", tally.backlog[place])?;
-    push_cause(text, name, class, "timed-out", tally.timed_out[place])
+    push_refusals(text, table, &noted.refusals)?;
+    push_class_outcomes(text, table, &noted.outcomes)
 }
 
 /// Adds a family with a sample for each class, and for the callers of none.
@@ -268,6 +243,36 @@ fn push_troubles(text: &mut String, troubles: &Troubles) -> Result<(), AllocErro
         ("all-taken", troubles.all_taken),
     ];
     push_samples(text, name, "trouble", &samples)
+}
+
+/// Adds how many connections to the backend there are, and what became of those that there were.
+fn push_connections(text: &mut String, connections: &BackendConnections) -> Result<(), AllocError>
+    ensures { OnOk result (string_bytes text.new
+        ≡ string_bytes text.old ++ connections_text connections.now) }
+{
+    let name = "admission_backend_connections_total";
+    let help = "Connections to the backend, by what became of them.";
+    push_head(text, name, "counter", help)?;
+    let samples = [
+        ("opened", connections.opened),
+        ("reused", connections.reused),
+        ("stale", connections.stale),
+    ];
+    push_samples(text, name, "event", &samples)?;
+    let help = "Connections to the backend that are open.";
+    push_gauge(
+        text,
+        "admission_open_backend_connections",
+        help,
+        connections.open,
+    )?;
+    let help = "Open connections to the backend that wait for another request.";
+    push_gauge(
+        text,
+        "admission_idle_backend_connections",
+        help,
+        connections.idle,
+    )
 }
 
 /// Adds how many workers there are, and how many of them serve a client.

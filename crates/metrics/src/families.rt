@@ -1,6 +1,7 @@
 // Families of samples, in the text format of Prometheus.
-ghost use Rattle.std.specs.Prelude.{◌≡◌, ◌++◌, OnOk, flat_map, string_bytes};
-ghost use Rattle.metrics.specs.Families.{cause_text, gauge_text, head_text, number_text, sample_text};
+ghost use Rattle.std.specs.Prelude.{◌≡◌, ◌++◌, OnOk, codes, flat_map, string_bytes};
+ghost use Rattle.metrics.specs.Families.{bucket_text, gauge_text, head_text};
+ghost use Rattle.metrics.specs.Families.{number_text, of_class_text, sample_text, totals_text};
 
 use std::alloc::AllocError;
 
@@ -73,20 +74,70 @@ pub(crate) fn push_sample(
     write!(text, "{name}{{{label}=\"{word}\"}} {value}\n")
 }
 
-/// Adds a sample of a class and a cause, words that need no escape.
-#[tactic(auto, unfolding(crate::specs::Families::cause_text))]
-pub(crate) fn push_cause(
+/// Adds a sample of a class with one label more, whose values are words that need no escape.
+#[tactic(auto, unfolding(crate::specs::Families::of_class_text))]
+pub(crate) fn push_of_class(
     text: &mut String,
     name: &str,
     class: &str,
-    cause: &str,
+    label: &str,
+    word: &str,
     value: u64,
 ) -> Result<(), AllocError>
     ensures { OnOk result (string_bytes text.new
-        ≡ string_bytes text.old ++ cause_text name.now class.now cause.now value) }
+        ≡ string_bytes text.old ++ of_class_text name.now class.now label.now word.now value) }
 {
     write!(
         text,
-        "{name}{{class=\"{class}\",cause=\"{cause}\"}} {value}\n"
+        "{name}{{class=\"{class}\",{label}=\"{word}\"}} {value}\n"
     )
+}
+
+/// Adds a histogram by its buckets, each a bound in seconds with its count, and by the sum of its
+/// times in nanoseconds and how many there are.
+pub(crate) fn push_histogram(
+    text: &mut String,
+    name: &str,
+    help: &str,
+    buckets: &[(&str, u64)],
+    sum: u64,
+    count: u64,
+) -> Result<(), AllocError>
+    ensures { OnOk result (string_bytes text.new ≡ string_bytes text.old
+        ++ (head_text name.now (codes "histogram") help.now
+        ++ flat_map (λ bucket. bucket_text name.now bucket.0.now bucket.1) buckets.now
+        ++ totals_text name.now sum count)) }
+{
+    push_head(text, name, "histogram", help)?;
+    push_buckets(text, name, buckets)?;
+    push_totals(text, name, sum, count)
+}
+
+/// Adds the buckets of a histogram.
+fn push_buckets(text: &mut String, name: &str, buckets: &[(&str, u64)]) -> Result<(), AllocError>
+    ensures { OnOk result (string_bytes text.new ≡ string_bytes text.old
+        ++ flat_map (λ bucket. bucket_text name.now bucket.0.now bucket.1) buckets.now) }
+{
+    for (bound, count) in buckets {
+        push_bucket(text, name, bound, *count)?;
+    }
+    Ok(())
+}
+
+/// Adds the bucket of a histogram below this bound.
+#[tactic(auto, unfolding(crate::specs::Families::bucket_text))]
+fn push_bucket(text: &mut String, name: &str, bound: &str, count: u64) -> Result<(), AllocError>
+    ensures { OnOk result (string_bytes text.new
+        ≡ string_bytes text.old ++ bucket_text name.now bound.now count) }
+{
+    write!(text, "{name}_bucket{{le=\"{bound}\"}} {count}\n")
+}
+
+/// Adds the sum of a histogram's times, and how many there are.
+#[tactic(auto, unfolding(crate::specs::Families::totals_text))]
+fn push_totals(text: &mut String, name: &str, sum: u64, count: u64) -> Result<(), AllocError>
+    ensures { OnOk result (string_bytes text.new
+        ≡ string_bytes text.old ++ totals_text name.now sum count) }
+{
+    write!(text, "{name}_sum {sum}e-9\n{name}_count {count}\n")
 }

@@ -4,9 +4,11 @@
 //! `specs/Metrics.antt` has it, family by family. [`PAGE`] draws it in a browser.
 #![tactic(auto)]
 
+mod by_class;
 mod exposition;
 mod families;
 mod page;
+mod times;
 
 pub use exposition::metrics_text;
 pub use page::PAGE;

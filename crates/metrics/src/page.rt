@@ -49,6 +49,9 @@ const CLASS_COLORS = ['#0072b2', '#e69f00', '#009e73', '#cc79a7'];
 const UNKNOWN_COLOR = '#8a949e', LIMIT_COLOR = '#111', WORKERS_COLOR = '#b00020';
 const REFUSALS = [['full', 'no room', '#d55e00'], ['backlog', 'backlog full', '#f0a070'],
   ['timed-out', 'waited in vain', '#7a5195']];
+const TIMES = [['admission_round_trip_seconds', 'round trip', '#0072b2'],
+  ['admission_permit_wait_seconds', 'waiting for a permit', '#e69f00'],
+  ['admission_exchange_seconds', 'whole exchange', '#8a949e']];
 const looks = [];
 let lastAnswer = null;
 
@@ -57,7 +60,7 @@ let lastAnswer = null;
 function samplesOf(text) {
   const found = {};
   for (const line of text.split('\\n')) {
-    const parts = /^([a-z_]+)(?:[{][a-z]+=\"([^\"]*)\"(?:,[^}]*)?[}])? ([0-9]+)$/.exec(line);
+    const parts = /^([a-z_]+)(?:[{][a-z]+=\"([^\"]*)\"(?:,[^}]*)?[}])? ([0-9e-]+)$/.exec(line);
     if (!parts) continue;
     const [, name, label, value] = parts;
     if (label === undefined) found[name] = Number(value);
@@ -77,14 +80,25 @@ function rateOf(family, label, look, before) {
   return more < 0 ? null : more / (look.at - before.at);
 }
 
+// The mean of a histogram's times from one look to the next of the same run, in milliseconds; none
+// where no time was noted.
+function meanOf(name, look, before) {
+  if (!before || look.told.admission_uptime_seconds < before.told.admission_uptime_seconds)
+    return null;
+  const [sum, count] = ['sum', 'count'].map(it =>
+    look.told[`${name}_${it}`] - before.told[`${name}_${it}`]);
+  return count > 0 ? 1000 * sum / count : null;
+}
+
 // A look: when it was, and what the gateway told; it told nothing where it didn't answer.
 function note(told) {
-  const look = { at: Date.now() / 1000, told, rates: {}, refused: {} };
+  const look = { at: Date.now() / 1000, told, rates: {}, refused: {}, means: {} };
   const before = looks.at(-1)?.told ? looks.at(-1) : null;
   if (told) for (const [kind] of REFUSALS)
     look.rates[kind] = rateOf('admission_decisions_total', kind, look, before);
   if (told) for (const name of classesOf(told))
     look.refused[name] = rateOf('admission_class_refused_total', name, look, before);
+  if (told) for (const [name] of TIMES) look.means[name] = meanOf(name, look, before);
   looks.push(look);
   while (looks[0].at < look.at - KEPT_SECONDS) looks.shift();
   if (told) lastAnswer = look;
@@ -119,6 +133,9 @@ const PANELS = [
       said: `busy ${told.admission_busy_workers}` },
     { color: WORKERS_COLOR, line: true, dashed: true, value: look => look.told.admission_workers,
       said: `workers ${told.admission_workers}` }] },
+  { title: 'Mean times, in milliseconds', series: () => TIMES.map(([name, said, color]) => ({
+    color, line: true, value: look => look.means[name],
+    said: `${said} ${lastAnswer.means[name]?.toFixed(1) ?? 'none'}` })) },
 ];
 
 for (const panel of PANELS) {
@@ -250,6 +267,8 @@ function showFigures(told) {
   const figures = [['limit', told.admission_limit], ['in flight', told.admission_in_flight],
     ['waiting', told.admission_waiting],
     ['busy workers', `${told.admission_busy_workers} / ${told.admission_workers}`],
+    ['backend connections', `${told.admission_open_backend_connections}, `
+      + `${told.admission_idle_backend_connections} idle`],
     ['serving for', lastingOf(told.admission_uptime_seconds)],
     ['version', Object.keys(told.admission_build_info)[0]]];
   document.getElementById('figures').replaceChildren(...figures.map(([name, value]) => {

@@ -1,7 +1,9 @@
 pub mod CountersLine
+pub mod Outcomes
 pub mod Outstanding
 pub mod Pace
 pub mod Refusals
 pub mod Report
 pub mod Spells
 pub mod Tally
+pub mod Times

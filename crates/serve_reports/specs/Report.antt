@@ -5,6 +5,7 @@ use Rattle.partitions.specs.declared.part.Part.TheVariants.{Known}
 use Rattle.partitions.specs.Table.{Row, name_of}
 use Rattle.limiter_core.specs.declared.counters.Counters.{Counters}
 use Rattle.gate_port.specs.declared.report.Report.{Report}
+use Rattle.serve_reports.specs.declared.connections.BackendConnections.{BackendConnections}
 use Rattle.serve_reports.specs.declared.tally.AnswerTally.{AnswerTally}
 use Rattle.serve_reports.specs.declared.workers.Workers.{Workers}
 
@@ -63,8 +64,16 @@ answers_text t = concat (
     ∷ codes " 500=" ∷ decimal t.out_of_memory ∷ codes " 501=" ∷ decimal t.not_taken
     ∷ codes " 502=" ∷ decimal t.bad_gateway ∷ codes " 504=" ∷ decimal t.timed_out ∷ [])
 
+-- the connections to the backend: how many are open and idle, and how many were made, taken again,
+-- and closed while they were idle
+abbrev pub connections_text : BackendConnections → List ℕ
+connections_text c = concat (
+    codes " open=" ∷ decimal c.open ∷ codes " idle=" ∷ decimal c.idle
+    ∷ codes " opened=" ∷ decimal c.opened ∷ codes " reused=" ∷ decimal c.reused
+    ∷ codes " stale=" ∷ decimal c.stale ∷ [])
+
 -- THE TEXT OF A REPORT
-abbrev pub report_text : Report → Workers → List Row → AnswerTally → List ℕ
-report_text r w rows t =
+abbrev pub report_text : Report → Workers → List Row → AnswerTally → BackendConnections → List ℕ
+report_text r w rows t c =
     stands_text r ++ workers_text w ++ classes_text r rows ++ counters_text r.counters
-    ++ answers_text t
+    ++ answers_text t ++ connections_text c

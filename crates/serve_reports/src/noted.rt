@@ -1,7 +1,10 @@
 // What was noted while serving.
+use crate::connections::BackendConnections;
+use crate::outcomes::OutcomeTally;
 use crate::outstanding::Outstanding;
 use crate::refusals::RefusalTally;
 use crate::tally::AnswerTally;
+use crate::times::TimeTally;
 use crate::workers::Workers;
 
 /// How often each trouble came since the start. A count stays at `u64::MAX`.
@@ -19,15 +22,34 @@ pub struct Troubles {
     pub all_taken: u64,
 }
 
+/// What the limit of a gateway may be.
+#[derive(Clone, Copy)]
+pub struct LimitRange {
+    /// The word of its kind in a configuration.
+    pub kind: &'static str,
+    /// The least limit, in permits.
+    pub least: u32,
+    /// The greatest.
+    pub greatest: u32,
+}
+
 /// What was noted of a gateway's exchanges since its start.
 #[derive(Clone, Copy)]
 pub struct GatewayStats {
+    /// What its limit may be, as long as it serves.
+    pub limit: LimitRange,
     /// How many exchanges ended in each of its own answers.
     pub answers: AnswerTally,
     /// How many requests of each class the gate refused.
     pub refusals: RefusalTally,
+    /// How many permits of each class ended, by their outcome.
+    pub outcomes: OutcomeTally,
+    /// How long exchanges took, and what they waited for.
+    pub times: TimeTally,
     /// How often each trouble came.
     pub troubles: Troubles,
+    /// How many connections to the backend there are, and what became of those that there were.
+    pub connections: BackendConnections,
     /// How many workers serve a client at this moment.
     pub workers: Workers,
     /// How old the permits are that haven't ended.

@@ -46,7 +46,7 @@ impl RefusalTally {
 }
 
 /// The place at which a class is told of.
-fn told_place(part: Part) -> usize
+pub(crate) fn told_place(part: Part) -> usize
     ensures place { result ≡ told_place part }
     ensures among_five { result < 5 }
 {
@@ -57,7 +57,7 @@ fn told_place(part: Part) -> usize
 }
 
 /// One more at a place.
-fn raise(counts: &mut [u64; 5], place: usize)
+pub(crate) fn raise(counts: &mut [u64; 5], place: usize)
     requires { place < 5 }
     ensures { counts.new ≡ raised_at place counts.old }
 {

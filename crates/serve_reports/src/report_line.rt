@@ -1,9 +1,11 @@
 // The text of a report.
 ghost use Rattle.std.specs.Prelude.{◌≡◌, ◌++◌, ◌<◌, IfOk, OnOk, string_bytes};
 ghost use Rattle.serve_reports.specs.Report.{acquires_text, answers_text, class_text, classes_text};
+ghost use Rattle.serve_reports.specs.Report.{connections_text};
 ghost use Rattle.serve_reports.specs.Report.{counters_text, outcomes_text, report_text, stands_text};
 ghost use Rattle.serve_reports.specs.Report.{waits_text, workers_text};
 
+use crate::connections::BackendConnections;
 use crate::tally::AnswerTally;
 use crate::workers::Workers;
 use gate_port::Report;
@@ -12,17 +14,18 @@ use partitions::{Part, PartitionTable};
 use std::alloc::{AllocError, Global};
 
 /// The text of the state of a gate over these classes, of how many of its workers serve a client,
-/// and of how many exchanges ended in each of the gateway's own answers. It fails only out of
-/// memory.
+/// of how many exchanges ended in each of the gateway's own answers, and of the connections to the
+/// backend. It fails only out of memory.
 pub fn report_text(
     alloc: Global,
     report: &Report,
     workers: &Workers,
     table: &PartitionTable,
     answers: &AnswerTally,
+    connections: &BackendConnections,
 ) -> Result<String, AllocError>
-    ensures { IfOk result (λ text.
-        string_bytes text ≡ report_text report.now workers.now table.now answers.now) }
+    ensures { IfOk result (λ text. string_bytes text
+        ≡ report_text report.now workers.now table.now answers.now connections.now) }
 {
     let mut text = String::new(alloc);
     push_stands(&mut text, report)?;
@@ -30,6 +33,7 @@ pub fn report_text(
     push_classes(&mut text, report, table)?;
     push_counters(&mut text, &report.counters)?;
     push_answers(&mut text, answers)?;
+    push_connections(&mut text, connections)?;
     Ok(text)
 }
 
@@ -152,5 +156,20 @@ fn push_answers(text: &mut String, answers: &AnswerTally) -> Result<(), AllocErr
     write!(
         text,
         " 431={head} 500={memory} 501={not_taken} 502={gateway} 504={late}"
+    )
+}
+
+/// Adds how many connections to the backend are open, how many of them are idle, how many were made
+/// and taken again, and how many were closed while they were idle.
+fn push_connections(text: &mut String, connections: &BackendConnections) -> Result<(), AllocError>
+    ensures { OnOk result (string_bytes text.new
+        ≡ string_bytes text.old ++ connections_text connections.now) }
+{
+    let (open, idle) = (connections.open, connections.idle);
+    let (opened, reused) = (connections.opened, connections.reused);
+    let stale = connections.stale;
+    write!(
+        text,
+        " open={open} idle={idle} opened={opened} reused={reused} stale={stale}"
     )
 }

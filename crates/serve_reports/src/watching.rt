@@ -2,13 +2,16 @@
 ghost use Rattle.std.specs.Prelude.{◌≡◌};
 ghost use Rattle.serve_reports.specs.Spells.{is_minute_over};
 
-use crate::noted::{GatewayStats, Troubles};
+use crate::connections::ConnectionCounts;
+use crate::noted::{GatewayStats, LimitRange, Troubles};
+use crate::outcomes::OutcomeTally;
 use crate::outstanding::{Moments, Outstanding};
 use crate::pace::Pace;
 use crate::refusals::RefusalTally;
 use crate::report_line::report_text;
 use crate::spell::RateLimitedLog;
 use crate::tally::AnswerTally;
+use crate::times::TimeTally;
 use crate::workers::Workers;
 use clocks::{Clock, ProgramClock};
 use gate_port::Report;
@@ -20,7 +23,7 @@ use std::io::Error;
 use std::sync::atomic::{AtomicU32, AtomicU64, Ordering};
 use std::sync::{Mutex, Wait};
 use std::time::Clock as SystemClock;
-use tcp_backend::BackendWatch;
+use tcp_backend::{BackendWatch, ConnectionEvent};
 use wire::WireFault;
 
 /// The nanoseconds of a second.
@@ -62,6 +65,13 @@ impl Notes {
     }
 }
 
+/// What was measured of each exchange.
+#[derive(Clone, Copy)]
+struct Measures {
+    outcomes: OutcomeTally,
+    times: TimeTally,
+}
+
 /// Logs what workers and their backends meet: a trouble at most once in ten seconds, with how often
 /// it came since it was last told, permits that are out for a minute once a minute, and the state
 /// as often as it is asked to.
@@ -72,6 +82,10 @@ pub struct Watcher<'a, R: SystemClock> {
     // That of the gate's moments too.
     clock: &'a ProgramClock<&'a R>,
     notes: Mutex<Notes>,
+    connections: ConnectionCounts,
+    // Of every exchange, so that most take no other lock here.
+    measures: Mutex<Measures>,
+    limit: LimitRange,
     workers: u32,
     busy: AtomicU32,
     moments: Moments,
@@ -80,12 +94,13 @@ pub struct Watcher<'a, R: SystemClock> {
 }
 
 impl<'a, R: SystemClock> Watcher<'a, R> {
-    /// Nothing has been noted, and so many workers are free. The state is logged every so many
-    /// seconds, or never without them. It fails only out of memory.
+    /// Nothing has been noted, the limit may be this, and so many workers are free. The state is
+    /// logged every so many seconds, or never without them. It fails only out of memory.
     pub fn new(
         rt: &'a R,
         alloc: Global,
         clock: &'a ProgramClock<&'a R>,
+        limit: LimitRange,
         workers: u32,
         report_seconds: Option<u32>,
     ) -> Result<Watcher<'a, R>, AllocError> {
@@ -99,11 +114,18 @@ impl<'a, R: SystemClock> Watcher<'a, R> {
             all_taken: RateLimitedLog::new(),
             old_told: None,
         };
+        let measures = Measures {
+            outcomes: OutcomeTally::default(),
+            times: TimeTally::new(),
+        };
         Ok(Watcher {
             rt,
             alloc,
             clock,
             notes: Mutex::new(notes),
+            connections: ConnectionCounts::new(),
+            measures: Mutex::new(measures),
+            limit,
             workers,
             busy: AtomicU32::new(0),
             moments: Moments::new(alloc, workers)?,
@@ -136,15 +158,27 @@ impl<R: SystemClock + Log + Wait> Watcher<'_, R> {
     /// What was noted so far.
     pub fn noted(&self) -> GatewayStats {
         let notes = *self.notes.lock(self.rt);
+        let measures = *self.measures.lock(self.rt);
         let now = self.clock.now();
         GatewayStats {
+            limit: self.limit,
             answers: notes.answers,
             refusals: notes.refusals,
+            outcomes: measures.outcomes,
+            times: measures.times,
             troubles: notes.troubles(),
+            connections: self.connections.counted(),
             workers: self.workers(),
             outstanding: self.moments.outstanding(now),
             seconds: now / SECOND,
         }
+    }
+
+    /// Counts an exchange that took so many nanoseconds.
+    fn measure(&self, exchange: &ExchangeSummary, took: u64) {
+        let mut measures = self.measures.lock(self.rt);
+        measures.outcomes.count(exchange);
+        measures.times.count(exchange, took);
     }
 
     /// A descriptor was wanted, and none was free.
@@ -203,15 +237,17 @@ fn is_minute_over(told: Option<u64>, now: u64) -> bool
 }
 
 impl<R: SystemClock + Log + Wait> Watch for Watcher<'_, R> {
-    fn accepted(&self) {
+    fn accepted(&self) -> u64 {
         let others = self.busy.fetch_add(1, Ordering::SeqCst);
         if self.workers <= others.saturating_add(1) {
             self.lack_worker();
         }
+        self.clock.now()
     }
 
-    fn ended(&self, exchange: &ExchangeSummary) {
+    fn ended(&self, exchange: &ExchangeSummary, since: u64) {
         self.busy.fetch_sub(1, Ordering::SeqCst);
+        self.measure(exchange, self.clock.now().saturating_sub(since));
         if exchange.is_own {
             let mut notes = self.notes.lock(self.rt);
             notes.answers.count(exchange);
@@ -236,8 +272,9 @@ impl<R: SystemClock + Log + Wait> Watch for Watcher<'_, R> {
             return;
         }
         let answers = self.notes.lock(self.rt).answers;
-        let workers = self.workers();
-        if let Ok(text) = report_text(self.alloc, report, &workers, table, &answers) {
+        let (workers, connections) = (self.workers(), self.connections.counted());
+        let text = report_text(self.alloc, report, &workers, table, &answers, &connections);
+        if let Ok(text) = text {
             info!(self.rt; target: "admission", "report {text}");
         }
     }
@@ -270,6 +307,10 @@ impl<R: SystemClock + Log + Wait> BackendWatch for Watcher<'_, R> {
         if let Some(count) = told {
             warn!(self.rt; target: "admission", count; "the backend didn't answer in time");
         }
+    }
+
+    fn connection(&self, event: ConnectionEvent) {
+        self.connections.count(event);
     }
 }
 

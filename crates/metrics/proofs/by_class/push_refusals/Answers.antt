@@ -1,6 +1,6 @@
 use Rattle.metrics.proofs.Joins.{grown, joined}
 use Rattle.metrics.specs.Metrics.{refusals_text}
-use Rattle.metrics.proofs.exposition.push_refusals.Goals as goal
+use Rattle.metrics.proofs.by_class.push_refusals.Goals as goal
 
 pub returns : goal.returns
 unfolding refusals_text
