@@ -1,0 +1,12 @@
+mod Balance
+mod Before
+mod Entries
+mod Exchanges
+mod InFlight
+mod Logged
+mod Recovery
+mod Replies
+mod Steps
+mod Verdicts
+mod Waiters
+mod Waiting

@@ -1,0 +1,103 @@
+-- What the gate's verdict on a request is: that of one thread's limiter, at its place in one log.
+--
+-- g: what the limiter was made with, o: what stood at first, log: all that was asked and answered
+use Rattle.std.specs.Prelude.{◌≡◌, ◌≤◌, ◌<◌, ◌⊎◌, ⊤, ℕ, true, List, Option, Some, IfSome}
+use Rattle.std.specs.Prelude.{is_some, slice_get, take}
+use Rattle.partitions.specs.declared.part.Part.{Part}
+use Rattle.partitions.specs.Table.{place_of, share}
+use Rattle.limiter_core.specs.declared.event.Event.{Event}
+use Rattle.limiter_core.specs.declared.event.Event.TheVariants.{End, GiveUp}
+use Rattle.limiter_core.specs.declared.event.Outcome.{Outcome}
+use Rattle.limiter_core.specs.declared.event.PermitFacts.{PermitFacts}
+use Rattle.limiter_core.specs.declared.event.Reply.{Reply}
+use Rattle.limiter_core.specs.declared.event.Reply.TheVariants as reply
+use Rattle.limiter_core.specs.declared.event.Entry.{Entry}
+use Rattle.limiter_core.specs.declared.event.Entry.TheVariants.{Call}
+use Rattle.limiter_core.specs.declared.promote.Promote.TheVariants as rule
+use Rattle.limiter_core.specs.History.{Gate, Image, image_after, limit, total}
+use Rattle.limiter_core.specs.Answer.{answer, waits}
+use Rattle.limiter_core.specs.Settled.{NobodyHasRoom}
+use Rattle.gate_config.specs.declared.settings.Settings.{Settings}
+use Rattle.gate_port.specs.declared.port.Why.{Why}
+use Rattle.gate_port.specs.declared.port.Why.TheVariants as why
+use Rattle.gate_port.specs.Asking.{Ask, acquire}
+use Rattle.proxy.specs.declared.told.ExchangeSummary.{ExchangeSummary}
+use Rattle.proxy.specs.declared.told.Verdict.{Verdict}
+use Rattle.proxy.specs.declared.told.Verdict.TheVariants as verdict
+use Rattle.proxy.specs.Settling.{asked_for}
+
+module _ {S : Type 0} (g : Gate S) (o : Image S) (log : List Entry) where
+  -- what stood before the entry of a number
+  abbrev pub found_at : ℕ → Image S
+  found_at number = image_after g o (take number log)
+
+  -- ANSWERED at a number: the call stands there with its reply, which is the sequential limiter's
+  -- after the entries before it
+  pub record IsAnsweredAt (number : ℕ) (e : Event) (r : Reply) : Type 0 where
+    pub stands : slice_get log number ≡ Some (Call e r)
+    pub sequential : slice_get (answer g o (take number log) e) 0 ≡ Some (Call e r)
+
+  -- TURNED AWAY at a number: the acquire of what was asked for was answered so, and found the whole
+  -- limit in use and the share of its class taken
+  pub record IsTurnedAway (ask : Ask) (now number : ℕ) (r : Reply) : Type 0 where
+    pub answered : IsAnsweredAt number (acquire ask now) r
+    pub in_use : limit g (found_at number) ≤ total (found_at number)
+    pub taken : share g.rows (place_of g.rows ask.part) (limit g (found_at number))
+        ≤ (found_at number).inflight (place_of g.rows ask.part)
+
+  -- WAITED from a number on: it was made to wait, and its giving up, at a later number, was
+  -- answered so
+  pub record HasWaited (ask : Ask) (now number : ℕ) (r : Reply) : Type 0 where
+    pub queued : IsTurnedAway ask now number reply.Waiting
+    pub second : ℕ
+    pub behind : number < second
+    pub gave_up : IsAnsweredAt second (GiveUp number) r
+
+  -- GOT: it was admitted at this number, or got the permit that it waited for from there on
+  abbrev pub IsGot : Ask → ℕ → ℕ → Type 0
+  IsGot ask now number =
+      ((inflight : ℕ) × IsAnsweredAt number (acquire ask now) (reply.Admitted inflight))
+      ⊎ ((part : Part) × (start : ℕ) × (inflight : ℕ)
+      × HasWaited ask now number (reply.Granted part start inflight))
+
+  -- ENDED: the permit of this number was ended with this outcome, at a later number
+  pub record IsEnded (number : ℕ) (outcome : Outcome) : Type 0 where
+    pub permit : PermitFacts
+    pub own : permit.number ≡ number
+    pub end : ℕ
+    pub promoted : ℕ
+    pub last : ℕ
+    pub behind : number < last
+    pub ended : IsAnsweredAt last (End permit outcome end) (reply.Ended promoted)
+
+  -- TIMED OUT: it waited in vain, and under all nobody who waited had room as it gave up
+  pub record IsTimedOut (ask : Ask) (now : ℕ) : Type 0 where
+    pub number : ℕ
+    pub waited : HasWaited ask now number reply.TimedOut
+    pub still : waits (found_at waited.second) number ≡ true
+    pub no_room : g.promote ≡ rule.All → NobodyHasRoom g (found_at waited.second)
+
+  -- REFUSED for this cause; where the history is exhausted nothing was answered
+  abbrev pub IsRefused : Ask → ℕ → Why → Type 0
+  IsRefused ask now why.Full = (number : ℕ) × IsTurnedAway ask now number reply.Full
+  IsRefused ask now why.BacklogFull =
+      (number : ℕ) × IsTurnedAway ask now number reply.BacklogFull
+  IsRefused ask now why.TimedOut = IsTimedOut ask now
+  IsRefused ask now why.Lost = (number : ℕ) × IsTurnedAway ask now number reply.Waiting
+  IsRefused ask now why.Exhausted = ⊤
+
+  -- THE VERDICT on what was asked for at this moment, and the outcome of what was let through
+  abbrev pub IsVerdict : Ask → ℕ → Verdict → Option Outcome → Type 0
+  IsVerdict ask now verdict.NotAsked outcome = ⊥
+  IsVerdict ask now verdict.Admitted outcome =
+      (number : ℕ) × IsGot ask now number × IfSome outcome (IsEnded number)
+      × (is_some outcome ≡ true)
+  IsVerdict ask now verdict.Bypassed outcome =
+      (number : ℕ) × IsAnsweredAt number (acquire ask now) reply.Bypassed
+  IsVerdict ask now (verdict.Refused cause) outcome = IsRefused ask now cause
+
+  -- DECIDED: an exchange whose request was read, by the request's class
+  abbrev pub IsDecided : Settings → ExchangeSummary → Type 0
+  IsDecided s x =
+      IfSome x.class (λ class.
+      (now : ℕ) × IsVerdict (asked_for s class) now x.admission x.outcome)

@@ -1,0 +1,4 @@
+pub mod Balance
+pub mod Decided
+pub mod Exchanges
+pub mod Recovery
