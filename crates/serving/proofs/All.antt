@@ -21,7 +21,7 @@ use Rattle.serving.specs.declared.jobs.JobResult.TheVariants as left
 use Rattle.serving.specs.declared.jobs.Worker.{Worker}
 use Rattle.serving.specs.declared.working.WorkerSettings.{WorkerSettings}
 use Rattle.timed_io.specs.Accepted.{listener_of}
-use Rattle.proxy.specs.Exchanges.{Bytes}
+use Rattle.proxy.specs.Exchanges.{Bytes, Policy}
 use Rattle.serving.specs.Doors.{counted_in, failed_of, given_of, is_closed}
 use Rattle.serving.specs.Turns.{IsRun, Place}
 use Rattle.serving.specs.Visits.{Visits}
@@ -121,7 +121,7 @@ module _ {A P B T S R L C W : Type 0} (given failed : A → ℕ) (closed : A →
     (x : Context R L C S W) where
   abbrev Worked : Worker A P B → WorkerExit A P B → Type 0
   Worked = HasWorked given failed closed visits came shown known forwarded log gives lacks
-      x.common.now.source.now x.common.now.per_worker
+      x.common.now.source.now x.common.now.marks x.common.now.per_worker
 
   abbrev AllDone : List (Job A P B T (Context R L C S W)) → List (JobResult A P B) → Type 0
   AllDone = AllZip
@@ -143,7 +143,8 @@ module _ {A P B T S R L C W : Type 0} (given failed : A → ℕ) (closed : A →
       absurd all.0
   worked_in (job.Worker context worker ∷ hs) (left.Worked ended ∷ ls) all within begun = (
     subst (λ (c : Context R L C S W). HasWorked given failed closed visits came shown known
-        forwarded log gives lacks c.common.now.source.now c.common.now.per_worker worker ended)
+        forwarded log gives lacks c.common.now.source.now c.common.now.marks
+        c.common.now.per_worker worker ended)
         within.0 all.0,
     worked_in hs ls all.1 within.1 begun,
   )
@@ -171,18 +172,18 @@ from shown known given failed closed port count = record {
 module _ {R T L C S W V P : Type 0} (gives : S → Settings → Type 0) (lacks : S → Type 0)
     (came : L → Bytes → Type 0) (shown : P → Option Shown) (known : P → Option (List Entry))
     (common : WorkerSettings L C S W) (address : List ℕ) where
-  abbrev Did : Worker (Door L W) P (TcpBackend (Dialer R) T V C)
-      → WorkerExit (Door L W) P (TcpBackend (Dialer R) T V C) → Type 0
+  abbrev Did : Worker (Door L W) P (TcpBackend (Dialer R T) T V C)
+      → WorkerExit (Door L W) P (TcpBackend (Dialer R T) T V C) → Type 0
   Did = HasWorked given_of failed_of is_closed (λ _. None)
       (λ door. came (listener_of (counted_in door))) shown known count_of (λ _. None) gives lacks
-      common.source.now common.per_worker
+      common.source.now common.marks common.per_worker
 
-  ran : (port : P) (worker : Worker (Door L W) P (TcpBackend (Dialer R) T V C))
-      (ended : WorkerExit (Door L W) P (TcpBackend (Dialer R) T V C))
+  ran : (port : P) (worker : Worker (Door L W) P (TcpBackend (Dialer R T) T V C))
+      (ended : WorkerExit (Door L W) P (TcpBackend (Dialer R T) T V C))
       → Begins common.listener.now common.backend_timeout_ns address port worker
       → Did worker ended → HasRun gives came shown known common port ended
   ran port worker ended begins did =
-      let s = did.settings in
+      let p : Policy = record { settings = did.settings; marks = common.marks } in
       let most = common.per_worker in
       let given = given_of worker.door in
       let failed = failed_of worker.door in
@@ -191,7 +192,7 @@ module _ {R T L C S W V P : Type 0} (gives : S → Settings → Type 0) (lacks :
       let end = from shown known (given_of ended.door) (failed_of ended.door) (is_closed ended.door)
       ended.port (count_of ended.backend) in
       let tally = ended.tally in
-      let Ran : L → Place → Type 0 = λ l start. IsRun s (came l) most start end tally in
+      let Ran : L → Place → Type 0 = λ l start. IsRun p (came l) most start end tally in
       let here = common.listener.now in
       let run : Ran here (from shown known 0 0 false port 0) =
       subst (λ (n : ℕ). Ran here (from shown known 0 0 false port n)) begins.unused
@@ -210,7 +211,7 @@ module _ {R T L C S W V P : Type 0} (gives : S → Settings → Type 0) (lacks :
       let unaccepted = did.unaccepted (omega arith) in
       let once = did.once in
       record {
-        settings = s;
+        settings = did.settings;
         are_given = did.are_given;
         run = run;
         accepted = omega arith;
@@ -220,8 +221,8 @@ module _ {R T L C S W V P : Type 0} (gives : S → Settings → Type 0) (lacks :
         whole = did.whole;
       }
 
-  pub all_ran : (ports : List P) (workers : List (Worker (Door L W) P (TcpBackend (Dialer R) T V C)))
-      (ended : List (WorkerExit (Door L W) P (TcpBackend (Dialer R) T V C)))
+  pub all_ran : (ports : List P) (workers : List (Worker (Door L W) P (TcpBackend (Dialer R T) T V C)))
+      (ended : List (WorkerExit (Door L W) P (TcpBackend (Dialer R T) T V C)))
       → AllZip (Begins common.listener.now common.backend_timeout_ns address) ports workers
       → AllZip Did workers ended → AllZip (HasRun gives came shown known common) ports ended
   all_ran [] [] [] p q = tt

@@ -4,11 +4,10 @@ use Rattle.std.proofs.Common.{length, length-append, Option, None, Some, ap, sym
 use Rattle.std.proofs.Common.{append_assoc, append-nil, arith, if◌then◌else◌, zero-add, add-zero}
 use Rattle.counted_io.specs.Count.{count_end, raised}
 use Rattle.limiter_core.specs.declared.event.Entry.{Entry}
-use Rattle.gate_config.specs.declared.settings.Settings.{Settings}
 use Rattle.gate_port.specs.Shown.{Shown}
 use Rattle.wire.specs.Forwards.{Forwarded}
 use Rattle.proxy.specs.declared.told.Exchange.{Exchange}
-use Rattle.proxy.specs.Exchanges.{Bytes}
+use Rattle.proxy.specs.Exchanges.{Bytes, Policy}
 use Rattle.proxy.specs.Made.{summary_of}
 use Rattle.proxy.specs.Settling.{is_through}
 use Rattle.serving.specs.declared.working.TurnCounts.{TurnCounts}
@@ -63,7 +62,7 @@ events_more (Missing ∷ ts) t = ap (λ (xs : List Event). Missed ∷ xs) (event
 events_more (Serving sent written told ∷ ts) t =
     ap (λ (xs : List Event). Opened sent ∷ Closed written told ∷ xs) (events_more ts t)
 
-all_served : (s : Settings) (came : Bytes → Type 0) (ts : List Turn) (t : Turn) (old mid new : Back)
+all_served : (s : Policy) (came : Bytes → Type 0) (ts : List Turn) (t : Turn) (old mid new : Back)
     → AreServed s came ts old mid → AreServed s came (t ∷ []) mid new
     → AreServed s came (ts ++ t ∷ []) old new
 all_served s came [] t old mid new same one =
@@ -113,14 +112,14 @@ nothing_shown None = tt
 nothing_shown (Some s) = (refl, sym (append-nil s.log))
 
 -- so many turns were taken so far
-pub record Took (s : Settings) (came : Bytes → Type 0) (count : ℕ) (old new : Place)
+pub record Took (s : Policy) (came : Bytes → Type 0) (count : ℕ) (old new : Place)
     (tally : TurnCounts) : Type 0 where
   pub turns : List Turn
   pub taken : AreTaken s came turns old new tally
   pub many : length turns ≡ count
 
 -- none was
-pub begins : (s : Settings) (came : Bytes → Type 0) (place : Place)
+pub begins : (s : Policy) (came : Bytes → Type 0) (place : Place)
     → Took s came 0 place place (record { accepted = 0; unaccepted = 0 })
 begins s came place = record {
   turns = [];
@@ -136,7 +135,7 @@ begins s came place = record {
 }
 
 -- one more was
-pub goes_on : (s : Settings) (came : Bytes → Type 0) (count : ℕ) (old mid new : Place)
+pub goes_on : (s : Policy) (came : Bytes → Type 0) (count : ℕ) (old mid new : Place)
     (before after : TurnCounts) (t : Turn) → Took s came count old mid before
     → after.accepted ≡ before.accepted + served (t ∷ [])
     → after.unaccepted ≡ before.unaccepted + missed (t ∷ [])
@@ -170,7 +169,7 @@ both_counted (Missing ∷ ts) = let same = both_counted ts in omega arith
 both_counted (Serving sent written told ∷ ts) = let same = both_counted ts in omega arith
 
 -- each turn has a client, or none
-pub both_of : (s : Settings) (came : Bytes → Type 0) (count : ℕ) (old new : Place)
+pub both_of : (s : Policy) (came : Bytes → Type 0) (count : ℕ) (old new : Place)
     (tally : TurnCounts) → Took s came count old new tally
     → tally.accepted + tally.unaccepted ≡ count
 both_of s came count old new tally took =
@@ -185,13 +184,13 @@ once_by n m true same = omega arith
 once_by n m false same = omega arith
 
 -- an exchange forwards once at most
-once : (s : Settings) (sent unwritten written : Bytes) (old new : Back) (x : Exchange)
+once : (s : Policy) (sent unwritten written : Bytes) (old new : Back) (x : Exchange)
     → IsServed s sent unwritten written old new x → new.count ≤ old.count + 1
 once s sent unwritten written old new x is =
     once_by old.count new.count (is_through (summary_of x).admission)
     (exchanged_once s _ _ (summary_of x) is.exchanged)
 
-all_once : (s : Settings) (came : Bytes → Type 0) (ts : List Turn) (old new : Back)
+all_once : (s : Policy) (came : Bytes → Type 0) (ts : List Turn) (old new : Back)
     → AreServed s came ts old new
     → new.count ≤ old.count + served ts
 all_once s came [] old new same = let count = ap (λ (b : Back). b.count) same in omega arith
@@ -201,7 +200,7 @@ all_once s came (Serving sent written told ∷ ts) old new all =
     let others = all_once s came ts all.1 new all.5 in
     omega arith
 
-pub forwarded_at_most : (s : Settings) (came : Bytes → Type 0) (count : ℕ) (old new : Place)
+pub forwarded_at_most : (s : Policy) (came : Bytes → Type 0) (count : ℕ) (old new : Place)
     (tally : TurnCounts) → Took s came count old new tally
     → new.back.count ≤ old.back.count + tally.accepted
 forwarded_at_most s came count old new tally took =
@@ -233,7 +232,7 @@ failed_exactly (Missing ∷ ts) n h =
 failed_exactly (Serving sent written told ∷ ts) n h = failed_exactly ts n h
 
 -- where a door's counts don't come to their ends, they rise by what is tallied
-pub all_given : (s : Settings) (came : Bytes → Type 0) (count most : ℕ) (old new : Place)
+pub all_given : (s : Policy) (came : Bytes → Type 0) (count most : ℕ) (old new : Place)
     (tally : TurnCounts) → Took s came count old new tally
     → count ≤ most → old.given + most ≤ count_end
     → new.given ≡ old.given + tally.accepted
@@ -244,7 +243,7 @@ all_given s came count most old new tally took few room =
     let given = took.taken.given ∙ given_exactly took.turns old.given (omega arith) in
     omega arith
 
-pub all_failed : (s : Settings) (came : Bytes → Type 0) (count most : ℕ) (old new : Place)
+pub all_failed : (s : Policy) (came : Bytes → Type 0) (count most : ℕ) (old new : Place)
     (tally : TurnCounts) → Took s came count old new tally
     → count ≤ most → old.failed + most ≤ count_end
     → new.failed ≡ old.failed + tally.unaccepted
@@ -257,7 +256,7 @@ all_failed s came count most old new tally took few room =
 
 -- the turns that were taken are a run, where they are as many as were asked for, or the door was
 -- found closed
-pub run_of : (s : Settings) (came : Bytes → Type 0) (count most : ℕ) (old new : Place)
+pub run_of : (s : Policy) (came : Bytes → Type 0) (count most : ℕ) (old new : Place)
     (tally : TurnCounts) → Took s came count old new tally
     → count ≤ most → (new.closed ≡ false → count ≡ most)
     → IsRun s came most old new tally

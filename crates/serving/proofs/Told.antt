@@ -7,11 +7,10 @@ use Rattle.counted_io.specs.Causes.{IsWriteCause}
 use Rattle.counted_io.specs.Counted.{calls_of, failures_of, flushes_of, inner_of, is_flushed}
 use Rattle.wire.specs.declared.fault.WireFault.{WireFault}
 use Rattle.wire.specs.declared.fault.WireFault.TheVariants as fault
-use Rattle.gate_config.specs.declared.settings.Settings.{Settings}
 use Rattle.wire.specs.declared.answer.BackendAnswer.{BackendAnswer}
 use Rattle.proxy.specs.declared.told.CallCounts.{CallCounts}
 use Rattle.proxy.specs.declared.told.Exchange.{Exchange}
-use Rattle.proxy.specs.Exchanges.{Bytes, IsExchange, World}
+use Rattle.proxy.specs.Exchanges.{Bytes, IsExchange, Policy, World}
 use Rattle.proxy.specs.Made.{counted_with, counts_of, reads_of, summary_of, with_sent, writes_of}
 use Rattle.serving.specs.Served.{Back, IsSent, IsServed, around, fresh}
 
@@ -42,7 +41,7 @@ IsBroken old new x =
     IfSome (summary_of x).written_fault (λ f. (f ≡ fault.Write) × IsWriteCause old new)
 
 -- an exchange over a reader and a writer that weren't called, whose counts at its end it has
-over : (s : Settings) (from to from' to' : Counted Bytes) (looks looks' : Looked BackendAnswer)
+over : (s : Policy) (from to from' to' : Counted Bytes) (looks looks' : Looked BackendAnswer)
     (old new : Back) (x : Exchange) (first unwritten written : Bytes) (sent : Bool)
     → from ≡ fresh first → to ≡ fresh unwritten → looks ≡ unlooked
     → IsExchange s (around from to looks old) (around from' to' looks' new) (summary_of x)
@@ -80,7 +79,7 @@ over s from to from' to' looks looks' old new x first unwritten written sent new
       ended = ended;
     }
 
-pub served : (s : Settings) (from to from' to' : Counted Bytes)
+pub served : (s : Policy) (from to from' to' : Counted Bytes)
     (looks looks' : Looked BackendAnswer) (old new : Back) (x y : Exchange)
     (first unwritten written : Bytes) (sent : Bool)
     → y ≡ with_sent sent x → from ≡ fresh first → to ≡ fresh unwritten → looks ≡ unlooked

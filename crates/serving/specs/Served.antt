@@ -5,13 +5,12 @@ use Rattle.clocks.specs.Looks.{Looked, unlooked}
 use Rattle.counted_io.specs.declared.counted.Counted.{Counted}
 use Rattle.counted_io.specs.Causes.{IsWriteCause}
 use Rattle.limiter_core.specs.declared.event.Entry.{Entry}
-use Rattle.gate_config.specs.declared.settings.Settings.{Settings}
 use Rattle.gate_port.specs.Shown.{Shown}
 use Rattle.wire.specs.declared.fault.WireFault.TheVariants as fault
 use Rattle.wire.specs.declared.answer.BackendAnswer.{BackendAnswer}
 use Rattle.wire.specs.Forwards.{Forwarded}
 use Rattle.proxy.specs.declared.told.Exchange.{Exchange}
-use Rattle.proxy.specs.Exchanges.{Bytes, IsExchange, World}
+use Rattle.proxy.specs.Exchanges.{Bytes, IsExchange, Policy, World}
 use Rattle.proxy.specs.Made.{counted_with, is_all_sent, reads_of, summary_of, writes_of}
 
 -- what stands behind a worker: the gate's entries where they are shown, what is known of its log
@@ -49,12 +48,12 @@ IsSent given written sent =
 -- to it, over a reader and a writer that weren't called yet, before any look at the clock; it ended
 -- with just the counts that it has; and what was written to the client is what it gave its writer.
 -- A fault of writing has its cause in these counts
-pub record IsServed (s : Settings) (sent unwritten written : Bytes) (old new : Back) (x : Exchange)
+pub record IsServed (p : Policy) (sent unwritten written : Bytes) (old new : Back) (x : Exchange)
     : Type 0 where
   pub left : Bytes
   pub given : Bytes
   pub looks : Looked BackendAnswer
-  pub exchanged : IsExchange s (around (fresh sent) (fresh unwritten) unlooked old)
+  pub exchanged : IsExchange p (around (fresh sent) (fresh unwritten) unlooked old)
       (around (counted_with left (reads_of x)) (counted_with given (writes_of x)) looks new)
       (summary_of x)
   pub broken : IfSome (summary_of x).written_fault (λ f.

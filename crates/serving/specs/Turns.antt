@@ -2,9 +2,8 @@
 use Rattle.std.specs.Prelude.{◌≡◌, ◌≤◌, ◌+◌, ℕ, Bool, false, List, [], ◌∷◌, ◌++◌, length}
 use Rattle.std.specs.Prelude.{Option, IfSome}
 use Rattle.counted_io.specs.Count.{raised}
-use Rattle.gate_config.specs.declared.settings.Settings.{Settings}
 use Rattle.proxy.specs.declared.told.Exchange.{Exchange}
-use Rattle.proxy.specs.Exchanges.{Bytes}
+use Rattle.proxy.specs.Exchanges.{Bytes, Policy}
 use Rattle.serving.specs.declared.working.TurnCounts.{TurnCounts}
 use Rattle.serving.specs.Served.{Back, IsServed}
 use Rattle.serving.specs.Visits.{Event, Opened, Missed, Closed, Follows, Visits}
@@ -41,13 +40,13 @@ events_of (Serving sent written told ∷ turns) =
 
 -- THE EXCHANGES: one for each client, in order, who came where they are served and to whom nothing
 -- had been written; and nothing else is asked of the gate, or forwarded
-abbrev pub AreServed : Settings → (Bytes → Type 0) → List Turn → Back → Back → Type 0
-AreServed s came [] old new = new ≡ old
-AreServed s came (Missing ∷ turns) old new = AreServed s came turns old new
-AreServed s came (Serving sent written told ∷ turns) old new =
+abbrev pub AreServed : Policy → (Bytes → Type 0) → List Turn → Back → Back → Type 0
+AreServed p came [] old new = new ≡ old
+AreServed p came (Missing ∷ turns) old new = AreServed p came turns old new
+AreServed p came (Serving sent written told ∷ turns) old new =
     (unwritten : Bytes) × (mid : Back)
     × IfSome unwritten (λ bytes. bytes ≡ [])
-    × IsServed s sent unwritten written old mid told × came sent × AreServed s came turns mid new
+    × IsServed p sent unwritten written old mid told × came sent × AreServed p came turns mid new
 
 -- what a worker finds and leaves: its door's counts, whether that was found closed, what it shows,
 -- and what stands behind the worker
@@ -75,19 +74,19 @@ Shows turns old new = Follows old new (λ o n.
     (o.coming ≡ sent_by turns ++ n.coming) × (n.log ≡ o.log ++ events_of turns))
 
 -- TAKEN: the turns, as they are tallied, as the door counts and shows them, and as they are served
-pub record AreTaken (s : Settings) (came : Bytes → Type 0) (turns : List Turn) (old new : Place)
+pub record AreTaken (p : Policy) (came : Bytes → Type 0) (turns : List Turn) (old new : Place)
     (tally : TurnCounts) : Type 0 where
   pub accepted : tally.accepted ≡ served turns
   pub unaccepted : tally.unaccepted ≡ missed turns
   pub given : new.given ≡ given_by turns old.given
   pub failed : new.failed ≡ failed_by turns old.failed
-  pub exchanges : AreServed s came turns old.back new.back
+  pub exchanges : AreServed p came turns old.back new.back
   pub shown : Shows turns old.visits new.visits
 
 -- A RUN of so many turns, or of fewer where the door was found closed
-pub record IsRun (s : Settings) (came : Bytes → Type 0) (most : ℕ) (old new : Place)
+pub record IsRun (p : Policy) (came : Bytes → Type 0) (most : ℕ) (old new : Place)
     (tally : TurnCounts) : Type 0 where
   pub turns : List Turn
-  pub taken : AreTaken s came turns old new tally
+  pub taken : AreTaken p came turns old new tally
   pub few : length turns ≤ most
   pub whole : new.closed ≡ false → length turns ≡ most

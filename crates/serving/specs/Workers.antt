@@ -74,14 +74,14 @@ module _ {A P B S : Type 0} (given failed : A → ℕ) (closed : A → Bool)
     };
   }
 
-  -- WORKED: by settings that the source gives a worker took its turns, each with a client or none,
-  -- and forwarded no more than it had clients
-  pub record HasWorked (source : S) (most : ℕ) (worker : Worker A P B) (ended : WorkerExit A P B)
-      : Type 0 where
+  -- WORKED: by settings that the source gives, with marks or without, a worker took its turns, each
+  -- with a client or none, and forwarded no more than it had clients
+  pub record HasWorked (source : S) (marks : Bool) (most : ℕ) (worker : Worker A P B)
+      (ended : WorkerExit A P B) : Type 0 where
     pub bounded : most ≤ count_end
     pub settings : Settings
     pub are_given : gives source settings
-    pub run : IsRun settings (came worker.door) most
+    pub run : IsRun (record { settings = settings; marks = marks }) (came worker.door) most
         (place_of worker.door worker.port worker.backend)
         (place_of ended.door ended.port ended.backend) ended.tally
     pub turns : ended.tally.accepted + ended.tally.unaccepted ≤ most
@@ -94,10 +94,10 @@ module _ {A P B S : Type 0} (given failed : A → ℕ) (closed : A → Bool)
         → failed ended.door ≡ failed worker.door + ended.tally.unaccepted
 
   -- what a worker leaves; who didn't begin had no settings
-  abbrev pub Leaves : S → ℕ → Worker A P B → JobResult A P B → Type 0
-  Leaves source most worker left.Unbegun = lacks source
-  Leaves source most worker left.SideTask = ⊥
-  Leaves source most worker (left.Worked ended) = HasWorked source most worker ended
+  abbrev pub Leaves : S → Bool → ℕ → Worker A P B → JobResult A P B → Type 0
+  Leaves source marks most worker left.Unbegun = lacks source
+  Leaves source marks most worker left.SideTask = ⊥
+  Leaves source marks most worker (left.Worked ended) = HasWorked source marks most worker ended
 
   -- what a task beside the workers leaves, which is to make this
   abbrev pub IsMade : Type 0 → JobResult A P B → Type 0
@@ -110,12 +110,13 @@ module _ {A P B S : Type 0} (given failed : A → ℕ) (closed : A → Bool)
       → Job A P B T (Context R L C S W) → JobResult A P B → Type 0
   Makes made (job.SideTask task) left = IsMade (made task) left
   Makes made (job.Worker context worker) left =
-      Leaves context.now.common.now.source.now context.now.common.now.per_worker worker left
+      Leaves context.now.common.now.source.now context.now.common.now.marks
+      context.now.common.now.per_worker worker left
 
 -- a new worker, with this port, a backend at an address that was given nothing and whose calls may
 -- take so many nanoseconds, where that is limited, and a door to a listener, without a visit
 pub record Begins {R T L W V C P : Type 0} (listener : L) (most : Option ℕ) (address : List ℕ)
-    (port : P) (worker : Worker (Door L W) P (TcpBackend (Dialer R) T V C)) : Type 0 where
+    (port : P) (worker : Worker (Door L W) P (TcpBackend (Dialer R T) T V C)) : Type 0 where
   pub opens_to : listener_of (counted_in worker.door) ≡ listener
   pub port_is : worker.port ≡ port
   pub given : given_of worker.door ≡ 0
@@ -132,10 +133,11 @@ pub record Begins {R T L W V C P : Type 0} (listener : L) (most : Option ℕ) (a
 pub record HasRun {R T L C S W V P : Type 0} (gives : S → Settings → Type 0)
     (came : L → Bytes → Type 0) (shown : P → Option Shown) (known : P → Option (List Entry))
     (common : WorkerSettings L C S W) (port : P)
-    (ended : WorkerExit (Door L W) P (TcpBackend (Dialer R) T V C)) : Type 0 where
+    (ended : WorkerExit (Door L W) P (TcpBackend (Dialer R T) T V C)) : Type 0 where
   pub settings : Settings
   pub are_given : gives common.source.now settings
-  pub run : IsRun settings (came common.listener.now) common.per_worker
+  pub run : IsRun (record { settings = settings; marks = common.marks })
+      (came common.listener.now) common.per_worker
       (record {
         given = 0;
         failed = 0;

@@ -74,6 +74,8 @@ pub trait Accepts {
 pub struct Door<'a, L, W> {
     listener: CountedListener<'a, L>,
     watch: &'a W,
+    // When the watch was told of the client that is served.
+    since: u64,
     closed: bool,
 }
 
@@ -86,6 +88,7 @@ impl<'a, L, W> Door<'a, L, W> {
         Door {
             listener,
             watch,
+            since: 0,
             closed: false,
         }
     }
@@ -118,7 +121,7 @@ where
     fn accept(&mut self) -> Result<AcceptedClient<L::Stream, L::From, L::To>> {
         let outcome = self.listener.accept();
         match &outcome {
-            Ok(_) => self.watch.accepted(),
+            Ok(_) => self.since = self.watch.accepted(),
             Err(error) => {
                 self.closed = !self.listener.is_open();
                 if !self.closed {
@@ -138,7 +141,7 @@ where
         ensures closed { Closes None None (L.To.contents (to_of client.ends)) told }
     {
         client.close();
-        self.watch.ended(&told.end());
+        self.watch.ended(&told.end(), self.since);
     }
 
     fn is_closed(&self) -> bool {

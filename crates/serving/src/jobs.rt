@@ -123,8 +123,8 @@ where
     S: Source,
     W: Watch,
     ensures { Leaves A.given A.failed A.closed A.visits A.came P.shown P.known B.forwarded B.shown
-        S.gives S.lacks context.now.common.now.source.now context.now.common.now.per_worker worker
-        result }
+        S.gives S.lacks context.now.common.now.source.now context.now.common.now.marks
+        context.now.common.now.per_worker worker result }
 {
     let common = context.common;
     let Ok(settings) = common.source.settings(common.alloc) else {

@@ -17,17 +17,22 @@ use gate_port::{GatePort, GateView};
 use proxy::Watch;
 use std::alloc::{AllocError, Global};
 use std::net::Net;
-use std::sync::Wait;
+use std::sync::{Arc, Wait};
 use std::thread::Threads;
 use std::time::{Clock as SystemClock, Duration};
 use tasks::{Spawner, Task, run_tasks_beside};
-use tcp_backend::{BackendWatch, Dialer, TcpBackend};
-use timed_io::{ClientBuffers, CountedListener, Listener};
+use tcp_backend::{BackendWatch, ConnectionPool, Dialer, TcpBackend};
+use timed_io::{ClientBuffers, CountedListener, Listener, Places, spare_descriptors};
 use wire::Backend;
 
 /// For how long a client takes nothing of its answer, in nanoseconds, before the system ends its
 /// connection, at least: five seconds. It isn't less than the client's time.
 const UNTAKEN_NS: u64 = 5_000_000_000;
+
+/// How many descriptors a gateway wants beside those of its workers and of connections to the
+/// backend that are kept: of its streams, its listeners, and those who are served beside its
+/// workers.
+const OTHER_DESCRIPTORS: u64 = 24;
 
 /// Serves clients by one worker for each port, each on a thread of its own with a door, and with a
 /// connection of its own to the backend of the settings, until all have ended; and tells what they
@@ -48,7 +53,9 @@ pub fn serve<'l, R, G, P, T, L, C, S, W>(
     ports: Vec<P>,
     side_tasks: Vec<T>,
 ) -> Result<
-    Vec<JobResult<Door<'l, L, W>, P, TcpBackend<'l, Dialer<&'l R>, R::Stream, &'l W, C>>>,
+    Vec<
+        JobResult<Door<'l, L, W>, P, TcpBackend<'l, Dialer<&'l R, R::Stream>, R::Stream, &'l W, C>>,
+    >,
     ServeFault,
 >
 where
@@ -79,10 +86,7 @@ where
         refused_of spawner.new ≡ refused_of spawner.old }
 {
     let workers = make_workers(rt, common, settings, ports)?;
-    let untaken_ns = common.client_timeout_ns.max(UNTAKEN_NS);
-    common
-        .listener
-        .end_untaken(Duration::from_nanos(untaken_ns));
+    prepare(common, wanted_descriptors(workers.len(), settings.backends));
     let active = ActiveWorkers::new(workers.len());
     let reporter = Reporter {
         rt,
@@ -96,14 +100,40 @@ where
     serve_by(rt, spawner, common, &active, reporter, workers, side_tasks)
 }
 
+/// How many descriptors are wanted, two for each worker, for its client and its backend, and one
+/// for each connection to the backend that is kept.
+fn wanted_descriptors(workers: usize, backends: u32) -> u64 {
+    let of_workers = (workers as u64).saturating_mul(2);
+    let kept = u64::from(backends);
+    of_workers
+        .saturating_add(kept)
+        .saturating_add(OTHER_DESCRIPTORS)
+}
+
+/// Has the listener keep clients who have sent nothing, as far as there are descriptors for them
+/// beside so many that are wanted, and end those who take nothing.
+fn prepare<L: Listener, C, S, W>(common: &WorkerSettings<'_, L, C, S, W>, wanted: u64) {
+    let most_ns = common.client_timeout_ns;
+    let spare = spare_descriptors(wanted);
+    let places = Places {
+        count: u32::try_from(spare)
+            .unwrap_or(u32::MAX)
+            .min(common.client_places),
+        most: Duration::from_nanos(most_ns),
+    };
+    common.listener.offer_places(common.alloc, places);
+    let untaken = Duration::from_nanos(most_ns.max(UNTAKEN_NS));
+    common.listener.end_untaken(untaken);
+}
+
 /// A worker for each port, with a door, and with a backend at the address of the settings.
-fn make_workers<'l, R: Net, P: Drop, L, C, S, W>(
+fn make_workers<'l, R: Net + Wait, P: Drop, L, C, S, W>(
     rt: &'l R,
     common: &WorkerSettings<'l, L, C, S, W>,
     settings: &Settings,
     ports: Vec<P>,
 ) -> Result<
-    Vec<Worker<Door<'l, L, W>, P, TcpBackend<'l, Dialer<&'l R>, R::Stream, &'l W, C>>>,
+    Vec<Worker<Door<'l, L, W>, P, TcpBackend<'l, Dialer<&'l R, R::Stream>, R::Stream, &'l W, C>>>,
     ServeFault,
 >
     ensures workers { IfOk result (λ workers.
@@ -114,17 +144,42 @@ fn make_workers<'l, R: Net, P: Drop, L, C, S, W>(
     let (alloc, watch) = (common.alloc, common.watch);
     let (clock, most_ns) = (common.clock, common.backend_timeout_ns);
     let address = settings.backend.socket();
+    let pool = make_pool(alloc, settings)?;
     let mut workers = Vec::with_capacity(alloc, ports.len())?;
     for port in ports {
+        let dialer = Dialer::new(rt, address, share(&pool)?);
         let worker = Worker {
             door: Door::new(CountedListener::new(common.listener), watch),
             port,
-            backend: TcpBackend::new(Dialer::new(rt, address), alloc, watch, clock, most_ns)?,
+            backend: TcpBackend::new(dialer, alloc, watch, clock, most_ns)?,
             buffers: ClientBuffers::new(alloc)?,
         };
         workers.push_reserved(worker);
     }
     Ok(workers)
+}
+
+/// Where connections to the backend wait for another request, by settings that keep some.
+fn make_pool<S: Drop>(
+    alloc: Global,
+    settings: &Settings,
+) -> Result<Option<Arc<ConnectionPool<S>, Global>>, AllocError> {
+    if settings.backends == 0 {
+        return Ok(None);
+    }
+    let places = settings.backends as usize;
+    let pool = ConnectionPool::new(alloc, places, settings.backend_idle_ns)?;
+    Ok(Some(Arc::new(alloc, pool)?))
+}
+
+/// One share more of a pool, where there is one.
+fn share<S: Drop>(
+    pool: &Option<Arc<ConnectionPool<S>, Global>>,
+) -> Result<Option<Arc<ConnectionPool<S>, Global>>, AllocError> {
+    match pool {
+        Some(pool) => Ok(Some(Arc::try_clone(pool)?)),
+        None => Ok(None),
+    }
 }
 
 /// Serves clients by these workers, with tasks beside them and a reporter on this thread. Which
@@ -159,7 +214,7 @@ where
     L::To: Send + Sync,
     ensures worked { IfOk result (λ lefts. AllZip (HasWorked A.given A.failed A.closed A.visits
         A.came P.shown P.known B.forwarded B.shown S.gives S.lacks
-        common.now.source.now common.now.per_worker)
+        common.now.source.now common.now.marks common.now.per_worker)
         workers.items (ended_in lefts.items)) }
     ensures side_tasks { IfOk result (λ _. All (λ task. T.makes task tt) side_tasks.items) }
     ensures thread { IsErrOf result ServeFault.Thread →

@@ -53,11 +53,18 @@ pub struct WorkerSettings<'a, L, C, S, W> {
     pub clock: &'a C,
     /// How many connections a worker accepts, one after the other.
     pub per_worker: u64,
-    /// How long a client may take to send its request, and again to take its answer.
+    /// How long a client may take to send its request, and again to take its answer; and how long
+    /// one may wait that has sent nothing.
     pub client_timeout_ns: u64,
+    /// For how long a client whose head isn't whole may hold a worker where no other one is free.
+    pub head_timeout_ns: u64,
+    /// How many clients that have sent nothing may wait beside those who are served.
+    pub client_places: u32,
     /// How long a call of the backend may take, from its connect to the end of its answer; as long
     /// as the backend takes without it.
     pub backend_timeout_ns: Option<u64>,
+    /// Whether each of the gateway's own answers has the line `X-Admission` with its word.
+    pub marks: bool,
     /// From one report to the next; none is made without it.
     pub report_every_ns: Option<u64>,
     /// What hears of what workers do.
@@ -98,7 +105,8 @@ where
     S: Source,
     W: Watch,
     requires settings { S.gives common.now.source.now settings.now }
-    ensures run { IsRun settings.now (A.came door.old) common.now.per_worker
+    ensures run { IsRun (record { settings = settings.now; marks = common.now.marks })
+        (A.came door.old) common.now.per_worker
         (record {
           given = A.given door.old;
           failed = A.failed door.old;
@@ -163,7 +171,7 @@ where
 }
 
 /// Serves one client by one exchange over the two ends of its connection, which last as long as it
-/// may take; one that sends nothing is let go after a second where no worker is free. Where it is
+/// may take; one that is slow to send its head is let go where no worker is free. Where it is
 /// answered before its whole request was read, or has sent more than that, what it still sends is
 /// dropped, so that it gets to read the answer. A signal that cuts a read or a write short changes
 /// nothing.
@@ -183,7 +191,8 @@ where
     B: Backend,
     C: Clock,
     W: Watch,
-    ensures { IsServed settings.now (I.remaining (from_of client.ends))
+    ensures { IsServed (record { settings = settings.now; marks = common.now.marks })
+        (I.remaining (from_of client.ends))
         (O.contents (to_of client.ends)) (O.contents (to_of result.0.ends))
         (record {
           shown = P.shown port.old;
@@ -201,6 +210,7 @@ where
 {
     let patience = FreeWorkers {
         watch: common.watch,
+        least_ns: common.head_timeout_ns,
     };
     let AcceptedClient { stream, ends } = client;
     let (ends, served, buffers) = serve_over(
@@ -209,7 +219,7 @@ where
     (AcceptedClient { stream, ends }, served, buffers)
 }
 
-/// The same over a connection and its ends, by somebody's patience with who sends nothing.
+/// The same over a connection and its ends, by somebody's patience with who is slow.
 fn serve_over<'s, T, I, O, P, B, C, L, S, W, A>(
     common: &WorkerSettings<'_, L, C, S, W>,
     settings: &Settings,
@@ -228,7 +238,8 @@ where
     B: Backend,
     C: Clock,
     A: Patience,
-    ensures { IsServed settings.now (I.remaining (from_of ends)) (O.contents (to_of ends))
+    ensures { IsServed (record { settings = settings.now; marks = common.now.marks })
+        (I.remaining (from_of ends)) (O.contents (to_of ends))
         (O.contents (to_of result.0))
         (record {
           shown = P.shown port.old;
@@ -259,6 +270,7 @@ where
         port,
         backend,
         settings,
+        common.marks,
         &mut looks,
         &mut reader,
         &mut writer,
@@ -293,13 +305,19 @@ fn linger_behind<T: Connection, I: Inlet<T>, O, C: Clock>(
     (ends.linger(stream, time, is_unread, sent), buffers)
 }
 
-/// The workers that are free for others than who sends nothing.
+/// The workers that are free for others than who is slow to send its head.
 #[derive(Drop)]
 struct FreeWorkers<'a, W> {
     watch: &'a W,
+    // For how long a head is waited for in any case.
+    least_ns: u64,
 }
 
 impl<W: Watch> Patience for FreeWorkers<'_, W> {
+    fn least(&self) -> Duration {
+        Duration::from_nanos(self.least_ns)
+    }
+
     fn may_wait(&self) -> bool {
         self.watch.has_free_worker()
     }

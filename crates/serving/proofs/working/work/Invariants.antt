@@ -5,7 +5,8 @@ use Rattle.serving.proofs.working.work.Given as goal
 -- so many turns so far
 abbrev pub invariant-loop : goal.invariant-loop
 invariant-loop g l = record {
-  took : Took l.settings (g.A.Accepts.came l.fn.door) l.counter
+  took : Took (record { settings = l.settings; marks = l.common.marks })
+      (g.A.Accepts.came l.fn.door) l.counter
       (record {
         given = g.A.Accepts.given l.fn.door;
         failed = g.A.Accepts.failed l.fn.door;
