@@ -19,7 +19,7 @@ use Rattle.operator_serving.specs.Desk.{Deed, Sight}
 use Rattle.operator_serving.specs.Desk.Deed.{Reported, SetTo, Begun, Drained, DrainedAfter}
 use Rattle.operator_serving.specs.Desk.Sight.{Notes, Accepts}
 use Rattle.gate_desk.specs.declared.desk.GateDesk.{GateDesk}
-use Rattle.gate_desk.specs.Listeners.{is_shut, listener_in}
+use Rattle.gate_desk.specs.State.{DeskState, once_shut, state_of, with_pass}
 
 -- what became of a change, by its reply
 abbrev pub by_reply : Reply → Result (Unit {0}) ChangeFault
@@ -43,34 +43,36 @@ Steps before after event outcome =
     (now : ℕ) × (told : Result Told Refusal) × Changes before after (event now) told
     × (outcome ≡ outcome_of told)
 
--- a desk as it was before, but for its pass
+-- what carries a desk is as it was before
 pub record IsSameDesk {G M R L C W : Type 0} {g : LimitGhosts G} {m : NamingGhosts M}
     (before after : GateDesk G M R L C W g m) : Type 0 where
   pub rt : after.rt ≡ before.rt
   pub gate : after.gate ≡ before.gate
   pub watch : after.watch ≡ before.watch
-  pub front : after.front ≡ before.front
   pub own : after.own ≡ before.own
   pub lame_duck : after.lame_duck ≡ before.lame_duck
   pub clock : after.clock ≡ before.clock
-  pub table : after.table ≡ before.table
   pub most : after.most ≡ before.most
 
 -- WHAT IS DONE, by the desk's pass and by whether it has closed where clients come from: a report
 -- has a log that begins with what the pass knew, which knows that log then, so that it shows what
 -- was changed at the desk before; a change of the limit is one step of the history, and lets
--- clients come as before; a drain is none, and closes where they come from
+-- clients come as before; a drain is none, and closes where they come from. All else stays
+abbrev pub IsDone : {S L : Type 0} → Algorithm S → Making → (L → Type 0)
+    → DeskState L → DeskState L → Deed → Type 0
+IsDone rules made closed before after (Reported report) =
+    IsReportTo rules made before.pass after.pass report × (after ≡ with_pass after.pass before)
+IsDone rules made closed before after (SetTo n outcome) =
+    Steps before.pass after.pass (SetLimit n) outcome × (after ≡ with_pass after.pass before)
+IsDone rules made closed before after (Begun outcome) =
+    Steps before.pass after.pass Reset outcome × (after ≡ with_pass after.pass before)
+IsDone rules made closed before after Drained =
+    (after ≡ once_shut before) × closed before.front
+IsDone rules made closed before after (DrainedAfter delay) =
+    (after ≡ once_shut before) × closed before.front
+
 abbrev pub DoneBy : {S G M R L C W : Type 0} {g : LimitGhosts G} {m : NamingGhosts M}
     → Algorithm S → Making → (L → Type 0)
     → GateDesk G M R L C W g m → GateDesk G M R L C W g m → Deed → Type 0
-DoneBy rules made closed before after (Reported report) =
-    IsReportTo rules made before.pass after.pass report × IsSameDesk before after
-DoneBy rules made closed before after (SetTo n outcome) =
-    Steps before.pass after.pass (SetLimit n) outcome
-    × (is_shut after.front ≡ is_shut before.front)
-DoneBy rules made closed before after (Begun outcome) =
-    Steps before.pass after.pass Reset outcome × (is_shut after.front ≡ is_shut before.front)
-DoneBy rules made closed before after Drained =
-    (after.pass ≡ before.pass) × (is_shut after.front ≡ true) × closed (listener_in after.front)
-DoneBy rules made closed before after (DrainedAfter delay) =
-    (after.pass ≡ before.pass) × (is_shut after.front ≡ true) × closed (listener_in after.front)
+DoneBy rules made closed before after deed =
+    IsDone rules made closed (state_of before) (state_of after) deed × IsSameDesk before after

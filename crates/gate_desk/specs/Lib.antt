@@ -1,3 +1,4 @@
 pub mod Desk
 pub mod Listeners
 pub mod Operator
+pub mod State

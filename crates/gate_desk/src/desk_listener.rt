@@ -36,8 +36,9 @@ impl<'a, L: Listener> DeskListener<'a, L> {
 
     // Lets no further client come; those who wait still do, for so long at most.
     pub(crate) fn close<R: SystemClock>(&mut self, rt: &R, most: Duration)
+        ensures listener { listener_in self.new ≡ listener_in self.old }
         ensures shut { is_shut self.new ≡ true }
-        ensures closed { L.closed (listener_in self.new) }
+        ensures closed { L.closed (listener_in self.old) }
     {
         self.is_shut = true;
         self.listener.close(rt, most);

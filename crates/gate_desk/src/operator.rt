@@ -1,12 +1,14 @@
 // The thread of an operator.
-ghost use Rattle.std.specs.Prelude.{◌≡◌};
+ghost use Rattle.std.specs.Prelude.{◌≡◌, IfOk};
 ghost use Rattle.shared_gate.specs.Calls.{pass_of};
+ghost use Rattle.gate_desk.specs.Operator.{desk_of, serves_at};
+ghost use Rattle.gate_desk.specs.State.{state_of};
 
 use crate::desk::GateDesk;
 use crate::watch::DeskWatch;
 use clocks::Clock;
 use limit_laws::Limit;
-use operator_serving::{Operating, operate};
+use operator_serving::{AnswerMemory, ListenerDoor, Operating, operate};
 use shared_gate::GateNaming;
 use std::alloc::AllocError;
 use std::sync::Wait;
@@ -33,6 +35,9 @@ impl<'a, G: Limit, M: GateNaming, R, L, C, W: Drop> Operator<'a, G, M, R, L, C, 
         also: Option<&'a L>,
     ) -> Result<Operator<'a, G, M, R, L, C, W>, AllocError>
         requires { desk.pass ≡ pass_of 0 }
+        ensures desk { IfOk result (λ operator.
+            desk_of operator ≡ state_of desk.entry) }
+        ensures address { IfOk result (λ operator. serves_at operator ≡ common.now) }
     {
         let buffers = ClientBuffers::new(common.alloc)?;
         Ok(Operator {
@@ -56,16 +61,15 @@ where
 {
     type Done = ();
 
-    ghost use Rattle.std.specs.Prelude.{false};
-    ghost use Rattle.gate_desk.specs.Desk.{DoneBy, ShownBy};
-    ghost use Rattle.gate_desk.specs.Listeners.{is_shut};
-    ghost use Rattle.gate_desk.specs.Operator.{HasOperated};
+    ghost use Rattle.gate_desk.specs.Desk.{IsDone};
+    ghost use Rattle.gate_desk.specs.Operator.{HasOperated, desk_of, serves_at};
+    ghost use Rattle.gate_desk.specs.State.{DeskState};
+    ghost use Rattle.operator_serving.specs.Doors.{Stand};
 
-    ghost makes = { λ operator _. HasOperated operator.desk (λ desk. desk.table)
-        (λ desk sight. ShownBy (is_shut desk.front) sight) (DoneBy G.rules M.making L.closed)
-        (L.came operator.common.now.listener.now)
-        (L.found operator.common.now.listener.now false)
-        operator.common.now.audience operator.common.now.page.now };
+    ghost makes = { λ operator _. (end : Stand (DeskState L)) × HasOperated
+        (IsDone G.rules M.making L.closed) (L.came (serves_at operator).listener.now)
+        (L.found (serves_at operator).listener.now) (serves_at operator).audience
+        (serves_at operator).page.now (desk_of operator) end };
 
     fn run(self) {
         let Operator {
@@ -74,9 +78,16 @@ where
             buffers,
             also,
         } = self;
-        operate(desk.rt, common, &mut desk, buffers);
-        if let Some(also) = also {
-            also.close(desk.rt, Duration::ZERO);
-        }
+        let mut door = ListenerDoor::new(common.listener);
+        let mut memory = AnswerMemory::new(common.alloc);
+        operate(desk.rt, common, &mut door, &mut desk, &mut memory, buffers);
+        close_too(desk.rt, also);
+    }
+}
+
+/// Closes a listener, where there is one.
+fn close_too<R: SystemClock, L: Listener>(rt: &R, also: Option<&L>) {
+    if let Some(also) = also {
+        also.close(rt, Duration::ZERO);
     }
 }

@@ -41,11 +41,12 @@ module _ {D : Type 0} (rows : D → List Row) (shows : D → Sight → Type 0)
   unanswered left (Ok (call.Change it)) looks same = absurd looks
 
   pub desk_stays : {W : Type 0} (contents : W → Option (List ℕ)) (method : List ℕ) (left : Bool)
-      (asked : Result Call Refusal) (writer writer' : Counted W) (status : ℕ) (is_written : Bool)
-      → IfOk asked IsLook
+      (asked : Result Call Refusal) (writer writer' : Counted W) (refused refused' status : ℕ)
+      (is_written : Bool) → IfOk asked IsLook
       → IsAnswered rows shows does contents page (heard left asked) method old new writer writer'
-      status is_written → HasLooked does old new
-  desk_stays contents method left asked writer writer' status is_written looks answered =
+      refused refused' status is_written → HasLooked does old new
+  desk_stays contents method left asked writer writer' refused refused' status is_written looks
+      answered =
       elim answered [
         | inl told ↦ looked left asked told.0 looks told.1
         | inr none ↦ unanswered left asked looks none.0

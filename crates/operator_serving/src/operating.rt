@@ -1,13 +1,17 @@
 // Operators, one after the other.
-ghost use Rattle.std.specs.Prelude.{◌≡◌, false};
+ghost use Rattle.std.specs.Prelude.{◌≡◌, true};
 ghost use Rattle.operator_calls.specs.declared.audience.Audience.TheVariants.{Anyone};
 ghost use Rattle.operator_serving.specs.Attending.{AreServed, IsServed};
 ghost use Rattle.operator_serving.specs.Desk.{AreLooks, HasLooked};
+ghost use Rattle.operator_serving.specs.Doors.{stand};
+ghost use Rattle.operator_serving.specs.Memory.{refused_of};
 ghost use Rattle.timed_io.specs.Client.{from_of, to_of};
 
-use crate::attending::attend;
+use crate::attending::{Attended, attend};
 use crate::caller::Peer;
 use crate::desk::Desk;
+use crate::door::Door;
+use crate::memory::AnswerMemory;
 use clocks::Clock;
 use operator_calls::Audience;
 use std::alloc::Global;
@@ -15,7 +19,7 @@ use std::sync::Wait;
 use std::thread;
 use std::time::{Clock as SystemClock, Duration};
 use timed_io::{
-    AcceptedClient, Client, ClientBuffers, ClientTime, Connection, Inlet, Listener, Outlet,
+    AcceptedClient, Client, ClientBuffers, ClientEnds, ClientTime, Connection, Inlet, Outlet,
     Patience, ServedClient,
 };
 
@@ -40,30 +44,41 @@ pub struct Operating<'a, L, C> {
     pub alloc: Global,
 }
 
-/// Attends to one client after the other, each for one request, until the listener is closed.
-pub fn operate<R, L, C, D>(
+/// Attends to one client of a door after the other, each for one request, until that is found
+/// closed.
+pub fn operate<R, L, C, A, D>(
     rt: &R,
     common: &Operating<'_, L, C>,
+    door: &mut A,
     desk: &mut D,
+    memory: &mut AnswerMemory,
     buffers: ClientBuffers,
 )
 where
     R: Wait + SystemClock,
-    L: Listener,
-    L::Stream: Drop,
     C: Clock,
+    A: Door,
     D: Desk,
-    ensures served { AreServed D.rows D.shows D.does (L.came common.now.listener.now)
-        common.now.audience common.now.page.now desk.old desk.new }
+    ensures served { AreServed D.rows D.shows D.does (A.came door.old) common.now.audience
+        common.now.page.now
+        (stand desk.old (A.given door.old) (A.failed door.old) (refused_of memory.old))
+        (stand desk.new (A.given door.new) (A.failed door.new) (refused_of memory.new)) }
     ensures looks { common.now.audience ≡ Anyone → AreLooks D.does desk.old desk.new }
-    ensures ended { L.found common.now.listener.now false }
+    ensures ended { A.closed door.new ≡ true }
+    ensures shut { A.shut door.old }
 {
     let mut buffers = buffers;
     for _ in rt.forever() {
-        match common.listener.accept() {
-            Ok(client) => buffers = serve_operator(common, client, desk, buffers),
+        match door.accept() {
+            Ok(client) => {
+                let (client, attended, used) = serve_operator(
+                    common, client, desk, memory, buffers,
+                );
+                buffers = used;
+                door.close(client, attended);
+            }
             Err(_) => {
-                if !common.listener.is_open() {
+                if door.is_closed() {
                     return;
                 }
                 thread::sleep(rt, Duration::from_millis(WITHOUT_A_CLIENT_MS));
@@ -73,37 +88,68 @@ where
 }
 
 /// Attends to one client over the two ends of its connection, which last as long as it may take,
-/// and sees that it gets to read its answer. The buffers come back.
+/// and sees that it gets to read its answer. Client and buffers come back.
 fn serve_operator<T, I, O, L, C, D>(
     common: &Operating<'_, L, C>,
     client: AcceptedClient<T, I, O>,
     desk: &mut D,
+    memory: &mut AnswerMemory,
     buffers: ClientBuffers,
-) -> ClientBuffers
+) -> (AcceptedClient<T, I, O>, Attended, ClientBuffers)
 where
-    T: Connection + Drop,
-    I: Inlet<T> + Drop,
-    O: Outlet<T> + Drop,
+    T: Connection,
+    I: Inlet<T>,
+    O: Outlet<T>,
     C: Clock,
     D: Desk,
     ensures served { IsServed D.rows D.shows D.does common.now.audience common.now.page.now
-        (I.remaining (from_of client.ends)) (O.contents (to_of client.ends)) desk.old desk.new }
+        (I.remaining (from_of client.ends)) (O.contents (to_of client.ends))
+        (O.contents (to_of result.0.ends)) desk.old desk.new (refused_of memory.old)
+        (refused_of memory.new) result.1 }
+    ensures looks { common.now.audience ≡ Anyone → HasLooked D.does desk.old desk.new }
+{
+    let patience = Unhurried {};
+    let AcceptedClient { stream, ends } = client;
+    let (ends, attended, buffers) = serve_over(
+        common, &stream, ends, &patience, desk, memory, buffers,
+    );
+    (AcceptedClient { stream, ends }, attended, buffers)
+}
+
+/// The same over a connection and its ends, by somebody's patience with who sends nothing.
+fn serve_over<'s, T, I, O, L, C, D, A>(
+    common: &Operating<'_, L, C>,
+    stream: &'s T,
+    ends: ClientEnds<I, O>,
+    patience: &'s A,
+    desk: &mut D,
+    memory: &mut AnswerMemory,
+    buffers: ClientBuffers,
+) -> (ClientEnds<I, O>, Attended, ClientBuffers)
+where
+    T: Connection,
+    I: Inlet<T>,
+    O: Outlet<T>,
+    C: Clock,
+    D: Desk,
+    A: Patience,
+    ensures served { IsServed D.rows D.shows D.does common.now.audience common.now.page.now
+        (I.remaining (from_of ends)) (O.contents (to_of ends)) (O.contents (to_of result.0))
+        desk.old desk.new (refused_of memory.old) (refused_of memory.new) result.1 }
     ensures looks { common.now.audience ≡ Anyone → HasLooked D.does desk.old desk.new }
 {
     let time = ClientTime {
         clock: common.clock,
         most_ns: common.timeout_ns,
     };
-    let AcceptedClient { stream, ends } = client;
-    let caller = Peer { stream: &stream };
-    let patience = Unhurried {};
-    let client = Client::open(&stream, ends, &patience, &time, buffers);
+    let caller = Peer { stream };
+    let client = Client::open(stream, ends, patience, &time, buffers);
     let Client {
         mut reader,
         mut writer,
     } = client;
     let attended = attend(
-        common.alloc,
+        memory,
         common.audience,
         common.page,
         desk,
@@ -112,24 +158,44 @@ where
         &mut writer,
     );
     let client = Client { reader, writer };
+    let left = client.close();
+    let attended = attended.with_sent(left.is_sent);
+    let (ends, buffers) = linger_behind(left, &attended, stream, &time);
+    (ends, attended, buffers)
+}
+
+/// Sees that a client that was answered gets to read its answer, and gives the ends of its
+/// connection back, with the buffers. Nothing more is written to it.
+fn linger_behind<T: Connection, I: Inlet<T>, O, C: Clock>(
+    left: ServedClient<I, O>,
+    attended: &Attended,
+    stream: &T,
+    time: &ClientTime<'_, C>,
+) -> (ClientEnds<I, O>, ClientBuffers)
+    ensures { to_of result.0 ≡ to_of left.ends }
+{
     let ServedClient {
         ends,
         buffers,
         is_sent: _,
         sent,
-    } = client.close();
-    let is_unread = !attended.is_read() || buffers.has_unread();
-    if attended.end() {
-        let _left = ends.linger(&stream, &time, is_unread, sent);
+    } = left;
+    if !attended.is_answered() {
+        return (ends, buffers);
     }
-    buffers
+    let is_unread = !attended.is_read() || buffers.has_unread();
+    (ends.linger(stream, time, is_unread, sent), buffers)
 }
 
-/// Nobody else is kept waiting by a client that has sent nothing: its own time bounds that.
+/// Nobody else is kept waiting by a client that is slow: its own time bounds that.
 #[derive(Drop)]
 struct Unhurried {}
 
 impl Patience for Unhurried {
+    fn least(&self) -> Duration {
+        Duration::MAX
+    }
+
     fn may_wait(&self) -> bool {
         true
     }

@@ -1,20 +1,22 @@
 // What is told of a call.
 ghost use Rattle.std.specs.Prelude.{◌≡◌, [], IfOk, OnErr};
+ghost use Rattle.counted_io.specs.Count.{raised_by_err};
 ghost use Rattle.operator_calls.specs.declared.call.Look.TheVariants.{Metrics};
 ghost use Rattle.operator_serving.specs.Desk.{HasLooked};
+ghost use Rattle.operator_serving.specs.Memory.{refused_of};
 ghost use Rattle.operator_serving.specs.Telling.{IsCarriedOut, Shows, changed, health};
 ghost use Rattle.operator_serving.specs.Telling.{refusal_text, refused};
 
 use crate::desk::{ChangeFault, Desk};
+use crate::memory::AnswerMemory;
 use crate::response::OperatorResponse;
-use metrics::metrics_text;
 use operator_calls::{Change, Look, Refusal};
 use serve_reports::Workers;
-use std::alloc::{AllocError, Global};
+use std::alloc::AllocError;
 
 /// What a look shows of a desk. It fails only out of memory.
 pub(crate) fn tell<'a, D: Desk>(
-    alloc: Global,
+    memory: &mut AnswerMemory,
     page: &'a str,
     desk: &mut D,
     look: &Look,
@@ -22,10 +24,11 @@ pub(crate) fn tell<'a, D: Desk>(
     ensures told { IfOk result
         (Shows D.rows D.shows D.does page.now look.now desk.old desk.new) }
     ensures untold { OnErr result (HasLooked D.does desk.old desk.new) }
+    ensures refused { refused_of memory.new ≡ raised_by_err result (refused_of memory.old) }
 {
     match look {
         Look::Page => Ok(OperatorResponse::new(200, page)),
-        Look::Metrics => tell_metrics(alloc, desk),
+        Look::Metrics => tell_metrics(memory, desk),
         Look::Health => {
             let (is_accepting, noted) = (desk.is_accepting(), desk.noted());
             Ok(health(is_accepting, &noted.workers))
@@ -35,14 +38,15 @@ pub(crate) fn tell<'a, D: Desk>(
 
 /// The state at a desk, as a scraper reads it. It fails only out of memory.
 fn tell_metrics<'a, D: Desk>(
-    alloc: Global,
+    memory: &mut AnswerMemory,
     desk: &mut D,
 ) -> Result<OperatorResponse<'a>, AllocError>
     ensures told { IfOk result (Shows D.rows D.shows D.does [] Metrics desk.old desk.new) }
     ensures untold { OnErr result (HasLooked D.does desk.old desk.new) }
+    ensures refused { refused_of memory.new ≡ raised_by_err result (refused_of memory.old) }
 {
     let (report, noted) = (desk.report(), desk.noted());
-    let text = metrics_text(alloc, &report, desk.table(), &noted)?;
+    let text = memory.metrics(&report, desk.table(), &noted)?;
     Ok(OperatorResponse::made(text))
 }
 

@@ -1,16 +1,71 @@
-use Rattle.operator_serving.specs.Attending.AreServed.{nobody, one_more}
+use Rattle.std.proofs.Common.{rules, ◌≡◌, subst}
+use Rattle.counted_io.specs.Count.{raised}
+use Rattle.operator_serving.specs.Attending.{AreServed}
+use Rattle.operator_serving.specs.Attending.AreServed.{nobody, none_more, one_more}
 use Rattle.operator_serving.specs.Desk.{AreLooks as looks}
+use Rattle.operator_serving.specs.Doors.{stand}
+use Rattle.operator_serving.specs.Memory.{refused_of}
+use Rattle.operator_serving.proofs.Fresh.{stands_at}
 use Rattle.operator_serving.proofs.operating.operate.Goals as goal
 
 pub loop-init : goal.loop-init
-loop-init g c = (tt, tt, nobody c.args.desk.now, λ anyone. looks.none c.args.desk.now)
-
-pub loop-preserved-in-Ok : goal.loop-preserved-in-Ok
-loop-preserved-in-Ok g c = (
+loop-init g c = (
   tt,
   tt,
-  one_more c.args.desk.now c.loop.desk c.serve_operator-buffers.new.desk _ _ c.loop.invariant.2
-      c.in-Ok.ensures.came c.in-Ok.ensures.unwritten c.serve_operator-buffers.ensures.served,
-  λ anyone. looks.one_more c.args.desk.now c.loop.desk c.serve_operator-buffers.new.desk
-      (c.loop.invariant.3 anyone) (c.serve_operator-buffers.ensures.looks anyone),
+  record {
+    served = nobody (stand c.args.desk.now (g.A.Door.given c.args.door.now)
+        (g.A.Door.failed c.args.door.now) (refused_of c.args.memory.now));
+    looks = λ anyone. looks.none c.args.desk.now;
+    came = λ sent has_come. has_come;
+    shut = λ is. is;
+  },
 )
+
+-- one client more
+pub loop-preserved-in-Ok : goal.loop-preserved-in-Ok
+loop-preserved-in-Ok g c =
+    let before = c.loop.invariant.2 in
+    let serving = c.serve_operator-client.ensures in
+    let given : g.A.Door.given c.close.new.self ≡ raised (g.A.Door.given c.loop.door) =
+    search rules in
+    let failed : g.A.Door.failed c.close.new.self ≡ g.A.Door.failed c.loop.door = search rules in (
+      tt,
+      tt,
+      record {
+        served = stands_at _ _ _ _ _ _ _ _ given failed
+            (one_more _ _ c.serve_operator-client.new.desk
+            (refused_of c.serve_operator-client.new.memory) _ _ _ c.serve_operator-client.result.1
+            before.served (before.came _ c.in-Ok.ensures.came) c.in-Ok.ensures.unwritten
+            serving.served);
+        looks = λ anyone. looks.one_more c.args.desk.now c.loop.desk
+            c.serve_operator-client.new.desk (before.looks anyone) (serving.looks anyone);
+        came = λ sent has_come. before.came sent
+            (c.accept.ensures.place sent (c.close.ensures.place sent has_come));
+        shut = λ is. before.shut (c.accept.ensures.same_shut (c.close.ensures.same_shut is));
+      },
+    )
+
+-- nobody more
+pub loop-preserved : goal.loop-preserved
+loop-preserved g c =
+    let before = c.loop.invariant.2 in
+    let given : g.A.Door.given c.accept.new.self ≡ g.A.Door.given c.loop.door = search rules in
+    let failed : g.A.Door.failed c.accept.new.self ≡ raised (g.A.Door.failed c.loop.door) =
+    search rules in (
+      tt,
+      tt,
+      record {
+        served = stands_at _ _ _ _ _ _ _ _ given failed (none_more _ _ before.served);
+        looks = before.looks;
+        came = λ sent has_come. before.came sent (c.accept.ensures.place sent has_come);
+        shut = λ is. before.shut (c.accept.ensures.same_shut is);
+      },
+    )
+
+-- nobody more, and the door is closed
+pub returns-then-is_closed-clause-served : goal.returns-then-is_closed-clause-served
+returns-then-is_closed-clause-served g c =
+    let given : g.A.Door.given c.accept.new.self ≡ g.A.Door.given c.loop.door = search rules in
+    let failed : g.A.Door.failed c.accept.new.self ≡ raised (g.A.Door.failed c.loop.door) =
+    search rules in
+    stands_at _ _ _ _ _ _ _ _ given failed (none_more _ _ c.loop.invariant.2.served)
