@@ -1,2 +1,4 @@
+mod Beside
+mod Clients
 mod Runs
 mod Whys

@@ -1,5 +1,5 @@
 -- What `serve` does.
-use Rattle.std.specs.Prelude.{◌≡◌, ◌⊎◌, ℕ, true, List, Option, None, Some, IfSome, Ok}
+use Rattle.std.specs.Prelude.{◌≡◌, ◌⊎◌, ℕ, Bool, true, List, Option, None, Some, IfSome, Ok}
 use Rattle.std.specs.declared.net.socket_addr.SocketAddrV4.{SocketAddrV4}
 use Rattle.std.specs.Net.Text.{socket_v4_text}
 use Rattle.counted_io.specs.Count.{raised}
@@ -10,13 +10,17 @@ use Rattle.counted_io.specs.Effects.{Wrote}
 use Rattle.limit_kinds.specs.AnyKinds.{any_rules}
 use Rattle.limiter_core.specs.declared.counters.Counters.{Counters}
 use Rattle.gate_config.specs.declared.settings.Settings.{Settings}
+use Rattle.proxy.specs.Exchanges.{Policy}
 use Rattle.gate_opening.specs.Opening.{making_of}
 use Rattle.config_file.specs.Reading.{Held, IsUnset, Says}
 use Rattle.config_file.specs.declared.file_fault.FileFault.TheVariants as File
 use Rattle.serve_reports.specs.CountersLine.{counters_line}
 use Rattle.serve_command.specs.declared.fault.ServiceFault.{ServiceFault}
 use Rattle.serve_command.specs.declared.fault.ServiceFault.TheVariants as Service
-use Rattle.serve_command.specs.Runs.{AreCountersOfRuns}
+use Rattle.gate_desk.specs.Desk.{IsDone}
+use Rattle.gate_desk.specs.State.{new_desk}
+use Rattle.serve_command.specs.Beside.{IsAdminServed, IsStatusServed}
+use Rattle.serve_command.specs.Runs.{AreCountersOfRuns, IsBy}
 
 -- THE SETTINGS of a file that was opened as it says: its text was read whole, and holds them
 abbrev pub AreOfFile : {F : Type 0} → (F → Type 0) → (F → Option (List ℕ)) → Settings → Type 0
@@ -36,20 +40,29 @@ abbrev pub IsUnboundToo : (List ℕ → Type 0) → Option SocketAddrV4 → Type
 IsUnboundToo Unbound None = ⊥
 IsUnboundToo Unbound (Some address) = Unbound (socket_v4_text address)
 
--- COUNTED: these are the counters of runs whose clients came to a listener that was bound at the
--- address of the settings
-abbrev pub AreCountersAt : {L : Type 0} → (List ℕ → L → Type 0)
-    → (L → Option (List ℕ) → Type 0) → (Settings → Type 0) → Settings → ℕ → ℕ → Counters → Type 0
-AreCountersAt {L} Bound came Gives s workers most counters =
-    (listener : L) × Bound s.listen listener
-    × AreCountersOfRuns any_rules (making_of workers s) Gives (came listener) workers most counters
+-- SERVED BY SETTINGS, at their address, the operator's and that of whoever looks: a listener was
+-- bound at each. So many workers took their turns with clients who came to the first, and these are
+-- the counters of their runs; at the others those were served who came there, at desks of a gate
+-- that was made so, by whose passes nobody had called, and which close the listener of clients
+pub record IsServedBy {L : Type 0} (Bound : List ℕ → L → Type 0)
+    (came : L → Option (List ℕ) → Type 0) (found : L → Bool → Type 0) (closed : L → Type 0)
+    (Gives : Policy → Type 0) (s : Settings) (admin status : Option SocketAddrV4)
+    (workers most : ℕ) (counters : Counters) : Type 0 where
+  pub listener : L
+  pub bound : Bound s.listen listener
+  pub ran : AreCountersOfRuns any_rules (making_of workers s) Gives (came listener) workers most
+      counters
+  pub operator : IsAdminServed (IsDone any_rules (making_of workers s) closed) came found
+      (new_desk s.table listener) Bound admin
+  pub lookers : IsStatusServed (IsDone any_rules (making_of workers s) closed) came found
+      (new_desk s.table listener) Bound status
 
--- SERVED: by settings of the file, at their address, the operator's and that of whoever looks, by
--- so many workers, of which each took its turns with clients who came to a listener that was bound
--- there; and the line of the counters of these runs is written and flushed, and no write failed
+-- SERVED: by settings of the file, with marks or without, and the line of the counters of the
+-- workers' runs is written and flushed, and no write failed
 pub record HasServed {F L W : Type 0} (Opened : F → Type 0) (remaining : F → Option (List ℕ))
     (Bound : List ℕ → L → Type 0) (came : L → Option (List ℕ) → Type 0)
-    (contents : W → Option (List ℕ)) (admin status : Option SocketAddrV4) (workers most : ℕ)
+    (found : L → Bool → Type 0) (closed : L → Type 0) (contents : W → Option (List ℕ))
+    (admin status : Option SocketAddrV4) (marks : Bool) (workers most : ℕ)
     (old new : Counted W) : Type 0 where
   pub settings : Settings
   pub file : Counted F
@@ -57,10 +70,9 @@ pub record HasServed {F L W : Type 0} (Opened : F → Type 0) (remaining : F →
   pub opened : Opened (inner_of file)
   pub held : Held remaining file bytes
   pub says : Says bytes (Ok settings)
-  pub operator : IsBoundToo Bound admin
-  pub lookers : IsBoundToo Bound status
   pub counters : Counters
-  pub counted : AreCountersAt Bound came (λ own. Says bytes (Ok own)) settings workers most counters
+  pub served : IsServedBy Bound came found closed (IsBy (λ own. Says bytes (Ok own)) marks)
+      settings admin status workers most counters
   pub written : Wrote contents old new (counters_line counters)
   pub unfailing : failures_of new ≡ failures_of old
   pub flushed : is_flushed new ≡ true

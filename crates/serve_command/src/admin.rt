@@ -1,6 +1,6 @@
 // The addresses beside that of clients: a gateway's operator's, and that of whoever looks.
 ghost use Rattle.std.specs.Prelude.{◌≡◌, ◌≤◌};
-ghost use Rattle.serve_command.specs.Beside.{count_at, count_beside};
+ghost use Rattle.serve_command.specs.Beside.{IsLookingAt, IsOperatingAt, count_at, count_beside};
 
 use gate_desk::LameDuck;
 use metrics::PAGE;
@@ -9,7 +9,7 @@ use operator_serving::Operating;
 use std::alloc::Global;
 
 /// How many are served at once at each of these addresses, each on a thread of its own.
-pub(crate) const AT_ONCE: usize = 4;
+const AT_ONCE: usize = 4;
 
 /// How long a client there may take to send its request, and again to take its answer: a second,
 /// in nanoseconds. So nobody waits for long behind clients that are silent.
@@ -43,7 +43,10 @@ impl<'a, L, C> SideAddresses<'a, L, C> {
         status: &'a Option<L>,
         clock: &'a C,
         lame_duck: &'a LameDuck,
-    ) -> SideAddresses<'a, L, C> {
+    ) -> SideAddresses<'a, L, C>
+        ensures admin { IsOperatingAt admin.now result.admin }
+        ensures status { IsLookingAt status.now result.status }
+    {
         SideAddresses {
             lame_duck,
             admin: operating_at(alloc, admin, clock),
@@ -61,7 +64,7 @@ impl<'a, L, C> SideAddresses<'a, L, C> {
 }
 
 /// How many serve at an address, where there is one.
-fn count_at<L, C>(operating: &Option<Operating<'_, L, C>>) -> usize
+pub(crate) fn count_at<L, C>(operating: &Option<Operating<'_, L, C>>) -> usize
     ensures few { result ≤ 4 }
     ensures all { result ≡ count_at operating.now }
 {
@@ -85,7 +88,9 @@ fn operating_at<'a, L, C>(
     alloc: Global,
     admin: &'a Option<AdminAddress<L>>,
     clock: &'a C,
-) -> Option<Operating<'a, L, C>> {
+) -> Option<Operating<'a, L, C>>
+    ensures { IsOperatingAt admin.now result }
+{
     match admin {
         Some(admin) => Some(Operating {
             listener: &admin.listener,
@@ -104,7 +109,9 @@ fn looking_at<'a, L, C>(
     alloc: Global,
     status: &'a Option<L>,
     clock: &'a C,
-) -> Option<Operating<'a, L, C>> {
+) -> Option<Operating<'a, L, C>>
+    ensures { IsLookingAt status.now result }
+{
     match status {
         Some(listener) => Some(Operating {
             listener,

@@ -9,11 +9,11 @@ ghost use Rattle.gate_config.specs.Settings.{AreSound};
 ghost use Rattle.fault_lines.specs.FaultLine.{IsTold, fault_line};
 ghost use Rattle.config_file.specs.Reading.{Held, IsUnreadFile, Says};
 ghost use Rattle.serve_command.specs.declared.fault.ServiceFault.TheVariants.{Listen, Memory};
-ghost use Rattle.serve_command.specs.Command.{AreCountersAt, HasServed, IsBoundToo, IsOfAdmin};
-ghost use Rattle.serve_command.specs.Command.{IsUnboundToo};
-ghost use Rattle.serve_command.specs.Command.{IsOfServing, IsWhyOfService};
+ghost use Rattle.serve_command.specs.Beside.{IsAdminBound, IsStatusBound};
+ghost use Rattle.serve_command.specs.Command.{HasServed, IsOfAdmin, IsOfServing, IsServedBy};
+ghost use Rattle.serve_command.specs.Command.{IsUnboundToo, IsWhyOfService};
 ghost use Rattle.gate_opening.specs.Opening.{making_of};
-ghost use Rattle.serve_command.specs.Runs.{AreMiscounted};
+ghost use Rattle.serve_command.specs.Runs.{AreMiscounted, IsBy};
 ghost use Rattle.serve_command.specs.ServiceFault.{service_fault_text};
 
 use crate::admin::AdminAddress;
@@ -26,10 +26,11 @@ use counted_io::Counted;
 use fault_lines::{DONE, FAULT};
 use gate_config::Settings;
 use gate_desk::LameDuck;
+use limit_laws::Limit;
 use limiter_core::Counters;
 use log::Log;
 use operator_calls::host_name;
-use serve_reports::{Watcher, write_counters};
+use serve_reports::{LimitRange, Watcher, write_counters};
 use startup_log::{log_admin, log_listening, log_status, log_unbound, log_unread};
 use std::alloc::Global;
 use std::io::Write;
@@ -52,9 +53,14 @@ pub struct Service<'a> {
     /// How long a client may take to send its request, and again to take its answer, in
     /// milliseconds: 1 to 3,600,000.
     pub client_timeout_ms: u32,
+    /// For how long a client whose head isn't whole may hold a worker where no other one is free,
+    /// in milliseconds: 1 to 3,600,000. It isn't longer than the client's time.
+    pub head_timeout_ms: u32,
     /// How long a call of the backend may take, from its connect to the end of its answer, in
     /// milliseconds: 1 to 3,600,000; as long as the backend takes without it.
     pub backend_timeout_ms: Option<u32>,
+    /// Whether each of the gateway's own answers has the line `X-Admission` with its word.
+    pub marks: bool,
     /// How many seconds there are from one line of the report to the next, 1 to 3,600; there is
     /// none without it.
     pub report_seconds: Option<u32>,
@@ -100,8 +106,9 @@ where
 
     // The line of counters is written, and nothing else.
     ensures served { result ≡ 0 → HasServed (F.opened service.now.path.now) F.File.remaining
-        B.bound B.Bound.came W.contents service.now.admin service.now.status
-        service.now.workers service.now.per_worker writer.old writer.new }
+        B.bound B.Bound.came B.Bound.found B.Bound.closed W.contents service.now.admin
+        service.now.status service.now.marks service.now.workers service.now.per_worker writer.old
+        writer.new }
     ensures quiet { result ≡ 0 → errors.new ≡ errors.old }
 
     // The first fault is reported.
@@ -144,8 +151,9 @@ where
     requires some { 1 ≤ service.now.workers }
     requires few { service.now.workers ≤ 64 }
     ensures served { OnOk result (HasServed (F.opened service.now.path.now) F.File.remaining
-        B.bound B.Bound.came W.contents service.now.admin service.now.status
-        service.now.workers service.now.per_worker writer.old writer.new) }
+        B.bound B.Bound.came B.Bound.found B.Bound.closed W.contents service.now.admin
+        service.now.status service.now.marks service.now.workers service.now.per_worker writer.old
+        writer.new) }
     ensures refused { IfErr result (IsWhyOfService (F.unopened service.now.path.now)
         (F.opened service.now.path.now) F.File.remaining
         (λ s. IsOfServing B.bound B.unbound s.listen service.now.admin service.now.status
@@ -210,11 +218,9 @@ where
     requires sound { AreSound settings.now }
     requires some { 1 ≤ service.now.workers }
     requires few { service.now.workers ≤ 64 }
-    ensures operator { OnOk result (IsBoundToo B.bound service.now.admin) }
-    ensures status { OnOk result (IsBoundToo B.bound service.now.status) }
-    ensures counted { IfOk result (AreCountersAt B.bound B.Bound.came
-        (λ own. Says text.now.bytes.items (Ok own)) settings.now service.now.workers
-        service.now.per_worker) }
+    ensures served { IfOk result (IsServedBy B.bound B.Bound.came B.Bound.found B.Bound.closed
+        (IsBy (λ own. Says text.now.bytes.items (Ok own)) service.now.marks) settings.now
+        service.now.admin service.now.status service.now.workers service.now.per_worker) }
     ensures refused { IfErr result (IsOfServing B.bound B.unbound settings.now.listen
         service.now.admin service.now.status
         (refused_of spawner.old) (refused_of spawner.new)
@@ -226,7 +232,7 @@ where
     let status = bind_status(rt, addresses, service.status)?;
     log_listening(rt, files, alloc, settings, service.workers);
     let clock = ProgramClock::start(rt);
-    let watch = make_watch(rt, alloc, &clock, service)?;
+    let watch = make_watch(rt, alloc, &clock, settings, service)?;
     let context = ServeContext {
         front: &front,
         admin: &admin,
@@ -248,11 +254,20 @@ fn make_watch<'a, R: SystemClock>(
     rt: &'a R,
     alloc: Global,
     clock: &'a ProgramClock<&'a R>,
+    settings: &Settings,
     service: &Service<'_>,
 ) -> Result<Watcher<'a, R>, ServiceFault>
+    requires sound { AreSound settings.now }
     ensures lacking { IfErr result (λ fault. fault ≡ Memory) }
 {
-    match Watcher::new(rt, alloc, clock, service.workers, service.report_seconds) {
+    let workers = service.workers;
+    let limit = settings.limit_for(workers);
+    let range = LimitRange {
+        kind: settings.limit.kind().word(),
+        least: limit.lo(),
+        greatest: limit.hi(),
+    };
+    match Watcher::new(rt, alloc, clock, range, workers, service.report_seconds) {
         Ok(watch) => Ok(watch),
         Err(_) => Err(ServiceFault::Memory),
     }
@@ -284,7 +299,7 @@ fn bind_admin<R: Log, B: Binder>(
     alloc: Global,
     address: Option<SocketAddrV4>,
 ) -> Result<Option<AdminAddress<B::Bound>>, ServiceFault>
-    ensures bound { OnOk result (IsBoundToo B.bound address) }
+    ensures bound { IfOk result (IsAdminBound B.bound address) }
     ensures unbound { IfErr result (IsOfAdmin B.unbound address) }
 {
     let Some(address) = address else {
@@ -304,7 +319,7 @@ fn bind_status<R: Log, B: Binder>(
     addresses: &B,
     address: Option<SocketAddrV4>,
 ) -> Result<Option<B::Bound>, ServiceFault>
-    ensures bound { OnOk result (IsBoundToo B.bound address) }
+    ensures bound { IfOk result (IsStatusBound B.bound address) }
     ensures unbound { IfErr result (λ fault. (fault ≡ Listen) × IsUnboundToo B.unbound address) }
 {
     let Some(address) = address else {

@@ -1,12 +1,16 @@
 // What a gateway stands on while it serves.
-ghost use Rattle.std.specs.Prelude.{◌≡◌, ◌≤◌, IfOk, IsErrOf, Ok};
+ghost use Rattle.std.specs.Prelude.{◌≡◌, ◌≤◌, IfOk, IfSome, IsErrOf, None, Ok, OnOk, Some};
+ghost use Rattle.std.specs.Prelude.{string_bytes};
 ghost use Rattle.counted_io.specs.Count.{raised};
 ghost use Rattle.tasks.specs.Refused.{refused_of};
 ghost use Rattle.limit_kinds.specs.AnyKinds.{any_rules};
 ghost use Rattle.gate_config.specs.Settings.{AreSound};
 ghost use Rattle.config_file.specs.Reading.{Says};
 ghost use Rattle.gate_opening.specs.Opening.{making_of};
-ghost use Rattle.serve_command.specs.Runs.{AreToldOfRuns};
+ghost use Rattle.gate_desk.specs.Desk.{IsDone};
+ghost use Rattle.gate_desk.specs.State.{new_desk};
+ghost use Rattle.serve_command.specs.Beside.{IsServedThere};
+ghost use Rattle.serve_command.specs.Runs.{AreToldOfRuns, IsBy};
 
 use crate::admin::{AdminAddress, SideAddresses, listener_of};
 use crate::command::Service;
@@ -26,6 +30,9 @@ use std::thread::Threads;
 use std::time::Clock as SystemClock;
 use tasks::Spawner;
 use timed_io::Listener;
+
+/// How many clients that have sent nothing may wait beside those who are served.
+const CLIENT_PLACES: u32 = 1_000;
 
 /// The nanoseconds of a millisecond.
 const MILLI: u64 = 1_000_000;
@@ -51,7 +58,7 @@ pub(crate) struct ServeContext<'a, R: SystemClock, L> {
 }
 
 /// Serves by these settings, which are those of the text, and tells the gate's counters; or none,
-/// where these tell of calls that no worker made.
+/// where these tell of calls that no worker made, or of permits that weren't ended.
 pub(crate) fn serve_in<'c, R, L>(
     rt: &'c R,
     spawner: &mut Spawner<'_, R>,
@@ -72,8 +79,15 @@ where
     requires few { service.now.workers ≤ 64 }
     ensures counted { IfOk result (AreToldOfRuns any_rules
         (making_of service.now.workers settings.now)
-        (λ own. Says context.now.text.now.bytes.items (Ok own)) (L.came context.now.front.now)
-        service.now.workers service.now.per_worker) }
+        (IsBy (λ own. Says context.now.text.now.bytes.items (Ok own)) service.now.marks)
+        (L.came context.now.front.now) service.now.workers service.now.per_worker) }
+    ensures admin { OnOk result (IfSome context.now.admin.now (λ at. IsServedThere
+        (IsDone any_rules (making_of service.now.workers settings.now) L.closed) L.came L.found
+        (new_desk settings.now.table context.now.front.now) (Some (string_bytes at.host))
+        at.listener)) }
+    ensures status { OnOk result (IfSome context.now.status.now (IsServedThere
+        (IsDone any_rules (making_of service.now.workers settings.now) L.closed) L.came L.found
+        (new_desk settings.now.table context.now.front.now) None)) }
     ensures thread { IsErrOf result ServeFault.Thread →
         refused_of spawner.new ≡ raised (refused_of spawner.old) }
 {
@@ -88,7 +102,10 @@ where
         clock,
         per_worker: u64::from(service.per_worker),
         client_timeout_ns,
+        head_timeout_ns: u64::from(service.head_timeout_ms) * MILLI,
+        client_places: CLIENT_PLACES,
         backend_timeout_ns: call_time(service.backend_timeout_ms),
+        marks: service.marks,
         report_every_ns: Some(context.watch.pace().look_ns),
         watch: context.watch,
         alloc,

@@ -20,7 +20,8 @@ pub enum ServiceFault {
     Memory,
     /// A thread couldn't be started; the workers that were have ended.
     Thread,
-    /// All workers have ended, and the gate's counters tell of calls that none of them made.
+    /// All workers have ended, and the gate's counters tell of calls that none of them made, or of
+    /// permits that weren't ended.
     Miscounted,
     /// The counters can't be written.
     Write,

@@ -1,5 +1,5 @@
 // The gate of a configuration, and its workers.
-ghost use Rattle.std.specs.Prelude.{◌≡◌, ◌≢◌, ◌≤◌, ◌+◌, [], ◌∷◌, map, replicate, vec_len};
+ghost use Rattle.std.specs.Prelude.{◌≡◌, ◌≤◌, ◌+◌, true, false, [], ◌∷◌, map, replicate, vec_len};
 ghost use Rattle.std.specs.Prelude.{All, IfNone, IfOk, IfSome, IsErrOf, OnOk, option_to_list};
 ghost use Rattle.counted_io.specs.Count.{raised};
 ghost use Rattle.tasks.specs.Refused.{refused_of};
@@ -12,14 +12,17 @@ ghost use Rattle.gate_opening.specs.Opening.{journal_of, making_of};
 ghost use Rattle.ports.specs.declared.asked.Receipts.TheVariants.{Nothing};
 ghost use Rattle.ports.specs.Asked.{port_in};
 ghost use Rattle.serving.specs.Workers.{ended_in};
-ghost use Rattle.serve_command.specs.Beside.{IsUnused, count_beside};
-ghost use Rattle.serve_command.specs.Runs.{AreToldOfRuns, calls_told};
+ghost use Rattle.gate_desk.specs.Desk.{IsDone};
+ghost use Rattle.gate_desk.specs.State.{new_desk};
+ghost use Rattle.serve_command.specs.Beside.{AreServedBeside, IsUnused, count_beside};
+ghost use Rattle.serve_command.specs.Runs.{AreEnded, AreToldOfRuns, IsBy, calls_told};
 
 use crate::admin::SideAddresses;
 use crate::operators::make_operators;
 use clocks::Clock;
 use gate_config::Settings;
 use gate_history::Blanks;
+use gate_laws::{exchanges_are_one_threads, reports_balance};
 use gate_opening::open_gate;
 use limit_laws::Limit;
 use limiter_core::Counters;
@@ -73,9 +76,13 @@ where
     requires few { gateway.now.workers ≤ 64 }
     ensures counted { IfOk result (AreToldOfRuns any_rules
         (making_of gateway.now.workers gateway.now.settings.now)
-        (S.gives gateway.now.common.now.source.now)
+        (IsBy (S.gives gateway.now.common.now.source.now) gateway.now.common.now.marks)
         (L.came gateway.now.common.now.listener.now) gateway.now.workers
         gateway.now.common.now.per_worker) }
+    ensures beside { OnOk result (AreServedBeside (IsDone any_rules
+        (making_of gateway.now.workers gateway.now.settings.now) L.closed) L.came L.found
+        (new_desk gateway.now.settings.now.table gateway.now.common.now.listener.now)
+        gateway.now.side.now) }
     ensures thread { IsErrOf result ServeFault.Thread →
         refused_of spawner.new ≡ raised (refused_of spawner.old) }
 {
@@ -118,9 +125,13 @@ where
     requires few { gateway.now.workers ≤ 64 }
     ensures counted { IfOk result (AreToldOfRuns any_rules
         (making_of gateway.now.workers gateway.now.settings.now)
-        (S.gives gateway.now.common.now.source.now)
+        (IsBy (S.gives gateway.now.common.now.source.now) gateway.now.common.now.marks)
         (L.came gateway.now.common.now.listener.now) gateway.now.workers
         gateway.now.common.now.per_worker) }
+    ensures beside { OnOk result (AreServedBeside (IsDone any_rules
+        (making_of gateway.now.workers gateway.now.settings.now) L.closed) L.came L.found
+        (new_desk gateway.now.settings.now.table gateway.now.common.now.listener.now)
+        gateway.now.side.now) }
     ensures thread { IsErrOf result ServeFault.Thread →
         refused_of spawner.new ≡ raised (refused_of spawner.old) }
 {
@@ -163,9 +174,12 @@ where
     requires unused_beside { All IsUnused own.items }
     requires beside { vec_len own ≡ count_beside gateway.now.side.now + 1 }
     ensures counted { IfOk result (AreToldOfRuns G.rules M.making
-        (S.gives gateway.now.common.now.source.now)
+        (IsBy (S.gives gateway.now.common.now.source.now) gateway.now.common.now.marks)
         (L.came gateway.now.common.now.listener.now) (vec_len passes)
         gateway.now.common.now.per_worker) }
+    ensures beside { OnOk result (AreServedBeside (IsDone G.rules M.making L.closed) L.came L.found
+        (new_desk gateway.now.settings.now.table gateway.now.common.now.listener.now)
+        gateway.now.side.now) }
     ensures thread { IsErrOf result ServeFault.Thread →
         refused_of spawner.new ≡ raised (refused_of spawner.old) }
 {
@@ -187,21 +201,37 @@ where
         operators,
     )?;
     let passes = passes_of(kept, lefts)?;
+    exchanges_are_one_threads::<G>();
+    reports_balance::<G>();
     let (counters, calls) = gate.counters_behind(rt, passes);
     Ok(balanced(counters, calls))
 }
 
-/// The counters, where they tell of just so many calls.
+/// The counters, where they tell of just so many calls, and that each permit was ended and nobody
+/// waits.
 fn balanced(counters: Counters, calls: u64) -> Option<Counters>
     ensures some { IfSome result (λ told.
-        (told ≡ counters) × (calls_told counters ≡ calls)) }
-    ensures none { IfNone result (calls_told counters ≢ calls) }
+        (told ≡ counters) × (calls_told counters ≡ calls) × AreEnded counters) }
+    ensures none { IfNone result (¬ ((calls_told counters ≡ calls) × AreEnded counters)) }
 {
-    if calls_told(counters) == u128::from(calls) {
+    if calls_told(counters) == u128::from(calls) && are_ended(counters) {
         Some(counters)
     } else {
         None
     }
+}
+
+/// Whether counters tell that each permit was ended, and that nobody waits.
+fn are_ended(counters: Counters) -> bool
+    ensures ended { result ≡ true → AreEnded counters }
+    ensures left { result ≡ false → ¬ AreEnded counters }
+{
+    let got = u128::from(counters.admitted) + u128::from(counters.promoted);
+    let ended = u128::from(counters.success)
+        + u128::from(counters.ignored)
+        + u128::from(counters.dropped);
+    let served = u128::from(counters.promoted) + u128::from(counters.timed_out);
+    got == ended && u128::from(counters.waiting) == served
 }
 
 /// How many calls counters tell of. Settings and resets of the limit aren't among them.

@@ -3,8 +3,8 @@ use Rattle.tasks.specs.Refused.{refused_of}
 use Rattle.limit_kinds.specs.AnyKinds.{any_rules}
 use Rattle.config_file.specs.Reading.{IsFaultOf, Says}
 use Rattle.gate_opening.specs.Opening.{making_of}
-use Rattle.serve_command.specs.Command.{AreCountersAt, IsOfServing}
-use Rattle.serve_command.specs.Runs.{AreMiscounted}
+use Rattle.serve_command.specs.Command.{IsOfServing, IsServedBy}
+use Rattle.serve_command.specs.Runs.{AreMiscounted, IsBy}
 use Rattle.serve_command.specs.declared.fault.ServiceFault.TheVariants as Service
 use Rattle.serve_command.proofs.Whys.{serving_is, why_unread, why_unserved, why_unset}
 use Rattle.serve_command.proofs.Whys.{why_unwritten}
@@ -92,13 +92,14 @@ returns-clause-served g c =
       opened = had.2;
       held = had.3;
       says = says;
-      operator = c.in_ok-counters.ensures.operator;
-      lookers = c.in_ok-counters.ensures.status;
       counters = c.in_ok-counters.counters;
-      counted =
-          subst (λ (xs : List ℕ). AreCountersAt g.B.Binder.bound g.B.Bound.Listener.came
-          (λ own. Says xs (Ok own)) s c.args.service.now.workers c.args.service.now.per_worker
-          c.in_ok-counters.counters) same c.in_ok-counters.ensures.counted;
+      served =
+          subst (λ (xs : List ℕ). IsServedBy g.B.Binder.bound g.B.Bound.Listener.came
+          g.B.Bound.Listener.found g.B.Bound.Listener.closed
+          (IsBy (λ own. Says xs (Ok own)) c.args.service.now.marks) s c.args.service.now.admin
+          c.args.service.now.status c.args.service.now.workers c.args.service.now.per_worker
+          c.in_ok-counters.counters) same
+          c.in_ok-counters.ensures.served;
       written = c.in_ok-write_counters.ensures.all;
       unfailing = c.in_ok-write_counters.ensures.unfailing;
       flushed = c.in_ok-write_counters.ensures.flushed;

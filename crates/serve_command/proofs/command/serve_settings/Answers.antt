@@ -3,8 +3,11 @@ use Rattle.std.specs.Net.Text.{socket_v4_text}
 use Rattle.tasks.specs.Refused.{refused_of}
 use Rattle.limit_kinds.specs.AnyKinds.{any_rules}
 use Rattle.gate_opening.specs.Opening.{making_of}
+use Rattle.gate_desk.specs.Desk.{IsDone}
+use Rattle.gate_desk.specs.State.{new_desk}
 use Rattle.serve_command.specs.Runs.{AreMiscounted}
 use Rattle.serve_command.specs.ServiceFault.{of_workers}
+use Rattle.serve_command.proofs.Beside.{admin_served, bound_too, status_served}
 use Rattle.serve_command.proofs.Whys.{bound_at, lacks_admin, lacks_front, lacks_status}
 use Rattle.serve_command.proofs.Whys.{lacks_memory, lacks_workers}
 use Rattle.serve_command.proofs.command.serve_settings.Goals as goal
@@ -48,7 +51,9 @@ returns-in_err-status-clause-refused g c =
     c.args.service.now.workers)
     c.from_residual-in_err-status.result fault is
     (bound_at g.B.Binder.bound (socket_v4_text c.socket.result) c.args.settings.now.listen
-    c.in_ok-front.front same c.in_ok-front.ensures.bound) c.in_ok-admin.ensures.bound
+    c.in_ok-front.front same c.in_ok-front.ensures.bound)
+    (bound_too g.B.Binder.bound c.args.service.now.admin c.in_ok-admin.admin
+    c.in_ok-admin.ensures.bound)
     c.in_err-status.ensures.unbound
 
 pub returns-in_err-watch-clause-refused : goal.returns-in_err-watch-clause-refused
@@ -83,11 +88,21 @@ returns-in_err-counters-clause-refused g c =
     (bound_at g.B.Binder.bound (socket_v4_text c.socket.result) c.args.settings.now.listen
     c.in_ok-front.front same c.in_ok-front.ensures.bound) c.serve_in.ensures.thread
 
-pub returns-in-Some-clause-counted : goal.returns-in-Some-clause-counted
-returns-in-Some-clause-counted g c =
-    let same : socket_v4_text c.socket.result ≡ c.args.settings.now.listen = search rules in (
-      c.in_ok-front.front,
-      subst (λ (address : List ℕ). g.B.Binder.bound address c.in_ok-front.front) same
-          c.in_ok-front.ensures.bound,
-      search rules,
-    )
+pub returns-in-Some-clause-served : goal.returns-in-Some-clause-served
+returns-in-Some-clause-served g c =
+    let same : socket_v4_text c.socket.result ≡ c.args.settings.now.listen = search rules in
+    let does = IsDone any_rules (making_of c.args.service.now.workers c.args.settings.now)
+    g.B.Bound.Listener.closed in
+    let begin = new_desk c.args.settings.now.table c.in_ok-front.front in
+    record {
+      listener = c.in_ok-front.front;
+      bound = subst (λ (address : List ℕ). g.B.Binder.bound address c.in_ok-front.front) same
+          c.in_ok-front.ensures.bound;
+      ran = search rules;
+      operator = admin_served does g.B.Bound.Listener.came g.B.Bound.Listener.found begin
+          g.B.Binder.bound c.args.service.now.admin c.in_ok-admin.admin c.in_ok-admin.ensures.bound
+          c.in_ok-counters.ensures.admin;
+      lookers = status_served does g.B.Bound.Listener.came g.B.Bound.Listener.found begin
+          g.B.Binder.bound c.args.service.now.status c.in_ok-status.status
+          c.in_ok-status.ensures.bound c.in_ok-counters.ensures.status;
+    }

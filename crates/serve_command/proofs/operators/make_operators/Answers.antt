@@ -1,19 +1,22 @@
-use Rattle.std.proofs.Common.{rules, ◌≡◌, List, ◌∷◌, All, subst}
-use Rattle.std.specs.Vec.Iter.{into_iter_items}
-use Rattle.std.proofs.lemmas.List.Elements.{All-tail}
-use Rattle.shared_gate.specs.Calls.{Pass}
+use Rattle.std.proofs.Common.{rules}
+use Rattle.std.proofs.lemmas.List.Elements.{All-drop, All-same, All-take}
 use Rattle.serve_command.specs.Beside.{IsUnused}
 use Rattle.serve_command.proofs.operators.make_operators.Goals as goal
 
--- one operator more, and one pass less
-pub loop-pass-preserved : goal.loop-pass-preserved
-loop-pass-preserved g c =
-    let stepped : into_iter_items c.loop-pass.pass-iterator
-    ≡ c.in-Some.pass ∷ into_iter_items c.next.new.self = search rules in
-    record {
-      unused =
-          All-tail IsUnused c.in-Some.pass (into_iter_items c.next.new.self)
-          (subst (λ (passes : List Pass). All IsUnused passes) stepped
-          c.loop-pass.invariant.unused);
-      made = search rules;
-    }
+-- nobody has called by the passes of either
+pub make_at-requires-clause-unused : goal.make_at-requires-clause-unused
+make_at-requires-clause-unused g c =
+    All-same IsUnused _ _ c.in_ok-own.ensures.items (All-take IsUnused _ _ c.requires.unused)
+
+pub make_at-requires-2-clause-unused : goal.make_at-requires-2-clause-unused
+make_at-requires-2-clause-unused g c =
+    All-same IsUnused _ _ c.in_ok-own.ensures.tail (All-drop IsUnused _ _ c.requires.unused)
+
+pub returns : goal.returns
+returns g c = record {
+  lookers = c.in_ok-operators.operators.items;
+  admins = c.in_ok-admins.admins.items;
+  all = search rules;
+  status = c.in_ok-operators.ensures;
+  admin = c.in_ok-admins.ensures;
+}

@@ -1,0 +1,48 @@
+-- The headline of a gateway: what it gives whoever sends a request to it.
+--
+-- g: what the limiter is made with, o: what stood at first, log: all that was asked and answered
+use Rattle.std.specs.Prelude.{◌≡◌, ⊤, ℕ, List, [], ◌∷◌, All, Option, length}
+use Rattle.limit_laws.specs.Algorithm.{Algorithm}
+use Rattle.limiter_core.specs.declared.counters.Counters.{Counters}
+use Rattle.limiter_core.specs.declared.event.Entry.{Entry}
+use Rattle.limiter_core.specs.History.{Gate, Image}
+use Rattle.gate_journal.specs.Image.{image_of}
+use Rattle.gate_ledgers.specs.Making.{Making}
+use Rattle.gate_config.specs.declared.settings.Settings.{Settings}
+use Rattle.shared_gate.specs.Calls.{Pass}
+use Rattle.shared_gate.specs.Closing.{calls_by, limiter_of}
+use Rattle.shared_gate.specs.Reported.{AreCountersBehind}
+use Rattle.proxy.specs.Exchanges.{Policy}
+use Rattle.proxy.specs.Made.{summary_of}
+use Rattle.gate_laws.specs.Decided.{IsDecided}
+use Rattle.serving.specs.Turns.{Missing, Serving, Turn}
+use Rattle.serve_command.specs.Worked.{HasRunTo, calls_told}
+
+-- each client of these turns, in order, was let through or refused as one thread's limiter decides
+abbrev pub AreDecided : {S : Type 0} → Gate S → Image S → List Entry → Settings → List Turn → Type 0
+AreDecided g o log s [] = ⊤
+AreDecided g o log s (Missing ∷ turns) = AreDecided g o log s turns
+AreDecided g o log s (Serving sent written told ∷ turns) =
+    IsDecided g o log s (summary_of told) × AreDecided g o log s turns
+
+-- RAN IN A LOG: a worker that ran, with clients each of whom was decided there
+pub record HasRunIn {S : Type 0} (g : Gate S) (o : Image S) (log : List Entry)
+    (Gives : Policy → Type 0) (Came : Option (List ℕ) → Type 0) (most : ℕ) (pass : Pass)
+    : Type 0 where
+  pub ran : HasRunTo Gives Came most pass
+  pub decided : AreDecided g o log ran.policy.settings ran.run.turns
+
+-- THE COUNTERS OF RUNS: there is one log of the gate, legal since nothing was asked, after which
+-- these are its counters. It begins with what the passes of so many workers know, each of which ran
+-- in it; the counters tell of just as many calls as these made; and at its end nothing is in
+-- flight, and nobody waits
+pub record AreCountersOfRuns {S : Type 0} (rules : Algorithm S) (m : Making)
+    (Gives : Policy → Type 0) (Came : Option (List ℕ) → Type 0) (workers most : ℕ)
+    (counters : Counters) : Type 0 where
+  pub passes : List Pass
+  pub all : length passes ≡ workers
+  pub behind : AreCountersBehind rules m passes counters
+  pub ran : All (HasRunIn (limiter_of rules m) (image_of behind.after.origin) behind.log Gives Came
+      most) passes
+  pub balance : calls_told counters ≡ calls_by passes
+  pub ended : (behind.report.inflight ≡ 0) × (behind.report.waiters ≡ 0)

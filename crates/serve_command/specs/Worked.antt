@@ -1,0 +1,58 @@
+-- What a worker of a gateway did.
+use Rattle.std.specs.Prelude.{◌≡◌, ◌≤◌, ◌+◌, ℕ, Bool, false, List, [], Option, Some, None}
+use Rattle.limiter_core.specs.declared.counters.Counters.{Counters}
+use Rattle.limiter_core.specs.declared.event.Entry.{Entry}
+use Rattle.shared_gate.specs.Calls.{Pass}
+use Rattle.gate_config.specs.declared.settings.Settings.{Settings}
+use Rattle.proxy.specs.Exchanges.{Policy}
+use Rattle.serving.specs.declared.working.TurnCounts.{TurnCounts}
+use Rattle.serving.specs.Turns.{IsRun, Place}
+
+-- where a worker stands: by the counts of its door and of its backend, of which sockets show
+-- nothing more, and by what its pass knows of the gate's log
+abbrev pub stood_at : ℕ → ℕ → Bool → ℕ → List Entry → Place
+stood_at given failed closed forwarded log = record {
+  given = given;
+  failed = failed;
+  closed = closed;
+  visits = None;
+  back = record { shown = None; known = Some log; count = forwarded; log = None };
+}
+
+-- by these settings, and with marks or without
+abbrev pub IsBy : (Settings → Type 0) → Bool → Policy → Type 0
+IsBy Gives marks p = Gives p.settings × (p.marks ≡ marks)
+
+-- RAN: by a policy that is given, a worker took its turns, or fewer where the listener was closed,
+-- from where its pass knew nothing to what that knows now; each client came where they are to come,
+-- each accept was counted, for each client there was one exchange, and no more was forwarded than
+-- there were clients
+pub record HasRunTo (Gives : Policy → Type 0) (Came : Option (List ℕ) → Type 0) (most : ℕ)
+    (pass : Pass) : Type 0 where
+  pub policy : Policy
+  pub is_given : Gives policy
+  pub given : ℕ
+  pub failed : ℕ
+  pub closed : Bool
+  pub forwarded : ℕ
+  pub tally : TurnCounts
+  pub run : IsRun policy Came most (stood_at 0 0 false 0 [])
+      (stood_at given failed closed forwarded pass.log) tally
+  pub accepted : given ≡ tally.accepted
+  pub unaccepted : failed ≡ tally.unaccepted
+  pub once : forwarded ≤ tally.accepted
+  pub turns : tally.accepted + tally.unaccepted ≤ most
+  pub whole : closed ≡ false → tally.accepted + tally.unaccepted ≡ most
+
+-- how many calls counters tell of: each asks for a permit, gives up a place in line, of one who was
+-- promoted meanwhile or of one who wasn't, or ends a permit
+abbrev pub calls_told : Counters → ℕ
+calls_told c =
+    c.admitted + c.bypassed + c.full + c.backlog_full + c.waiting + c.promoted + c.timed_out
+    + c.success + c.ignored + c.dropped
+
+-- what counters tell where no permit is left and nobody waits: each permit was ended, and whoever
+-- began to wait was promoted or gave up
+pub record AreEnded (c : Counters) : Type 0 where
+  pub permits : c.admitted + c.promoted ≡ c.success + c.ignored + c.dropped
+  pub waiters : c.waiting ≡ c.promoted + c.timed_out
