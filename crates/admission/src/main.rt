@@ -68,10 +68,12 @@ fn main(rt: HostRuntime) -> ExitCode {
                 workers: options.workers,
                 per_worker: options.per_worker,
                 client_timeout_ms: options.client_timeout_ms,
+                head_timeout_ms: options.head_timeout_ms,
                 backend_timeout_ms: options.backend_timeout_ms,
                 report_seconds: options.report_seconds,
                 admin: options.admin,
                 status: options.status,
+                marks: options.marks,
             };
             serve_file(
                 &logged,

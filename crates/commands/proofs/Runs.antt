@@ -5,7 +5,7 @@ use Rattle.std.specs.Option.{option_map_or}
 use Rattle.std.specs.Str.{bytes_eq}
 use Rattle.clap.specs.Words.{Row, Text, first_of}
 use Rattle.commands.specs.CommandLine.{IsCommandOf, IsRunOf, KeepsRanges}
-use Rattle.commands.specs.Options.{Holds, ServeRow, Value, address, limit, log_lines, loopback}
+use Rattle.commands.specs.Options.{Holds, ServeRow, Value, address, flag, limit, log_lines, loopback}
 use Rattle.commands.specs.Options.{number, number_if_given, serve_rows, workers}
 use Rattle.commands.specs.ServeOptions.{AreGiven, AreServeOptions, Each}
 use Rattle.commands.specs.Values.{Has, HasAddress, HasLogLines, HasLoopback, HasOptional, HasSome}
@@ -79,6 +79,7 @@ kept rows id address (Some a) has = has.3
 kept rows id loopback None has = tt
 kept rows id loopback (Some a) has = (has.0.3, has.1)
 kept rows id log_lines lines has = tt
+kept rows id flag is has = tt
 
 -- so are those of all options
 each_kept : (rows : List Row) (o : ServeOptions) (table : List ServeRow)

@@ -1,6 +1,6 @@
 -- The table of the options: the word of each, what it holds and its default; and of those of
 -- `serve` which value of what is read has it.
-use Rattle.std.specs.Prelude.{ℕ, List, [], ◌∷◌, Option, Some, None, codes}
+use Rattle.std.specs.Prelude.{ℕ, Bool, List, [], ◌∷◌, Option, Some, None, codes}
 use Rattle.std.specs.declared.net.socket_addr.SocketAddrV4.{SocketAddrV4}
 use Rattle.clap.specs.Words.{Text}
 use Rattle.limit_laws.specs.Algorithm.{greatest_limit}
@@ -17,6 +17,8 @@ pub data Holds : Type 0 where
   loopback : Holds
   -- a form of the log's lines
   log_lines : Holds
+  -- nothing: it is given, or not
+  flag : Holds
 
 -- what is read of it
 abbrev pub Value : Holds → Type 0
@@ -25,6 +27,7 @@ Value (number_if_given low high) = Option ℕ
 Value address = Option SocketAddrV4
 Value loopback = Option SocketAddrV4
 Value log_lines = LogLines
+Value flag = Bool
 
 -- an option
 pub record Entry : Type 0 where
@@ -57,10 +60,13 @@ serve_rows =
     (λ o. o.per_worker)
     ∷ row (option (codes "client-timeout-ms") (number 1 3600000) (Some (codes "10000")))
     (λ o. o.client_timeout_ms)
+    ∷ row (option (codes "head-timeout-ms") (number 1 3600000) (Some (codes "1000")))
+    (λ o. o.head_timeout_ms)
     ∷ row (option (codes "backend-timeout-ms") (number_if_given 1 3600000) None)
     (λ o. o.backend_timeout_ms)
     ∷ row (option (codes "report-seconds") (number_if_given 1 3600) None) (λ o. o.report_seconds)
     ∷ row (option (codes "admin") loopback None) (λ o. o.admin)
     ∷ row (option (codes "status") address None) (λ o. o.status)
     ∷ row (option (codes "log-lines") log_lines (Some (codes "plain"))) (λ o. o.log_lines)
+    ∷ row (option (codes "mark") flag None) (λ o. o.marks)
     ∷ []

@@ -10,7 +10,7 @@ use Rattle.std.specs.Str.Parse.{IsNumeral, digits_value, without_leading_plus}
 use Rattle.clap.specs.Words.{Row, Text, first_of, one_of}
 use Rattle.commands.specs.declared.serve_options.LogLines.{LogLines}
 use Rattle.commands.specs.declared.serve_options.LogLines.TheVariants.{Plain, Time, Journal}
-use Rattle.commands.specs.Options.{Entry, Holds, Value, address, log_lines, loopback, number}
+use Rattle.commands.specs.Options.{Entry, Holds, Value, address, flag, log_lines, loopback, number}
 use Rattle.commands.specs.Options.{number_if_given}
 
 -- the number that the rows have for an option lies in the range
@@ -53,6 +53,10 @@ log_lines_word Journal = codes "journal"
 abbrev pub HasLogLines : List Row → Text → LogLines → Type 0
 HasLogLines rows id lines = first_of id rows ≡ Some (log_lines_word lines)
 
+-- the rows have a flag
+abbrev pub is_set : Text → List Row → Bool
+is_set id rows = option_map_or (λ text. bytes_eq text (codes "true")) (first_of id rows) false
+
 -- the rows have this value for an option that holds this, in its range
 abbrev pub HasValue : List Row → Text → (holds : Holds) → Value holds → Type 0
 HasValue rows id (number low high) n = HasNumber rows id low high n
@@ -60,6 +64,7 @@ HasValue rows id (number_if_given low high) n = HasOptional rows id low high n
 HasValue rows id address a = MayHaveAddress rows id a
 HasValue rows id loopback a = MayHaveLoopback rows id a
 HasValue rows id log_lines lines = HasLogLines rows id lines
+HasValue rows id flag is = is ≡ is_set id rows
 
 abbrev pub Has : List Row → (e : Entry) → Value e.holds → Type 0
 Has rows e value = HasValue rows e.word e.holds value
@@ -79,7 +84,4 @@ IsWithin (number_if_given low high) n = IfSome n (λ n. (low ≤ n) × (n ≤ hi
 IsWithin address a = IfSome a (λ a. 1 ≤ v4_port a)
 IsWithin loopback a = IfSome a (λ a. (1 ≤ v4_port a) × IsLoopbackV4 (v4_ip a))
 IsWithin log_lines lines = Unit {0}
-
--- the rows have a flag
-abbrev pub is_set : Text → List Row → Bool
-is_set id rows = option_map_or (λ text. bytes_eq text (codes "true")) (first_of id rows) false
+IsWithin flag is = Unit {0}

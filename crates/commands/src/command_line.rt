@@ -56,7 +56,7 @@ pub enum TextTask {
 }
 
 /// Whether a flag is given.
-fn is_set(matches: &ArgMatches<'_>, id: &str) -> bool
+pub(crate) fn is_set(matches: &ArgMatches<'_>, id: &str) -> bool
     ensures { result ≡ is_set id.now (rows_of (found_of matches.now)) }
 {
     match matches.get_str(id) {
@@ -204,6 +204,7 @@ fn is_wrong(matches: &ArgMatches<'_>, row: &OptionRow) -> bool {
         Takes::Address => optional_address(matches, row.word).is_none(),
         Takes::Loopback => optional_loopback(matches, row.word).is_none(),
         Takes::LogLines => log_lines(matches, row.word).is_none(),
+        Takes::Flag => false,
     }
 }
 

@@ -5,6 +5,7 @@
 // - the option's name here, its word, and what help calls its value;
 // - what it takes: `[0 to 9; default 5]` is a number, `[0 to 9]` one that may be left out, as a
 //   `[loopback address]` and an `[address]` may, and `[log lines; default plain]` a form of them;
+//   a `[flag]` takes nothing, and its value has no name;
 // - `listed`, its line in the list of options: what stands there before its range, and behind it;
 // - `told`, its lines in the text behind that list, from the blanks behind its value's name on:
 //   what stands there before its range, between that and its default where it has one, and behind.
@@ -36,6 +37,13 @@ macro_rules! option_row {
             told "   milliseconds that a client may take, " "; " ": for its
                           whole request, and again to take its whole answer. A slower client is cut
                           off, and its permit is ended";
+    } };
+    (HeadTimeoutMs [$($row:tt)*] $($given:tt)*) => { $($row)*! { $($given)*
+        HeadTimeoutMs "head-timeout-ms" "T" [1 to 3600000; default 1000]
+            listed "Milliseconds for the head of a request, " ""
+            told "     milliseconds that a client may hold a worker before its head is whole,
+                          where no other one is free, " "; " ". It isn't longer
+                          than --client-timeout-ms";
     } };
     (BackendTimeoutMs [$($row:tt)*] $($given:tt)*) => { $($row)*! { $($given)*
         BackendTimeoutMs "backend-timeout-ms" "T" [1 to 3600000]
@@ -71,6 +79,13 @@ macro_rules! option_row {
                           it begins with the time in UTC, and with journal with the priority that
                           systemd reads";
     } };
+    (Mark [$($row:tt)*] $($given:tt)*) => { $($row)*! { $($given)*
+        Mark "mark" "" [flag]
+            listed "Tells in the gateway's own answers why; without it they don't"
+            told "                  gives each of the gateway's own answers the line X-Admission
+                          with the reason in a word, full, backlog, waited, unreached, broken, late,
+                          unread, memory, lost or exhausted; without it they have no such line";
+    } };
 }
 
 /// The rows of some options, for a macro that takes them behind the tokens given.
@@ -89,8 +104,8 @@ macro_rules! serve_rows {
     ($($rows:tt)*) => {
         option_rows! {
             [
-                Workers PerWorker ClientTimeoutMs BackendTimeoutMs ReportSeconds Admin Status
-                LogLines
+                Workers PerWorker ClientTimeoutMs HeadTimeoutMs BackendTimeoutMs ReportSeconds Admin
+                Status LogLines Mark
             ]
             $($rows)*
         }
@@ -98,7 +113,7 @@ macro_rules! serve_rows {
 }
 
 /// How many these are.
-pub(crate) const SERVE_OPTIONS: usize = 8;
+pub(crate) const SERVE_OPTIONS: usize = 10;
 
 /// The value of an option, by its row. The caller has the functions that read in scope.
 macro_rules! read {
@@ -138,6 +153,9 @@ macro_rules! read_by_row {
             [log lines; default $form:ident] $($texts:tt)*
     ) => {
         log_lines($matches, $word)
+    };
+    ($matches:ident $name:ident $word:literal $value_name:literal [flag] $($texts:tt)*) => {
+        is_set($matches, $word)
     };
 }
 

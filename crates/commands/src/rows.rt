@@ -4,8 +4,8 @@ ghost use Rattle.clap.specs.Words.{rule_of};
 ghost use Rattle.commands.specs.Rows.{parser_of, rule_of_row};
 
 use super::options::{SERVE_OPTIONS, option_row, option_rows, serve_rows};
-use clap::Arg;
 use clap::builder::ValueParser;
+use clap::{Arg, ArgAction};
 use std::alloc::Global;
 
 /// What an option takes.
@@ -19,14 +19,16 @@ pub(crate) enum Takes {
     Loopback,
     /// A form of the log's lines.
     LogLines,
+    /// Nothing: it is given, or not.
+    Flag,
 }
 
-/// An option that takes a value.
+/// An option.
 #[derive(Clone, Copy)]
 pub(crate) struct OptionRow {
     /// Its word, without the dashes before it.
     pub(crate) word: &'static str,
-    /// What help calls its value.
+    /// What help calls its value, where it takes one.
     pub(crate) value_name: &'static str,
     /// What help says of it.
     pub(crate) help: &'static str,
@@ -51,6 +53,9 @@ macro_rules! takes_of {
     };
     (log lines; default $form:ident) => {
         Takes::LogLines
+    };
+    (flag) => {
+        Takes::Flag
     };
 }
 
@@ -132,19 +137,21 @@ impl Takes {
                 "a loopback IPv4 address with a port is wanted, such as 127.0.0.1:9901"
             }
             Takes::LogLines => "plain, time or journal is wanted",
+            Takes::Flag => "nothing is wanted",
         }
     }
 
-    /// What lets a value through: whether a text is an address or a form of lines is looked at once
-    /// the words are read.
-    fn parser<'a>(self) -> ValueParser<'a>
+    /// What lets a value through, where it takes one: whether a text is an address or a form of
+    /// lines is looked at once the words are read.
+    fn parser<'a>(self) -> Option<ValueParser<'a>>
         ensures { result ≡ parser_of self }
     {
         match self {
-            Takes::Number { least, most } => ValueParser::signed(least, most),
-            Takes::Address => ValueParser::String,
-            Takes::Loopback => ValueParser::String,
-            Takes::LogLines => ValueParser::String,
+            Takes::Number { least, most } => Some(ValueParser::signed(least, most)),
+            Takes::Address => Some(ValueParser::String),
+            Takes::Loopback => Some(ValueParser::String),
+            Takes::LogLines => Some(ValueParser::String),
+            Takes::Flag => None,
         }
     }
 }
@@ -155,11 +162,11 @@ impl OptionRow {
         ensures rule { rule_of result ≡ rule_of_row self.now }
         ensures local { result.global ≡ false }
     {
-        let argument = Arg::new(alloc, self.word)
-            .long(self.word)
-            .value_name(self.value_name)
-            .help(self.help)
-            .value_parser(self.takes.parser());
+        let argument = Arg::new(alloc, self.word).long(self.word).help(self.help);
+        let Some(parser) = self.takes.parser() else {
+            return argument.action(ArgAction::SetTrue);
+        };
+        let argument = argument.value_name(self.value_name).value_parser(parser);
         match self.default {
             Some(value) => argument.default_value(value),
             None => argument,

@@ -6,6 +6,7 @@ ghost use Rattle.commands.specs.ServeOptions.{AreGiven, AreServeOptions};
 ghost use Rattle.commands.specs.Values.{HasLogLines, Lacks};
 
 use super::addresses::{optional_address, optional_loopback};
+use super::command_line::is_set;
 use super::numbers::{number, optional_number};
 use super::options::{option_row, read, read_by_row};
 use clap::ArgMatches;
@@ -33,6 +34,9 @@ pub struct ServeOptions<'a> {
     pub per_worker: u32,
     /// How many milliseconds a client may take for its request, and again for its answer.
     pub client_timeout_ms: u32,
+    /// For how many milliseconds a client whose head isn't whole may hold a worker where no other
+    /// one is free.
+    pub head_timeout_ms: u32,
     /// How many milliseconds the backend may take, from the connect to the end of its answer; as
     /// long as it likes without it.
     pub backend_timeout_ms: Option<u32>,
@@ -45,6 +49,8 @@ pub struct ServeOptions<'a> {
     pub status: Option<SocketAddrV4>,
     /// How each line of the log begins.
     pub log_lines: LogLines,
+    /// Whether each of the gateway's own answers has a line that tells why.
+    pub marks: bool,
 }
 
 /// How lines of the log are to begin.
@@ -69,20 +75,24 @@ pub(crate) fn serve_options<'a>(matches: &ArgMatches<'a>) -> Option<ServeOptions
     let workers = read!(matches, Workers)?;
     let per_worker = read!(matches, PerWorker)?;
     let client_timeout_ms = read!(matches, ClientTimeoutMs)?;
+    let head_timeout_ms = read!(matches, HeadTimeoutMs)?;
     let backend_timeout_ms = read!(matches, BackendTimeoutMs)?;
     let report_seconds = read!(matches, ReportSeconds)?;
     let admin = read!(matches, Admin)?;
     let status = read!(matches, Status)?;
     let log_lines = read!(matches, LogLines)?;
+    let marks = read!(matches, Mark);
     Some(ServeOptions {
         path,
         workers,
         per_worker,
         client_timeout_ms,
+        head_timeout_ms,
         backend_timeout_ms,
         report_seconds,
         admin,
         status,
         log_lines,
+        marks,
     })
 }

@@ -63,6 +63,17 @@ macro_rules! with_options {
     };
     (
         @ [$($lines:tt)*] [$behind:literal]
+        $name:ident $word:literal $value_name:literal [flag]
+            listed $($listed:literal)*
+            told $rest:literal;
+        $($rows:tt)*
+    ) => {
+        with_options! {
+            @ [$($lines)* "  --", $word, $rest, "\n",] [$behind] $($rows)*
+        }
+    };
+    (
+        @ [$($lines:tt)*] [$behind:literal]
         $name:ident $word:literal $value_name:literal [$($address:ident)*]
             listed $($listed:literal)*
             told $rest:literal;
