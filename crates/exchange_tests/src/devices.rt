@@ -11,7 +11,7 @@ use partitions::Part;
 use std::alloc::Global;
 use std::cell::Cell;
 use std::io::{BufRead, Error, ErrorKind, Read, Result, Write};
-use wire::{Backend, BackendAnswer, Response, WireFault};
+use wire::{Backend, BackendAnswer, Response, Reuse, WireFault};
 
 /// Gives its bytes, or shows them, at most `most` in a call. One call alone fails.
 #[derive(Drop)]
@@ -151,6 +151,10 @@ impl GatePort for Watched {
         })
     }
 
+    fn start(permit: &PermitFacts) -> u64 {
+        permit.start
+    }
+
     fn end(&mut self, _permit: PermitFacts, outcome: Outcome, now: u64) {
         self.ended = Some(now);
         self.learnt = Some(outcome);
@@ -190,7 +194,12 @@ impl Backend for Told {
         match self.says {
             Says::Status(status) => {
                 let headers = Headers::new(Vec::new(self.alloc));
-                BackendAnswer::Answered(Response::new(status.clamp(100, 999), headers, None))
+                BackendAnswer::Answered(Response::new(
+                    status.clamp(100, 999),
+                    headers,
+                    None,
+                    Reuse::Closing,
+                ))
             }
             Says::NotConnected => BackendAnswer::NotConnected,
             Says::Broken(fault) => BackendAnswer::Broken(fault),

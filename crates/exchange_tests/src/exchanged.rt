@@ -107,6 +107,7 @@ fn came_by(alloc: Global, case: Case, settings: &Settings) -> Came {
         &mut gate,
         &mut backend,
         settings,
+        false,
         &mut MonotonicClock::new(&Ticking::new()),
         &mut Counted::new(&mut source),
         &mut Counted::new(&mut sink),

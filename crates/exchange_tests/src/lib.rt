@@ -23,3 +23,5 @@ mod moment_tests;
 mod once_tests;
 #[cfg(test)]
 mod timed_io_tests;
+#[cfg(test)]
+mod worker_tests;
