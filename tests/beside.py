@@ -114,8 +114,10 @@ class Beside(Operating):
         backend.release.set()
         self.judge("both are served", [passed_on(BODY)] * 2, [it.result() for it in held])
         self.judge("health behind them", True, until(lambda: gate.call("GET /health") == told(DONE)))
-        with gate.connect(), gate.connect():
-            self.judge("silent ones hold workers too", True, until(lambda: gate.call("GET /health") == told(BUSY)))
+        with gate.connect(), gate.connect() as one, gate.connect() as other:
+            for begun in (one, other):
+                begun.sendall(HELD[:9])
+            self.judge("who has begun holds a worker", True, until(lambda: gate.call("GET /health") == told(BUSY)))
             self.judge("a drain beside them", told(DRAINED), gate.call("POST /drain"))
             self.judge("health behind it", told(CLOSING), gate.call("GET /health"))
         self.judge("counters of both", {"admitted": 2, "success": 2}, gate.ending())
@@ -292,7 +294,9 @@ class Beside(Operating):
                 self.judge(f"{method} {path} of who looks", told(NOTHING, has_body=has_body), gate.tell(words))
         self.judge("the limit behind them", True, b"\nadmission_limit 2\n" in gate.look("/metrics"))
         self.judge("a client behind them", passed_on(BODY), gate.ask(PLAIN))
-        with gate.connect(), gate.connect():
+        with gate.connect() as one, gate.connect() as other:
+            for begun in (one, other):
+                begun.sendall(PLAIN[:9])
             self.judge("while all workers are held", True, until(lambda: gate.look("/health") == told(BUSY)))
         wanted = f"[INFO  admission] listening for looks at the state address=0.0.0.0:{gate.status}"
         self.judge("what the log tells", [wanted], [it for it in gate.log if "looks" in it])

@@ -7,7 +7,8 @@ import itertools
 import random
 from collections.abc import Callable, Collection, Iterator
 
-from reference import HOUR, LAST_MOMENT, SHARES, Limiter
+from kind_rows import HOUR, TIMES, drawn_limit
+from reference import LAST_MOMENT, SHARES, Limiter
 
 # How often each event is drawn while many come, and while few do; these alternate after PHASE lines.
 BUSY = {
@@ -29,7 +30,6 @@ SET_TO = [0, 1, 2, 3, 5, 8, 9, 10, 20, 40, 41, 60, 100, 9_999, 10_000, 10_001, 2
 NAMES = ["a", "b-2", "c_3", "a-name_of-32-letters-and-figures"]
 THOUSANDTHS = [1, 2, 10, 20, 125, 200, 330, 333, 500, 970, 999, 1_000]
 LIMITS = [1, 1, 2, 3, 5, 8, 20, 100, 9_999, 10_000]
-TIMES = [1, 2, 50, 100, 1_000, HOUR - 1, HOUR]
 MOMENTS = [
     0,
     1,
@@ -128,16 +128,7 @@ def random_settings(seed: object) -> list[str]:
     draw = random.Random(f"settings of {seed}")
     low, first, high = sorted(draw.choices(LIMITS, k=3))
     shortest, longest = sorted(draw.choices(TIMES, k=2))
-    alpha, beta = sorted(draw.choices([1, 2, 3, 6, 99, 100], k=2))
-    limit = draw.choice(
-        [
-            f"fixed {first}",
-            f"settable {low} {first} {high}",
-            f"aimd {low} {first} {high} {draw.choice([500, 501, 900, 999])} {draw.choice(TIMES)}",
-            f"vegas {low} {first} {high} {alpha} {beta} {draw.choice([0, 0, 1, 2, 10, 1_000_000])}",
-            f"auto {low} {first} {high}",
-        ]
-    )
+    limit = drawn_limit(draw, low, first, high)
     size, threshold = draw.choice([1, 1, 2, 3, 10, 1_000_000]), draw.choice([0, 0, 0, *TIMES])
     window = f"window {size} {shortest} {longest} {threshold}"
     keep = f"keep {draw.choice([1, 2, 3, 7, 50, 1_000_000])}" + draw.choice(["", " rolling"])

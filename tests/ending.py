@@ -236,33 +236,36 @@ class Ending(Sockets):
         self.judge("another one", passed_on(BODY), gate.ask(PLAIN))
         self.judge("counters of who sends nothing", {"admitted": 1, "success": 1}, gate.ending())
 
-    def lets_silent_clients_go(self, backend: Backend) -> None:
-        """Where no worker is free, who has sent nothing is let go after a second, and who has sent a byte isn't."""
-        took = tried(lambda: self.time_of_a_silent_client(backend), 2.5)
-        self.judge("a silent one is let go after a second", True, is_between(min(took), (0.9, 2.5)) or took)
+    def lets_slow_heads_go(self, backend: Backend) -> None:
+        """Where no worker is free, who has begun its head is let go after a second; one whose head is whole isn't."""
+        took = tried(lambda: self.time_of_a_slow_head(backend, ()), 2.5)
+        self.judge("a slow one is let go after a second", True, is_between(min(took), (0.9, 2.5)) or took)
+        words = ("--head-timeout-ms", "3000")
+        took = tried(lambda: self.time_of_a_slow_head(backend, words), 4.5)
+        self.judge("one is let go after the time of a head", True, is_between(min(took), (2.9, 4.5)) or took)
 
-    def time_of_a_silent_client(self, backend: Backend) -> float:
-        """When a silent client, and one that is served behind it, was told so: the later of both."""
-        gate = self.gateway(backend, workers=2, each=3, words=("--client-timeout-ms", "60000"))
+    def time_of_a_slow_head(self, backend: Backend, words: tuple[str, ...]) -> float:
+        """When a client that is slow with its head was let go, and one that is served behind it: the later of both."""
+        gate = self.gateway(backend, workers=2, each=2, words=("--client-timeout-ms", "60000", *words))
         began = time.monotonic()
 
         def since(ask: Callable[..., bytes], *given: object) -> tuple[bytes, float]:
             """What was answered, and how long after the beginning: a thread or a wait may come late, and not early."""
             return ask(*given), time.monotonic() - began
 
-        with gate.connect() as one, gate.connect() as begun:
-            begun.sendall(PLAIN[:1])
-            silent = Later(since, read_all, one)
+        with gate.connect() as slow, gate.connect() as whole:
+            slow.sendall(PLAIN[:9])
+            whole.sendall(b"POST /plain HTTP/1.1\r\nHost: h\r\nContent-Length: 3\r\n\r\n")
+            told_slow = Later(since, read_all, slow)
             time.sleep(0.3)
             answer, seconds = since(gate.ask, PLAIN)
-            told, later = silent.result() or (None, 0.0)
-            self.judge("one behind both, and the silent one", (passed_on(BODY), b""), (answer, told))
+            told, later = told_slow.result() or (None, 0.0)
+            self.judge("one behind both, and the slow one", (passed_on(BODY), b""), (answer, told))
             self.judge("not before a second is over", True, min(seconds, later) >= 0.9)
-            begun.sendall(PLAIN[1:])
-            self.judge("who had begun", passed_on(BODY), read_all(begun))
-        for _ in range(3):
-            self.judge("others behind them", passed_on(BODY), gate.ask(PLAIN))
-        self.judge("counters of silent ones", {"admitted": 5, "success": 5}, gate.ending())
+            whole.sendall(b"abc")
+            self.judge("whose head was whole", passed_on(BODY), read_all(whole))
+        self.judge("another one behind them", passed_on(BODY), gate.ask(PLAIN))
+        self.judge("counters of slow ones", {"admitted": 3, "success": 3}, gate.ending())
         return max(seconds, later)
 
     def asks_after_its_peers(self, backend: Backend) -> None:

@@ -395,11 +395,26 @@ OF_FAULTS_OF_ONE = [
 # The same behind the addresses of version 3.
 OF_FAULTS_OF_THREE = [
     (
+        "",
+        "backends = 65\n",
+        FIXED,
+        "line 4: backends = 65\nbackends: connections to the backend that are kept, 0 to 64; default 64\n",
+        "value backends",
+    ),
+    (
+        "",
+        "backend_idle_ms = 0\n",
+        FIXED,
+        "line 4: backend_idle_ms = 0\n"
+        "backend_idle_ms: how long one may be idle and be used again, 1 to 3600000; default 1000\n",
+        "value backend_idle_ms",
+    ),
+    (
         AUTO,
         "[window]\n",
         "",
         "line 6: [window]\nwindow isn't a key here; those that are: version listen backend backlog wait timeout_ms "
-        "keep promote limit class resolver bypass\n"
+        "backends backend_idle_ms keep promote limit class resolver bypass\n"
         'limit.kind = "auto" counts windows of its own, of as many answers as the limit\n',
         "unknown window",
     ),

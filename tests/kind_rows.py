@@ -1,10 +1,28 @@
-"""Rows of the kinds of limit, for `tests/lines`, `tests/limits` and `tests/keys`: whatever one kind alone needs."""
+"""Rows of the kinds of limit, for `tests/lines`, `limits`, `keys` and `model`: whatever one kind alone needs."""
+import pathlib
+import random
+import re
+
 from config_texts import limit_of
+
+TOP = pathlib.Path(__file__).resolve().parent.parent
 
 HOUR = 3_600_000_000_000
 # The kinds, as --explain lists what may follow `limit` and what `limit.kind` holds.
 BEHIND_LIMIT = "fixed, settable, auto, aimd or vegas"
 OF_THE_KEY = '"fixed", "settable", "aimd", "vegas" or, in version 3, "auto"; required'
+
+
+def kinds() -> list[str]:
+    """The words of all kinds, as the program's definitions have them: each has rows below."""
+    text = (TOP / "crates/limit_kinds/specs/Kind.antt").read_text(encoding="utf-8")
+    return re.findall(r'^kind_word \w+ = codes "(\w+)"$', text, re.MULTILINE)
+
+
+def kinds_of(lines: list[str]) -> set[str]:
+    """The kinds of which there are such lines."""
+    return {line.split()[1] for line in lines if " " in line}
+
 
 # Lines that give a limit: taken, with wrong words, and with a number outside its range.
 # fmt: off
@@ -31,6 +49,69 @@ LATE_LINES = [
     "limit fixed 0", "limit settable 1 2 3", "limit aimd 1 2 3 4 5", "limit vegas 1 2 3 4 5 6", "limit auto 1 2 3",
 ]
 # fmt: on
+# The word that is wrong in such a line, and what is wanted there: each form is cut at each place.
+WORDS_OF_LIMITS = [
+    ("limit", "2 isn't there", BEHIND_LIMIT),
+    ("limit slow 1", '2, "slow"', BEHIND_LIMIT),
+    ("limit fixed", "3 isn't there", "N in digits, permits, 1 to 10000"),
+    ("limit fixed -1", '3, "-1"', "N in digits, permits, 1 to 10000"),
+    ("limit fixed 1 2", '4, "2"', "nothing more"),
+    ("limit fixed 0", '3, "0"', "N, permits, 1 to 10000"),
+    ("limit fixed 10001", '3, "10001"', "N, permits, 1 to 10000"),
+    ("limit settable", "3 isn't there", "LO in digits, permits, 1 to 10000"),
+    ("limit settable 1", "4 isn't there", "N in digits, permits, LO to 10000"),
+    ("limit settable 1 2 x", '5, "x"', "HI in digits, permits, N to 10000"),
+    ("limit settable 1 2 3 4", '6, "4"', "nothing more"),
+    ("limit settable 0 1 1", '3, "0"', "LO, permits, 1 to 10000"),
+    ("limit settable 3 2 4", '4, "2"', "N, permits, LO to 10000, here 3 to 10000"),
+    ("limit settable 1 3 2", '5, "2"', "HI, permits, N to 10000, here 3 to 10000"),
+    ("limit aimd 1 2 3", "6 isn't there", "RATIO in digits, what a drop leaves in thousandths, 500 to 999"),
+    (
+        "limit aimd 1 2 3 900 1s",
+        '7, "1s"',
+        f"TIMEOUT in digits, a longer round trip is a drop, nanoseconds, 1 to {HOUR}",
+    ),
+    ("limit aimd 1 2 3 499 1", '6, "499"', "RATIO, what a drop leaves in thousandths, 500 to 999"),
+    ("limit aimd 1 2 3 1000 1", '6, "1000"', "RATIO, what a drop leaves in thousandths, 500 to 999"),
+    ("limit aimd 1 2 3 900 0", '7, "0"', f"TIMEOUT, a longer round trip is a drop, nanoseconds, 1 to {HOUR}"),
+    ("limit auto 1 4", "5 isn't there", "HI in digits, permits, N to 10000"),
+    ("limit auto 1 4 5 6", '6, "6"', "nothing more"),
+    ("limit auto 0 4 5", '3, "0"', "LO, permits, 1 to 10000"),
+    ("limit auto 5 4 6", '4, "4"', "N, permits, LO to 10000, here 5 to 10000"),
+    ("limit vegas 1 2 3", "6 isn't there", "ALPHA in digits, the limit rises below this queue, permits, 1 to 100"),
+    ("limit vegas 1 2 3 4 x 0", '7, "x"', "BETA in digits, the limit falls above this queue, permits, ALPHA to 100"),
+    (
+        "limit vegas 1 2 3 4 5",
+        "8 isn't there",
+        "PROBE in digits, samples until the base is measured anew, 0 to 1000000",
+    ),
+    ("limit vegas 1 2 3 0 1 0", '6, "0"', "ALPHA, the limit rises below this queue, permits, 1 to 100"),
+    (
+        "limit vegas 1 2 3 4 3 0",
+        '7, "3"',
+        "BETA, the limit falls above this queue, permits, ALPHA to 100, here 4 to 100",
+    ),
+    ("limit vegas 1 2 3 4 5 1000001", '8, "1000001"', "PROBE, samples until the base is measured anew, 0 to 1000000"),
+]
+
+# Times at the ends of their ranges, which lines are drawn with.
+TIMES = [1, 2, 50, 100, 1_000, HOUR - 1, HOUR]
+
+
+def drawn_limit(draw: random.Random, low: int, first: int, high: int) -> str:
+    """What follows `limit` in a line that is drawn: any kind between these limits, its numbers at the ends of their
+    ranges."""
+    alpha, beta = sorted(draw.choices([1, 2, 3, 6, 99, 100], k=2))
+    return draw.choice(
+        [
+            f"fixed {first}",
+            f"settable {low} {first} {high}",
+            f"aimd {low} {first} {high} {draw.choice([500, 501, 900, 999])} {draw.choice(TIMES)}",
+            f"vegas {low} {first} {high} {alpha} {beta} {draw.choice([0, 0, 1, 2, 10, 1_000_000])}",
+            f"auto {low} {first} {high}",
+        ]
+    )
+
 
 # Samples by which a limit learns. A row has a `limit` line, samples, and the limit after each of them.
 RESET = "reset 0"

@@ -156,7 +156,8 @@ class Backend(Listener):
             client.sendall(b"no answer at all\r\n\r\n")
         else:
             body = {b"/large": b"x" * LARGE, b"/five": b"x" * FIVE}.get(path, BODY)
-            client.sendall(b"HTTP/1.1 200 OK\r\nContent-Length: %d\r\n\r\n%s" % (len(body), body))
+            mine = b"X-Admission: mine\r\n" if path == b"/marked" else b""
+            client.sendall(b"HTTP/1.1 200 OK\r\n%sContent-Length: %d\r\n\r\n%s" % (mine, len(body), body))
             if path == b"/stays":
                 self.stayed.put(self.release.wait(PATIENCE))
 

@@ -45,7 +45,8 @@ CLASSES = "\n".join(
 )
 PLACED = "\n".join(
     (
-        'backlog = 1\ntimeout_ms = 60_000\n\n[limit]\nkind = "fixed"\ninitial = 1',
+        # Its backend closes behind each answer without saying so.
+        'backlog = 1\ntimeout_ms = 60_000\nbackends = 0\n\n[limit]\nkind = "fixed"\ninitial = 1',
         '[[class]]\nname = "live"\nshare = 1\nplaces = 2',
         '[[class]]\nname = "batch"\nshare = 1',
         '[[resolver]]\nkind = "header"\nheader = "X-Class"',
@@ -163,6 +164,9 @@ class Operating(Served):
             gate.ask(words)
         wanted: dict[str, typing.Any] = {
             "limit": 2,
+            "limit_least": 2,
+            "limit_greatest": 2,
+            "limit_info": {"fixed": 1},
             "in_flight": 2,
             "waiting": 0,
             "granted": 0,
@@ -170,6 +174,7 @@ class Operating(Served):
             "class_share": {"live": 2, "batch": 1},
             "class_waiting": {},
             "class_refused_total": {"unknown,full": 1},
+            "class_outcomes_total": {},
             "decisions_total": {"admitted": 2, "bypassed": 1, "full": 1},
             "outcomes_total": {},
             "answers_total": {"400": 1, "413": 1, "429": 1, "431": 1, "501": 1},
@@ -189,6 +194,7 @@ class Operating(Served):
         wanted |= {
             "in_flight": 0,
             "class_in_flight": {},
+            "class_outcomes_total": {"live,success": 2, "unknown,dropped": 3},
             "decisions_total": {"admitted": 5, "bypassed": 1, "full": 1},
             "outcomes_total": {"success": 2, "dropped": 3},
             "answers_total": wanted["answers_total"] | {"502": 2},
@@ -304,11 +310,12 @@ class Operating(Served):
         self.judge("counters of an idle gateway", {}, gate.ending())
 
     def drains_in_its_time(self, backend: Backend) -> None:
-        """Silent clients, of the front and of the operator's address, hold up a drain for their time alone."""
+        """Clients in their heads, and silent ones of the operator's address, hold up a drain for their time alone;
+        silent clients hold up none."""
         gate = self.operated(backend, words=("--client-timeout-ms", "5000"))
         with gate.connect() as silent, gate.connect() as half:
             half.sendall(HELD[:9])
-            self.judge("two hold a worker", True, gate.shows(busy_workers=2))
+            self.judge("one holds a worker", True, gate.shows(busy_workers=1))
             self.judge("a drain beside silent clients", told(DRAINED), gate.call("POST /drain"))
             with socket.create_connection(("127.0.0.1", gate.operator), timeout=PATIENCE):
                 self.judge("counters of silent clients", {}, gate.ending())

@@ -36,18 +36,28 @@ FAMILIES = {
     "admission_in_flight": ("gauge", None),
     "admission_waiting": ("gauge", None),
     "admission_granted": ("gauge", None),
+    "admission_limit_least": ("gauge", None),
+    "admission_limit_greatest": ("gauge", None),
+    "admission_limit_info": ("gauge", "kind"),
     "admission_class_in_flight": ("gauge", "class"),
     "admission_class_share": ("gauge", "class"),
     "admission_class_waiting": ("gauge", "class"),
     "admission_class_refused_total": ("counter", "class,cause"),
+    "admission_class_outcomes_total": ("counter", "class,outcome"),
     "admission_decisions_total": ("counter", "decision"),
     "admission_outcomes_total": ("counter", "outcome"),
     "admission_answers_total": ("counter", "status"),
     "admission_empty_connections_total": ("counter", None),
     "admission_troubles_total": ("counter", "trouble"),
+    "admission_backend_connections_total": ("counter", "event"),
+    "admission_open_backend_connections": ("gauge", None),
+    "admission_idle_backend_connections": ("gauge", None),
     "admission_workers": ("gauge", None),
     "admission_busy_workers": ("gauge", None),
     "admission_oldest_permit_seconds": ("gauge", None),
+    "admission_permit_wait_seconds": ("histogram", "le"),
+    "admission_round_trip_seconds": ("histogram", "le"),
+    "admission_exchange_seconds": ("histogram", "le"),
     "admission_uptime_seconds": ("gauge", None),
     "admission_build_info": ("gauge", "version"),
 }
@@ -115,12 +125,15 @@ def unread(port: int) -> Iterator[tuple[str, bytes, bytes]]:
 Family = tuple[str, dict[tuple[str | None, str | None], int]]
 
 
+# The bounds of a histogram, in seconds.
+BOUNDS = ("0.0005", "0.001", "0.0025", "0.005", "0.01", "0.025", "0.05", "0.1", "0.25", "0.5", "1", "2.5", "5", "10")
 LABEL = r'[a-zA-Z_]\w*="[^"\\\n]*"'
 
 
 def families_of(text: str) -> dict[str, Family]:
     """The families of a text in Prometheus's format: by name the kind, and the samples by the names and the values of
-    their labels, each joined by commas, or by nothing where they have none. A text of another form is an error."""
+    their labels, each joined by commas, or by nothing where they have none. A histogram has its buckets by their
+    bounds, and `sum`, in nanoseconds, and `count` in place of a bound. A text of another form is an error."""
     found: dict[str, Family] = {}
     name = ""
     if not text.endswith("\n"):
@@ -129,15 +142,40 @@ def families_of(text: str) -> dict[str, Family]:
     for line in lines:
         if head := re.fullmatch(r"# HELP ([a-zA-Z_:][\w:]*) (\S.*)", line):
             name = head[1]
-            kind = re.fullmatch(rf"# TYPE {name} (gauge|counter)", next(lines))
+            kind = re.fullmatch(rf"# TYPE {name} (gauge|counter|histogram)", next(lines))
             if name in found or not kind:
                 raise ValueError(f"a family a second time, or without its kind: {line}")
             found[name] = (kind[1], {})
             continue
-        sample = re.fullmatch(rf"([a-zA-Z_:][\w:]*)(?:\{{({LABEL}(?:,{LABEL})*)\}})? (\d+)", line)
-        labels = re.findall(r'(\w+)="([^"]*)"', sample[2] or "") if sample else []
+        kinds, samples = found[name]
+        parts = r"(_bucket|_sum|_count)" if kinds == "histogram" else "()"
+        sample = re.fullmatch(rf"{name}{parts}(?:\{{({LABEL}(?:,{LABEL})*)\}})? (\d+)(e-9)?", line)
+        if not sample or bool(sample[4]) != (sample[1] == "_sum") or bool(sample[2]) != (sample[1] == "_bucket"):
+            if not sample or kinds == "histogram" or sample[4]:
+                raise ValueError(f"no sample of {name}: {line}")
+        labels = re.findall(r'(\w+)="([^"]*)"', sample[2] or "")
         key = (",".join(it[0] for it in labels) or None, ",".join(it[1] for it in labels) or None)
-        if not sample or sample[1] != name or key in found[name][1]:
-            raise ValueError(f"no sample of {name}, or a second one: {line}")
-        found[name][1][key] = int(sample[3])
+        if sample[1] in ("_sum", "_count"):
+            key = ("le", sample[1][1:])
+        if key in samples:
+            raise ValueError(f"a second sample of {name}: {line}")
+        samples[key] = int(sample[3])
     return found
+
+
+def histogram_faults(samples: dict[str, int]) -> list[str]:
+    """What is wrong in a histogram by its bounds, `sum` and `count`: its bounds are those that are documented, in their
+    order, the counts rise, the last is that of all, and the sum lies between those of the lowest and the highest times
+    that the buckets allow."""
+    wrong = [] if [*samples] == [*BOUNDS, "+Inf", "sum", "count"] else ["the bounds"]
+    counts = [samples.get(it, 0) for it in (*BOUNDS, "+Inf")]
+    wrong += [] if counts == sorted(counts) else ["a count that falls"]
+    wrong += [] if counts[-1] == samples.get("count") else ["the count of all"]
+    ends = [0, *(round(float(it) * 1e9) for it in BOUNDS)]
+    each = [count - below for below, count in zip([0, *counts], counts)]
+    least = sum(count * end for count, end in zip(each, ends))
+    wrong += [] if least <= samples.get("sum", -1) + counts[-1] else ["a sum below its buckets"]
+    if not each[-1]:
+        most = sum(count * end for count, end in zip(each, ends[1:]))
+        wrong += [] if samples.get("sum", most) <= most else ["a sum above its buckets"]
+    return wrong

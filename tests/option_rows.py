@@ -1,21 +1,23 @@
 """The options of `serve` and what each may be given, as the table in the specs of `commands` has them."""
 import pathlib
 import re
-from typing import Iterator, List, NamedTuple, Optional
+from typing import Dict, Iterator, List, NamedTuple, Optional
 
 TOP = pathlib.Path(__file__).resolve().parent.parent
 ROWS = TOP / "crates/commands/specs/Options.antt"
 
 # Texts that an option takes which holds this, and texts that it refuses.
-TAKEN = {
+TAKEN: Dict[str, List[str]] = {
     "address": ["0.0.0.0:1", "127.0.0.1:65535"],
     "loopback": ["127.0.0.1:9901", "127.255.255.255:1"],
     "log_lines": ["plain", "time", "journal"],
+    "flag": [],
 }
-REFUSED = {
+REFUSED: Dict[str, List[str]] = {
     "address": ["0.0.0.0:0", ":9902", "localhost:9902", "0.0.0.0", "[::1]:9902"],
     "loopback": ["127.0.0.1:0", "0.0.0.0:9901", "localhost:9901", "128.0.0.1:1"],
     "log_lines": ["Plain", "json", ""],
+    "flag": ["true", "1", ""],
 }
 
 

@@ -216,9 +216,9 @@ class Sockets(Served):
 
     def is_short_of_descriptors(self, backend: Backend) -> None:
         """A worker that gets no connection rests and tries again: it serves once there are descriptors."""
-        front = ("sh", "-c", 'ulimit -Sn 6 && exec "$@"', "sh")
+        front = ("sh", "-c", 'ulimit -Sn 7 && exec "$@"', "sh")
         gate = self.gateway(backend, workers=3, each=1_000_000, front=front, words=("--client-timeout-ms", "60000"))
-        self.judge("descriptors of a gateway without clients", 4, len(os.listdir(f"/proc/{gate.process.pid}/fd")))
+        self.judge("descriptors of a gateway without clients", 5, len(os.listdir(f"/proc/{gate.process.pid}/fd")))
         with gate.connect(), gate.connect():
             time.sleep(0.2)
             waiting = [Later(gate.ask, PLAIN) for _ in range(3)]

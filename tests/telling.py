@@ -35,7 +35,7 @@ OF_WORKERS = ("exceed", "are taken", "too few")
 # The names of a report's numbers, those of two classes among them.
 NAMES = (
     "limit inflight waiters granted busy class.live class.batch class.unknown admitted bypassed full backlog "
-    "waiting promoted timed-out success ignored dropped 400 413 429 431 500 501 502 504"
+    "waiting promoted timed-out success ignored dropped 400 413 429 431 500 501 502 504 open idle opened reused stale"
 ).split()
 
 
@@ -117,6 +117,8 @@ class Telling(Served):
             "429": "1",
             "431": "1",
             "501": "1",
+            "open": "2",
+            "opened": "3",
         }
         self.judge("a report with all of it", True, until(lambda: wanted in reports(gate)))
         self.judge("the names in their order", [NAMES], [list(it) for it in reports(gate)[-1:]])
@@ -132,6 +134,8 @@ class Telling(Served):
             "success": "2",
             "dropped": "3",
             "502": "2",
+            "open": "0",
+            "opened": "6",
         }
         self.judge("a report after that", True, until(lambda: wanted in reports(gate)))
         begun, count = time.monotonic(), len(reports(gate))
@@ -279,7 +283,7 @@ class Telling(Served):
 
     def tells_of_descriptors(self, backend: Backend) -> None:
         """That no descriptor was free for the backend is reported as that, whosever the limit is."""
-        few: dict[str, typing.Any] = {"front": ("sh", "-c", 'ulimit -Sn 5 && exec "$@"', "sh")}
+        few: dict[str, typing.Any] = {"front": ("sh", "-c", 'ulimit -Sn 6 && exec "$@"', "sh")}
         none: dict[str, typing.Any] = {"variables": {"LD_PRELOAD": self.library, "SOCKET_REFUSED": "2"}}
         for what, how, error in (
             ("of its own", few, "Too many open files (os error 24)"),
@@ -293,9 +297,9 @@ class Telling(Served):
 
     def tells_of_clients_without_descriptors(self, backend: Backend) -> None:
         """That no descriptor was free is told, for clients and for the backend alike, and once."""
-        front = ("sh", "-c", 'ulimit -Sn 6 && exec "$@"', "sh")
+        front = ("sh", "-c", 'ulimit -Sn 7 && exec "$@"', "sh")
         gate = self.gateway(backend, workers=3, each=1_000_000, front=front, words=("--client-timeout-ms", "60000"))
-        with gate.connect(), gate.connect():
+        with gate.connect(), gate.connect(), gate.connect():
             self.judge("it is told", True, until(lambda: lines_of(gate, NO_DESCRIPTOR)))
             time.sleep(0.5)
         self.judge(

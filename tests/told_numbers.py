@@ -39,7 +39,9 @@ BODY = constant("message_fields/src/length.rt", "MOST_BODY", 2**20)
 HEAD = constant("message_reading/src/head_cut.rt", "MOST_HEAD")
 LINES = constant("message_reading/src/head_lines.rt", "MOST_LINES")
 LINGERS = constant("timed_io/src/lingering.rt", "LONGEST_NS", 1e9)
-SILENCE = constant("timed_io/src/first_byte.rt", "SILENCE_MS", 1e3)
+PLACES = constant("serve_command/src/context.rt", "CLIENT_PLACES")
+OTHERS = constant("serving/src/workers.rt", "OTHER_DESCRIPTORS")
+NEWCOMER = constant("timed_io/src/bound_listener.rt", "NEWCOMER_MS", 1e3)
 OPEN = constant("timed_io/src/bound_listener.rt", "OPEN_TO_ALL_MS", 1e3)
 AT_ONCE = constant("serve_command/src/admin.rt", "AT_ONCE")
 OPERATOR = constant("serve_command/src/admin.rt", "TIMEOUT_NS", 1e9)
@@ -107,7 +109,9 @@ NUMBERS: tuple[tuple[str, str, tuple[Callable[[], float], ...]], ...] = (
     ),
     (OPERATING, r"The unit sets ([\d,]+); `docs/TUNING.md`", (LIMIT_MS,)),
     (OPERATING, r"up to (\d+) MiB each way. A slow upload of (\d+) MiB needs (\d+) kB/s", (BODY, BODY, slowest_upload)),
-    (OPERATING, r"nothing yet is closed after (\w+) second if no worker", (SILENCE,)),
+    (OPERATING, r"holds no worker. ([\d,]+) such clients are kept", (PLACES,)),
+    (OPERATING, r"fewer\s+descriptors than ([\d,]+), two for each worker, and (\d+)", (PLACES, OTHERS)),
+    (OPERATING, r"came in the last (\w+) second may still", (NEWCOMER,)),
     (OPERATING, r"may go on sending for T more, (\w+) seconds at most", (LINGERS,)),
     (OPERATING, r"is noticed in some (\w+) seconds all the same", (seconds_unasked,)),
     (

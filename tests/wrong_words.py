@@ -1,7 +1,6 @@
 """Rows of `tests/lines`: which word of a line `--explain` names, and what it says is wanted there."""
-from kind_rows import BEHIND_LIMIT
+from kind_rows import HOUR, WORDS_OF_LIMITS
 
-HOUR = "3600000000000"
 SETTINGS = "limit, window, share, class, places, backlog, keep, promote, timeout"
 REQUESTS = f"{SETTINGS}, acquire, bypass, end, claim, giveup, set, reset or look"
 CALLS = f"{SETTINGS}, arrive or bypass"
@@ -18,47 +17,7 @@ OF_SCRIPTS = [
     ("\tbypass 1", r'1, "\tbypass"', REQUESTS),
     ("\ufefflimit fixed 1", r'1, "\xef\xbb\xbflimit"', REQUESTS),
     ("x" * 61, f'1, "{"x" * 60}.."', REQUESTS),
-    ("limit", "2 isn't there", BEHIND_LIMIT),
-    ("limit slow 1", '2, "slow"', BEHIND_LIMIT),
-    ("limit fixed", "3 isn't there", "N in digits, permits, 1 to 10000"),
-    ("limit fixed -1", '3, "-1"', "N in digits, permits, 1 to 10000"),
-    ("limit fixed 1 2", '4, "2"', "nothing more"),
-    ("limit fixed 0", '3, "0"', "N, permits, 1 to 10000"),
-    ("limit fixed 10001", '3, "10001"', "N, permits, 1 to 10000"),
-    ("limit settable", "3 isn't there", "LO in digits, permits, 1 to 10000"),
-    ("limit settable 1", "4 isn't there", "N in digits, permits, LO to 10000"),
-    ("limit settable 1 2 x", '5, "x"', "HI in digits, permits, N to 10000"),
-    ("limit settable 1 2 3 4", '6, "4"', "nothing more"),
-    ("limit settable 0 1 1", '3, "0"', "LO, permits, 1 to 10000"),
-    ("limit settable 3 2 4", '4, "2"', "N, permits, LO to 10000, here 3 to 10000"),
-    ("limit settable 1 3 2", '5, "2"', "HI, permits, N to 10000, here 3 to 10000"),
-    ("limit aimd 1 2 3", "6 isn't there", "RATIO in digits, what a drop leaves in thousandths, 500 to 999"),
-    (
-        "limit aimd 1 2 3 900 1s",
-        '7, "1s"',
-        f"TIMEOUT in digits, a longer round trip is a drop, nanoseconds, 1 to {HOUR}",
-    ),
-    ("limit aimd 1 2 3 499 1", '6, "499"', "RATIO, what a drop leaves in thousandths, 500 to 999"),
-    ("limit aimd 1 2 3 1000 1", '6, "1000"', "RATIO, what a drop leaves in thousandths, 500 to 999"),
-    ("limit aimd 1 2 3 900 0", '7, "0"', f"TIMEOUT, a longer round trip is a drop, nanoseconds, 1 to {HOUR}"),
-    ("limit auto 1 4", "5 isn't there", "HI in digits, permits, N to 10000"),
-    ("limit auto 1 4 5 6", '6, "6"', "nothing more"),
-    ("limit auto 0 4 5", '3, "0"', "LO, permits, 1 to 10000"),
-    ("limit auto 5 4 6", '4, "4"', "N, permits, LO to 10000, here 5 to 10000"),
-    ("limit vegas 1 2 3", "6 isn't there", "ALPHA in digits, the limit rises below this queue, permits, 1 to 100"),
-    ("limit vegas 1 2 3 4 x 0", '7, "x"', "BETA in digits, the limit falls above this queue, permits, ALPHA to 100"),
-    (
-        "limit vegas 1 2 3 4 5",
-        "8 isn't there",
-        "PROBE in digits, samples until the base is measured anew, 0 to 1000000",
-    ),
-    ("limit vegas 1 2 3 0 1 0", '6, "0"', "ALPHA, the limit rises below this queue, permits, 1 to 100"),
-    (
-        "limit vegas 1 2 3 4 3 0",
-        '7, "3"',
-        "BETA, the limit falls above this queue, permits, ALPHA to 100, here 4 to 100",
-    ),
-    ("limit vegas 1 2 3 4 5 1000001", '8, "1000001"', "PROBE, samples until the base is measured anew, 0 to 1000000"),
+    *WORDS_OF_LIMITS,
     ("window", "2 isn't there", "SIZE in digits, samples, 1 to 1000000"),
     ("window 1 x", '3, "x"', f"MIN in digits, the shortest window in nanoseconds, 1 to {HOUR}"),
     ("window 1 2", "4 isn't there", f"MAX in digits, the longest window in nanoseconds, MIN to {HOUR}"),
