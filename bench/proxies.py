@@ -200,9 +200,11 @@ class Started:
         process = self.servers.start(*policy, self.servers.built("bare_proxy"), *places, str(count))
         self.found[name] = Target(own, process)
 
-    def admission(self, name: str, count: int, policy: Sequence[str] = ()) -> None:
+    def admission(self, name: str, count: int, policy: Sequence[str] = (), keeps: bool = False) -> None:
+        """A gateway; one that keeps its connections to the origin is of version 3."""
         own, limit = next(self.ports), 1 if self.given.refused else 64
         text = CONFIG.format(port=own, origin=self.origin, limit=limit)
+        text = text.replace("version = 1", "version = 3", 1) if keeps else text
         file = self.servers.written(f"admission_{own}.toml", text)
         words = (self.program, "serve", file, "--workers", str(count))
         self.found[name] = Target(own, self.servers.start(*policy, *words))
@@ -225,5 +227,6 @@ def targets_of(servers: Servers, program: str, port: int, given: argparse.Namesp
         it.nginx("nginx, unbuffered", UNBUFFERED)
     for count in given.workers:
         it.admission(f"admission, {count} workers, batch", count, BATCH)
+        it.admission(f"admission, {count} workers, origin kept, batch", count, BATCH, keeps=True)
         it.admission(f"admission, {count} workers", count)
     return it.found

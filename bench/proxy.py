@@ -308,7 +308,7 @@ def run(processors: Sequence[int], given: argparse.Namespace, noted: Noted) -> N
         others = sorted(os.sched_getaffinity(0) - {*processors})
         servers = Servers(pathlib.Path(folder), processors, others[-1:])
         try:
-            first = first_port(9 + 3 * len(given.workers))
+            first = first_port(9 + 4 * len(given.workers))
             targets = targets_of(servers, given.program, first, given)
             time.sleep(1.5)
             gone = [name for name, it in targets.items() if it.process.poll() is not None]
