@@ -110,6 +110,21 @@ FURTHER = (
     Backend(8, 0.1, 0.5, faults=Faults(pace=50)),
     Backend(8, 0.05, 0.5, stops=1),
 )
+# Those that the limits of others are met before too.
+BESIDE = (
+    Backend(1, 0.1, 0.5),
+    Backend(8, 0.05, 0.25),
+    Backend(16, 0.5, 2.0),
+    Backend(30, 1.0, 3.0),
+    lognormal(8, 1.0, 2.0),
+    lognormal(12, 1.0, 2.0),
+    lognormal(16, 1.0, 2.0),
+    lognormal(30, 1.0, 2.0),
+    Backend(16, 0.02, 1.2, Times(slow=(0.1, 20.0))),
+    Backend(8, 0.05, 0.25, faults=Faults(cut=0.05)),
+    Backend(8, 0.1, 0.5, faults=Faults(most=8)),
+    Backend(8, 0.05, 0.5, stops=1),
+)
 WORN = (
     Backend(4, 0.02, 0.1),
     Backend(8, 0.05, 0.25),
@@ -159,6 +174,9 @@ class Day:
     end: typing.Callable[[Troubled], None] = nothing
     course: typing.Callable[[Troubled, float], None] = unchanged
     before: float = 1.0
+
+    def __str__(self) -> str:
+        return self.name
 
 
 def refuse(backend: Troubled) -> None:
@@ -222,3 +240,13 @@ DAYS = (
     Day("a deploy doubles the slots", 0, double, before=0.5),
     Day("half of the slots lost", 0, halve, before=2.0),
 )
+# The days, and the backends that have them, before which the limits of others are met.
+DAYS_BESIDE = (
+    tuple(
+        it
+        for it in DAYS
+        if it.name in ("none", "503 at once for 12 s", "killed, back after 5 s", "four times slower for 15 s")
+    )
+    + DAYS[-3:]
+)
+WORN_BESIDE = (Backend(8, 0.05, 0.25), Backend(16, 0.5, 2.0), Backend(30, 1.0, 3.0))

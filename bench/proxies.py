@@ -5,6 +5,7 @@ import dataclasses
 import itertools
 import os
 import pathlib
+import re
 import socket
 import subprocess
 import sys
@@ -17,7 +18,7 @@ from programs import stop
 
 HERE = pathlib.Path(__file__).resolve().parent
 NGINX = """{first} daemon off; worker_processes {count}; pid {room}/{name}.pid; error_log {room}/{name}.log;
-events {{ worker_connections 8192; }}
+events {{ worker_connections 16384; }}
 http {{ access_log off; keepalive_timeout 60; keepalive_requests 100000000; {http}
 server {{ listen 127.0.0.1:{port} backlog=4096; {server} }} }}
 """
@@ -49,6 +50,8 @@ UNBUFFERED = f"{ANY_SIZE} proxy_buffering off; proxy_request_buffering off; prox
 READS_ALL = """client_body_buffer_size 16m; chunked_transfer_encoding off; add_header Content-Length 13;
 echo_read_request_body; echo "hello, world";"""
 ECHO = "load_module modules/ngx_http_echo_module.so;"
+# A key of version 3 with its default.
+BACKENDS = "backends = 64\n"
 # The scheduling policy of the packaged unit.
 BATCH = ("chrt", "--batch", "0")
 ONE_AT_A_TIME = "limit_conn_zone $server_port zone=all:1m; limit_conn_status 429; limit_conn_log_level info;"
@@ -62,6 +65,31 @@ def first_port(count: int) -> int:
                 taken.enter_context(socket.create_server(("127.0.0.1", port)))
             return first
     sys.exit(f"proxy.py: no {count} ports in a row are free")
+
+
+def in_turns(names: Sequence[str], turn: int) -> Sequence[str]:
+    return [*names[turn % len(names) :], *names[: turn % len(names)]]
+
+
+def numbers(text: str) -> list[int]:
+    """Numbers with commas between them."""
+    return [int(word) for word in text.split(",")]
+
+
+def words_of(text: str) -> list[str]:
+    """Words with commas between them."""
+    return text.split(",")
+
+
+def milliseconds(text: str) -> float:
+    """The milliseconds of a time with its unit."""
+    ((number, unit),) = re.findall(r"^([\d.]+)(us|ms|s|m)", text)
+    return float(number) * {"us": 0.001, "ms": 1, "s": 1000, "m": 60_000}[unit]
+
+
+def table_of(columns: Sequence[str], rows: Sequence[Sequence[str]]) -> str:
+    lines = [columns, ["---" for _ in columns], *rows]
+    return "\n".join("| " + " | ".join(it) + " |" for it in lines)
 
 
 def placed(processors: Sequence[int], *words: str) -> list[str]:
@@ -195,19 +223,44 @@ class Started:
         self.found[name] = Target(own, process, is_kept)
 
     def bare(self, name: str, count: int, policy: Sequence[str] = ()) -> None:
+        self.called(name, self.servers.built("bare_proxy"), count, policy)
+
+    def called(self, name: str, program: str, count: int, policy: Sequence[str] = (), is_kept: bool = False) -> None:
+        """A proxy whose words are where it listens, where the origin is, and how many workers it has."""
         own = next(self.ports)
         places = (f"127.0.0.1:{own}", f"127.0.0.1:{self.origin}")
-        process = self.servers.start(*policy, self.servers.built("bare_proxy"), *places, str(count))
-        self.found[name] = Target(own, process)
+        self.found[name] = Target(own, self.servers.start(*policy, program, *places, str(count)), is_kept)
 
-    def admission(self, name: str, count: int, policy: Sequence[str] = (), keeps: bool = False) -> None:
-        """A gateway; one that keeps its connections to the origin is of version 3."""
+    def admission(
+        self,
+        name: str,
+        count: int,
+        policy: Sequence[str] = (),
+        keys: str = "",
+        is_kept: bool = False,
+        program: str = "",
+    ) -> None:
+        """A gateway; one with keys of version 3 keeps its connections to the origin, and its clients too where they
+        don't ask for an end."""
         own, limit = next(self.ports), 1 if self.given.refused else 64
         text = CONFIG.format(port=own, origin=self.origin, limit=limit)
-        text = text.replace("version = 1", "version = 3", 1) if keeps else text
+        text = text.replace("version = 1\n", f"version = 3\n{keys}", 1) if keys else text
         file = self.servers.written(f"admission_{own}.toml", text)
-        words = (self.program, "serve", file, "--workers", str(count))
-        self.found[name] = Target(own, self.servers.start(*policy, *words))
+        words = (program or self.program, "serve", file, "--workers", str(count))
+        self.found[name] = Target(own, self.servers.start(*policy, *words), is_kept)
+
+
+def kept_targets(it: Started, keys: str = BACKENDS) -> None:
+    """Those that keep their connections on both sides."""
+    it.nginx("nginx, kept", ANY_SIZE, is_kept=True)
+    it.haproxy("HAProxy, kept", is_kept=True)
+    for count in it.given.workers:
+        it.called(f"bare, {count} threads, kept", it.servers.built("bare_kept"), count, is_kept=True)
+        if it.given.further:
+            it.called(
+                f"{pathlib.Path(it.given.further).name}, {count} threads, kept", it.given.further, count, is_kept=True
+            )
+        it.admission(f"admission, {count} workers, kept", count, keys=keys, is_kept=True)
 
 
 def targets_of(servers: Servers, program: str, port: int, given: argparse.Namespace) -> dict[str, Target]:
@@ -219,14 +272,17 @@ def targets_of(servers: Servers, program: str, port: int, given: argparse.Namesp
     if not given.refused:
         it.haproxy("HAProxy")
         it.haproxy("HAProxy, batch", BATCH)
-        it.nginx("nginx, kept", *alone, is_kept=True)
-        it.haproxy("HAProxy, kept", is_kept=True)
         for count in given.workers:
             it.bare(f"bare, {count} threads, batch", count, BATCH)
+        kept_targets(it)
     if given.answer or given.upload:
         it.nginx("nginx, unbuffered", UNBUFFERED)
     for count in given.workers:
         it.admission(f"admission, {count} workers, batch", count, BATCH)
-        it.admission(f"admission, {count} workers, origin kept, batch", count, BATCH, keeps=True)
         it.admission(f"admission, {count} workers", count)
-    return it.found
+        if given.before:
+            it.admission(f"admission before, {count} workers, batch", count, BATCH, program=given.before)
+            it.admission(f"admission before, {count} workers", count, program=given.before)
+        if not given.refused:
+            it.admission(f"admission, {count} workers, origin kept", count, keys=BACKENDS)
+    return {name: target for name, target in it.found.items() if any(word in name for word in given.only)}

@@ -2,18 +2,23 @@
 """Times `admission serve` beside nginx and HAProxy, in one run:
 
     bench/proxy.py PROGRAM [--seconds S] [--rounds N] [--workers W,..] [--processors P,..] [--results FILE]
-                   [--answer BYTES] [--upload BYTES] [--refused] [--open PART,..] [CLIENTS ..]
+                   [--answer BYTES] [--upload BYTES] [--refused] [--open PART,..] [--further PROXY] [--before PROGRAM]
+                   [--only WORD,..] [CLIENTS ..]
     bench/proxy.py --from FILE
 
 It starts an origin (nginx, which answers 13 bytes from memory), nginx and HAProxy as proxies, PROGRAM (built), once for
 each number of workers W (by default 64), and a bare proxy of as many threads (`bare_proxy.rs`, plain Rust, which checks
 nothing: the limit of this form, and no competitor), on loopback ports below the ephemeral range. Every request has its
-own connection on both sides, but for those that are called kept, which keep both. Everything runs on the same
-processors, since on a shared machine a program with more threads gets more of it: on one of them, or on those of
---processors. For each number of clients every round runs `wrk` against each proxy in turn, for S seconds. It prints
-the medians of requests a second, the ratio to nginx by round with its spread, the times of an answer, the user and
-system time of an exchange and its voluntary switches over all rounds, overflows of the accept queues, and the resident
-memory after the last round.
+own connection on both sides, but for those that are called kept, which keep both (a bare one is `bare_kept.rs`), and
+those with the origin kept, which keep that side. --further names one more proxy that keeps both: its words are where it
+listens, where the origin is, and the number of workers. --before names an earlier build of `admission`, which has rows
+of its own. --only has the rows whose name has one of these words.
+
+Everything runs on the same processors, since on a shared machine a program with more threads gets more of it: on one of
+them, or on those of --processors. For each number of clients every round runs `wrk` against each proxy in turn, for S
+seconds. It prints the medians of requests a second, the ratio to nginx by round with its spread, the times of an
+answer, the user and system time of an exchange and its voluntary switches over all rounds, overflows of the accept
+queues, and the resident memory after the last round.
 
 `admission` runs under the scheduling policy batch, as its packaged unit has it, and under the usual one, as it is
 started by hand; so do nginx and HAProxy. With --answer the origin answers with BYTES bytes; with --upload each request
@@ -42,13 +47,33 @@ import time
 import typing
 from collections.abc import Mapping, Sequence
 
-from proxies import Servers, Target, first_port, held, placed, targets_of
+from proxies import (
+    Servers,
+    Target,
+    first_port,
+    held,
+    in_turns,
+    milliseconds,
+    numbers,
+    placed,
+    table_of,
+    targets_of,
+    words_of,
+)
 from words import built, reader_of
 
 TICK = os.sysconf("SC_CLK_TCK")
 PACKAGES = {"nginx": "nginx-light", "haproxy": "haproxy", "wrk": "wrk", "taskset": "util-linux", "rustc": "rustc"}
-# What each proxy is compared with.
-PEERS = ("nginx", "nginx, batch", "nginx, unbuffered", "bare, 64 threads, batch")
+# What each proxy is compared with, and what its column is called.
+PEERS = {
+    "nginx": "of nginx's",
+    "nginx, batch": "of nginx's, batch",
+    "nginx, kept": "of nginx's, kept",
+    "nginx, unbuffered": "of nginx's, unbuffered",
+    "bare, 64 threads, batch": "of the bare one's",
+    "admission before, 64 workers": "of the earlier one's",
+    "admission before, 64 workers, batch": "of the earlier one's, batch",
+}
 
 # The figures of a visit; what was visited, and how; and all visits of a proxy.
 Figures = dict[str, typing.Any]
@@ -103,12 +128,6 @@ def overflows() -> int:
 def stolen() -> int:
     """The hundredths of a second that the host took from this machine so far."""
     return int(pathlib.Path("/proc/stat").read_text(encoding="ascii").split()[8])
-
-
-def milliseconds(text: str) -> float:
-    """The milliseconds of a time with its unit."""
-    ((number, unit),) = re.findall(r"^([\d.]+)(us|ms|s|m)", text)
-    return float(number) * {"us": 0.001, "ms": 1, "s": 1000, "m": 60_000}[unit]
 
 
 def group_of(pattern: str, said: str) -> str:
@@ -171,11 +190,6 @@ def compared(runs: Sequence[Figures], peers: Sequence[Figures]) -> list[float]:
     return [run["rate"] / peer["rate"] for run, peer in zip(runs, peers)]
 
 
-def table_of(columns: Sequence[str], rows: Sequence[Sequence[str]]) -> str:
-    lines = [columns, ["---" for _ in columns], *rows]
-    return "\n".join("| " + " | ".join(it) + " |" for it in lines)
-
-
 def row_of(name: str, found: Mapping[str, Sequence[Figures]], peers: Sequence[str]) -> list[str]:
     """What was found of a proxy: medians, and sums of all rounds by exchange; the spread is of the last ratio."""
     runs = found[name]
@@ -202,9 +216,10 @@ def row_of(name: str, found: Mapping[str, Sequence[Figures]], peers: Sequence[st
 def tell(heads: Sequence[str], tables: Mapping[str, Mapping[str, Sequence[Figures]]]) -> None:
     """One table of some numbers of clients."""
     peers = [it for it in PEERS if any(it in tables[head] for head in heads)]
-    columns = ["Clients", "Proxy", "requests/s", *(f"of {peer}'s" for peer in peers), "spread", "p50", "p99"]
+    columns = ["Clients", "Proxy", "requests/s", *(PEERS[peer] for peer in peers), "spread", "p50", "p99"]
     columns += ["user time", "system time", "switches", "resident", "not 200, overflows"]
-    rows = [[head.split()[0], *row_of(name, tables[head], peers)] for head in heads for name in tables[head]]
+    asked = {head: re.sub(r" clients?", "", head.rpartition(", ")[0]) for head in heads}
+    rows = [[asked[head], *row_of(name, tables[head], peers)] for head in heads for name in tables[head]]
     print("\n" + table_of(columns, rows), flush=True)
     for head in heads:
         for name, runs in tables[head].items():
@@ -274,15 +289,19 @@ def head_of(processors: Sequence[int], what: str) -> str:
     return f"{what}, {count} processor" + ("s" if count > 1 else "")
 
 
-def in_turns(names: Sequence[str], turn: int) -> Sequence[str]:
-    return [*names[turn % len(names) :], *names[: turn % len(names)]]
+def load_of(given: argparse.Namespace) -> str:
+    """What is asked for, where it isn't the origin's 13 bytes."""
+    if given.refused:
+        return ", refused"
+    what, size = ("upload", given.upload) if given.upload else ("answer", given.answer)
+    return f", {what} of {size / 1000:g} KB" if size else ""
 
 
 def measure(servers: Servers, targets: dict[str, Target], given: argparse.Namespace, noted: Noted) -> None:
     """All visits to what was started on some processors."""
     asking, last = asking_of(servers, given.upload), ""
     for clients in given.clients:
-        last = head_of(servers.processors, f"{clients} client" + ("s" if clients > 1 else ""))
+        last = head_of(servers.processors, f"{clients} client" + ("s" if clients > 1 else "") + load_of(given))
         for turn in range(given.rounds):
             for name in in_turns([*targets], turn):
                 it = targets[name]
@@ -308,7 +327,7 @@ def run(processors: Sequence[int], given: argparse.Namespace, noted: Noted) -> N
         others = sorted(os.sched_getaffinity(0) - {*processors})
         servers = Servers(pathlib.Path(folder), processors, others[-1:])
         try:
-            first = first_port(9 + 4 * len(given.workers))
+            first = first_port(9 + 8 * len(given.workers))
             targets = targets_of(servers, given.program, first, given)
             time.sleep(1.5)
             gone = [name for name, it in targets.items() if it.process.poll() is not None]
@@ -332,11 +351,6 @@ def versions() -> dict[str, str]:
     return found | {"kernel": os.uname().release, "processor": model[0] if model else os.uname().machine}
 
 
-def numbers(text: str) -> list[int]:
-    """Numbers with commas between them."""
-    return [int(word) for word in text.split(",")]
-
-
 def parts(text: str) -> list[float]:
     return [float(word) for word in text.split(",")]
 
@@ -349,6 +363,9 @@ def given_words() -> argparse.Namespace:
     reader.add_argument("--workers", type=numbers, default=[64])
     reader.add_argument("--processors", type=numbers, default=[1])
     reader.add_argument("--open", type=parts, default=[])
+    reader.add_argument("--further", type=built)
+    reader.add_argument("--before", type=built)
+    reader.add_argument("--only", type=words_of, default=[""])
     reader.add_argument("--results", type=pathlib.Path)
     reader.add_argument("--from", type=pathlib.Path, dest="earlier")
     one_of = reader.add_mutually_exclusive_group()

@@ -33,6 +33,24 @@ share = 300
 kind = "header"
 header = "X-Class"
 """
+# A gateway of version 3 with both, where some wait, and one path is neither limited nor counted.
+MIXED = (
+    """version = 3
+listen = "127.0.0.1:{port}"
+backend = "127.0.0.1:{origin}"
+backlog = 8
+timeout_ms = 20
+[limit]
+kind = "aimd"
+initial = {initial}
+max = {most}
+"""
+    + CLASSES
+    + """[[bypass]]
+kind = "prefix"
+prefix = "/health"
+"""
+)
 
 
 def allow_many_sockets() -> None:
@@ -108,34 +126,19 @@ class Listens(typing.Protocol):
     port: int
 
 
-class Gateway:
-    """The program over a configuration of its own. `tables` is what stands below the addresses. If it reports every
-    `report_seconds`, `limits` gets pairs of a moment of time.perf_counter and the limit then."""
+class Limited:
+    """A program with a limit that says on its standard error when it listens and then what the limit is: `limits` gets
+    pairs of a moment of time.perf_counter and the limit then."""
 
     process: subprocess.Popen[str]
     log: typing.IO[str]
 
-    def __init__(
-        self,
-        program: str,
-        origin: Listens,
-        tables: str,
-        workers: int = 64,
-        report_seconds: int | None = None,
-        version: int = 3,
-    ) -> None:
-        self.port = free_port()
-        self.room = tempfile.TemporaryDirectory(prefix="admission-")
-        self.file = pathlib.Path(self.room.name) / "gateway.toml"
-        addresses = f'listen = "127.0.0.1:{self.port}"\nbackend = "127.0.0.1:{origin.port}"\n'
-        self.file.write_text(f"version = {version}\n{addresses}{tables}")
-        self.words = [program, "serve", str(self.file), "--workers", str(workers)]
-        if report_seconds:
-            self.words += ["--report-seconds", str(report_seconds)]
+    def __init__(self, words: Sequence[str], port: int) -> None:
+        self.words, self.port = words, port
         self.limits: list[tuple[float, int]] = []
         self.reader = threading.Thread(target=self.note)
 
-    def __enter__(self) -> "Gateway":
+    def __enter__(self) -> "Limited":
         self.process = subprocess.Popen(self.words, stdout=subprocess.DEVNULL, stderr=subprocess.PIPE, text=True)
         assert self.process.stderr
         self.log, said = self.process.stderr, ""
@@ -146,8 +149,8 @@ class Gateway:
             said = f": {line.strip()}"
         status = self.process.wait()
         self.log.close()
-        self.room.cleanup()
-        raise RuntimeError(f"the gateway ended with status {status}{said}")
+        self.clear()
+        raise RuntimeError(f"{self.words[0]} ended with status {status}{said}")
 
     def note(self) -> None:
         """Notes the limit of each report, and reads the log to its end."""
@@ -160,6 +163,33 @@ class Gateway:
         self.process.wait()
         self.reader.join()
         self.log.close()
+        self.clear()
+
+    def clear(self) -> None:
+        """Removes what it left."""
+
+
+class Gateway(Limited):
+    """The program over a configuration of its own. `tables` is what stands below the addresses. It tells its limit
+    where it reports every `report_seconds`."""
+
+    def __init__(
+        self,
+        program: str,
+        origin: Listens,
+        tables: str,
+        workers: int = 64,
+        report_seconds: int | None = None,
+        version: int = 3,
+    ) -> None:
+        self.room = tempfile.TemporaryDirectory(prefix="admission-")
+        self.file = pathlib.Path(self.room.name) / "gateway.toml"
+        words = [program, "serve", str(self.file), "--workers", str(workers)]
+        super().__init__([*words, "--report-seconds", str(report_seconds)] if report_seconds else words, free_port())
+        addresses = f'listen = "127.0.0.1:{self.port}"\nbackend = "127.0.0.1:{origin.port}"\n'
+        self.file.write_text(f"version = {version}\n{addresses}{tables}")
+
+    def clear(self) -> None:
         self.room.cleanup()
 
 
@@ -171,6 +201,11 @@ class Call:
     name: str
     status: int
     seconds: float
+
+
+def request_of(path: str, lines: str = "") -> bytes:
+    """A request for the only answer on its connection, with these lines of its head."""
+    return f"GET {path} HTTP/1.1\r\nHost: h\r\n{lines}Connection: close\r\n\r\n".encode()
 
 
 async def answer_of(port: int, text: bytes) -> bytes:
@@ -191,7 +226,7 @@ async def call(port: int, name: str, patience: float, found: list[Call], begun: 
     status = 0
     with contextlib.suppress(OSError, TimeoutError, ValueError):
         async with asyncio.timeout(patience):
-            text = await answer_of(port, f"GET / HTTP/1.1\r\nHost: h\r\nX-Class: {name}\r\n\r\n".encode())
+            text = await answer_of(port, request_of("/", f"X-Class: {name}\r\n"))
         status = int(text[9:12]) if text[:5] == b"HTTP/" else 0
     found.append(Call(at - begun, name, status, time.perf_counter() - at))
 

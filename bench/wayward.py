@@ -14,6 +14,7 @@ from programs import free_port
 from traffic import ANSWER, STARTING, Call, allow_many_sockets, offer
 
 BUSY = b"HTTP/1.1 503 Service Unavailable\r\nContent-Length: 0\r\nConnection: close\r\n\r\n"
+CLOSING = b"Connection: close\r\n"
 TOO_MANY = BUSY.replace(b"503 Service Unavailable", b"429 Too Many Requests")
 # What `ahead` says: serve all, answer all of them 503 at once, or serve the next one at once or in a tenth of its time.
 AS_EVER, REFUSING, ONE_AT_ONCE, ONE_IN_A_TENTH = range(4)
@@ -82,9 +83,11 @@ class Pace:
 
 
 class Exchange(asyncio.Protocol):
-    """One connection to the backend, with one request on it, which comes in one piece."""
+    """One connection to the backend, with one request on it at a time, which comes in one piece. It is kept where the
+    request doesn't ask for its end."""
 
     transport: asyncio.Transport
+    is_kept = False
 
     def __init__(self, backend: "Wayward") -> None:
         self.backend = backend
@@ -94,11 +97,14 @@ class Exchange(asyncio.Protocol):
 
     def data_received(self, data: bytes) -> None:
         if data.endswith(b"\r\n\r\n"):
+            self.is_kept = CLOSING not in data
             self.backend.take(self)
 
-    def answer(self, text: bytes) -> None:
-        self.transport.write(text)
-        self.transport.close()
+    def answer(self, text: bytes, is_cut: bool = False) -> None:
+        text = text.replace(CLOSING, b"") if self.is_kept else text
+        self.transport.write(text[:-1] if is_cut else text)
+        if is_cut or not self.is_kept:
+            self.transport.close()
 
 
 class Wayward:
@@ -198,7 +204,7 @@ class Wayward:
 
     def end(self, exchange: Exchange) -> None:
         self.served -= 1
-        exchange.answer(ANSWER[:-1] if self.draw.random() < self.faults.cut else ANSWER)
+        exchange.answer(ANSWER, self.draw.random() < self.faults.cut)
         self.fill()
 
 
