@@ -1,12 +1,16 @@
 -- What a worker of a gateway did.
-use Rattle.std.specs.Prelude.{◌≡◌, ◌≤◌, ◌+◌, ℕ, Bool, false, List, [], Option, Some, None}
+use Rattle.std.specs.Prelude.{◌≡◌, ◌≤◌, ◌+◌, ℕ, Bool, false, List, [], ◌∷◌, map, Option, Some, None}
 use Rattle.limiter_core.specs.declared.counters.Counters.{Counters}
 use Rattle.limiter_core.specs.declared.event.Entry.{Entry}
 use Rattle.shared_gate.specs.Calls.{Pass}
 use Rattle.gate_config.specs.declared.settings.Settings.{Settings}
 use Rattle.proxy.specs.Exchanges.{Policy}
 use Rattle.serving.specs.declared.working.TurnCounts.{TurnCounts}
+use Rattle.ports.specs.Asked.{Shared}
 use Rattle.serving.specs.Turns.{IsRun, Place}
+use Rattle.serving.specs.declared.jobs.JobResult.{JobResult}
+use Rattle.serving.specs.declared.jobs.JobResult.TheVariants as left
+use Rattle.serving.specs.Workers.{ended_in}
 
 -- where a worker stands: by the counts of its door and of its backend, of which sockets show
 -- nothing more, and by what its pass knows of the gate's log
@@ -56,3 +60,14 @@ calls_told c =
 pub record AreEnded (c : Counters) : Type 0 where
   pub permits : c.admitted + c.promoted ≡ c.success + c.ignored + c.dropped
   pub waiters : c.waiting ≡ c.promoted + c.timed_out
+
+-- the passes of those workers who served
+abbrev pub served_by : {A B M : Type 0} → List (JobResult A (Shared M) B Pass) → List Pass
+served_by lefts = map (λ ended. ended.port.pass) (ended_in lefts)
+
+-- and with them those of whoever was served beside them, each in its place
+abbrev pub passes_in : {A B M : Type 0} → List (JobResult A (Shared M) B Pass) → List Pass
+passes_in [] = []
+passes_in (left.Unbegun ∷ lefts) = passes_in lefts
+passes_in (left.SideTask pass ∷ lefts) = pass ∷ passes_in lefts
+passes_in (left.Worked ended ∷ lefts) = ended.port.pass ∷ passes_in lefts
