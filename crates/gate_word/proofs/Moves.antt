@@ -2,18 +2,22 @@
 use Rattle.std.proofs.Common.{◌≡◌, ◌≢◌, ℕ, zero, suc, ◌+◌, ◌<◌, List, [], ◌∷◌, ◌++◌, length, set}
 use Rattle.std.proofs.Common.{Bool, true, false, true≢false, refl, sym, ap, ◌∙◌, subst, ⊎_elim}
 use Rattle.std.proofs.Common.{arith}
+use Rattle.gate_word.proofs.Numbers.{added_shared, joined_shared, one_apart, raised_shared}
+use Rattle.gate_word.proofs.Numbers.{same_shared}
 use Rattle.std.specs.Prelude.{slice_index, slice_set}
 use mathlib.Core.Option.{some, some-ne-none, some-injective}
 use mathlib.Core.List.{IsPrefix}
 use mathlib.Core.Logic.{dite}
 use native.Mathlib.Decide.{ℕ_discrete}
 use lib.ListN.{get_elem?}
+use Rattle.std.proofs.lemmas.List.Sums.{sum_by-cons}
 use Rattle.atomic_table.specs.Table.{State, Me, step, keeps, Allows, Splits, Joins}
 use Rattle.atomic_table.proofs.Lists.{at_set, at_snoc, at_longer, set_here, set_else}
 use Rattle.gate_word.specs.declared.rule.View.{View}
 use Rattle.gate_word.specs.Rule.{keeper_view, reader_view, Compared, Fits, KeptAt, Kept, Raised}
-use Rattle.gate_word.specs.Rule.{Took}
-use Rattle.gate_word.specs.Rule.{note_of, noted, longer}
+use Rattle.gate_word.specs.Rule.{AreShared}
+use Rattle.gate_word.specs.Rule.{Took, hand_of, handed, has, longer, note_of, noted}
+use Rattle.gate_word.specs.Seats.{AreApart, numbered}
 use Rattle.gate_word.proofs.Beginnings.{prefix_self, prefix_trans, longer_left, longer_right}
 use Rattle.gate_word.proofs.Beginnings.{longer_within}
 
@@ -34,11 +38,15 @@ module _ {E : Type 0} where
   nothing xs = (xs, refl)
 
   -- the first seat is the keeper's
-  pub begins : Kept {E = E} (0 ∷ []) (keeper_view [] [] ∷ [])
-  begins =
-      ([], refl, record { seat = 0; keeper = (keeper_view [] [], refl, refl); all = one })
+  pub begins : Kept {E = E} (0 ∷ []) (keeper_view [] [] [] [] ∷ [])
+  begins = (
+    [],
+    refl,
+    record { seat = 0; keeper = (keeper_view [] [] [] [], refl, refl); all = one },
+    λ n. omega (arith, sum_by-cons (has {E = E} n) (keeper_view [] [] [] []) []),
+  )
     where
-      one : (by : ℕ) (v : View E) → get_elem? (keeper_view [] [] ∷ []) by ≡ some v → Fits [] 0 by v
+      one : (by : ℕ) (v : View E) → get_elem? (keeper_view [] [] [] [] ∷ []) by ≡ some v → Fits [] 0 by v
       one zero v e =
           subst (Fits [] 0 0) (some-injective _ _ e) (nothing [], nothing [], λ _. (refl, refl))
       one (suc by) v e = absurd (some-ne-none v (sym e))
@@ -109,7 +117,13 @@ module _ {E : Type 0} where
       let m = kept.0 in
       let mine = kept.2.all id me.0 at in
       let both = longer me.0.log me.0.note in
-      let w : View E = reader_view both [] in (
+      let w : View E = record {
+        keeps = false;
+        log = both;
+        note = [];
+        own = me.0.own;
+        fresh = me.0.fresh;
+      } in (
         w,
         keeps,
         tt,
@@ -119,6 +133,7 @@ module _ {E : Type 0} where
           turned m m s.views id me.0 w kept.2 at (sym plain) (prefix_self m) (λ _. refl)
               (longer_within me.0.log me.0.note m mine.0 mine.1) (nothing m)
               (λ k. absurd (off (sym plain ∙ k))),
+          same_shared (length m) s.views id me.0 w at (λ k. refl) kept.3,
         ),
         (
           refl,
@@ -135,7 +150,7 @@ module _ {E : Type 0} where
       let m = kept.0 in
       let mine = kept.2.all id me.0 at in
       let here : me.0.log ≡ m = (mine.2 keeper).1 in
-      let w : View E = keeper_view me.0.log [] in (
+      let w : View E = keeper_view me.0.log [] me.0.own me.0.fresh in (
         w,
         keeps,
         tt,
@@ -144,8 +159,14 @@ module _ {E : Type 0} where
           ap (λ (ws : List ℕ). slice_set ws 0 (slice_index ws 0)) kept.1,
           turned m m s.views id me.0 w kept.2 at (sym keeper) (prefix_self m) (λ _. refl) mine.0
               (nothing m) (λ _. here),
+          same_shared (length m) s.views id me.0 w at (λ k. refl) kept.3,
         ),
-        (refl, subst (λ (l : List E). IsPrefix me.0.note l) (sym here) mine.1),
+        (
+          refl,
+          subst (λ (l : List E). IsPrefix me.0.note l) (sym here) mine.1,
+          subst (λ (l : List E). AreApart (length l) me.0.own) (sym here)
+              (one_apart (length m) s.views id me.0 at kept.3),
+        ),
       )
 
   -- the keeper adds entries
@@ -158,7 +179,8 @@ module _ {E : Type 0} where
       let mine = kept.2.all id me.0 at in
       let here : me.0.log ≡ m = (mine.2 keeper).1 in
       let n : List E = me.0.log ++ more in
-      let w : View E = keeper_view n [] in (
+      let w : View E =
+      keeper_view n [] me.0.own (me.0.fresh ++ numbered me.0.log more) in (
         w,
         keeps,
         tt,
@@ -168,6 +190,8 @@ module _ {E : Type 0} where
           turned m n s.views id me.0 w kept.2 at (sym keeper)
               (more, ap (λ (l : List E). l ++ more) (sym here))
               (λ k. absurd (off (sym k ∙ keeper))) (prefix_self n) (nothing n) (λ _. refl),
+          raised_shared me.0.log more s.views id me.0 at
+              (subst (λ (l : List E). AreShared (length l) s.views) (sym here) kept.3),
         ),
         (refl, subst (λ (l : List E). IsPrefix me.0.note l) (sym here) mine.1),
       )
@@ -178,12 +202,29 @@ module _ {E : Type 0} where
       let m = kept.0 in
       let mine = kept.2.all id v at in
       let same = turned m m s.views id v v kept.2 at refl (prefix_self m) (λ _. refl) mine.0 mine.1
-      (λ k. (mine.2 k).1) in
-      (m, kept.1, added m (set s.views id v) (note_of v) same refl mine.0 (nothing m))
+      (λ k. (mine.2 k).1) in (
+        m,
+        kept.1,
+        added m (set s.views id v) (note_of v) same refl mine.0 (nothing m),
+        added_shared (length m) s.views id v v (note_of v) at (λ k. omega arith) kept.3,
+      )
+
+  -- and one that has its new number
+  pub hands : (id : ℕ) (v : View E) → Splits KeepsRule id v (handed v) (hand_of v)
+  hands id v s kept at =
+      let m = kept.0 in
+      let mine = kept.2.all id v at in
+      let same = turned m m s.views id v (handed v) kept.2 at refl (prefix_self m) (λ _. refl)
+      mine.0 mine.1 (λ k. (mine.2 k).1) in (
+        m,
+        kept.1,
+        added m (set s.views id (handed v)) (hand_of v) same refl mine.0 (nothing m),
+        added_shared (length m) s.views id v (handed v) (hand_of v) at (λ k. omega arith) kept.3,
+      )
 
   -- a seat notes what another knows, and the other is spent
   pub notes : (id : ℕ) (v : View E) (other : ℕ) (w : View E) → w.keeps ≡ false
-      → Joins KeepsRule id v other w (noted v w) (reader_view [] [])
+      → Joins KeepsRule id v other w (noted v w) (reader_view [] [] [])
   notes id v other w plain s kept at apart there =
       let m = kept.0 in
       let mine = kept.2.all id v at in
@@ -196,7 +237,8 @@ module _ {E : Type 0} where
       mine.0 theirs (λ k. (mine.2 k).1) in (
         m,
         kept.1,
-        turned m m (set s.views id (noted v w)) other w (reader_view [] []) once there
+        turned m m (set s.views id (noted v w)) other w (reader_view [] [] []) once there
             (sym plain) (prefix_self m) (λ _. refl) (nothing m) (nothing m)
             (λ k. absurd (off (sym plain ∙ k))),
+        joined_shared (length m) s.views id v other w at there kept.3,
       )

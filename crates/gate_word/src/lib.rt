@@ -12,6 +12,6 @@ mod seats;
 mod steps;
 mod word;
 
-pub use rule::{Added, Compares, Notes, Raises, Rises, Takes, Tells, View};
+pub use rule::{Added, Compares, Hands, Notes, Raises, Rises, Takes, Tells, View};
 pub use seats::{Keeper, Reader};
 pub use word::{LogLength, SharedLogLength};

@@ -11,6 +11,10 @@ pub struct View<E> {
     pub log: LinkedList<E>,
     /// A beginning that was taken in from another seat, to compare it with the log.
     pub note: LinkedList<E>,
+    /// The numbers of the first entries of its raises, or of those of the readers that it took back.
+    pub own: LinkedList<u64>,
+    /// The number of a raise that no reader has yet.
+    pub fresh: LinkedList<u64>,
 }
 
 /// One view is the keeper's and has the whole log, each other has a beginning of it, and the word
@@ -23,7 +27,7 @@ impl<E> TableRule<u64, View<E>, ()> for Rises {
 
     ghost holds = { λ key s. Kept s.words s.views };
 
-    ghost first = { λ _. keeper_view [] [] };
+    ghost first = { λ _. keeper_view [] [] [] [] };
 }
 
 /// The entries that a raise adds. Each call of it picks them.
@@ -79,7 +83,18 @@ impl<E> Split<View<E>> for Tells {
     ghost right = { note_of };
 }
 
-/// A seat notes what another knows, which is spent.
+/// A new seat that knows what another does, and has its new number.
+pub struct Hands;
+
+impl<E> Split<View<E>> for Hands {
+    ghost use Rattle.gate_word.specs.Rule.{hand_of, handed};
+
+    ghost left = { handed };
+
+    ghost right = { hand_of };
+}
+
+/// A seat notes what another knows, which is spent, and has its numbers.
 pub struct Notes;
 
 impl<E> Join<View<E>> for Notes {
@@ -88,5 +103,5 @@ impl<E> Join<View<E>> for Notes {
 
     ghost both = { noted };
 
-    ghost spent = { reader_view [] [] };
+    ghost spent = { reader_view [] [] [] };
 }

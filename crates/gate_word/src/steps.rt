@@ -1,9 +1,10 @@
 // Each step over seats alone.
 ghost use Rattle.std.specs.Prelude.{◌≡◌, ◌++◌, [], true, length};
 ghost use mathlib.Core.List.{IsPrefix};
-ghost use Rattle.gate_word.specs.Rule.{keeper_view, reader_view, longer, noted};
+ghost use Rattle.gate_word.specs.Rule.{handed, keeper_view, reader_view, longer, noted};
+ghost use Rattle.gate_word.specs.Seats.{AreApart, numbered};
 
-use crate::rule::{Added, Compares, Notes, Raises, Rises, Takes, Tells, View};
+use crate::rule::{Added, Compares, Hands, Notes, Raises, Rises, Takes, Tells, View};
 use atomic_table::Table;
 use std::alloc::Global;
 
@@ -21,9 +22,22 @@ pub(crate) fn told_by<E>(shared: &Shared<E>, seat: &mut Seat<E>) -> Seat<E>
     ensures table { seat.new.table_id ≡ seat.old.table_id }
     ensures same { seat.new.me ≡ seat.old.me }
     ensures told_table { result.table_id ≡ seat.old.table_id }
-    ensures told { result.me ≡ (reader_view seat.old.me.0.log [], []) }
+    ensures told { result.me ≡ (reader_view seat.old.me.0.log [] [], []) }
 {
     shared.split_seat::<Tells>(seat)
+}
+
+/// A new seat that knows what this one does, and has its new number.
+#[inline(always)]
+pub(crate) fn handed_by<E>(shared: &Shared<E>, seat: &mut Seat<E>) -> Seat<E>
+    requires table { seat.old.table_id ≡ shared.now.table_id }
+    requires word { shared.now.table_id.words ≡ 1 }
+    ensures table { seat.new.table_id ≡ seat.old.table_id }
+    ensures left { seat.new.me ≡ (handed seat.old.me.0, seat.old.me.1) }
+    ensures told_table { result.table_id ≡ seat.old.table_id }
+    ensures told { result.me ≡ (reader_view seat.old.me.0.log [] seat.old.me.0.fresh, []) }
+{
+    shared.split_seat::<Hands>(seat)
 }
 
 /// A seat notes what another knows, which is spent.
@@ -32,7 +46,7 @@ pub(crate) fn note<E>(shared: &Shared<E>, seat: &mut Seat<E>, other: Seat<E>)
     requires table { seat.old.table_id ≡ shared.now.table_id }
     requires other_table { other.table_id ≡ shared.now.table_id }
     requires word { shared.now.table_id.words ≡ 1 }
-    requires other { other.me ≡ (reader_view other.me.0.log [], []) }
+    requires other { other.me ≡ (reader_view other.me.0.log [] other.me.0.own, []) }
     ensures table { seat.new.table_id ≡ seat.old.table_id }
     ensures seat { seat.new.me ≡ (noted seat.old.me.0 other.me.0, seat.old.me.1) }
 {
@@ -45,10 +59,14 @@ pub(crate) fn learn<E>(shared: &Shared<E>, seat: &mut Seat<E>, other: Seat<E>)
     requires table { seat.old.table_id ≡ shared.now.table_id }
     requires other_table { other.table_id ≡ shared.now.table_id }
     requires word { shared.now.table_id.words ≡ 1 }
-    requires reader { seat.old.me ≡ (reader_view seat.old.me.0.log [], []) }
-    requires other { other.me ≡ (reader_view other.me.0.log [], []) }
+    requires reader { seat.old.me ≡ (reader_view seat.old.me.0.log [] seat.old.me.0.own, []) }
+    requires other { other.me ≡ (reader_view other.me.0.log [] other.me.0.own, []) }
     ensures table { seat.new.table_id ≡ seat.old.table_id }
-    ensures reader { seat.new.me ≡ (reader_view (longer seat.old.me.0.log other.me.0.log) [], []) }
+    ensures reader { seat.new.me ≡ (
+      reader_view (longer seat.old.me.0.log other.me.0.log) []
+          (seat.old.me.0.own ++ other.me.0.own),
+      [],
+    ) }
     ensures own { IsPrefix seat.old.me.0.log (longer seat.old.me.0.log other.me.0.log) }
     ensures told { IsPrefix other.me.0.log (longer seat.old.me.0.log other.me.0.log) }
 {
@@ -62,11 +80,18 @@ pub(crate) fn compare<E>(shared: &Shared<E>, keeper: &mut Seat<E>, other: Seat<E
     requires table { keeper.old.table_id ≡ shared.now.table_id }
     requires other_table { other.table_id ≡ shared.now.table_id }
     requires word { shared.now.table_id.words ≡ 1 }
-    requires keeper { keeper.old.me ≡ (keeper_view keeper.old.me.0.log [], []) }
-    requires other { other.me ≡ (reader_view other.me.0.log [], []) }
+    requires keeper { keeper.old.me
+        ≡ (keeper_view keeper.old.me.0.log [] keeper.old.me.0.own [], []) }
+    requires other { other.me ≡ (reader_view other.me.0.log [] other.me.0.own, []) }
     ensures table { keeper.new.table_id ≡ keeper.old.table_id }
-    ensures keeper { keeper.new.me ≡ (keeper_view keeper.old.me.0.log [], []) }
+    ensures keeper { keeper.new.me ≡ (
+      keeper_view keeper.old.me.0.log []
+          (keeper.old.me.0.own ++ other.me.0.own) [],
+      [],
+    ) }
     ensures begins { IsPrefix other.me.0.log keeper.old.me.0.log }
+    ensures apart { AreApart (length keeper.old.me.0.log)
+        (keeper.old.me.0.own ++ other.me.0.own) }
 {
     note(shared, keeper, other);
     shared.load::<Compares>(keeper, 0);
@@ -81,7 +106,11 @@ pub(crate) fn lift<E, G: Added<E>>(shared: &Shared<E>, keeper: &mut Seat<E>, nex
     requires alone { keeper.old.me.1 ≡ [] }
     requires next { next ≡ length (keeper.old.me.0.log ++ G.added) }
     ensures table { keeper.new.table_id ≡ keeper.old.table_id }
-    ensures keeper { keeper.new.me ≡ (keeper_view (keeper.old.me.0.log ++ G.added) [], []) }
+    ensures keeper { keeper.new.me ≡ (
+      keeper_view (keeper.old.me.0.log ++ G.added) []
+          keeper.old.me.0.own (keeper.old.me.0.fresh ++ numbered keeper.old.me.0.log G.added),
+      [],
+    ) }
     ensures noted { IsPrefix keeper.old.me.0.note keeper.old.me.0.log }
 {
     shared.store::<Raises<G>>(keeper, 0, next);

@@ -1,10 +1,11 @@
 // A log, and the calls of those who share it.
 ghost use Rattle.std.specs.Prelude.{◌≡◌, ◌⊎◌, ◌++◌, [], length};
 ghost use mathlib.Core.List.{IsPrefix};
+ghost use Rattle.gate_word.specs.Seats.{AreApart, numbered};
 
 use crate::rule::Added;
 use crate::seats::{Keeper, Reader};
-use crate::steps::{Seat, WordTable, compare, learn, lift, note, told_by};
+use crate::steps::{Seat, WordTable, compare, handed_by, learn, lift, note, told_by};
 use std::alloc::{AllocError, Global};
 use std::marker::Model;
 
@@ -26,7 +27,8 @@ impl<E> Model for LogLength<E> {
     ghost view = { λ w. w.table.shared.table_id };
 
     ghost invariant = { λ w. IsTable w.table.shared.table_id
-        × (w.seat.table_id ≡ w.table.shared.table_id) × (w.seat.me ≡ (keeper_view [] [], [])) };
+        × (w.seat.table_id ≡ w.table.shared.table_id)
+        × (w.seat.me ≡ (keeper_view [] [] [] [], [])) };
 }
 
 impl<E> LogLength<E> {
@@ -39,7 +41,7 @@ impl<E> LogLength<E> {
     /// The log that threads share, and its keeper.
     pub fn share(self) -> (SharedLogLength<E>, Keeper<E>)
         ensures shared { result.0 ≡ self }
-        ensures keeper { result.1 ≡ record { table = self; log = [] } }
+        ensures keeper { result.1 ≡ record { table = self; log = []; own = [] } }
     {
         let LogLength { table, seat } = self;
         (SharedLogLength { table }, Keeper { seat })
@@ -64,10 +66,11 @@ impl<E> Model for SharedLogLength<E> {
 }
 
 impl<E> SharedLogLength<E> {
-    /// A new reader, who knows the log as it stands.
+    /// A new reader, who knows the log as it stands, and has no number.
     pub fn reader(&self, keeper: &mut Keeper<E>) -> Reader<E>
         requires table { keeper.old.table ≡ self.now }
-        ensures reader { result ≡ keeper.old }
+        ensures reader { result
+            ≡ record { table = keeper.old.table; log = keeper.old.log; own = [] } }
         ensures same { keeper.new ≡ keeper.old }
     {
         let seat = told_by(&self.table.shared, &mut keeper.seat);
@@ -75,7 +78,7 @@ impl<E> SharedLogLength<E> {
     }
 
     /// Adds the picked entries, of which `about` tells. What the reader knew was a beginning of the
-    /// log before, and now it knows the log.
+    /// log before, and now it knows the log, and has the number of the first of them.
     #[inline(always)]
     pub fn raise<X, G: Added<E>>(
         &self,
@@ -87,17 +90,21 @@ impl<E> SharedLogLength<E> {
         requires table { keeper.old.table ≡ self.now }
         requires reader_table { reader.old.table ≡ self.now }
         requires next { next ≡ length (keeper.old.log ++ G.added) }
-        ensures keeper { keeper.new
-            ≡ record { table = keeper.old.table; log = keeper.old.log ++ G.added } }
+        ensures keeper { keeper.new ≡ record {
+          table = keeper.old.table;
+          log = keeper.old.log ++ G.added;
+          own = keeper.old.own;
+        } }
         ensures table { reader.new.table ≡ reader.old.table }
         ensures reader { reader.new.log ≡ keeper.new.log }
+        ensures own { reader.new.own ≡ reader.old.own ++ numbered keeper.old.log G.added }
         ensures before { IsPrefix reader.old.log keeper.old.log }
     {
         let shared = &self.table.shared;
         let told = told_by(shared, &mut reader.seat);
         note(shared, &mut keeper.seat, told);
         lift::<E, G>(shared, &mut keeper.seat, next);
-        let told = told_by(shared, &mut keeper.seat);
+        let told = handed_by(shared, &mut keeper.seat);
         learn(shared, &mut reader.seat, told);
     }
 
@@ -110,18 +117,25 @@ impl<E> SharedLogLength<E> {
         ensures told { IsPrefix other.old.log reader.new.log }
         ensures kept { IsPrefix reader.old.log reader.new.log }
         ensures one { (reader.new.log ≡ reader.old.log) ⊎ (reader.new.log ≡ other.old.log) }
+        ensures own { reader.new.own ≡ reader.old.own }
         ensures other { other.new ≡ other.old }
     {
         let told = told_by(&self.table.shared, &mut other.seat);
         learn(&self.table.shared, &mut reader.seat, told);
     }
 
-    /// Takes a reader back, which knew a beginning of the log.
+    /// Takes a reader back, which knew a beginning of the log, with its numbers: each is of an entry
+    /// of the log, and none is that of another reader which was taken back.
     pub fn take_back(&self, keeper: &mut Keeper<E>, reader: Reader<E>)
         requires table { keeper.old.table ≡ self.now }
         requires reader_table { reader.table ≡ self.now }
         ensures begins { IsPrefix reader.log keeper.old.log }
-        ensures same { keeper.new ≡ keeper.old }
+        ensures keeper { keeper.new ≡ record {
+          table = keeper.old.table;
+          log = keeper.old.log;
+          own = keeper.old.own ++ reader.own;
+        } }
+        ensures apart { AreApart (length keeper.old.log) (keeper.old.own ++ reader.own) }
     {
         let Reader { seat } = reader;
         compare(&self.table.shared, &mut keeper.seat, seat);

@@ -7,9 +7,9 @@ pub returns-clause-reader : goal.returns-clause-reader
 returns-clause-reader g c =
     let noted = c.note.new.seat.me.0 in
     let before = c.told_by-told.new.seat.me.0.log in
-    let after = c.told_by-told-2.result.me.0.log in
+    let after = c.handed_by-told.result.me.0.log in
     let first = c.told_by-told.ensures in
-    let second = c.told_by-told-2.ensures in
+    let second = c.handed_by-told.ensures in
     let took : noted.note ≡ before =
     ap (λ m. m.0.note) c.note.ensures.seat
     ∙ (ap (λ m. m.0.log) first.told ∙ sym (ap (λ m. m.0.log) first.same)) in
@@ -20,4 +20,4 @@ returns-clause-reader g c =
     (subst (λ l. IsPrefix l noted.log) took c.lift.ensures.noted) (g.G.Added.added, refl)) in
     ap (λ m. m.0.log) c.learn.ensures.reader
     ∙ (longer_whole before after begins
-    ∙ (ap (λ m. m.0.log) second.told ∙ sym (ap (λ m. m.0.log) second.same)))
+    ∙ (ap (λ m. m.0.log) second.told ∙ sym (ap (λ m. m.0.log) second.left)))
