@@ -10,7 +10,7 @@ use crate::pool::{ConnectionPool, ReadyConnection};
 use crate::watch::{BackendWatch, ConnectionEvent};
 use clocks::Clock;
 use std::alloc::Global;
-use std::io::{Read, Result, Write};
+use std::io::{Read, Result};
 use std::net::{Net, OpenStream, SocketAddr, SocketAddrV4, TcpStream};
 use std::os::fd::AsRawFd;
 use std::sync::{Arc, Wait};
@@ -24,19 +24,23 @@ const UNTAKEN_MS: u64 = 5_000;
 /// What has connections to one address, new ones and those that were put back, and counts how often
 /// it was asked for one. A backend has no other way to one.
 pub trait Connector {
-    /// A connection, which is closed where its value ends.
-    type Stream: Read + Write + OpenStream + AsRawFd + Drop;
+    /// A connection, which is closed where its value ends. It is written to by its end alone.
+    type Stream: Read + OpenStream + AsRawFd + Drop;
 
-    /// Where it is written to.
-    type End: RequestOutlet<Self::Stream> + Drop;
+    /// Where it is written to. Each comes back, since nobody else can drop it.
+    type End: RequestOutlet<Self::Stream>;
 
-    ghost use Rattle.std.specs.Prelude.{ℕ, List};
+    ghost use Rattle.std.specs.Prelude.{ℕ, List, Option};
+    ghost use Rattle.tcp_backend.specs.Ends.{Gathers, IsFresh, end_kept};
 
     // How often it was asked to connect.
     ghost connects: { Self → ℕ };
 
     // The text of the address that it connects to.
     ghost reaches: { Self → List ℕ };
+
+    // All bytes that were written to the ends which came back, where they are shown.
+    ghost written: { Self → Option (List ℕ) };
 
     /// A connection for one request: one that was put back here and waits in silence, or else a new
     /// one; or why none can be had within this time.
@@ -48,7 +52,10 @@ pub trait Connector {
     ) -> Result<(Self::Stream, Self::End)>
         ensures connects { connects self.new ≡ raised (connects self.old) }
         ensures reaches { reaches self.new ≡ reaches self.old }
-        ensures dialed { IfOk result (λ made. Self.End.dialed made.1 ≡ reaches self.old) };
+        ensures dialed { IfOk result (λ made. Self.End.dialed made.1 ≡ reaches self.old) }
+        ensures fresh { IfOk result (λ made.
+            IsFresh (written self.old) (Self.End.contents made.1)) }
+        ensures written { written self.new ≡ written self.old };
 
     /// Whether connections are kept behind their requests, which then don't say that these end.
     fn keeps(&self) -> bool;
@@ -61,7 +68,15 @@ pub trait Connector {
         connection: ReadyConnection<Self::Stream, Self::End>,
     )
         ensures connects { connects self.new ≡ connects self.old }
-        ensures reaches { reaches self.new ≡ reaches self.old };
+        ensures reaches { reaches self.new ≡ reaches self.old }
+        ensures written { Gathers (written self.old)
+            (Self.End.contents (end_kept connection)) (written self.new) };
+
+    /// Takes the end of a connection back that carries no further request.
+    fn release(&mut self, end: Self::End)
+        ensures connects { connects self.new ≡ connects self.old }
+        ensures reaches { reaches self.new ≡ reaches self.old }
+        ensures written { Gathers (written self.old) (Self.End.contents end) (written self.new) };
 
     /// The address that it connects to.
     fn address(&self) -> SocketAddrV4
@@ -131,11 +146,14 @@ impl<R: Net + Wait> Connector for Dialer<R, R::Stream> {
 
     type End = OpaqueEnd;
 
+    ghost use Rattle.std.specs.Prelude.{None};
     ghost use Rattle.tcp_backend.specs.Connecting.{address_of, dialed_of};
 
     ghost connects = { dialed_of };
 
     ghost reaches = { address_of };
+
+    ghost written = { λ _. None };
 
     fn connect<C: Clock, W: BackendWatch>(
         &mut self,
@@ -173,6 +191,8 @@ impl<R: Net + Wait> Connector for Dialer<R, R::Stream> {
             None => watch.connection(ConnectionEvent::Closed),
         }
     }
+
+    fn release(&mut self, _end: OpaqueEnd) {}
 
     fn address(&self) -> SocketAddrV4 {
         self.address
