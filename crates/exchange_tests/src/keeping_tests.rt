@@ -129,8 +129,8 @@ fn whoever_can_tell_where_its_answer_ends_is_kept(rt: HostRuntime) {
     let mut refused = Case::new(GET, SETTINGS);
     refused.is_full = true;
     assert!(rt; is_kept(&rt, rt.alloc(), refused));
-    let unsized = Case::new(GET, SETTINGS);
-    assert!(rt; is_closed(&rt, rt.alloc(), unsized));
+    let endless = Case::new(GET, SETTINGS);
+    assert!(rt; is_closed(&rt, rt.alloc(), endless));
 }
 
 #[test]

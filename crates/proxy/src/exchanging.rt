@@ -163,7 +163,8 @@ fn unread<W: Write>(
     ensures drained { result.is_drained ≡ is_drained }
     ensures persistence { result.persistence ≡ Close }
     ensures text { result.written_fault ≡ None → Wrote W.contents writer.old writer.new
-        (own_or_nothing Close (if_marked marks (Some (fault_mark fault))) (fault_status fault)) }
+        (own_or_nothing result.persistence (if_marked marks (Some (fault_mark fault)))
+        (fault_status fault)) }
     ensures flushed { result.written_fault ≡ None → is_some result.answer ≡ true
         → is_flushed writer.new ≡ true }
     ensures unfailing { result.written_fault ≡ None →
