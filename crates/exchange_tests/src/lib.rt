@@ -16,6 +16,8 @@ mod devices;
 #[cfg(test)]
 mod exchanged;
 #[cfg(test)]
+mod keeping_tests;
+#[cfg(test)]
 mod load;
 #[cfg(test)]
 mod moment_tests;

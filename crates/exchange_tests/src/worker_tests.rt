@@ -1,7 +1,7 @@
 // Two workers at one gate, each of which serves one client in memory: one is admitted, and waits at
 // its backend until the other one is refused. What both are told is decided in one log, whose
 // counters are told at the end.
-ghost use Rattle.std.specs.Prelude.{◌≡◌, false, []};
+ghost use Rattle.std.specs.Prelude.{◌≡◌, Some, true, false, []};
 ghost use Rattle.counted_io.specs.Count.{raised};
 ghost use Rattle.limit_kinds.specs.AnyKinds.{any_rules};
 ghost use Rattle.gate_config.specs.Settings.{AreSound};
@@ -23,7 +23,7 @@ use limit_laws::Limit;
 use limiter_core::Counters;
 use message_parts::{Headers, Request};
 use ports::Port;
-use proxy::{ExchangeSummary, Verdict, exchange};
+use proxy::{ExchangePolicy, ExchangeSummary, Verdict, exchange};
 use shared_gate::{GateNaming, LogLength, Pass, SharedGate};
 use std::alloc::Global;
 use std::marker::Brand;
@@ -119,8 +119,9 @@ fn serve_by<L: Limit, M: GateNaming, R: Wait + SystemClock>(
     clock: &Ticking,
 ) -> Served<M>
     requires unused { pass.log ≡ [] }
-    ensures { IsServed (record { settings = settings.now; marks = false }) result.told
-        result.pass.log }
+    ensures { IsServed
+        (record { settings = settings.now; marks = false; keeps = Some true })
+        result.told result.pass.log }
 {
     let mut port = Port::new(rt, gate, pass, clock);
     let mut backend = Patient {
@@ -141,12 +142,16 @@ fn serve_by<L: Limit, M: GateNaming, R: Wait + SystemClock>(
         taken: 0,
         first: [0; KEPT],
     };
+    let policy = ExchangePolicy {
+        marks: false,
+        keeper: &true,
+    };
     let served = exchange(
         alloc,
         &mut port,
         &mut backend,
         settings,
-        false,
+        &policy,
         &mut MonotonicClock::new(clock),
         &mut Counted::new(&mut source),
         &mut Counted::new(&mut sink),

@@ -56,7 +56,7 @@ module _ {L C S W : Type 0} (R T V M : Type 0) (gives : S → Settings → Type 
   ran_to : (pass : Pass) (ended : End) → pass.log ≡ [] → Ran (port_of pass) ended
       → RanTo (pass_in ended)
   ran_to pass ended empty did = record {
-    policy = record { settings = did.settings; marks = common.marks };
+    policy = record { settings = did.settings; marks = common.marks; keeps = Some false };
     is_given = (did.are_given, refl);
     given = given_of ended.door;
     failed = failed_of ended.door;
@@ -65,7 +65,7 @@ module _ {L C S W : Type 0} (R T V M : Type 0) (gives : S → Settings → Type 
     tally = ended.tally;
     run =
         subst (λ (log : List Entry). IsRun
-        (record { settings = did.settings; marks = common.marks }) (came common.listener.now)
+        (record { settings = did.settings; marks = common.marks; keeps = Some false }) (came common.listener.now)
         common.per_worker (stood_at 0 0 false 0 log)
         (stood_at (given_of ended.door) (failed_of ended.door) (is_closed ended.door)
         (count_of ended.backend) ended.port.pass.log) ended.tally) empty did.run;

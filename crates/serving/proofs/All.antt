@@ -183,7 +183,7 @@ module _ {R T L C S W V P : Type 0} (gives : S → Settings → Type 0) (lacks :
       → Begins common.listener.now common.backend_timeout_ns address port worker
       → Did worker ended → HasRun gives came shown known common port ended
   ran port worker ended begins did =
-      let p : Policy = record { settings = did.settings; marks = common.marks } in
+      let p : Policy = record { settings = did.settings; marks = common.marks; keeps = Some false } in
       let most = common.per_worker in
       let given = given_of worker.door in
       let failed = failed_of worker.door in

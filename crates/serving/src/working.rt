@@ -1,5 +1,5 @@
 // What one worker does.
-ghost use Rattle.std.specs.Prelude.{◌≡◌, ◌≤◌, ◌+◌, false, IfOk, OnErr};
+ghost use Rattle.std.specs.Prelude.{◌≡◌, ◌≤◌, ◌+◌, Some, false, IfOk, OnErr};
 ghost use Rattle.counted_io.specs.Count.{count_end};
 ghost use Rattle.gate_config.specs.declared.settings.Settings.{Settings as SettingsValue};
 ghost use Rattle.serving.specs.Served.{IsServed};
@@ -10,7 +10,7 @@ use crate::doors::Accepts;
 use clocks::{Clock, MonotonicClock};
 use gate_config::Settings;
 use gate_port::GatePort;
-use proxy::{Exchange, Watch, exchange};
+use proxy::{Exchange, ExchangePolicy, Watch, exchange};
 use std::alloc::{AllocError, Global};
 use std::thread;
 use std::time::{Clock as SystemClock, Duration};
@@ -105,7 +105,11 @@ where
     S: Source,
     W: Watch,
     requires settings { S.gives common.now.source.now settings.now }
-    ensures run { IsRun (record { settings = settings.now; marks = common.now.marks })
+    ensures run { IsRun (record {
+          settings = settings.now;
+          marks = common.now.marks;
+          keeps = Some false;
+        })
         (A.came door.old) common.now.per_worker
         (record {
           given = A.given door.old;
@@ -191,7 +195,11 @@ where
     B: Backend,
     C: Clock,
     W: Watch,
-    ensures { IsServed (record { settings = settings.now; marks = common.now.marks })
+    ensures { IsServed (record {
+          settings = settings.now;
+          marks = common.now.marks;
+          keeps = Some false;
+        })
         (I.remaining (from_of client.ends))
         (O.contents (to_of client.ends)) (O.contents (to_of result.0.ends))
         (record {
@@ -238,7 +246,11 @@ where
     B: Backend,
     C: Clock,
     A: Patience,
-    ensures { IsServed (record { settings = settings.now; marks = common.now.marks })
+    ensures { IsServed (record {
+          settings = settings.now;
+          marks = common.now.marks;
+          keeps = Some false;
+        })
         (I.remaining (from_of ends)) (O.contents (to_of ends))
         (O.contents (to_of result.0))
         (record {
@@ -265,12 +277,17 @@ where
         mut writer,
     } = client;
     let mut looks = MonotonicClock::new(common.clock);
+    let keeps = false;
+    let policy = ExchangePolicy {
+        marks: common.marks,
+        keeper: &keeps,
+    };
     let served = exchange(
         common.alloc,
         port,
         backend,
         settings,
-        common.marks,
+        &policy,
         &mut looks,
         &mut reader,
         &mut writer,

@@ -5,7 +5,7 @@ use Rattle.serving.proofs.working.work.Given as goal
 -- so many turns so far
 abbrev pub invariant-loop : goal.invariant-loop
 invariant-loop g l = record {
-  took : Took (record { settings = l.settings; marks = l.common.marks })
+  took : Took (record { settings = l.settings; marks = l.common.marks; keeps = Some false })
       (g.A.Accepts.came l.fn.door) l.counter
       (record {
         given = g.A.Accepts.given l.fn.door;
