@@ -3,6 +3,7 @@ ghost use Rattle.std.specs.Prelude.{◌≡◌, ◌≤◌, None, Some, option_map
 ghost use Rattle.counted_io.specs.Causes.{IsWriteCause};
 ghost use Rattle.counted_io.specs.Counted.{failures_of, is_flushed};
 ghost use Rattle.counted_io.specs.Effects.{Wrote};
+ghost use Rattle.message_text.specs.Fronts.{WroteFront};
 ghost use Rattle.proxy.specs.Table.{backend_mark, fault_mark, fault_status, if_marked, is_own, mark_of};
 ghost use Rattle.proxy.specs.Table.{own_text, refusal_mark, reply_of, reply_status, reply_text};
 
@@ -125,6 +126,8 @@ pub(crate) fn write_own<W: Write>(
         (own_text persistence (option_map (λ mark. mark.now) mark.entry) status)) }
     ensures flushed { OnOk result (is_flushed writer.new ≡ true) }
     ensures unfailing { OnOk result (failures_of writer.new ≡ failures_of writer.old) }
+    ensures front { OnErr result (WroteFront W.contents writer.old writer.new
+        (own_text persistence (option_map (λ mark. mark.now) mark.entry) status)) }
     ensures failed { OnErr result (IsWriteCause writer.old writer.new) }
 {
     match mark {
@@ -146,6 +149,8 @@ pub(crate) fn reply<W: Write>(
         (reply_text persistence (option_map (λ mark. mark.now) mark.entry) method.now answer.now) }
     ensures flushed { result ≡ None → is_flushed writer.new ≡ true }
     ensures unfailing { result ≡ None → failures_of writer.new ≡ failures_of writer.old }
+    ensures begun { IfSome result (λ fault. WroteFront W.contents writer.old writer.new
+        (reply_text persistence (option_map (λ mark. mark.now) mark.entry) method.now answer.now)) }
     ensures failed { IfSome result (λ fault.
         (fault ≡ WireFault.Write) × IsWriteCause writer.old writer.new) }
 {
@@ -168,6 +173,8 @@ fn write_reply<W: Write>(
         (reply_text persistence (option_map (λ mark. mark.now) mark.entry) method.now answer.now)) }
     ensures flushed { OnOk result (is_flushed writer.new ≡ true) }
     ensures unfailing { OnOk result (failures_of writer.new ≡ failures_of writer.old) }
+    ensures front { OnErr result (WroteFront W.contents writer.old writer.new
+        (reply_text persistence (option_map (λ mark. mark.now) mark.entry) method.now answer.now)) }
     ensures failed { OnErr result (IsWriteCause writer.old writer.new) }
 {
     match reply_of(answer) {
