@@ -76,7 +76,6 @@ impl<E> SharedLogLength<E> {
 
     /// Adds the picked entries, of which `about` tells. What the reader knew was a beginning of the
     /// log before, and now it knows the log.
-    #[inline(always)]
     pub fn raise<X, G: Added<E>>(
         &self,
         keeper: &mut Keeper<E>,
