@@ -127,6 +127,7 @@ limit learns from it:
   the backend answered 429, 503 or 504                          that answer       dropped
   the backend answered another status from 500 to 999           that answer       ignored
   the backend's answer is unreadable, cut off or above 8 MiB    502               dropped
+  the backend ends a kept connection under a later request      no answer         dropped
   the backend can't be reached                                  502               ignored
   the backend took longer than --backend-timeout-ms             504               dropped
   out of memory                                                 500               ignored
