@@ -1,4 +1,5 @@
 // Clients over TCP.
+use crate::client_counts::ClientConnections;
 use crate::client_ends::ClientEnds;
 use crate::ends::OpaqueEnd;
 use crate::keeping::{ask_after, end_untaken, send_at_once};
@@ -11,8 +12,8 @@ use std::alloc::Global;
 use std::io::{Error, ErrorKind, Result};
 use std::net::{Net, SocketAddr, TcpListener, TcpStream};
 use std::os::fd::{AsFd, AsRawFd, RawFd};
-use std::sync::Wait;
-use std::sync::atomic::{AtomicBool, Ordering};
+use std::sync::atomic::{AtomicBool, AtomicU64, Ordering};
+use std::sync::{Mutex, Wait};
 use std::thread;
 use std::time::{Clock, Duration};
 
@@ -26,15 +27,27 @@ const OPEN_TO_ALL_MS: u64 = 500;
 /// For how long it waits for one who came and hasn't sent anything yet, in milliseconds.
 const NEWCOMER_MS: u64 = 500;
 
+/// How many are accepted before somebody is served.
+const MOST_AT_ONCE: u32 = 64;
+
 /// Clients over TCP. Where it has places, those who have sent nothing wait there, and are given to
-/// nobody before they have sent something, or have left.
+/// nobody before they have sent something, or have left; and those who are kept, until they send
+/// their next request.
 #[derive(Drop)]
 pub struct BoundListener<'r, R> {
     rt: &'r R,
     listener: TcpListener,
     room: Room<'r, R>,
+    // How many were told of the listener since one of them began to accept.
+    told: AtomicU64,
+    // One who was accepted, but can't wait, while somebody else was to be served.
+    unseated: Mutex<Option<TcpStream>>,
     open: AtomicBool,
+    has_places: AtomicBool,
 }
+
+/// A client over TCP.
+type Arrival = AcceptedClient<TcpStream, OpaqueEnd, OpaqueEnd>;
 
 impl<'r, R: Net + Wait + Clock> BoundListener<'r, R> {
     /// Binds the address; the fault is the system's, mostly that another program has it. As many
@@ -52,29 +65,80 @@ impl<'r, R: Net + Wait + Clock> BoundListener<'r, R> {
             rt,
             listener,
             room,
+            told: AtomicU64::new(0),
+            unseated: Mutex::new(None),
             open: AtomicBool::new(true),
+            has_places: AtomicBool::new(false),
         })
     }
 
     // The next event, and the client that comes of it.
-    fn next(&self) -> Result<Option<TcpStream>> {
-        match self.room.wait() {
-            Came::Nothing => Ok(None),
-            Came::Client(client) => Ok(Some(client)),
-            Came::Connection => self.welcome(),
+    fn await_event(&self) -> Result<Option<Arrival>> {
+        let (came, is_kept) = match self.room.wait() {
+            Came::Nothing => (self.unseated.lock(self.rt).take(), false),
+            Came::New(stream) => (Some(stream), false),
+            Came::Kept(stream) => (Some(stream), true),
+            Came::Connection => (self.welcome()?, false),
+        };
+        match came {
+            Some(stream) => Ok(Some(arrival_of(stream, is_kept))),
+            None => Ok(None),
         }
     }
 
-    // Accepts a connection, and has the next one be told of to whoever waits; none came where
-    // another one was quicker.
+    // Accepts those who have come, as far as places are free, and one in any case. The first one
+    // who has sent something is served now, and all others wait in the room: with one accept for
+    // each event, a new client would wait for all who are busy once for each who came before it.
+    // One at a time accepts; who is told meanwhile leaves it to that one, who looks again.
     fn welcome(&self) -> Result<Option<TcpStream>> {
-        let accepted = self.listener.accept();
-        self.room.watch_listener(&self.listener)?;
-        match accepted {
-            Ok((client, _)) => Ok(self.room.admit(client)),
-            Err(fault) if fault.kind() == ErrorKind::WouldBlock => Ok(None),
-            Err(fault) => Err(fault),
+        if self.told.fetch_add(1, Ordering::SeqCst) > 0 {
+            return Ok(None);
         }
+        let mut first = self.unseated.lock(self.rt).take();
+        for _ in 0..MOST_AT_ONCE {
+            let client = match self.listener.accept() {
+                Ok((client, _)) => client,
+                Err(fault) if fault.kind() == ErrorKind::WouldBlock => {
+                    return self.end_welcome(first, None, false);
+                }
+                Err(fault) => return self.end_welcome(first, Some(fault), true),
+            };
+            if let Some(client) = self.room.admit(client, first.is_none()) {
+                if first.is_some() {
+                    *self.unseated.lock(self.rt) = Some(client);
+                    break;
+                }
+                first = Some(client);
+            }
+            if !self.room.has_place() {
+                break;
+            }
+        }
+        self.end_welcome(first, None, true)
+    }
+
+    // Has those be told of who may still lie at the listener, which they may also where another one
+    // was told meanwhile; and gives who is served now, or else the fault that there was.
+    fn end_welcome(
+        &self,
+        first: Option<TcpStream>,
+        fault: Option<Error>,
+        may_lie: bool,
+    ) -> Result<Option<TcpStream>> {
+        let told = self.told.swap(0, Ordering::SeqCst);
+        let watched = if may_lie || told > 1 {
+            self.room.watch_listener(&self.listener)
+        } else {
+            Ok(())
+        };
+        if first.is_some() {
+            return Ok(first);
+        }
+        if let Some(fault) = fault {
+            return Err(fault);
+        }
+        watched?;
+        Ok(None)
     }
 
     // Whether a connection waits to be accepted, or somebody who was accepted waits to be served,
@@ -82,6 +146,7 @@ impl<'r, R: Net + Wait + Clock> BoundListener<'r, R> {
     fn has_waiting(&self) -> bool {
         has_waiting(self.listener.as_raw_fd())
             || has_waiting(self.room.as_raw_fd())
+            || self.unseated.lock(self.rt).is_some()
             || self.room.has_newcomer(Duration::from_millis(NEWCOMER_MS))
     }
 
@@ -117,19 +182,47 @@ impl<'r, R: Net + Wait + Clock> Listener for BoundListener<'r, R> {
 
     ghost closed = { λ _. ⊤ };
 
-    fn accept(&self) -> Result<AcceptedClient<TcpStream, OpaqueEnd, OpaqueEnd>> {
+    fn accept(&self) -> Result<Arrival> {
         for _ in self.rt.forever() {
-            if let Some(stream) = self.next()? {
-                return Ok(AcceptedClient {
-                    stream,
-                    ends: ClientEnds::new(OpaqueEnd::new(), OpaqueEnd::new()),
-                });
+            let client = self.next()?;
+            if !client.is_kept {
+                return Ok(client);
+            }
+            client.close();
+        }
+        Err(Error::from(ErrorKind::NotConnected))
+    }
+
+    fn next(&self) -> Result<Arrival> {
+        for _ in self.rt.forever() {
+            if let Some(client) = self.await_event()? {
+                return Ok(client);
             }
         }
         Err(Error::from(ErrorKind::NotConnected))
     }
 
+    fn keep(&self, client: Arrival) {
+        let AcceptedClient {
+            stream,
+            is_kept: _,
+            ends: _,
+        } = client;
+        if self.keeps() {
+            let _unseated = self.room.keep(stream);
+        }
+    }
+
+    fn keeps(&self) -> bool {
+        self.has_places.load(Ordering::SeqCst) && self.is_open()
+    }
+
+    fn connections(&self) -> ClientConnections {
+        self.room.connections()
+    }
+
     fn offer_places(&self, alloc: Global, places: Places) {
+        self.has_places.store(places.count > 0, Ordering::SeqCst);
         self.room.offer(alloc, places);
     }
 
@@ -156,6 +249,15 @@ impl<'r, R: Net + Wait + Clock> Listener for BoundListener<'r, R> {
             shutdown(file, SHUT_RD);
             self.room.close();
         }
+    }
+}
+
+/// A client, whom nobody serves yet; whether it was served before.
+fn arrival_of(stream: TcpStream, is_kept: bool) -> Arrival {
+    AcceptedClient {
+        stream,
+        is_kept,
+        ends: ClientEnds::new(OpaqueEnd::new(), OpaqueEnd::new()),
     }
 }
 
