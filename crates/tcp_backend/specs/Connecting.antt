@@ -1,5 +1,5 @@
 -- What a clause reads of a backend over TCP.
-use Rattle.std.specs.Prelude.{ℕ, List, Option}
+use Rattle.std.specs.Prelude.{ℕ, Bool, List, Option, is_some}
 use Rattle.std.specs.Net.Text.{socket_v4_text}
 use Rattle.tcp_backend.specs.declared.connecting.TcpBackend.{TcpBackend}
 use Rattle.tcp_backend.specs.declared.dialing.Dialer.{Dialer}
@@ -7,6 +7,10 @@ use Rattle.tcp_backend.specs.declared.dialing.Dialer.{Dialer}
 -- how often it was asked for a connection
 abbrev pub dialed_of : {R S : Type 0} → Dialer R S → ℕ
 dialed_of dialer = dialer.connects
+
+-- whether it keeps connections behind their requests
+abbrev pub has_pool : {R S : Type 0} → Dialer R S → Bool
+has_pool dialer = is_some dialer.pool
 
 -- the text of the address that it connects to
 abbrev pub address_of : {R S : Type 0} → Dialer R S → List ℕ

@@ -1,9 +1,9 @@
 // Reading an answer within the time of its call.
-ghost use Rattle.std.specs.Prelude.{◌≡◌, IsErr, None};
+ghost use Rattle.std.specs.Prelude.{◌≡◌, ◌||◌, false, IsErr, None};
 ghost use Rattle.std.specs.Io.{ReadsAtMost};
 ghost use Rattle.std.specs.Io.KnownBytes.{ReadConsumes};
 ghost use Rattle.tcp_backend.specs.CallTime.{IsLate, Stands, countdown_to, looked_at};
-ghost use Rattle.tcp_backend.specs.Reading.{reader_time};
+ghost use Rattle.tcp_backend.specs.Reading.{gives_bytes, is_heard, reader_time};
 
 use clocks::Clock;
 use std::io::{Error, ErrorKind, Read, Result};
@@ -22,6 +22,8 @@ pub(crate) struct AnswerRead<'c, S, C> {
     stream: S,
     time: Option<Countdown<'c, C>>,
     pause: Option<Duration>,
+    // Whether a read gave bytes.
+    is_heard: bool,
 }
 
 impl<'c, S, C> AnswerRead<'c, S, C> {
@@ -31,20 +33,30 @@ impl<'c, S, C> AnswerRead<'c, S, C> {
             stream,
             time: _,
             pause: _,
+            is_heard: _,
         } = self;
         stream
+    }
+
+    // Whether a byte of the answer came.
+    pub(crate) fn is_heard(&self) -> bool
+        ensures { result ≡ is_heard self.now }
+    {
+        self.is_heard
     }
 }
 
 impl<'c, S: Read + OpenStream + AsRawFd, C: Clock> AnswerRead<'c, S, C> {
     // A connection, and the time that is left for reading it.
     pub(crate) fn new(stream: S, time: Option<Countdown<'c, C>>) -> AnswerRead<'c, S, C>
-        ensures { reader_time result ≡ time.entry }
+        ensures time { reader_time result ≡ time.entry }
+        ensures unheard { is_heard result ≡ false }
     {
         AnswerRead {
             stream,
             time,
             pause: None,
+            is_heard: false,
         }
     }
 
@@ -60,7 +72,8 @@ impl<'c, S: Read + OpenStream + AsRawFd, C: Clock> AnswerRead<'c, S, C> {
 
     // From now on a read that waits for so long fails with `WouldBlock`, or none does so.
     pub(crate) fn pause_after(&mut self, pause: Option<Duration>) -> Result<()>
-        ensures { reader_time self.new ≡ reader_time self.old }
+        ensures time { reader_time self.new ≡ reader_time self.old }
+        ensures heard { is_heard self.new ≡ is_heard self.old }
     {
         self.pause = pause;
         self.stream.set_read_timeout(pause)
@@ -77,6 +90,7 @@ impl<'c, S: Read + OpenStream + AsRawFd, C: Clock> AnswerRead<'c, S, C> {
         ensures deadline { Stands (countdown_to (reader_time self.old))
             (countdown_to (reader_time self.new)) }
         ensures late { IsLate (reader_time self.new) → IsErr result }
+        ensures heard { is_heard self.new ≡ is_heard self.old }
     {
         let Some(time) = &mut self.time else {
             return self.stream.read(buf);
@@ -114,13 +128,27 @@ impl<'c, S: Read + OpenStream + AsRawFd, C: Clock> Read for AnswerRead<'c, S, C>
         ensures deadline { Stands (countdown_to (reader_time self.old))
             (countdown_to (reader_time self.new)) }
         ensures late { IsLate (reader_time self.new) → IsErr result }
+        ensures heard { is_heard self.new ≡ (is_heard self.old || gives_bytes result) }
     {
         for _ in 0..MOST_TURNS {
             match self.read_once(buf) {
                 Err(fault) if self.goes_on(&fault) => {}
-                outcome => return outcome,
+                outcome => {
+                    self.is_heard = self.is_heard || gives_bytes(&outcome);
+                    return outcome;
+                }
             }
         }
         Err(Error::new(ErrorKind::TimedOut, "nothing came"))
+    }
+}
+
+// Whether a read gave bytes: neither a fault nor the end.
+fn gives_bytes(outcome: &Result<usize>) -> bool
+    ensures { result ≡ gives_bytes outcome.now }
+{
+    match outcome {
+        Ok(count) => *count != 0,
+        Err(_) => false,
     }
 }

@@ -49,10 +49,12 @@ struct SentRequest<S, E> {
     behind: WriteBuffer,
 }
 
-/// What reading an answer leaves: the answer, and what the clock told when it was last read for.
+/// What reading an answer leaves: the answer, whether a byte of one came, and what the clock told
+/// when it was last read for.
 #[derive(Drop)]
 struct ReadAnswer<S> {
     answer: Result<Response, WireFault>,
+    is_heard: bool,
     looked: u64,
     stream: S,
     ahead: ReadBuffer,
@@ -67,6 +69,7 @@ impl<S> ReadAnswer<S> {
     {
         let ReadAnswer {
             answer,
+            is_heard,
             looked,
             stream,
             ahead,
@@ -74,6 +77,7 @@ impl<S> ReadAnswer<S> {
         Attempt {
             answer,
             is_sent,
+            is_heard,
             looked,
             stream,
             end,
@@ -161,6 +165,7 @@ fn read_answer<S: Read + OpenStream + AsRawFd, C: Clock>(
     let (reader, ahead) = reader.into_inner().into_parts();
     ReadAnswer {
         answer,
+        is_heard: reader.is_heard(),
         looked: reader.looked(),
         stream: reader.into_stream(),
         ahead,
@@ -187,6 +192,7 @@ fn read_early<S: Read + OpenStream + AsRawFd, C: Clock>(
     let reader = reader.into_inner();
     ReadAnswer {
         answer,
+        is_heard: reader.is_heard(),
         looked: reader.looked(),
         stream: reader.into_stream(),
         ahead,
@@ -213,15 +219,20 @@ pub(crate) fn read_on<S: Read + OpenStream + AsRawFd>(stream: &mut S) {
     }
 }
 
-// What becomes of a request that was sent over a connection, and whether the last look found the
-// call's time to be over.
-pub(crate) fn answer_of(asked: Result<Response, WireFault>, is_over: bool) -> BackendAnswer
-    ensures { result ≡ answer_of asked is_over }
+// What becomes of a request that was sent over a connection; whether the last look found the call's
+// time to be over, and whether the connection had been kept and no byte of an answer came.
+pub(crate) fn answer_of(
+    asked: Result<Response, WireFault>,
+    is_over: bool,
+    is_stale: bool,
+) -> BackendAnswer
+    ensures { result ≡ answer_of asked is_over is_stale }
 {
     match asked {
         Ok(response) => BackendAnswer::Answered(response),
         Err(WireFault::Memory) => BackendAnswer::Memory,
         Err(WireFault::Read | WireFault::Write) if is_over => BackendAnswer::Late,
+        Err(fault) if is_stale => BackendAnswer::Stale(fault),
         Err(fault) => BackendAnswer::Broken(fault),
     }
 }

@@ -6,13 +6,14 @@ use crate::call_buffers::CallBuffers;
 use crate::pool::ReadyConnection;
 use wire::{Persistence, Response, Reuse, WireFault};
 
-/// What came of a request over a connection, whether it was written whole, and what the clock told
-/// when the answer was last read for; and the connection, with its end and the buffers, as the call
-/// leaves them.
+/// What came of a request over a connection, whether it was written whole, whether a byte of an
+/// answer came, and what the clock told when the answer was last read for; and the connection, with
+/// its end and the buffers, as the call leaves them.
 #[derive(Drop)]
 pub(crate) struct Attempt<S, E> {
     pub(crate) answer: Result<Response, WireFault>,
     pub(crate) is_sent: bool,
+    pub(crate) is_heard: bool,
     pub(crate) looked: u64,
     pub(crate) stream: S,
     pub(crate) end: E,
@@ -34,6 +35,7 @@ pub(crate) enum Leftover<S, E> {
 #[derive(Drop)]
 pub(crate) struct Settled<S, E> {
     pub(crate) answer: Result<Response, WireFault>,
+    pub(crate) is_heard: bool,
     pub(crate) looked: u64,
     pub(crate) left: Leftover<S, E>,
     pub(crate) buffers: CallBuffers,
@@ -44,6 +46,7 @@ impl<S: Drop, E: Drop> Attempt<S, E> {
     // drained.
     pub(crate) fn settle(self, persistence: Persistence) -> Settled<S, E>
         ensures answer { result.answer ≡ self.answer }
+        ensures heard { result.is_heard ≡ self.is_heard }
         ensures looked { result.looked ≡ self.looked }
         ensures kept { is_kept result.left ≡ carries_on persistence self }
     {
@@ -52,6 +55,7 @@ impl<S: Drop, E: Drop> Attempt<S, E> {
         let Attempt {
             answer,
             is_sent: _,
+            is_heard,
             looked,
             stream,
             end,
@@ -66,6 +70,7 @@ impl<S: Drop, E: Drop> Attempt<S, E> {
         };
         Settled {
             answer,
+            is_heard,
             looked,
             left,
             buffers,

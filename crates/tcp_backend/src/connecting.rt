@@ -2,8 +2,10 @@
 ghost use Rattle.std.specs.Prelude.{◌≡◌, ◌⊎◌, IfOk, None, false};
 ghost use Rattle.std.specs.Net.Text.{socket_v4_text};
 ghost use Rattle.counted_io.specs.Count.{raised};
-ghost use Rattle.wire.specs.declared.answer.BackendAnswer.TheVariants.{Late, NotConnected};
-ghost use Rattle.tcp_backend.specs.CallTime.{call_deadline};
+ghost use Rattle.wire.specs.declared.answer.BackendAnswer.TheVariants.{Late, NotConnected, Stale};
+ghost use Rattle.wire.specs.declared.fault.WireFault.{WireFault};
+ghost use Rattle.tcp_backend.specs.Answers.{answer_of, is_stale};
+ghost use Rattle.tcp_backend.specs.CallTime.{call_deadline, is_over};
 ghost use Rattle.message_text.specs.declared.persistence.Persistence.TheVariants.{Close};
 ghost use Rattle.tcp_backend.specs.Connecting.{connector_of, host_of, limit_of};
 ghost use Rattle.tcp_backend.specs.Kept.{carries_on, is_kept};
@@ -12,7 +14,7 @@ use crate::asking::{Sending, answer_of, ask, read_on};
 use crate::attempt::{Attempt, Leftover, Settled};
 use crate::call_buffers::CallBuffers;
 use crate::call_time::{CallTime, connect_time};
-use crate::dialing::Connector;
+use crate::dialing::{Connected, Connector};
 use crate::watch::{BackendWatch, ConnectionEvent};
 use arrayvec::ArrayString;
 use clocks::Clock;
@@ -66,24 +68,31 @@ impl<S: Drop> Line<S> {
     }
 
     // Puts the buffers of a call back; what became of its request, which said so of its connection,
-    // and what is left of that. The end of it that was written is of no more use where it ends.
+    // that had been kept or was new; and what is left of that. The end of it that was written is of
+    // no more use where it ends.
     fn put_back<E: Drop, C: Clock>(
         &mut self,
         call: &CallTime<'_, C>,
         attempt: Attempt<S, E>,
         persistence: Persistence,
+        is_reused: bool,
     ) -> (BackendAnswer, Leftover<S, E>)
+        ensures answer { result.0 ≡ answer_of attempt.answer
+            (is_over (call_deadline call.now) attempt.looked) (is_stale is_reused attempt) }
         ensures unlimited { call_deadline call.now ≡ None → ¬ (result.0 ≡ Late) }
+        ensures fresh { is_reused ≡ false → (fault : WireFault) → ¬ (result.0 ≡ Stale fault) }
         ensures kept { is_kept result.1 ≡ carries_on persistence attempt }
     {
         let Settled {
             answer,
+            is_heard,
             looked,
             left,
             buffers,
         } = attempt.settle(persistence);
         self.buffers = Some(buffers);
-        (answer_of(answer, call.is_over(looked)), left)
+        let is_stale = is_reused && !is_heard;
+        (answer_of(answer, call.is_over(looked), is_stale), left)
     }
 }
 
@@ -133,19 +142,22 @@ impl<'c, K: Connector, W: BackendWatch, C: Clock> Backend for TcpBackend<'c, K, 
 
     ghost shown = { λ _. None };
 
-    /// Asks for a connection once, writes the request and reads one response. A connection that was
-    /// kept may have been closed by the backend meanwhile: then that is `Broken`, and the request
-    /// isn't sent again (RFC 9110, section 9.2.2). Where there is no connection, that
-    /// is `NotConnected`; each later fault is `Broken`, but out of memory is `Memory`; and where
-    /// the time of the call is over before, all that is `Late`. A response that says its own length
-    /// is read behind a write that failed or stands still, too: the backend may have answered
-    /// before it read the whole request. `NotConnected`, `Broken` and `Late` are told.
+    /// Asks for a connection once, writes the request and reads one response. Where there is no
+    /// connection, that is `NotConnected`; each later fault is `Broken`, but out of memory is
+    /// `Memory`; and where the time of the call is over before, all that is `Late`. A connection
+    /// that was kept may have been closed by the backend meanwhile: a fault over one is `Stale`
+    /// where no byte of an answer came, and the request isn't sent again (RFC 9110, section 9.2.2).
+    /// A response that says its own length is read behind a write that failed or stands still, too:
+    /// the backend may have answered before it read the whole request. `NotConnected`, `Broken`,
+    /// `Stale` and `Late` are told, and `Stale` as `Broken` is.
     fn forward(&mut self, request: &Request) -> BackendAnswer
         ensures count { K.connects (connector_of self.new)
             ≡ raised (K.connects (connector_of self.old)) }
         ensures reaches { K.reaches (connector_of self.new) ≡ K.reaches (connector_of self.old) }
         ensures limit { limit_of self.new ≡ limit_of self.old }
         ensures unlimited { limit_of self.old ≡ None → ¬ (result ≡ Late) }
+        ensures fresh { K.keeps (connector_of self.old) ≡ false
+            → (fault : WireFault) → ¬ (result ≡ Stale fault) }
     {
         forward_over(
             &mut self.connector,
@@ -186,11 +198,17 @@ fn forward_over<K: Connector, W: BackendWatch, C: Clock>(
     ensures once { K.connects connector.new ≡ raised (K.connects connector.old) }
     ensures reaches { K.reaches connector.new ≡ K.reaches connector.old }
     ensures unlimited { limit.now.most_ns ≡ None → ¬ (result ≡ Late) }
+    ensures fresh { K.keeps connector.old ≡ false
+        → (fault : WireFault) → ¬ (result ≡ Stale fault) }
 {
     line.answered = None;
     let call = CallTime::begin(limit.clock, limit.most_ns);
     let most = connect_time(limit.most_ns);
-    let (stream, end) = match connector.connect(limit.clock, watch, most) {
+    let Connected {
+        stream,
+        end,
+        is_reused,
+    } = match connector.connect(limit.clock, watch, most) {
         Ok(made) => made,
         Err(error) => return unconnected(&call, watch, &error),
     };
@@ -204,7 +222,7 @@ fn forward_over<K: Connector, W: BackendWatch, C: Clock>(
         persistence,
     };
     let attempt = ask(line.alloc, &call, stream, end, buffers, &sending);
-    let (answer, left) = line.put_back(&call, attempt, persistence);
+    let (answer, left) = line.put_back(&call, attempt, persistence, is_reused);
     tell(watch, &answer);
     match left {
         Leftover::Ready(connection) => connector.keep(limit.clock, watch, connection),
@@ -221,6 +239,7 @@ fn forward_over<K: Connector, W: BackendWatch, C: Clock>(
 fn tell<W: BackendWatch>(watch: &W, answer: &BackendAnswer) {
     match answer {
         BackendAnswer::Broken(fault) => watch.broken(*fault),
+        BackendAnswer::Stale(fault) => watch.broken(*fault),
         BackendAnswer::Late => watch.late(),
         BackendAnswer::Answered(_) | BackendAnswer::NotConnected | BackendAnswer::Memory => {}
     }

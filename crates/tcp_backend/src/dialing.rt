@@ -1,8 +1,8 @@
 // Where connections to a backend come from.
-ghost use Rattle.std.specs.Prelude.{◌≡◌, IfOk, IfSome};
+ghost use Rattle.std.specs.Prelude.{◌≡◌, false, true, IfOk, IfSome};
 ghost use Rattle.counted_io.specs.Count.{raised};
 ghost use Rattle.std.specs.Net.Text.{socket_v4_text};
-ghost use Rattle.tcp_backend.specs.Connecting.{address_of, dialed_of};
+ghost use Rattle.tcp_backend.specs.Connecting.{address_of, dialed_of, has_pool};
 ghost use Rattle.tcp_backend.specs.Kept.{dialed_at};
 
 use crate::ends::{OpaqueEnd, RequestOutlet};
@@ -21,6 +21,15 @@ use timed_io::{ask_after, end_untaken};
 /// the connection.
 const UNTAKEN_MS: u64 = 5_000;
 
+/// A connection for one request, where it is written to, and whether it was kept behind another
+/// request.
+#[derive(Drop)]
+pub struct Connected<S, E> {
+    pub(crate) stream: S,
+    pub(crate) end: E,
+    pub(crate) is_reused: bool,
+}
+
 /// What has connections to one address, new ones and those that were put back, and counts how often
 /// it was asked for one. A backend has no other way to one.
 pub trait Connector {
@@ -30,13 +39,16 @@ pub trait Connector {
     /// Where it is written to.
     type End: RequestOutlet<Self::Stream> + Drop;
 
-    ghost use Rattle.std.specs.Prelude.{ℕ, List};
+    ghost use Rattle.std.specs.Prelude.{ℕ, Bool, List};
 
     // How often it was asked to connect.
     ghost connects: { Self → ℕ };
 
     // The text of the address that it connects to.
     ghost reaches: { Self → List ℕ };
+
+    // Whether connections are kept behind their requests.
+    ghost keeps: { Self → Bool };
 
     /// A connection for one request: one that was put back here and waits in silence, or else a new
     /// one; or why none can be had within this time.
@@ -45,13 +57,16 @@ pub trait Connector {
         clock: &C,
         watch: &W,
         most: Duration,
-    ) -> Result<(Self::Stream, Self::End)>
+    ) -> Result<Connected<Self::Stream, Self::End>>
         ensures connects { connects self.new ≡ raised (connects self.old) }
         ensures reaches { reaches self.new ≡ reaches self.old }
-        ensures dialed { IfOk result (λ made. Self.End.dialed made.1 ≡ reaches self.old) };
+        ensures keeps { keeps self.new ≡ keeps self.old }
+        ensures dialed { IfOk result (λ made. Self.End.dialed made.end ≡ reaches self.old) }
+        ensures fresh { IfOk result (λ made. keeps self.old ≡ false → made.is_reused ≡ false) };
 
     /// Whether connections are kept behind their requests, which then don't say that these end.
-    fn keeps(&self) -> bool;
+    fn keeps(&self) -> bool
+        ensures { result ≡ keeps self.now };
 
     /// Takes a connection back that may carry another request.
     fn keep<C: Clock, W: BackendWatch>(
@@ -61,7 +76,8 @@ pub trait Connector {
         connection: ReadyConnection<Self::Stream, Self::End>,
     )
         ensures connects { connects self.new ≡ connects self.old }
-        ensures reaches { reaches self.new ≡ reaches self.old };
+        ensures reaches { reaches self.new ≡ reaches self.old }
+        ensures keeps { keeps self.new ≡ keeps self.old };
 
     /// The address that it connects to.
     fn address(&self) -> SocketAddrV4
@@ -107,7 +123,8 @@ impl<R: Net + Wait> Dialer<R, R::Stream> {
         clock: &C,
         watch: &W,
     ) -> Option<ReadyConnection<R::Stream, OpaqueEnd>>
-        ensures { IfSome result (λ taken. dialed_at taken.end ≡ address_of self.now) }
+        ensures at { IfSome result (λ taken. dialed_at taken.end ≡ address_of self.now) }
+        ensures kept { IfSome result (λ _. has_pool self.now ≡ true) }
     {
         match &self.pool {
             Some(pool) => pool.take(&self.rt, watch, self.address, clock.now()),
@@ -131,28 +148,38 @@ impl<R: Net + Wait> Connector for Dialer<R, R::Stream> {
 
     type End = OpaqueEnd;
 
-    ghost use Rattle.tcp_backend.specs.Connecting.{address_of, dialed_of};
+    ghost use Rattle.tcp_backend.specs.Connecting.{address_of, dialed_of, has_pool};
 
     ghost connects = { dialed_of };
 
     ghost reaches = { address_of };
+
+    ghost keeps = { has_pool };
 
     fn connect<C: Clock, W: BackendWatch>(
         &mut self,
         clock: &C,
         watch: &W,
         most: Duration,
-    ) -> Result<(R::Stream, OpaqueEnd)> {
+    ) -> Result<Connected<R::Stream, OpaqueEnd>> {
         self.connects = self.connects.saturating_add(1);
         if let Some(kept) = self.take_kept(clock, watch) {
-            return Ok((kept.stream, kept.end));
+            return Ok(Connected {
+                stream: kept.stream,
+                end: kept.end,
+                is_reused: true,
+            });
         }
         let stream = self.dial(most)?;
         watch.connection(ConnectionEvent::Opened);
         let end = OpaqueEnd {
             address: self.address,
         };
-        Ok((stream, end))
+        Ok(Connected {
+            stream,
+            end,
+            is_reused: false,
+        })
     }
 
     fn keeps(&self) -> bool {
@@ -167,6 +194,7 @@ impl<R: Net + Wait> Connector for Dialer<R, R::Stream> {
     )
         ensures connects { dialed_of self.new ≡ dialed_of self.old }
         ensures reaches { address_of self.new ≡ address_of self.old }
+        ensures keeps { has_pool self.new ≡ has_pool self.old }
     {
         match &self.pool {
             Some(pool) => pool.put_back(&self.rt, watch, connection, clock.now()),

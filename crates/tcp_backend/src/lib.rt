@@ -24,7 +24,7 @@ mod unanswered;
 mod watch;
 
 pub use connecting::{BackendFault, TcpBackend};
-pub use dialing::{Connector, Dialer};
+pub use dialing::{Connected, Connector, Dialer};
 pub use ends::{OpaqueEnd, RequestOutlet};
 pub use pool::{ConnectionPool, ReadyConnection};
 pub use watch::{BackendWatch, ConnectionEvent};

@@ -11,6 +11,9 @@ pub enum BackendAnswer {
     NotConnected,
     /// There was one, and then the request wasn't written or no response was read, for this cause.
     Broken(WireFault),
+    /// The same of one that had been kept, before a byte of a response came: the backend may have
+    /// ended it before the request was there.
+    Stale(WireFault),
     /// The time for the whole call was over before a response was read whole.
     Late,
     /// A growth was refused.
