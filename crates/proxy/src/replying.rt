@@ -1,10 +1,12 @@
 // What the client gets.
 ghost use Rattle.std.specs.Prelude.{◌≡◌, ◌≤◌, None, Some, option_map, OnOk, OnErr, IfOk, IfErr, IfSome, true};
+ghost use Rattle.std.specs.Prelude.{is_some};
 ghost use Rattle.counted_io.specs.Causes.{IsWriteCause};
 ghost use Rattle.counted_io.specs.Counted.{failures_of, is_flushed};
 ghost use Rattle.counted_io.specs.Effects.{Wrote};
 ghost use Rattle.proxy.specs.Table.{backend_mark, fault_mark, fault_status, if_marked, is_own, mark_of};
-ghost use Rattle.proxy.specs.Table.{own_text, refusal_mark, reply_of, reply_status, reply_text};
+ghost use Rattle.proxy.specs.Table.{is_stale, is_unanswered, own_text, refusal_mark, reply_of};
+ghost use Rattle.proxy.specs.Table.{reply_status, reply_text, text_of};
 
 use crate::told::Verdict;
 use counted_io::{Counted, WriteFault};
@@ -17,7 +19,7 @@ use wire::{BackendAnswer, Response, WireFault, write_response};
 /// What the client gets of a backend that answered so or wasn't asked: the response, where it is
 /// passed on, or else the status of the gateway's own answer. A status below 200 is of no final
 /// response, and isn't passed on.
-fn reply_of(answer: &Option<BackendAnswer>) -> Result<&Response, u16>
+pub(crate) fn reply_of(answer: &Option<BackendAnswer>) -> Result<&Response, u16>
     ensures passed { IfOk result (λ response. reply_of answer.now ≡ Ok response.now) }
     ensures own { IfErr result (λ status. reply_of answer.now ≡ Err status) }
     ensures three_digits { IfErr result (λ status. (100 ≤ status) × (status ≤ 999)) }
@@ -32,27 +34,49 @@ fn reply_of(answer: &Option<BackendAnswer>) -> Result<&Response, u16>
         }
         Some(BackendAnswer::NotConnected) => Err(502),
         Some(BackendAnswer::Broken(_)) => Err(502),
+        Some(BackendAnswer::Stale(_)) => Err(502),
         Some(BackendAnswer::Late) => Err(504),
         Some(BackendAnswer::Memory) => Err(500),
         None => Err(429),
     }
 }
 
-/// The status of what the client gets.
-pub(crate) fn reply_status(answer: &Option<BackendAnswer>) -> u16
-    ensures { result ≡ reply_status answer.now }
+/// Whether the backend's connection was stale.
+fn is_stale(answer: &Option<BackendAnswer>) -> bool
+    ensures { result ≡ is_stale answer.now }
 {
+    match answer {
+        Some(BackendAnswer::Stale(_)) => true,
+        _ => false,
+    }
+}
+
+/// Whether the client gets no reply: on a later request of its connection, where the backend's was
+/// stale.
+pub(crate) fn is_unanswered(is_later: bool, answer: &Option<BackendAnswer>) -> bool
+    ensures { result ≡ is_unanswered is_later answer.now }
+{
+    is_later && is_stale(answer)
+}
+
+/// The status of what the client gets, where it gets a reply.
+pub(crate) fn reply_status(is_later: bool, answer: &Option<BackendAnswer>) -> Option<u16>
+    ensures { result ≡ reply_status is_later answer.now }
+{
+    if is_unanswered(is_later, answer) {
+        return None;
+    }
     match reply_of(answer) {
-        Ok(response) => response.status(),
-        Err(status) => status,
+        Ok(response) => Some(response.status()),
+        Err(status) => Some(status),
     }
 }
 
 /// Whether what the client gets is the gateway's own answer.
-pub(crate) fn is_own(answer: &Option<BackendAnswer>) -> bool
-    ensures { result ≡ is_own answer.now }
+pub(crate) fn is_own(is_later: bool, answer: &Option<BackendAnswer>) -> bool
+    ensures { result ≡ is_own is_later answer.now }
 {
-    reply_of(answer).is_err()
+    !is_unanswered(is_later, answer) && reply_of(answer).is_err()
 }
 
 /// The word of a refusal.
@@ -73,7 +97,7 @@ fn backend_mark(answer: &BackendAnswer) -> &'static str
     ensures { result.now ≡ backend_mark answer.now }
 {
     match answer {
-        BackendAnswer::Answered(_) | BackendAnswer::Broken(_) => "broken",
+        BackendAnswer::Answered(_) | BackendAnswer::Broken(_) | BackendAnswer::Stale(_) => "broken",
         BackendAnswer::NotConnected => "unreached",
         BackendAnswer::Late => "late",
         BackendAnswer::Memory => "memory",
@@ -112,41 +136,50 @@ pub(crate) fn fault_mark(marks: bool, fault: WireFault) -> Option<&'static str>
     }
 }
 
-/// Writes and flushes the gateway's own answer of a status, with this mark.
+/// Writes and flushes the gateway's own answer of a status, with this mark, to a client whose
+/// connection ends with it or goes on.
 pub(crate) fn write_own<W: Write>(
     writer: &mut Counted<W>,
     status: u16,
     mark: Option<&'static str>,
+    persistence: Persistence,
 ) -> Result<(), WriteFault>
     requires three_digits { (100 ≤ status) × (status ≤ 999) }
     ensures all { OnOk result (Wrote W.contents writer.old writer.new
-        (own_text (option_map (λ mark. mark.now) mark.entry) status)) }
+        (own_text persistence (option_map (λ mark. mark.now) mark.entry) status)) }
     ensures flushed { OnOk result (is_flushed writer.new ≡ true) }
     ensures unfailing { OnOk result (failures_of writer.new ≡ failures_of writer.old) }
     ensures failed { OnErr result (IsWriteCause writer.old writer.new) }
 {
     match mark {
-        Some(mark) => write_marked_answer(writer, status, mark, Persistence::Close),
-        None => write_local_answer(writer, status, Persistence::Close),
+        Some(mark) => write_marked_answer(writer, status, mark, persistence),
+        None => write_local_answer(writer, status, persistence),
     }
 }
 
-/// Writes and flushes what the client gets, and tells a fault of writing. The gateway's own answer
-/// has this mark.
+/// Writes and flushes what the client gets on its first request or a later one, and tells a fault
+/// of writing. The gateway's own answer has this mark. Who gets no reply is written nothing.
 pub(crate) fn reply<W: Write>(
     writer: &mut Counted<W>,
+    is_later: bool,
     mark: Option<&'static str>,
+    persistence: Persistence,
     answer: &Option<BackendAnswer>,
     method: &Method,
 ) -> Option<WireFault>
     ensures all { result ≡ None → Wrote W.contents writer.old writer.new
-        (reply_text (option_map (λ mark. mark.now) mark.entry) method.now answer.now) }
-    ensures flushed { result ≡ None → is_flushed writer.new ≡ true }
+        (reply_text is_later persistence (option_map (λ mark. mark.now) mark.entry) method.now
+        answer.now) }
+    ensures flushed { result ≡ None → is_some (reply_status is_later answer.now) ≡ true
+        → is_flushed writer.new ≡ true }
     ensures unfailing { result ≡ None → failures_of writer.new ≡ failures_of writer.old }
     ensures failed { IfSome result (λ fault.
         (fault ≡ WireFault.Write) × IsWriteCause writer.old writer.new) }
 {
-    match write_reply(writer, mark, answer, method) {
+    if is_unanswered(is_later, answer) {
+        return None;
+    }
+    match write_reply(writer, mark, persistence, answer, method) {
         Ok(()) => None,
         Err(_) => Some(WireFault::Write),
     }
@@ -157,18 +190,20 @@ pub(crate) fn reply<W: Write>(
 fn write_reply<W: Write>(
     writer: &mut Counted<W>,
     mark: Option<&'static str>,
+    persistence: Persistence,
     answer: &Option<BackendAnswer>,
     method: &Method,
 ) -> Result<(), WriteFault>
     ensures all { OnOk result (Wrote W.contents writer.old writer.new
-        (reply_text (option_map (λ mark. mark.now) mark.entry) method.now answer.now)) }
+        (text_of persistence (option_map (λ mark. mark.now) mark.entry) method.now
+        (reply_of answer.now))) }
     ensures flushed { OnOk result (is_flushed writer.new ≡ true) }
     ensures unfailing { OnOk result (failures_of writer.new ≡ failures_of writer.old) }
     ensures failed { OnErr result (IsWriteCause writer.old writer.new) }
 {
     match reply_of(answer) {
-        Ok(response) => write_response(writer, response, method, Persistence::Close),
-        Err(status) => write_own(writer, status, mark),
+        Ok(response) => write_response(writer, response, method, persistence),
+        Err(status) => write_own(writer, status, mark, persistence),
     }
 }
 

@@ -42,6 +42,7 @@ fn outcome(answer: &BackendAnswer) -> Outcome
         BackendAnswer::Answered(response) => status_outcome(response.status()),
         BackendAnswer::NotConnected => Outcome::Ignored,
         BackendAnswer::Broken(_) => Outcome::Dropped,
+        BackendAnswer::Stale(_) => Outcome::Dropped,
         BackendAnswer::Late => Outcome::Dropped,
         BackendAnswer::Memory => Outcome::Ignored,
     }
