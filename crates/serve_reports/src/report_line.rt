@@ -3,7 +3,7 @@ ghost use Rattle.std.specs.Prelude.{◌≡◌, ◌++◌, ◌<◌, IfOk, OnOk, st
 ghost use Rattle.serve_reports.specs.Report.{acquires_text, answers_text, class_text, classes_text};
 ghost use Rattle.serve_reports.specs.Report.{connections_text};
 ghost use Rattle.serve_reports.specs.Report.{counters_text, outcomes_text, report_text, stands_text};
-ghost use Rattle.serve_reports.specs.Report.{waits_text, workers_text};
+ghost use Rattle.serve_reports.specs.Report.{unknown_text, waits_text, workers_text};
 
 use crate::connections::BackendConnections;
 use crate::tally::AnswerTally;
@@ -72,6 +72,14 @@ fn push_classes(
     push_class(text, report, table, 1)?;
     push_class(text, report, table, 2)?;
     push_class(text, report, table, 3)?;
+    push_unknown(text, report)
+}
+
+/// Adds the callers of no class.
+fn push_unknown(text: &mut String, report: &Report) -> Result<(), AllocError>
+    ensures { OnOk result (string_bytes text.new
+        ≡ string_bytes text.old ++ unknown_text report.now) }
+{
     let unknown = report.counts[4];
     write!(text, " class.unknown={unknown}")
 }
