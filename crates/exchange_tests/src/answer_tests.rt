@@ -1,4 +1,5 @@
 // What comes of each answer of a backend: what the client gets, and what the gate learns.
+use crate::checks::check;
 use crate::devices::{KEPT, Says};
 use crate::exchanged::{Came, Case, SETTINGS, exchanged};
 use limiter_core::Outcome;
@@ -72,7 +73,7 @@ fn came_so(came: &Came, first: &[u8; KEPT], status: u16, outcome: Outcome) -> bo
 fn each_answer_of_a_backend_is_told_to_its_client_and_the_gate(rt: HostRuntime) {
     for (says, first, status, outcome) in ANSWERS {
         let came = answered(&rt, rt.alloc(), says);
-        assert!(rt; came_so(&came, first, status, outcome));
+        check(&rt, came_so(&came, first, status, outcome));
     }
 }
 
@@ -80,6 +81,43 @@ fn each_answer_of_a_backend_is_told_to_its_client_and_the_gate(rt: HostRuntime) 
 fn each_fault_behind_a_connection_is_502_and_a_drop(rt: HostRuntime) {
     for fault in FAULTS {
         let came = answered(&rt, rt.alloc(), Says::Broken(fault));
-        assert!(rt; came_so(&came, b"HTTP/1.1 502", 502, Outcome::Dropped));
+        check(&rt, came_so(&came, b"HTTP/1.1 502", 502, Outcome::Dropped));
+        let came = answered(&rt, rt.alloc(), Says::Stale(fault));
+        check(&rt, came_so(&came, b"HTTP/1.1 502", 502, Outcome::Dropped));
+    }
+}
+
+/// What came of a later request of a client, which may be kept, to a backend that says so.
+fn answered_later(rt: &impl Abort, alloc: Global, says: Says) -> Came {
+    let mut case = Case::new(GET, SETTINGS);
+    case.says = says;
+    case.keeps = true;
+    case.is_later = true;
+    exchanged(rt, alloc, case)
+}
+
+/// The client got nothing, and isn't kept; the request was forwarded once, and dropped.
+fn is_unanswered(came: &Came) -> bool {
+    came.sent == 0
+        && came.writes == 0
+        && came.told.answer.is_none()
+        && !came.told.is_own
+        && came.told.written_fault.is_none()
+        && came.is_kept == (false, false)
+        && came.forwards == 1
+        && came.learnt == Some(Outcome::Dropped)
+}
+
+#[test]
+fn a_later_request_gets_no_answer_over_a_stale_connection_alone(rt: HostRuntime) {
+    for fault in FAULTS {
+        let came = answered_later(&rt, rt.alloc(), Says::Stale(fault));
+        check(&rt, is_unanswered(&came));
+        let came = answered_later(&rt, rt.alloc(), Says::Broken(fault));
+        check(&rt, came_so(&came, b"HTTP/1.1 502", 502, Outcome::Dropped));
+    }
+    for (says, first, status, outcome) in ANSWERS {
+        let came = answered_later(&rt, rt.alloc(), says);
+        check(&rt, came_so(&came, first, status, outcome));
     }
 }
