@@ -269,7 +269,7 @@ class Keeping(Operating):
         backend.close()
 
     def sends_nothing_again(self, _: Backend) -> None:
-        """A request whose kept connection breaks under it gets 502, and no other connection gets it."""
+        """A client's first request whose kept connection breaks under it gets 502, and no other connection gets it."""
         for ends in (lambda client: None, reset):
 
             class Breaking(Talkative):
