@@ -11,8 +11,9 @@ from config_texts import (
     LIVE_OF_TWO,
     PLAIN,
     SETTABLE,
-    VEGAS,
     WINDOW,
+    kept_keys,
+    top_keys,
 )
 from kind_rows import OF_THE_KEY
 
@@ -141,9 +142,7 @@ OF_FAULTS = [
         "",
         "zebra = 1\n",
         FIXED,
-        "line 4: zebra = 1\n"
-        "zebra isn't a key here; those that are: version listen backend backlog wait timeout_ms keep promote limit "
-        "window class resolver bypass\n",
+        f"line 4: zebra = 1\nzebra isn't a key here; those that are: {top_keys(kept_keys())}\n",
         "unknown zebra",
     ),
     (
@@ -154,22 +153,9 @@ OF_FAULTS = [
         "unknown limit.ratio",
     ),
 ]
-# The same of keys in the text of which each number counts, and of the member that is at fault.
+# The same of keys whose ranges hang on others, and of the member that is at fault: `tests/keys` asks for the words of
+# each number at both ends of its range.
 OF_FAULTS += [
-    (
-        "",
-        "timeout_ms = 0\n",
-        FIXED,
-        "line 4: timeout_ms = 0\ntimeout_ms: the longest wait in milliseconds, 1 to 3600000; default 1000\n",
-        "value timeout_ms",
-    ),
-    (
-        "",
-        "keep = 0\n",
-        FIXED,
-        "line 4: keep = 0\nkeep: entries of the history that are kept, 1 to 1000000; default 4096\n",
-        "value keep",
-    ),
     (
         "",
         'promote = ""\n',
@@ -185,7 +171,6 @@ OF_FAULTS += [
         "line 4: wait = 1\nwait: whether refused callers wait at all, true or false; default true\n",
         "kind wait",
     ),
-    (SETTABLE, "min = 0\n", "", "line 6: min = 0\nlimit.min: permits, 1 to 10000; default 1\n", "value limit.min"),
     (
         SETTABLE,
         "max = 0\n",
@@ -211,72 +196,12 @@ OF_FAULTS += [
         "value limit.initial",
     ),
     (
-        AIMD,
-        "ratio = 499\n",
-        "",
-        "line 6: ratio = 499\nlimit.ratio: what a drop leaves in thousandths, 500 to 999; default 900\n",
-        "value limit.ratio",
-    ),
-    (
-        AIMD,
-        "timeout_us = 0\n",
-        "",
-        "line 6: timeout_us = 0\n"
-        "limit.timeout_us: a longer round trip is a drop, microseconds, 1 to 3600000000; default 5000000\n",
-        "value limit.timeout_us",
-    ),
-    (
-        VEGAS,
-        "alpha = 101\n",
-        "",
-        "line 6: alpha = 101\nlimit.alpha: the limit rises below this queue, permits, 1 to 100; default 3\n",
-        "value limit.alpha",
-    ),
-    (
-        VEGAS,
-        "beta = 2\n",
-        "",
-        "line 6: beta = 2\nlimit.beta: the limit falls above this queue, permits, alpha to 100; default 6\n"
-        "here from 3 to 100\n",
-        "value limit.beta",
-    ),
-    (
-        VEGAS,
-        "probe_every = 1000001\n",
-        "",
-        "line 6: probe_every = 1000001\n"
-        "limit.probe_every: samples until the base is measured anew, 0 to 1000000; default 0, never\n",
-        "value limit.probe_every",
-    ),
-    (
-        WINDOW,
-        "size = 0\n",
-        "",
-        "line 7: size = 0\nwindow.size: samples, 1 to 1000000; default 10\n",
-        "value window.size",
-    ),
-    (
-        WINDOW,
-        "min_us = 0\n",
-        "",
-        "line 7: min_us = 0\nwindow.min_us: the shortest window in microseconds, 1 to 3600000000; default 1000000\n",
-        "value window.min_us",
-    ),
-    (
         WINDOW,
         "max_us = 5\n",
         "",
         "line 7: max_us = 5\nwindow.max_us: the longest window in microseconds, min_us to 3600000000; default 1000000\n"
         "here from 1000000 to 3600000000\n",
         "value window.max_us",
-    ),
-    (
-        WINDOW,
-        "min_rtt_us = -1\n",
-        "",
-        "line 7: min_rtt_us = -1\n"
-        "window.min_rtt_us: quicker answers are left out, microseconds, 0 to 3600000000; default 100\n",
-        "value window.min_rtt_us",
     ),
     (
         FIXED,
@@ -395,26 +320,10 @@ OF_FAULTS_OF_ONE = [
 # The same behind the addresses of version 3.
 OF_FAULTS_OF_THREE = [
     (
-        "",
-        "backends = 65\n",
-        FIXED,
-        "line 4: backends = 65\nbackends: connections to the backend that are kept, 0 to 64; default 64\n",
-        "value backends",
-    ),
-    (
-        "",
-        "backend_idle_ms = 0\n",
-        FIXED,
-        "line 4: backend_idle_ms = 0\n"
-        "backend_idle_ms: how long one may be idle and be used again, 1 to 3600000; default 1000\n",
-        "value backend_idle_ms",
-    ),
-    (
         AUTO,
         "[window]\n",
         "",
-        "line 6: [window]\nwindow isn't a key here; those that are: version listen backend backlog wait timeout_ms "
-        "backends backend_idle_ms keep promote limit class resolver bypass\n"
+        f"line 6: [window]\nwindow isn't a key here; those that are: {top_keys({'window'})}\n"
         'limit.kind = "auto" counts windows of its own, of as many answers as the limit\n',
         "unknown window",
     ),

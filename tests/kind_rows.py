@@ -15,8 +15,8 @@ OF_THE_KEY = '"fixed", "settable", "aimd", "vegas" or, in version 3, "auto"; req
 
 def kinds() -> list[str]:
     """The words of all kinds, as the program's definitions have them: each has rows below."""
-    text = (TOP / "crates/limit_kinds/specs/Kind.antt").read_text(encoding="utf-8")
-    return re.findall(r'^kind_word \w+ = codes "(\w+)"$', text, re.MULTILINE)
+    text = (TOP / "crates/limit_kinds/specs/Kinds.antt").read_text(encoding="utf-8")
+    return re.findall(r'^kind_word kind\.\w+ = codes "(\w+)"$', text, re.MULTILINE)
 
 
 def kinds_of(lines: list[str]) -> set[str]:

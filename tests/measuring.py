@@ -6,11 +6,12 @@ import time
 from collections import Counter
 from collections.abc import Callable
 from concurrent.futures import ThreadPoolExecutor
+from functools import partial
 
 from loopback import BODY, Backend, Gateway, Later, Listener, read_head
 from operating import CLASSES, HELD, Operated, Operating
-from operator_rows import BOUNDS, histogram_faults
-from running import PATIENCE, closed_port
+from operator_rows import BOUNDS, UNMEASURED, histogram_faults
+from running import PATIENCE, closed_port, until
 from sockets import PLAIN, passed_on
 from wires import local
 
@@ -82,6 +83,46 @@ class Measuring(Operating):
         counts = [gate.metrics()[it]["count"] for it in TIMES]
         self.judge("but an exchange", [len(calls), len(calls), len(calls) + 1], counts)
         slow.close()
+
+    def tells_what_its_limit_reckons(self, _backend: Backend) -> None:
+        """The base, the last window and the queue are those of the answers that came, where the limit knows them."""
+        slow = Timed()
+        unknown = UNMEASURED | {"limit_set_by_hand": 0}
+        vegas = '\n\n[limit]\nkind = "vegas"\ninitial = 8\nmax = 8\n'
+        windows = "[window]\nsize = {}\n"
+        gate = self.operated(slow, '\n\n[limit]\nkind = "auto"\ninitial = 1\nmax = 1', workers=4, version=3)
+        self.judge("a limit without answers", True, gate.shows(**unknown))
+        means = [sum(self.round_trips(gate, 30, 60)) // 2, sum(self.round_trips(gate, 5, 5)) // 2]
+        wanted = unknown | {"limit_window_calls": 2, "limit_window_mean_seconds": means[1], "limit_queue": 0}
+        self.judge("a limit of two windows", True, gate.shows(**wanted | {"limit_base_seconds": means[1]}))
+        gate.call("POST /reset")
+        self.judge("a limit that was reset", True, gate.shows(**unknown))
+        gate = self.operated(slow, vegas)
+        trips = self.round_trips(gate, 30, 120)
+        queue = -(-8 * (trips[1] - trips[0]) // trips[1])
+        wanted = unknown | {"limit_base_seconds": trips[0], "limit_queue": queue}
+        self.judge("a queue before a slow backend", True, gate.shows(**wanted))
+        for size in (1, 2):
+            gate = self.operated(slow, vegas + windows.format(size))
+            first = self.round_trips(gate, 30)[0]
+            wanted = unknown | {"limit_window_calls": 1, "limit_window_mean_seconds": first}
+            wanted |= {"limit_base_seconds": first, "limit_queue": 0} if size == 1 else {}
+            self.judge(f"a window of one answer, of {size} that are wanted", True, gate.shows(**wanted))
+        slow.close()
+
+    def round_trips(self, gate: Operated, *millis: int) -> list[int]:
+        """How long calls took at the backend, in nanoseconds: one after the other, each answered after so long."""
+        found = []
+        for each in millis:
+            before = gate.metrics()["round_trip_seconds"]
+            timed_call(gate, "live", 200, each)
+            self.judge("it was measured", True, until(partial(self.has_measured, gate, before["count"] + 1)))
+            found.append(gate.metrics()["round_trip_seconds"]["sum"] - before["sum"])
+        return found
+
+    def has_measured(self, gate: Operated, count: int) -> bool:
+        """Whether so many round trips were measured."""
+        return gate.metrics()["round_trip_seconds"]["count"] == count
 
     def compare_times(self, found: dict[str, dict[str, int]], delays: list[float], seen: list[float]) -> None:
         """The times of a gateway, by the backend's delays and by how long its callers waited in all."""

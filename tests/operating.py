@@ -20,6 +20,7 @@ from operator_rows import (
     MARK,
     NOT_SETTABLE,
     OUT_OF_RANGE,
+    UNMEASURED,
     families_of,
     refusals,
     request,
@@ -46,7 +47,7 @@ CLASSES = "\n".join(
 PLACED = "\n".join(
     (
         # Its backend closes behind each answer without saying so.
-        'backlog = 1\ntimeout_ms = 60_000\nbackends = 0\n\n[limit]\nkind = "fixed"\ninitial = 1',
+        'backlog = 1\ntimeout_ms = 60_000\nclients = 0\nbackends = 0\n\n[limit]\nkind = "fixed"\ninitial = 1',
         '[[class]]\nname = "live"\nshare = 1\nplaces = 2',
         '[[class]]\nname = "batch"\nshare = 1',
         '[[resolver]]\nkind = "header"\nheader = "X-Class"',
@@ -148,7 +149,9 @@ class Operating(Served):
         gate = self.operated(backend, f'wait = false\n\n[limit]\nkind = "fixed"\ninitial = 2\n{CLASSES}', workers=5)
         text = gate.call("GET /metrics").partition(b"\r\n\r\n")[2].decode()
         found = families_of(text)
-        self.judge("families", FAMILIES, {name: (kind, next(iter(it))[0]) for name, (kind, it) in found.items()})
+        self.judge(
+            "families", FAMILIES, {name: (kind, next(iter(it), (None,))[0]) for name, (kind, it) in found.items()}
+        )
         self.judge("their order", [*FAMILIES], [*found])
         version = subprocess.run(
             [self.program, "--version"], capture_output=True, text=True, check=True
@@ -167,6 +170,7 @@ class Operating(Served):
             "limit_least": 2,
             "limit_greatest": 2,
             "limit_info": {"fixed": 1},
+            **UNMEASURED,
             "in_flight": 2,
             "waiting": 0,
             "granted": 0,

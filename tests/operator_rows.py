@@ -30,7 +30,8 @@ BUSY = (503, "busy\n")
 OTHER_QUERY = (400, "the query isn't after-ms=N with N from 1 to 3600000\n")
 LEFT = (400, "the caller has left: nothing was changed\n")
 DRAINED = (200, "draining\n")
-# The families of /metrics in their order, with their kinds, and of those with labels the label.
+# The families of /metrics in their order, with their kinds, and of those with labels the label. The times of a limit
+# are told as those of a histogram are, and like its queue only where it knows them.
 FAMILIES = {
     "admission_limit": ("gauge", None),
     "admission_in_flight": ("gauge", None),
@@ -39,6 +40,11 @@ FAMILIES = {
     "admission_limit_least": ("gauge", None),
     "admission_limit_greatest": ("gauge", None),
     "admission_limit_info": ("gauge", "kind"),
+    "admission_limit_base_seconds": ("gauge", None),
+    "admission_limit_window_mean_seconds": ("gauge", None),
+    "admission_limit_window_calls": ("gauge", None),
+    "admission_limit_queue": ("gauge", None),
+    "admission_limit_set_by_hand": ("gauge", None),
     "admission_class_in_flight": ("gauge", "class"),
     "admission_class_share": ("gauge", "class"),
     "admission_class_waiting": ("gauge", "class"),
@@ -52,6 +58,9 @@ FAMILIES = {
     "admission_backend_connections_total": ("counter", "event"),
     "admission_open_backend_connections": ("gauge", None),
     "admission_idle_backend_connections": ("gauge", None),
+    "admission_client_connections_total": ("counter", "event"),
+    "admission_silent_client_connections": ("gauge", None),
+    "admission_idle_client_connections": ("gauge", None),
     "admission_workers": ("gauge", None),
     "admission_busy_workers": ("gauge", None),
     "admission_oldest_permit_seconds": ("gauge", None),
@@ -60,6 +69,15 @@ FAMILIES = {
     "admission_exchange_seconds": ("histogram", "le"),
     "admission_uptime_seconds": ("gauge", None),
     "admission_build_info": ("gauge", "version"),
+}
+
+# What a limit tells that changes by hand at most.
+UNMEASURED = {
+    "limit_base_seconds": {},
+    "limit_window_mean_seconds": {},
+    "limit_window_calls": {},
+    "limit_queue": {},
+    "limit_set_by_hand": 1,
 }
 
 
@@ -125,6 +143,8 @@ def unread(port: int) -> Iterator[tuple[str, bytes, bytes]]:
 Family = tuple[str, dict[tuple[str | None, str | None], int]]
 
 
+# Gauges in seconds that are told by nanoseconds.
+NANOSECONDS = ("admission_limit_base_seconds", "admission_limit_window_mean_seconds")
 # The bounds of a histogram, in seconds.
 BOUNDS = ("0.0005", "0.001", "0.0025", "0.005", "0.01", "0.025", "0.05", "0.1", "0.25", "0.5", "1", "2.5", "5", "10")
 LABEL = r'[a-zA-Z_]\w*="[^"\\\n]*"'
@@ -150,9 +170,11 @@ def families_of(text: str) -> dict[str, Family]:
         kinds, samples = found[name]
         parts = r"(_bucket|_sum|_count)" if kinds == "histogram" else "()"
         sample = re.fullmatch(rf"{name}{parts}(?:\{{({LABEL}(?:,{LABEL})*)\}})? (\d+)(e-9)?", line)
-        if not sample or bool(sample[4]) != (sample[1] == "_sum") or bool(sample[2]) != (sample[1] == "_bucket"):
-            if not sample or kinds == "histogram" or sample[4]:
-                raise ValueError(f"no sample of {name}: {line}")
+        is_exact = kinds == "gauge" and name in NANOSECONDS
+        if not sample or bool(sample[4]) != (is_exact or sample[1] == "_sum"):
+            raise ValueError(f"no sample of {name}: {line}")
+        if kinds == "histogram" and bool(sample[2]) != (sample[1] == "_bucket"):
+            raise ValueError(f"no sample of {name}: {line}")
         labels = re.findall(r'(\w+)="([^"]*)"', sample[2] or "")
         key = (",".join(it[0] for it in labels) or None, ",".join(it[1] for it in labels) or None)
         if sample[1] in ("_sum", "_count"):

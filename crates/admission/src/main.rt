@@ -10,7 +10,7 @@ use counted_io::Counted;
 use fault_lines::tell_unread_words;
 use line_explain::Kept;
 use log_lines::{LineStart, LogLines};
-use serve_command::{Service, serve_file};
+use serve_command::serve_file;
 use std::env;
 use std::io::Error;
 use std::process::ExitCode;
@@ -63,25 +63,13 @@ fn main(rt: HostRuntime) -> ExitCode {
         }
         Run::Serve(options) => {
             let logged = LogLines::new(rt, start_of(options.log_lines));
-            let service = Service {
-                path: options.path,
-                workers: options.workers,
-                per_worker: options.per_worker,
-                client_timeout_ms: options.client_timeout_ms,
-                head_timeout_ms: options.head_timeout_ms,
-                backend_timeout_ms: options.backend_timeout_ms,
-                report_seconds: options.report_seconds,
-                admin: options.admin,
-                status: options.status,
-                marks: options.marks,
-            };
             serve_file(
                 &logged,
                 &mut Spawner::new(&logged),
                 &files,
                 &SystemAddresses::new(&rt),
                 alloc,
-                &service,
+                &options,
                 &mut writer,
                 &mut errors,
             )

@@ -1,12 +1,15 @@
--- Additive increase, multiplicative decrease.
-use Rattle.std.specs.Prelude.{ℕ, zero, suc, ◌+◌, ◌*◌, ◌<◌, ◌≤◌, Bool, Err, min, max, nat_lt, nat_le, ◌||◌, if◌then◌else◌}
+-- Additive increase, multiplicative decrease, and the limit that numbers make.
+use Rattle.std.specs.Prelude.{ℕ, false, zero, suc, ◌+◌, ◌*◌, ◌<◌, ◌≤◌, Bool, Result, Ok, Err, min, max, nat_lt, nat_le, ◌&&◌, ◌||◌, if◌then◌else◌}
+use Rattle.limit_laws.specs.declared.limit.MakeFault.{MakeFault}
+use Rattle.limit_laws.specs.declared.limit.MakeFault.TheVariants.{Range, Ratio}
 use Rattle.limit_laws.specs.declared.limit.SetFault.TheVariants.{NotSettable}
 use Rattle.limit_laws.specs.Facts.{SampleFacts, hour}
+use Rattle.limit_laws.specs.View.{unmeasured}
 use Rattle.limit_laws.specs.Algorithm.{Algorithm, greatest_limit}
+use Rattle.aimd.specs.declared.numbers.AimdNumbers.{AimdNumbers}
 
--- the bounds, the limit now and the first one in permits, the ratio of a decrease in
--- thousandths, and
--- the longest round trip that is no drop in nanoseconds
+-- the bounds, the limit now and the first one in permits, the ratio of a decrease in thousandths,
+-- and the longest round trip that is no drop in nanoseconds
 pub record AimdState : Type 0 where
   pub lo : ℕ
   pub limit : ℕ
@@ -54,6 +57,25 @@ aimd_from lo first hi ratio timeout = record {
   timeout = timeout;
 }
 
+-- 1 ≤ lo ≤ first ≤ hi ≤ 10,000, and a timeout of 1 ns to one hour
+abbrev pub is_in_range : AimdNumbers → Bool
+is_in_range n =
+    nat_le 1 n.lo && nat_le n.lo n.first && nat_le n.first n.hi && nat_le n.hi greatest_limit
+    && nat_le 1 n.timeout_ns && nat_le n.timeout_ns hour
+
+-- a ratio in its range
+abbrev pub is_ratio : AimdNumbers → Bool
+is_ratio n = nat_le least_ratio n.ratio_thousandths && nat_le n.ratio_thousandths greatest_ratio
+
+-- the first state of these numbers
+abbrev pub aimd_of : AimdNumbers → AimdState
+aimd_of n = aimd_from n.lo n.first n.hi n.ratio_thousandths n.timeout_ns
+
+-- THE LIMIT of these numbers, or their first fault
+abbrev pub aimd_made : AimdNumbers → Result AimdState MakeFault
+aimd_made n =
+    if is_in_range n then (if is_ratio n then Ok (aimd_of n) else Err Ratio) else Err Range
+
 -- the greatest number up to n that passes a test, 0 where none does
 unfoldable pub greatest : (ℕ → Bool) → ℕ → ℕ
 greatest test zero = 0
@@ -69,8 +91,7 @@ pub record IsDecrease (limit ratio m : ℕ) : Type 0 where
   pub greatest : limit * ratio < 1000 * (m + 1)
 
 -- a drop, and a round trip above the timeout, decrease the limit; else it rises by one where at
--- least
--- half of it was in use, and stays where less was
+-- least half of it was in use, and stays where less was
 abbrev pub aimd_step : AimdState → SampleFacts → ℕ
 aimd_step s x =
     if x.dropped || nat_lt s.timeout x.rtt then decreased s.limit s.ratio
@@ -85,6 +106,7 @@ aimd_rules = record {
   lo = λ s. s.lo;
   limit = λ s. s.limit;
   hi = λ s. s.hi;
+  view = λ s. unmeasured false;
   next = aimd_next;
   put = λ s n. Err NotSettable;
   first = λ s. record s { limit = s.first };

@@ -1,5 +1,4 @@
 pub mod AimdRules
-pub mod AimdNumbers
 pub mod AimdLaws
 pub mod Falls
 pub mod Rises

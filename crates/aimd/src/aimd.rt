@@ -1,12 +1,12 @@
 // A limit that rises by one and falls by a ratio.
 ghost use Rattle.std.specs.Prelude.{◌≡◌, ◌≤◌, ◌↔◌, IfOk, IsOk};
 ghost use Rattle.limit_laws.specs.Algorithm.{greatest_limit};
-ghost use Rattle.aimd.specs.AimdRules.{aimd_rules, aimd_from, decreased, IsDecrease, IsInRange, IsRatio, greatest_ratio};
-ghost use Rattle.aimd.specs.AimdNumbers.{aimd_made, aimd_of};
+ghost use Rattle.aimd.specs.AimdRules.{IsDecrease, IsInRange, IsRatio, aimd_from, aimd_made, aimd_of};
+ghost use Rattle.aimd.specs.AimdRules.{aimd_rules, decreased, greatest_ratio};
 ghost use Rattle.aimd.specs.AimdLaws.{IsLawful-aimd};
 
 use crate::numbers::{AimdNumbers, GREATEST_RATIO, LEAST_RATIO};
-use limit_laws::{GREATEST_LIMIT, HOUR, Limit, MakeFault, Sample, SetFault};
+use limit_laws::{GREATEST_LIMIT, HOUR, Limit, LimitView, MakeFault, Sample, SetFault};
 use std::marker::Model;
 
 /// Rises by one permit after a sample that found at least half of the limit in use, and falls to
@@ -60,7 +60,7 @@ impl Aimd {
     ///
     /// The faults, the first that applies: [`MakeFault::Range`] unless
     /// `1 <= lo <= first <= hi <= 10,000` and `timeout` is 1 ns to one hour; [`MakeFault::Ratio`]
-    /// unless `ratio` is [`LEAST_RATIO`] to [`GREATEST_RATIO`].
+    /// unless `ratio` is 500 to 999.
     pub fn new(lo: u32, first: u32, hi: u32, ratio: u32, timeout: u64) -> Result<Aimd, MakeFault>
         ensures made { IsOk result ↔ (IsInRange lo first hi timeout × IsRatio ratio) }
         ensures value { IfOk result (λ aimd. aimd ≡ aimd_from lo first hi ratio timeout) }
@@ -118,6 +118,10 @@ impl Limit for Aimd {
 
     fn limit(&self) -> u32 {
         self.limit
+    }
+
+    fn view(&self) -> LimitView {
+        LimitView::unmeasured(false)
     }
 
     fn on_sample(&mut self, sample: &Sample) {

@@ -2,10 +2,10 @@
 //! use and falls by a ratio at a drop or a slow answer. Its role is that of the limit of this name
 //! in Netflix's concurrency-limits (README); the rule is this project's own.
 //!
-//! [`Aimd::of`] makes it of [`AimdNumbers`], by `specs/AimdNumbers.antt`. Its rule is
-//! `specs/AimdRules.antt`, and each call's contract is that of [`limit_laws::Limit`] at that rule.
-//! What an operator may rely on stands on the functions of `laws`: how fast the limit falls at
-//! most, whatever the samples, and how fast it recovers where it is in use.
+//! [`Aimd::of`] makes it of [`AimdNumbers`]; where some are meant alone, the others are [`USUAL`].
+//! Its rule is `specs/AimdRules.antt`, and each call's contract is that of [`limit_laws::Limit`] at
+//! that rule. What an operator may rely on stands on the functions of `laws`: how fast the limit
+//! falls at most, whatever the samples, and how fast it recovers where it is in use.
 #![tactic(auto)]
 
 mod aimd;
@@ -17,4 +17,4 @@ pub use laws::{
     decreases_to_the_greatest, falls_by_the_ratio_at_most, falls_no_faster_than_drops,
     rises_by_one_a_sample,
 };
-pub use numbers::{AimdNumbers, GREATEST_RATIO, LEAST_RATIO};
+pub use numbers::{AimdNumbers, USUAL};

@@ -1,6 +1,8 @@
 -- The rules of a limit that needs no numbers. All divisions round down.
-use Rattle.std.specs.Prelude.{ℕ, zero, suc, ◌+◌, ◌-◌, ◌*◌, ◌/◌, ◌^◌, Bool, true, false, Err, min, max, nat_eq, nat_le, nat_lt, not, ◌&&◌, ◌||◌, if◌then◌else◌}
+use Rattle.std.specs.Prelude.{ℕ, zero, suc, ◌+◌, ◌-◌, ◌*◌, ◌/◌, ◌^◌, Bool, true, false, Option, None, Some, Err, min, max, nat_eq, nat_le, nat_lt, not, ◌&&◌, ◌||◌, if◌then◌else◌}
 use Rattle.limit_laws.specs.declared.limit.SetFault.TheVariants.{NotSettable}
+use Rattle.limit_laws.specs.declared.view.LimitView.{LimitView}
+use Rattle.limit_laws.specs.declared.view.WindowView.{WindowView}
 use Rattle.limit_laws.specs.Facts.{SampleFacts}
 use Rattle.limit_laws.specs.Algorithm.{Algorithm}
 use Rattle.auto.specs.declared.learned.Learned.{Learned}
@@ -51,7 +53,11 @@ roughness w = min 2048 (w.steps * 1024 / w.sum)
 
 -- the window is over: what it says of how much answers differ counts an eighth
 abbrev pub closed : Learned → Learned
-closed l = record l { rough = (7 * l.rough + roughness l.window) / 8; window = empty }
+closed l = record l {
+  rough = (7 * l.rough + roughness l.window) / 8;
+  window = empty;
+  ended = l.window;
+}
 
 -- whether the base moved by more than the headroom stands for
 abbrev pub has_moved : Learned → ℕ → Bool
@@ -242,6 +248,7 @@ unlearned first = record {
   roof_left = 0;
   roof_every = 4;
   window = empty;
+  ended = empty;
 }
 
 -- the first state of these numbers
@@ -254,11 +261,26 @@ up_to most s =
     let hi = max (min s.hi most) s.lo in
     auto_from s.lo (min s.first hi) hi
 
+-- WHAT IS SHOWN: the base where it is known, and the last window that ended with its queue in whole
+-- permits, by that base
+abbrev pub window_view : Window → Option WindowView
+window_view w =
+    if nat_eq w.count 0 then None else Some (record { mean_ns = mean w; count = w.count })
+
+abbrev pub auto_view : Learned → LimitView
+auto_view l = record {
+  by_hand = false;
+  base_ns = if nat_eq l.base 0 then None else Some l.base;
+  window = window_view l.ended;
+  queue = if nat_eq l.ended.count 0 then None else Some (queue l l.ended / l.ended.count);
+}
+
 abbrev pub auto_rules : Algorithm AutoState
 auto_rules = record {
   lo = λ s. s.lo;
   limit = λ s. shown s.lo s.hi s.learned;
   hi = λ s. s.hi;
+  view = λ s. auto_view s.learned;
   next = λ s x. record s { learned = learn s.lo s.hi s.learned x };
   put = λ s n. Err NotSettable;
   first = λ s. record s { learned = unlearned s.first };

@@ -40,3 +40,4 @@ pub record AreKept (lo hi : ℕ) (l : Learned) : Type 0 where
   pub roof_left : l.roof_left ≤ 64
   pub roof_every : l.roof_every ≤ 64
   pub window : IsKept l.window
+  pub ended : IsKept l.ended

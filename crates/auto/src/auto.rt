@@ -5,7 +5,7 @@ ghost use Rattle.auto.specs.AutoRules.{auto_from, auto_rules, up_to};
 ghost use Rattle.auto.specs.AutoLaws.{IsLawful-auto};
 
 use crate::learned::Learned;
-use limit_laws::{GREATEST_LIMIT, Limit, MakeFault, Sample, SetFault};
+use limit_laws::{GREATEST_LIMIT, Limit, LimitView, MakeFault, Sample, SetFault};
 use std::marker::Model;
 
 /// Finds the limit by what answers take and how many are in flight.
@@ -82,6 +82,10 @@ impl Limit for Auto {
 
     fn limit(&self) -> u32 {
         self.learned.shown(self.lo, self.hi)
+    }
+
+    fn view(&self) -> LimitView {
+        self.learned.view(self.lo, self.hi)
     }
 
     fn on_sample(&mut self, sample: &Sample) {

@@ -40,6 +40,8 @@ pub struct Learned {
     pub(crate) roof_every: u32,
     /// The answers since the last look.
     pub(crate) window: Window,
+    /// The window that was looked at last, without answers where there was none.
+    pub(crate) ended: Window,
 }
 
 impl Learned {
@@ -62,6 +64,7 @@ impl Learned {
             roof_left: 0,
             roof_every: 4,
             window: Window::empty(),
+            ended: Window::empty(),
         }
     }
 
@@ -118,6 +121,7 @@ impl Learned {
         let window = self.window;
         self.rough = (7 * self.rough + window.roughness()) / 8;
         self.window = Window::empty();
+        self.ended = window;
         window
     }
 

@@ -8,7 +8,7 @@
 //! sheds more than answers, lower it too.
 //!
 //! The rules are `specs/AutoRules.antt`, one word a sentence, and each call's contract is that of
-//! [`limit_laws::Limit`] at these rules. A step takes no memory: the state is 22 numbers. What an
+//! [`limit_laws::Limit`] at these rules. A step takes no memory: the state is 29 numbers. What an
 //! operator may rely on stands on the functions of `laws`.
 #![tactic(auto)]
 
@@ -18,6 +18,7 @@ mod learned;
 mod moving;
 mod root;
 mod shedding;
+mod showing;
 mod window;
 
 pub use auto::Auto;

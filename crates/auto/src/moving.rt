@@ -10,7 +10,7 @@ use crate::window::Window;
 
 impl Learned {
     /// The queue, times the answers of the window.
-    fn queue(&self, window: &Window) -> u64
+    pub(crate) fn queue(&self, window: &Window) -> u64
         requires window { IsKept window.now }
         requires some { 1 ≤ window.now.count }
         ensures value { result ≡ queue self.now window.now }

@@ -104,8 +104,16 @@ macro_rules! serve_rows {
     ($($rows:tt)*) => {
         option_rows! {
             [
-                Workers PerWorker ClientTimeoutMs HeadTimeoutMs BackendTimeoutMs ReportSeconds Admin
-                Status LogLines Mark
+                Workers
+                PerWorker
+                ClientTimeoutMs
+                HeadTimeoutMs
+                BackendTimeoutMs
+                ReportSeconds
+                Admin
+                Status
+                LogLines
+                Mark
             ]
             $($rows)*
         }

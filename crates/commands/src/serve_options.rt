@@ -28,14 +28,14 @@ pub enum LogLines {
 pub struct ServeOptions<'a> {
     /// The path of its configuration.
     pub path: &'a str,
-    /// How many workers serve clients.
+    /// How many workers serve clients, each on a thread of its own.
     pub workers: u32,
     /// How many connections each worker accepts before it ends.
     pub per_worker: u32,
     /// How many milliseconds a client may take for its request, and again for its answer.
     pub client_timeout_ms: u32,
     /// For how many milliseconds a client whose head isn't whole may hold a worker where no other
-    /// one is free.
+    /// one is free. It isn't longer than the client's time.
     pub head_timeout_ms: u32,
     /// How many milliseconds the backend may take, from the connect to the end of its answer; as
     /// long as it likes without it.
@@ -44,12 +44,14 @@ pub struct ServeOptions<'a> {
     /// it.
     pub report_seconds: Option<u32>,
     /// Where an operator sees the state and changes it: a loopback address with a port from 1 up.
+    /// There is none without it.
     pub admin: Option<SocketAddrV4>,
-    /// Where anybody sees the state: an address with a port from 1 up.
+    /// Where anybody sees the state, and changes nothing: an address with a port from 1 up. There
+    /// is none without it.
     pub status: Option<SocketAddrV4>,
     /// How each line of the log begins.
     pub log_lines: LogLines,
-    /// Whether each of the gateway's own answers has a line that tells why.
+    /// Whether each of the gateway's own answers has the line `X-Admission` with its word.
     pub marks: bool,
 }
 

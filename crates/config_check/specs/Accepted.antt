@@ -3,7 +3,7 @@ use Rattle.std.specs.Prelude.{ℕ, List, [], ◌∷◌, length, codes, decimal}
 use Rattle.std.specs.List.{concat}
 use Rattle.gate_config.specs.declared.settings.Settings.{Settings}
 use Rattle.limit_kinds.specs.AnyKinds.{any_kind, any_limit}
-use Rattle.limit_kinds.specs.Kind.{kind_word}
+use Rattle.limit_kinds.specs.Kinds.{kind_word}
 use Rattle.fault_lines.specs.FaultLine.{line}
 
 -- the kind of the limit and the limit at the start, how many classes, resolvers and bypass rules

@@ -2,7 +2,7 @@
 use Rattle.std.proofs.Common.{◌≡◌, ◌∙◌, ap, subst, ◌++◌, ℕ, Bool, List, Option, option_map, Result, Ok, Err, OnOk}
 use Rattle.gate_config.specs.declared.fault.KeyAtFault.{KeyAtFault}
 use Rattle.gate_config.specs.declared.key.Section.{Section}
-use Rattle.gate_config.specs.Key.{section_of}
+use Rattle.gate_config.specs.Rows.{section_of}
 use Rattle.config_explain.specs.declared.members.Member.{Member}
 use Rattle.config_explain.specs.Explained.{ExplainsKey, ShowsPlace, key_line, member_line, range_line}
 

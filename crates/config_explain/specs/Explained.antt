@@ -10,7 +10,7 @@ use Rattle.gate_config.specs.declared.key.Section.{Section}
 use Rattle.gate_config.specs.declared.key.Section.TheVariants as In
 use Rattle.gate_config.specs.declared.number.Range.{Range}
 use Rattle.gate_config.specs.Fault.{plain}
-use Rattle.gate_config.specs.Key.{path_of, section_of}
+use Rattle.gate_config.specs.Rows.{path_of, section_of}
 use Rattle.gate_config.specs.Rows.{Bound, Holds, all_rows, left_of_hundred, left_of_places, left_of_thousand, number, of}
 use Rattle.gate_config.specs.Settings.{IsOfKey, Reads, settings_of}
 use Rattle.config_explain.specs.declared.members.Member.{Member}

@@ -24,6 +24,15 @@ macro_rules! key_row {
         TimeoutMs "  timeout_ms    " "the longest wait in milliseconds, "
             [1 to 3600000; default 1000];
     } };
+    (Clients [$($row:tt)*] $($given:tt)*) => { $($row)*! { $($given)*
+        Clients "  clients       version 3: " "places for clients that are kept or silent, "
+            [0 to 10000; default 1000];
+    } };
+    (ClientIdleMs [$($row:tt)*] $($given:tt)*) => { $($row)*! { $($given)*
+        ClientIdleMs "  client_idle_ms  version 3: "
+            "how long a kept client may be idle, "
+            [1 to 3600000; default 60000];
+    } };
     (Backends [$($row:tt)*] $($given:tt)*) => { $($row)*! { $($given)*
         Backends "  backends      version 3: " "connections to the backend that are kept, "
             [0 to 64; default 64];
@@ -176,11 +185,49 @@ macro_rules! key_rows {
     ($rows:ident, $($given:tt)*) => {
         $crate::key_rows! {
             @ $rows [$($given)*]
-            Version Listen Backend Backlog Wait TimeoutMs Backends BackendIdleMs Keep Promote Limit
-            LimitKind LimitMin LimitMax LimitInitial LimitRatio LimitTimeoutUs LimitAlpha LimitBeta
-            LimitProbeEvery Window WindowSize WindowMinUs WindowMaxUs WindowMinRttUs Class ClassName
-            ClassShare ClassPercent ClassPlaces Resolver ResolverKind ResolverHeader ResolverMethod
-            ResolverClass ResolverRoutes Bypass BypassKind BypassMethod BypassPrefix BypassHeader
+            Version
+            Listen
+            Backend
+            Backlog
+            Wait
+            TimeoutMs
+            Clients
+            ClientIdleMs
+            Backends
+            BackendIdleMs
+            Keep
+            Promote
+            Limit
+            LimitKind
+            LimitMin
+            LimitMax
+            LimitInitial
+            LimitRatio
+            LimitTimeoutUs
+            LimitAlpha
+            LimitBeta
+            LimitProbeEvery
+            Window
+            WindowSize
+            WindowMinUs
+            WindowMaxUs
+            WindowMinRttUs
+            Class
+            ClassName
+            ClassShare
+            ClassPercent
+            ClassPlaces
+            Resolver
+            ResolverKind
+            ResolverHeader
+            ResolverMethod
+            ResolverClass
+            ResolverRoutes
+            Bypass
+            BypassKind
+            BypassMethod
+            BypassPrefix
+            BypassHeader
             BypassEquals
         }
     };

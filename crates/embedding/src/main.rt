@@ -7,7 +7,7 @@
 mod caller;
 mod run;
 
-use aimd::{Aimd, AimdNumbers};
+use aimd::{Aimd, AimdNumbers, USUAL};
 use gate_history::{Blanks, GateSettings};
 use limiter_core::Promote;
 use partitions::PartitionTable;
@@ -21,8 +21,8 @@ fn main(rt: HostRuntime) -> anyhow::Result<()> {
         lo: 2,
         first: 4,
         hi: 100,
-        ratio_thousandths: 900,
         timeout_ns: 1_000_000_000,
+        ..USUAL
     };
     let Ok(limit) = Aimd::of(numbers) else {
         unreachable!()

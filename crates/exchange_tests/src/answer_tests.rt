@@ -1,4 +1,5 @@
 // What comes of each answer of a backend: what the client gets, and what the gate learns.
+use crate::checks::check;
 use crate::devices::{KEPT, Says};
 use crate::exchanged::{Came, Case, SETTINGS, exchanged};
 use limiter_core::Outcome;
@@ -72,7 +73,7 @@ fn came_so(came: &Came, first: &[u8; KEPT], status: u16, outcome: Outcome) -> bo
 fn each_answer_of_a_backend_is_told_to_its_client_and_the_gate(rt: HostRuntime) {
     for (says, first, status, outcome) in ANSWERS {
         let came = answered(&rt, rt.alloc(), says);
-        assert!(rt; came_so(&came, first, status, outcome));
+        check(&rt, came_so(&came, first, status, outcome));
     }
 }
 
@@ -80,6 +81,6 @@ fn each_answer_of_a_backend_is_told_to_its_client_and_the_gate(rt: HostRuntime) 
 fn each_fault_behind_a_connection_is_502_and_a_drop(rt: HostRuntime) {
     for fault in FAULTS {
         let came = answered(&rt, rt.alloc(), Says::Broken(fault));
-        assert!(rt; came_so(&came, b"HTTP/1.1 502", 502, Outcome::Dropped));
+        check(&rt, came_so(&came, b"HTTP/1.1 502", 502, Outcome::Dropped));
     }
 }

@@ -1,4 +1,5 @@
 // What the program's clock tells.
+use crate::checks::check;
 use clocks::{Clock, ProgramClock};
 use std::cell::Cell;
 use std::io::{Error, ErrorKind, Result};
@@ -39,11 +40,14 @@ fn told_by(step: u64, fails: bool) -> (u64, u64) {
 
 #[test]
 fn moments_are_nanoseconds_since_the_start(rt: HostRuntime) {
-    assert!(rt; told_by(1, false) == (1, 2));
-    assert!(rt; told_by(1_234_567_891, false) == (1_234_567_891, 2_469_135_782));
+    check(&rt, told_by(1, false) == (1, 2));
+    check(
+        &rt,
+        told_by(1_234_567_891, false) == (1_234_567_891, 2_469_135_782),
+    );
 }
 
 #[test]
 fn a_clock_that_fails_tells_the_last_moment(rt: HostRuntime) {
-    assert!(rt; told_by(1, true) == (1 << 62, 1 << 62));
+    check(&rt, told_by(1, true) == (1 << 62, 1 << 62));
 }

@@ -1,4 +1,5 @@
 // Fakes below a `Counted`, and its counts seen from outside.
+use crate::checks::check;
 use counted_io::{Counted, ReadFault, WriteFault, read_all, write_all, write_and_flush};
 use std::alloc::Global;
 use std::io::{Error, ErrorKind, Read, Result, Write};
@@ -85,9 +86,12 @@ fn next_read(reader: &mut Counted<Tap>) -> usize {
 #[test]
 fn each_read_and_each_failure_counts(rt: HostRuntime) {
     let mut reader = tap_of(5, 2, 2);
-    assert!(rt; next_read(&mut reader) == 2 && next_read(&mut reader) == 2);
-    assert!(rt; next_read(&mut reader) == 9);
-    assert!(rt; reader.calls() == 3 && reader.failures() == 1);
+    check(
+        &rt,
+        next_read(&mut reader) == 2 && next_read(&mut reader) == 2,
+    );
+    check(&rt, next_read(&mut reader) == 9);
+    check(&rt, reader.calls() == 3 && reader.failures() == 1);
 }
 
 /// What the next write takes, or 9 where it fails, and whether the flush behind it passes.
@@ -99,9 +103,9 @@ fn next_write(writer: &mut Counted<Sink>, bytes: &[u8]) -> (usize, bool) {
 #[test]
 fn each_write_and_each_failure_counts(rt: HostRuntime) {
     let mut writer = Counted::new(sink_of(3, 2));
-    assert!(rt; next_write(&mut writer, b"four") == (3, true));
-    assert!(rt; next_write(&mut writer, b"four") == (9, false));
-    assert!(rt; writer.calls() == 2 && writer.failures() == 2);
+    check(&rt, next_write(&mut writer, b"four") == (3, true));
+    check(&rt, next_write(&mut writer, b"four") == (9, false));
+    check(&rt, writer.calls() == 2 && writer.failures() == 2);
 }
 
 /// Why a write fails, where it does.
@@ -115,10 +119,13 @@ fn fault_of_write(writer: &mut Counted<Sink>, bytes: &[u8]) -> Option<ErrorKind>
 #[test]
 fn only_a_write_of_some_bytes_may_not_take_none(rt: HostRuntime) {
     let mut writer = Counted::new(sink_of(0, 9));
-    assert!(rt; writer.write(b"").unwrap_or(9) == 0);
-    assert!(rt; writer.calls() == 1 && writer.failures() == 0);
-    assert!(rt; fault_of_write(&mut writer, b"x") == Some(ErrorKind::WriteZero));
-    assert!(rt; writer.calls() == 2 && writer.failures() == 1);
+    check(&rt, writer.write(b"").unwrap_or(9) == 0);
+    check(&rt, writer.calls() == 1 && writer.failures() == 0);
+    check(
+        &rt,
+        fault_of_write(&mut writer, b"x") == Some(ErrorKind::WriteZero),
+    );
+    check(&rt, writer.calls() == 2 && writer.failures() == 1);
 }
 
 /// There are so many bytes, and each is 7.
@@ -145,7 +152,7 @@ fn is_all_read(alloc: Global, most: usize, reads: u64) -> bool {
 #[test]
 fn all_is_read_however_it_is_cut(rt: HostRuntime) {
     for (most, reads) in [(1, 40_001), (7, 5716), (16_384, 4), (40_000, 4)] {
-        assert!(rt; is_all_read(rt.alloc(), most, reads), "in reads of {most}");
+        check(&rt, is_all_read(rt.alloc(), most, reads));
     }
 }
 
@@ -173,7 +180,7 @@ const READINGS: [((usize, u64), usize, u64, Option<ReadFault>); 6] = [
 fn reading_all_names_its_fault(rt: HostRuntime) {
     for (tap, most_bytes, most_reads, fault) in READINGS {
         let found = fault_of_reading(rt.alloc(), tap, most_bytes, most_reads);
-        assert!(rt; found == fault, "{most_bytes} bytes, {most_reads} reads");
+        check(&rt, found == fault);
     }
 }
 
@@ -198,7 +205,7 @@ const WRITINGS: [(usize, u64, (Option<WriteFault>, usize, u64)); 5] = [
 #[test]
 fn all_is_written_or_the_writer_failed(rt: HostRuntime) {
     for (most, failing, wanted) in WRITINGS {
-        assert!(rt; written(most, failing) == wanted, "{most} at a time");
+        check(&rt, written(most, failing) == wanted);
     }
 }
 
@@ -259,8 +266,8 @@ fn is_flushed_so(outcome: Option<ErrorKind>) -> bool {
 
 #[test]
 fn a_flush_reaches_the_writer_inside_and_its_failure_comes_back(rt: HostRuntime) {
-    assert!(rt; is_flushed_so(None));
-    assert!(rt; is_flushed_so(Some(ErrorKind::BrokenPipe)));
+    check(&rt, is_flushed_so(None));
+    check(&rt, is_flushed_so(Some(ErrorKind::BrokenPipe)));
 }
 
 /// A text is written and flushed once, where a flush is answered by `outcome`.
@@ -275,8 +282,11 @@ fn is_written_so(outcome: Option<ErrorKind>, fault: Option<WriteFault>) -> bool 
 
 #[test]
 fn a_text_is_written_and_flushed_or_the_writer_failed(rt: HostRuntime) {
-    assert!(rt; is_written_so(None, None));
-    assert!(rt; is_written_so(Some(ErrorKind::BrokenPipe), Some(WriteFault)));
+    check(&rt, is_written_so(None, None));
+    check(
+        &rt,
+        is_written_so(Some(ErrorKind::BrokenPipe), Some(WriteFault)),
+    );
 }
 
 /// A text is written and flushed, a write undoes that, and an empty text flushes again.
@@ -292,5 +302,5 @@ fn flushes_anew(writer: &mut Counted<&mut Valve>) -> bool {
 #[test]
 fn a_write_undoes_a_flush_and_a_failed_flush_does_not(rt: HostRuntime) {
     let mut valve = valve_of(None);
-    assert!(rt; flushes_anew(&mut Counted::new(&mut valve)));
+    check(&rt, flushes_anew(&mut Counted::new(&mut valve)));
 }

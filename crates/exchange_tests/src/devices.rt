@@ -5,8 +5,9 @@ ghost use Rattle.counted_io.specs.Count.{raised};
 
 use clocks::Clock;
 use gate_port::{Admission, GatePort, Why};
+use lent_io::ReadAhead;
 use limiter_core::{Outcome, PermitFacts};
-use message_parts::{Headers, Request};
+use message_parts::{Bytes, Headers, Request};
 use partitions::Part;
 use std::alloc::Global;
 use std::cell::Cell;
@@ -58,6 +59,15 @@ impl<'a> BufRead for Source<'a> {
 
     fn consume(&mut self, amount: usize) {
         self.left = &self.left[amount.min(self.left.len())..];
+    }
+}
+
+/// All that it has left lies there already.
+impl<'a> ReadAhead for Source<'a> {
+    ghost ahead = { λ source. source.left.now };
+
+    fn is_drained(&self) -> bool {
+        self.left.is_empty()
     }
 }
 
@@ -164,8 +174,10 @@ impl GatePort for Watched {
 /// What a backend answers.
 #[derive(Clone, Copy, Drop)]
 pub(crate) enum Says {
-    /// A response of this status.
+    /// A response of this status, without a body.
     Status(u16),
+    /// The same with a body of no bytes.
+    Whole(u16),
     NotConnected,
     Broken(WireFault),
     Late,
@@ -180,6 +192,15 @@ pub(crate) struct Told {
     pub(crate) count: u64,
 }
 
+impl Told {
+    // A response of this status.
+    fn answered(&self, status: u16, body: Option<Bytes>) -> BackendAnswer {
+        let headers = Headers::new(Vec::new(self.alloc));
+        let status = status.clamp(100, 999);
+        BackendAnswer::Answered(Response::new(status, headers, body, Reuse::Closing))
+    }
+}
+
 impl Backend for Told {
     ghost use Rattle.std.specs.Prelude.{None};
 
@@ -192,14 +213,10 @@ impl Backend for Told {
     {
         self.count = self.count.saturating_add(1);
         match self.says {
-            Says::Status(status) => {
-                let headers = Headers::new(Vec::new(self.alloc));
-                BackendAnswer::Answered(Response::new(
-                    status.clamp(100, 999),
-                    headers,
-                    None,
-                    Reuse::Closing,
-                ))
+            Says::Status(status) => self.answered(status, None),
+            Says::Whole(status) => {
+                let body = Bytes::new(Vec::new(self.alloc));
+                self.answered(status, Some(body))
             }
             Says::NotConnected => BackendAnswer::NotConnected,
             Says::Broken(fault) => BackendAnswer::Broken(fault),

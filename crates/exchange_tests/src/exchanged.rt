@@ -4,7 +4,7 @@ use clocks::MonotonicClock;
 use counted_io::Counted;
 use gate_config::{Settings, read};
 use limiter_core::Outcome;
-use proxy::{ExchangeSummary, exchange};
+use proxy::{ExchangePolicy, ExchangeSummary, exchange};
 use std::alloc::Global;
 use std::process::Abort;
 
@@ -31,6 +31,8 @@ pub(crate) struct Case<'a> {
     /// The one read and the one write at which the client's end fails.
     pub(crate) failing_read: u64,
     pub(crate) failing_write: u64,
+    /// Whether the client may be kept.
+    pub(crate) keeps: bool,
     /// What the backend answers.
     pub(crate) says: Says,
     /// The text of a configuration.
@@ -39,7 +41,7 @@ pub(crate) struct Case<'a> {
 
 impl<'a> Case<'a> {
     /// A request that comes whole, by these settings, with room at the gate and a backend that
-    /// answers 200.
+    /// answers 200; its client isn't kept.
     pub(crate) fn new(sent: &'a [u8], settings: &'a str) -> Case<'a> {
         Case {
             sent,
@@ -47,6 +49,7 @@ impl<'a> Case<'a> {
             is_full: false,
             failing_read: u64::MAX,
             failing_write: u64::MAX,
+            keeps: false,
             says: Says::Status(200),
             settings,
         }
@@ -57,6 +60,8 @@ impl<'a> Case<'a> {
 #[derive(Drop)]
 pub(crate) struct Came {
     pub(crate) told: ExchangeSummary,
+    /// Whether the client is kept where all was sent, and where it wasn't.
+    pub(crate) is_kept: (bool, bool),
     /// How often the client's end was read and written.
     pub(crate) reads: u64,
     pub(crate) writes: u64,
@@ -102,18 +107,27 @@ fn came_by(alloc: Global, case: Case, settings: &Settings) -> Came {
         taken: 0,
         first: [0; KEPT],
     };
-    let told = exchange(
+    let policy = ExchangePolicy {
+        marks: false,
+        keeper: &case.keeps,
+    };
+    let served = exchange(
         alloc,
         &mut gate,
         &mut backend,
         settings,
-        false,
+        &policy,
         &mut MonotonicClock::new(&Ticking::new()),
         &mut Counted::new(&mut source),
         &mut Counted::new(&mut sink),
     );
+    let served = served.with_sent(true);
+    let is_kept = served.is_kept();
+    let unsent = served.with_sent(false);
+    let is_kept = (is_kept, unsent.is_kept());
     Came {
-        told: told.end(),
+        told: unsent.end(),
+        is_kept,
         reads: source.calls,
         writes: sink.calls,
         sent: sink.taken,

@@ -8,6 +8,8 @@
 #[cfg(test)]
 mod answer_tests;
 #[cfg(test)]
+mod checks;
+#[cfg(test)]
 mod clocks_tests;
 #[cfg(test)]
 mod counted_io_tests;
@@ -15,6 +17,8 @@ mod counted_io_tests;
 mod devices;
 #[cfg(test)]
 mod exchanged;
+#[cfg(test)]
+mod keeping_tests;
 #[cfg(test)]
 mod load;
 #[cfg(test)]

@@ -1,5 +1,6 @@
 // When the gate is asked, until when a request may wait, and when its permit is ended, by a clock
 // that goes on by a second at each look.
+use crate::checks::check;
 use crate::devices::{Moments, SECOND};
 use crate::exchanged::{Case, SETTINGS, exchanged};
 use std::alloc::Global;
@@ -72,7 +73,7 @@ fn moments_of(
 fn check_moments(rt: &impl Abort, alloc: Global, sent: &[u8], is_full: bool, ended: Option<u64>) {
     for (settings, deadline) in DEADLINES {
         let moments = moments_of(rt, alloc, sent, settings, is_full);
-        assert!(rt; moments == (Some(7 * SECOND), deadline, ended));
+        check(rt, moments == (Some(7 * SECOND), deadline, ended));
     }
 }
 

@@ -1,5 +1,6 @@
 // A client's end that fails once is called no more; what was asked until then is ended, and nothing
 // else is begun.
+use crate::checks::check;
 use crate::exchanged::{Came, Case, SETTINGS, exchanged};
 use limiter_core::Outcome;
 use std::alloc::Global;
@@ -77,7 +78,7 @@ fn is_served(came: &Came) -> bool {
 /// How often a client is read and written in an exchange.
 fn calls_of(rt: &impl Abort, alloc: Global, case: Case) -> (u64, u64) {
     let whole = exchanged(rt, alloc, case);
-    assert!(rt; is_served(&whole));
+    check(rt, is_served(&whole));
     (whole.reads, whole.writes)
 }
 
@@ -85,10 +86,10 @@ fn calls_of(rt: &impl Abort, alloc: Global, case: Case) -> (u64, u64) {
 fn fails_once(rt: &impl Abort, alloc: Global, case: Case, asking: u64) {
     let (reads, writes) = calls_of(rt, alloc, case);
     for only in 0..reads {
-        assert!(rt; is_read_no_more(rt, alloc, case, only));
+        check(rt, is_read_no_more(rt, alloc, case, only));
     }
     for only in 0..writes {
-        assert!(rt; is_written_no_more(rt, alloc, case, only, asking));
+        check(rt, is_written_no_more(rt, alloc, case, only, asking));
     }
 }
 

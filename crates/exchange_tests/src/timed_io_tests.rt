@@ -1,6 +1,7 @@
 // Connections whose limits can't be set, which are ready, whose calls are interrupted, and how long
 // each call may take; and a flush through a buffer.
 
+use crate::checks::check;
 use crate::counted_io_tests::valve_of;
 use clocks::Clock;
 use lent_io::{BufferedWrite, WriteBuffer};
@@ -172,12 +173,12 @@ fn calls_without_limits(is_ready: bool) -> u64 {
 
 #[test]
 fn a_call_that_cannot_be_limited_is_not_waited_for(rt: HostRuntime) {
-    assert!(rt; calls_without_limits(false) == 0);
+    check(&rt, calls_without_limits(false) == 0);
 }
 
 #[test]
 fn a_call_that_need_not_wait_needs_no_limit(rt: HostRuntime) {
-    assert!(rt; calls_without_limits(true) == 2);
+    check(&rt, calls_without_limits(true) == 2);
 }
 
 /// How many seconds four reads, and four writes, may wait, by a second's look each.
@@ -202,8 +203,8 @@ fn seconds_left(is_reading: bool) -> [u64; 4] {
 
 #[test]
 fn each_call_waits_for_what_is_left(rt: HostRuntime) {
-    assert!(rt; seconds_left(true) == [4, 3, 2, 1]);
-    assert!(rt; seconds_left(false) == [4, 3, 2, 1]);
+    check(&rt, seconds_left(true) == [4, 3, 2, 1]);
+    check(&rt, seconds_left(false) == [4, 3, 2, 1]);
 }
 
 /// What a read and a write give that are interrupted five times, and how often each was called.
@@ -231,10 +232,10 @@ fn written_through(seconds: u64) -> (Option<usize>, u64) {
 
 #[test]
 fn an_interrupted_call_begins_anew_within_its_time(rt: HostRuntime) {
-    assert!(rt; read_through(9) == (Some(1), 6));
-    assert!(rt; written_through(9) == (Some(1), 6));
-    assert!(rt; read_through(2) == (None, 2));
-    assert!(rt; written_through(2) == (None, 2));
+    check(&rt, read_through(9) == (Some(1), 6));
+    check(&rt, written_through(9) == (Some(1), 6));
+    check(&rt, read_through(2) == (None, 2));
+    check(&rt, written_through(2) == (None, 2));
 }
 
 /// How many bytes and flushes come through a buffer, by a write and a flush.
@@ -254,5 +255,5 @@ fn through_a_buffer(alloc: Global) -> (usize, u64) {
 
 #[test]
 fn a_flush_goes_through_a_buffer(rt: HostRuntime) {
-    assert!(rt; through_a_buffer(rt.alloc()) == (4, 1));
+    check(&rt, through_a_buffer(rt.alloc()) == (4, 1));
 }

@@ -1,7 +1,7 @@
 // Two workers at one gate, each of which serves one client in memory: one is admitted, and waits at
 // its backend until the other one is refused. What both are told is decided in one log, whose
 // counters are told at the end.
-ghost use Rattle.std.specs.Prelude.{◌≡◌, false, []};
+ghost use Rattle.std.specs.Prelude.{◌≡◌, Some, true, false, []};
 ghost use Rattle.counted_io.specs.Count.{raised};
 ghost use Rattle.limit_kinds.specs.AnyKinds.{any_rules};
 ghost use Rattle.gate_config.specs.Settings.{AreSound};
@@ -11,6 +11,7 @@ ghost use Rattle.shared_gate.specs.Log.{CallsLegal};
 ghost use Rattle.proxy.specs.Exchanges.{Policy};
 ghost use Rattle.exchange_tests.specs.Deciding.{AreBothDecided, IsServed};
 
+use crate::checks::check;
 use crate::devices::{KEPT, Sink, Source, Ticking};
 use clocks::MonotonicClock;
 use counted_io::Counted;
@@ -23,7 +24,7 @@ use limit_laws::Limit;
 use limiter_core::Counters;
 use message_parts::{Headers, Request};
 use ports::Port;
-use proxy::{ExchangeSummary, Verdict, exchange};
+use proxy::{ExchangePolicy, ExchangeSummary, Verdict, exchange};
 use shared_gate::{GateNaming, LogLength, Pass, SharedGate};
 use std::alloc::Global;
 use std::marker::Brand;
@@ -115,8 +116,9 @@ fn serve_by<L: Limit, M: GateNaming, R: Wait + SystemClock>(
     clock: &Ticking,
 ) -> Served<M>
     requires unused { pass.log ≡ [] }
-    ensures { IsServed (record { settings = settings.now; marks = false }) result.told
-        result.pass.log }
+    ensures { IsServed
+        (record { settings = settings.now; marks = false; keeps = Some true })
+        result.told result.pass.log }
 {
     let mut port = Port::new(rt, gate, pass, clock);
     let mut backend = Patient {
@@ -137,12 +139,16 @@ fn serve_by<L: Limit, M: GateNaming, R: Wait + SystemClock>(
         taken: 0,
         first: [0; KEPT],
     };
+    let policy = ExchangePolicy {
+        marks: false,
+        keeper: &true,
+    };
     let served = exchange(
         alloc,
         &mut port,
         &mut backend,
         settings,
-        false,
+        &policy,
         &mut MonotonicClock::new(clock),
         &mut Counted::new(&mut source),
         &mut Counted::new(&mut sink),
@@ -217,11 +223,11 @@ where
     let two = passes.pop().expect(rt, "a pass");
     let one = passes.pop().expect(rt, "a pass");
     let both = serve_both(rt, alloc, &gate, one, two);
-    assert!(rt; both.counters.admitted == 1);
-    assert!(rt; both.counters.full == 1);
-    assert!(rt; both.counters.success == 1);
-    assert!(rt; is_admitted(&both.first) != is_admitted(&both.second));
-    assert!(rt; is_full(&both.first) != is_full(&both.second));
+    check(rt, both.counters.admitted == 1);
+    check(rt, both.counters.full == 1);
+    check(rt, both.counters.success == 1);
+    check(rt, is_admitted(&both.first) != is_admitted(&both.second));
+    check(rt, is_full(&both.first) != is_full(&both.second));
 }
 
 fn is_admitted(told: &ExchangeSummary) -> bool {

@@ -3,7 +3,7 @@ use Rattle.std.proofs.Common.{◌≡◌, ◌∙◌, ap, refl, sym, ℕ, [], code
 use Rattle.toml.specs.Data.{Members}
 use Rattle.partitions.specs.Table.{Row}
 use Rattle.windowed.specs.declared.numbers.WindowNumbers.{WindowNumbers}
-use Rattle.limit_kinds.specs.declared.spec.LimitSpec.{LimitSpec}
+use Rattle.limit_kinds.specs.declared.kinds.LimitSpec.{LimitSpec}
 use Rattle.gate_config.specs.declared.fault.ConfigFault.{ConfigFault}
 use Rattle.gate_config.specs.Outcomes.{◌>>=◌, result_map}
 use Rattle.gate_config.specs.declared.top.TopKeys.{TopKeys}

@@ -80,17 +80,29 @@ pub at_promote : (front : FrontKeys) (kept : Option KeptKeys) (gate : GateKeys)
 at_promote front None gate = refl
 at_promote front (Some kept) gate = refl
 
+pub at_clients : (front : FrontKeys) (kept : Option KeptKeys) (gate : GateKeys)
+    → number_at (codes "clients") (front_values front ++ kept_values kept ++ gate_values gate)
+    ≡ number_at (codes "clients") (kept_values kept)
+at_clients front None gate = refl
+at_clients front (Some kept) gate = refl
+
+pub at_client_idle : (front : FrontKeys) (kept : Option KeptKeys) (gate : GateKeys)
+    → number_at (codes "client_idle_ms") (front_values front ++ kept_values kept ++ gate_values gate)
+    ≡ number_at (codes "client_idle_ms") (kept_values kept)
+at_client_idle front None gate = refl
+at_client_idle front (Some kept) gate = refl
+
 pub at_backends : (front : FrontKeys) (kept : Option KeptKeys) (gate : GateKeys)
     → number_at (codes "backends") (front_values front ++ kept_values kept ++ gate_values gate)
     ≡ number_at (codes "backends") (kept_values kept)
 at_backends front None gate = refl
 at_backends front (Some kept) gate = refl
 
-pub at_idle : (front : FrontKeys) (kept : Option KeptKeys) (gate : GateKeys)
+pub at_backend_idle : (front : FrontKeys) (kept : Option KeptKeys) (gate : GateKeys)
     → number_at (codes "backend_idle_ms") (front_values front ++ kept_values kept ++ gate_values gate)
     ≡ number_at (codes "backend_idle_ms") (kept_values kept)
-at_idle front None gate = refl
-at_idle front (Some kept) gate = refl
+at_backend_idle front None gate = refl
+at_backend_idle front (Some kept) gate = refl
 
 -- What the settings can cite, by the name of the set.
-pub ruleset read_at = (at_keep, at_promote, at_backends, at_idle)
+pub ruleset read_at = (at_keep, at_promote, at_clients, at_client_idle, at_backends, at_backend_idle)

@@ -9,7 +9,7 @@ use Rattle.toml.specs.View.{table_view}
 use Rattle.arrayvec.specs.ArrayVec.{ArrayVec}
 use Rattle.partitions.specs.Table.{Row}
 use Rattle.windowed.specs.declared.numbers.WindowNumbers.{WindowNumbers}
-use Rattle.limit_kinds.specs.declared.spec.LimitSpec.{LimitSpec}
+use Rattle.limit_kinds.specs.declared.kinds.LimitSpec.{LimitSpec}
 use Rattle.gate_config.specs.declared.fault.ConfigFault.{ConfigFault}
 use Rattle.gate_config.specs.declared.key.Key.TheVariants as Key
 use Rattle.gate_config.specs.Outcomes.{◌>>=◌}

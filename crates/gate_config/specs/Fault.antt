@@ -6,7 +6,7 @@ use Rattle.gate_config.specs.declared.fault.ConfigFault.{ConfigFault}
 use Rattle.gate_config.specs.declared.fault.ConfigFault.TheVariants as Fault
 use Rattle.gate_config.specs.declared.fault.KeyAtFault.{KeyAtFault}
 use Rattle.gate_config.specs.declared.key.Key.{Key}
-use Rattle.gate_config.specs.Key.{path_of}
+use Rattle.gate_config.specs.Rows.{path_of}
 
 -- a key at fault outside arrays, which holds no number
 abbrev pub plain : Key → KeyAtFault

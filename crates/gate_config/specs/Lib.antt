@@ -1,4 +1,4 @@
-pub mod Key
+pub mod Rows
 pub mod KeyText
 pub mod Fault
 pub mod Outcomes
@@ -7,7 +7,6 @@ pub mod Text
 pub mod Address
 pub mod Table
 pub mod Unknown
-pub mod Rows
 pub mod ClassRows
 pub mod Routes
 pub mod Section

@@ -1,14 +1,12 @@
 -- The section `limit`: the limit of its keys, kind by kind, and of the values of the section.
 use Rattle.std.specs.Prelude.{ℕ, ◌*◌, List, [], ◌∷◌, fold, unwrap_or, Result, Ok, codes}
 use Rattle.toml.specs.Data.{Members}
-use Rattle.limit_kinds.specs.declared.kind.LimitKind.{LimitKind}
-use Rattle.limit_kinds.specs.declared.kind.LimitKind.TheVariants as Kind
-use Rattle.limit_kinds.specs.declared.spec.Limits.{Limits}
-use Rattle.limit_kinds.specs.declared.spec.LimitSpec.{LimitSpec}
-use Rattle.limit_kinds.specs.declared.spec.LimitSpec.TheVariants as Spec
-use Rattle.limit_kinds.specs.Kind.{kind_named, kind_word}
-use Rattle.limit_kinds.specs.Kinds.{base_kind}
-use Rattle.limit_kinds.specs.Specs.{first_limit}
+use Rattle.limit_kinds.specs.declared.kinds.LimitKind.{LimitKind}
+use Rattle.limit_kinds.specs.declared.kinds.LimitKind.TheVariants as Kind
+use Rattle.limit_kinds.specs.declared.kinds.Limits.{Limits}
+use Rattle.limit_kinds.specs.declared.kinds.LimitSpec.{LimitSpec}
+use Rattle.limit_kinds.specs.declared.kinds.LimitSpec.TheVariants as Spec
+use Rattle.limit_kinds.specs.Kinds.{base_kind, first_limit, kind_named, kind_word}
 use Rattle.gate_config.specs.declared.fault.ConfigFault.{ConfigFault}
 use Rattle.gate_config.specs.Outcomes.{result_map}
 use Rattle.gate_config.specs.declared.version.Version.{Version}

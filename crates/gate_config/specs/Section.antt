@@ -5,7 +5,7 @@ use Rattle.partitions.specs.Table.{Row as ClassRow}
 use Rattle.gate_config.specs.declared.fault.ConfigFault.{ConfigFault}
 use Rattle.gate_config.specs.declared.key.Key.{Key}
 use Rattle.gate_config.specs.Address.{is_address}
-use Rattle.gate_config.specs.Key.{name_of}
+use Rattle.gate_config.specs.Rows.{name_of}
 use Rattle.gate_config.specs.Number.{flag_from, number_from}
 use Rattle.gate_config.specs.Outcomes.{result_map, ◌>>=◌}
 use Rattle.gate_config.specs.Text.{begins_path, choice_from, is_among, is_token, text_from}

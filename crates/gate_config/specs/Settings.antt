@@ -4,7 +4,7 @@ use Rattle.toml.specs.Data.{Data, Members, get_member, integer}
 use Rattle.toml.specs.Parse.{parse_document}
 use Rattle.partitions.specs.Table.{placed}
 use Rattle.limit_kinds.specs.AnyKinds.{any_from}
-use Rattle.limit_kinds.specs.Specs.{first_limit}
+use Rattle.limit_kinds.specs.Kinds.{first_limit}
 use Rattle.limiter_core.specs.declared.promote.Promote.{Promote}
 use Rattle.limiter_core.specs.declared.promote.Promote.TheVariants.{Newest, All}
 use Rattle.classifier.specs.declared.resolver.Resolver.{Resolver}
@@ -51,6 +51,8 @@ settings_with d resolvers = record {
   backlog = number_at (codes "backlog") d.top + placed d.classes.1;
   wait = flag_at (codes "wait") d.top;
   timeout_ns = number_at (codes "timeout_ms") d.top * 1000000;
+  clients = number_at (codes "clients") d.top;
+  client_idle_ns = number_at (codes "client_idle_ms") d.top * 1000000;
   backends = number_at (codes "backends") d.top;
   backend_idle_ns = number_at (codes "backend_idle_ms") d.top * 1000000;
   keep = number_at (codes "keep") d.top;
@@ -99,6 +101,8 @@ pub record AreSound (s : Settings) : Type 0 where
   pub places_within : placed s.table ≤ s.backlog
   pub timeout_least : 1000000 ≤ s.timeout_ns
   pub timeout_most : s.timeout_ns ≤ 3600000000000
+  pub clients_most : s.clients ≤ 10000
+  pub client_idle_most : s.client_idle_ns ≤ 3600000000000
   pub backends_most : s.backends ≤ 64
   pub backend_idle_most : s.backend_idle_ns ≤ 3600000000000
   pub keep_least : 1 ≤ s.keep

@@ -17,7 +17,9 @@ front_values k =
 abbrev pub kept_values : Option KeptKeys → Values
 kept_values None = []
 kept_values (Some k) =
-    (codes "backends", number_is k.backends)
+    (codes "clients", number_is k.clients)
+    ∷ (codes "client_idle_ms", number_is k.client_idle_ms)
+    ∷ (codes "backends", number_is k.backends)
     ∷ (codes "backend_idle_ms", number_is k.backend_idle_ms) ∷ []
 
 abbrev pub gate_values : GateKeys → Values
@@ -29,8 +31,10 @@ top_values k = front_values k.front ++ kept_values k.kept ++ gate_values k.gate
 
 -- the numbers of connections that are kept are in their ranges
 pub record AreKept (k : KeptKeys) : Type 0 where
+  pub clients_most : k.clients ≤ 10000
+  pub client_idle_most : k.client_idle_ms ≤ 3600000
   pub backends_most : k.backends ≤ 64
-  pub idle_most : k.backend_idle_ms ≤ 3600000
+  pub backend_idle_most : k.backend_idle_ms ≤ 3600000
 
 -- the numbers are in their ranges
 pub record IsTop (k : TopKeys) : Type 0 where

@@ -5,7 +5,7 @@ use Rattle.std.specs.Prelude.{ℕ, not, List, ◌++◌, map, filter, fold, Optio
 use Rattle.toml.specs.Data.{Members}
 use Rattle.gate_config.specs.declared.key.Section.{Section}
 use Rattle.gate_config.specs.declared.unknown.UnknownKey.{UnknownKey as UnknownKeyEntry}
-use Rattle.gate_config.specs.Key.{prefix_of}
+use Rattle.gate_config.specs.Rows.{prefix_of}
 use Rattle.gate_config.specs.KeyText.{key_text}
 use Rattle.gate_config.specs.Table.{pairs_of}
 use Rattle.gate_config.specs.Text.{is_among}

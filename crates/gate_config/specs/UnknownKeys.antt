@@ -2,11 +2,11 @@
 use Rattle.std.specs.Prelude.{ℕ, List, [], ◌∷◌, ◌++◌, map, flat_map, Option, Some, None}
 use Rattle.toml.specs.Data.{Members}
 use Rattle.windowed.specs.declared.numbers.WindowNumbers.{WindowNumbers}
-use Rattle.limit_kinds.specs.declared.spec.LimitSpec.{LimitSpec}
-use Rattle.limit_kinds.specs.declared.spec.LimitSpec.TheVariants.{Auto}
+use Rattle.limit_kinds.specs.declared.kinds.LimitSpec.{LimitSpec}
+use Rattle.limit_kinds.specs.declared.kinds.LimitSpec.TheVariants.{Auto}
 use Rattle.gate_config.specs.declared.key.Key.{Key}
 use Rattle.gate_config.specs.declared.key.Section.TheVariants as In
-use Rattle.gate_config.specs.Key.{name_of}
+use Rattle.gate_config.specs.Rows.{name_of}
 use Rattle.gate_config.specs.Unknown.{UnknownKey, unknown_keys_in}
 use Rattle.gate_config.specs.declared.version.Version.{Version}
 use Rattle.gate_config.specs.Limit.{limit_names}

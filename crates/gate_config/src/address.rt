@@ -5,7 +5,7 @@ ghost use Rattle.std.specs.Prelude.{◌≡◌, ◌≤◌, ◌&&◌, bytes_eq, na
 ghost use Rattle.toml.specs.Data.{get_member};
 ghost use Rattle.toml.specs.View.{table_view};
 ghost use Rattle.gate_config.specs.Address.{is_address};
-ghost use Rattle.gate_config.specs.Key.{name_of};
+ghost use Rattle.gate_config.specs.Rows.{name_of};
 ghost use Rattle.gate_config.specs.Text.{text_from};
 
 use crate::fault::{ConfigFault, KeyAtFault};

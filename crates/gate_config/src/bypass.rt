@@ -2,12 +2,11 @@
 ghost use Rattle.std.specs.Prelude.{◌≡◌, [], Ok, Some, None, codes, map, option_map, if◌then◌else◌};
 ghost use Rattle.toml.specs.Data.{get_member};
 ghost use Rattle.toml.specs.View.{table_view};
-ghost use Rattle.gate_config.specs.Key.{name_of};
+ghost use Rattle.gate_config.specs.Rows.{bypass_kinds, bypass_rows, name_of};
 ghost use Rattle.gate_config.specs.Outcomes.{Answers, Settles, of_member, result_map};
 ghost use Rattle.gate_config.specs.Table.{tables_among};
 ghost use Rattle.gate_config.specs.Text.{is_among, text_from};
 ghost use Rattle.gate_config.specs.Bypass.{bypass_after, bypass_member, bypass_values, bypass_word};
-ghost use Rattle.gate_config.specs.Rows.{bypass_kinds, bypass_rows};
 ghost use Rattle.gate_config.specs.Section.{names_of, read_each, section_values};
 
 use crate::{ConfigFault, Key, KeyAtFault, read_prefix, read_text, read_token};

@@ -4,7 +4,7 @@ ghost use Rattle.std.specs.Prelude.{◌≡◌, ◌+◌, ◌≤◌, ℕ, None, If
 ghost use Rattle.toml.specs.Data.{get_member};
 ghost use Rattle.toml.specs.View.{table_view};
 ghost use Rattle.partitions.specs.Table.{is_name, placed};
-ghost use Rattle.gate_config.specs.Key.{name_of};
+ghost use Rattle.gate_config.specs.Rows.{class_rows, name_of};
 ghost use Rattle.gate_config.specs.Number.{number_from};
 ghost use Rattle.gate_config.specs.Outcomes.{result_map};
 ghost use Rattle.gate_config.specs.Table.{tables_among};
@@ -12,7 +12,6 @@ ghost use Rattle.gate_config.specs.Text.{text_from};
 ghost use Rattle.gate_config.specs.declared.version.Version.TheVariants.{One, Two, Three};
 ghost use Rattle.gate_config.specs.Class.{class_after, class_from, classes_of};
 ghost use Rattle.gate_config.specs.ClassRows.{class_row, is_class, is_new_name, left_by, places_left};
-ghost use Rattle.gate_config.specs.Rows.{class_rows};
 
 use crate::version::Version;
 use crate::{ConfigFault, Key, KeyAtFault, Range, read_number, read_text};

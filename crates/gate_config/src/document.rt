@@ -4,7 +4,7 @@ ghost use Rattle.std.specs.Prelude.{◌≡◌, ◌+◌, ◌≤◌, [], Err, IfEr
 ghost use Rattle.toml.specs.View.{table_view};
 ghost use Rattle.partitions.specs.Table.{placed};
 ghost use Rattle.windowed.specs.WindowedRules.{windows_made};
-ghost use Rattle.limit_kinds.specs.Specs.{limit_made};
+ghost use Rattle.limit_kinds.specs.Kinds.{limit_made};
 ghost use Rattle.gate_config.specs.declared.fault.ConfigFault.{ConfigFault as FaultValue};
 ghost use Rattle.gate_config.specs.Outcomes.{Answers, result_map};
 ghost use Rattle.gate_config.specs.Table.{tables_among};

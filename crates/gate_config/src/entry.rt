@@ -2,7 +2,7 @@
 ghost use Rattle.std.specs.Prelude.{◌≡◌, option_map};
 ghost use Rattle.toml.specs.Data.{get_member};
 ghost use Rattle.toml.specs.View.{table_view, view};
-ghost use Rattle.gate_config.specs.Key.{name_of};
+ghost use Rattle.gate_config.specs.Rows.{name_of};
 
 use crate::key::Key;
 use toml::{Table, Value};

@@ -1,6 +1,6 @@
 // The keys and their sections.
 ghost use Rattle.std.specs.Prelude.{◌≡◌, Some};
-ghost use Rattle.gate_config.specs.Key.{name_of, path_of, prefix_of, section_of};
+ghost use Rattle.gate_config.specs.Rows.{name_of, path_of, prefix_of, section_of};
 
 use std::fmt;
 
@@ -40,6 +40,8 @@ pub enum Key {
     Backlog,
     Wait,
     TimeoutMs,
+    Clients,
+    ClientIdleMs,
     Backends,
     BackendIdleMs,
     Keep,
@@ -90,6 +92,8 @@ impl Key {
             | Key::Backlog
             | Key::Wait
             | Key::TimeoutMs
+            | Key::Clients
+            | Key::ClientIdleMs
             | Key::Backends
             | Key::BackendIdleMs
             | Key::Keep
@@ -138,6 +142,8 @@ impl Key {
             Key::Backlog => "backlog",
             Key::Wait => "wait",
             Key::TimeoutMs => "timeout_ms",
+            Key::Clients => "clients",
+            Key::ClientIdleMs => "client_idle_ms",
             Key::Backends => "backends",
             Key::BackendIdleMs => "backend_idle_ms",
             Key::Keep => "keep",
@@ -174,7 +180,7 @@ impl Key {
 }
 
 impl fmt::Display for Key {
-    ghost use Rattle.gate_config.specs.Key.{path_of};
+    ghost use Rattle.gate_config.specs.Rows.{path_of};
 
     ghost output = { λ key. Some (path_of key) };
 

@@ -4,14 +4,12 @@ ghost use Rattle.std.specs.Prelude.{option_map, if◌then◌else◌};
 ghost use Rattle.toml.specs.Data.{get_member};
 ghost use Rattle.toml.specs.View.{table_view};
 ghost use Rattle.limit_laws.specs.Algorithm.{greatest_limit};
-ghost use Rattle.limit_kinds.specs.Kind.{kind_word};
-ghost use Rattle.limit_kinds.specs.Specs.{limit_made};
-ghost use Rattle.gate_config.specs.Key.{name_of};
+ghost use Rattle.limit_kinds.specs.Kinds.{kind_word, limit_made};
+ghost use Rattle.gate_config.specs.Rows.{kinds_in, moving, moving_rows, name_of};
 ghost use Rattle.gate_config.specs.Outcomes.{result_map};
 ghost use Rattle.gate_config.specs.Text.{is_among, text_from};
 ghost use Rattle.gate_config.specs.Limit.{limit_behind, limit_in, limit_names, moving_values};
 ghost use Rattle.gate_config.specs.Limit.{values_behind};
-ghost use Rattle.gate_config.specs.Rows.{kinds_in, moving, moving_rows};
 
 use crate::version::Version;
 use crate::{ConfigFault, Key, KeyAtFault, MICRO, Range, read_number, read_text};

@@ -2,11 +2,10 @@
 ghost use Rattle.std.specs.Prelude.{◌≡◌, Some, None, option_map, if◌then◌else◌};
 ghost use Rattle.toml.specs.Data.{get_member};
 ghost use Rattle.toml.specs.View.{table_view};
-ghost use Rattle.gate_config.specs.Key.{name_of};
+ghost use Rattle.gate_config.specs.Rows.{name_of, newest, promote_rules};
 ghost use Rattle.gate_config.specs.Outcomes.{result_map};
 ghost use Rattle.gate_config.specs.Text.{choice_from, is_among};
 ghost use Rattle.gate_config.specs.Promote.{rule_word};
-ghost use Rattle.gate_config.specs.Rows.{newest, promote_rules};
 
 use crate::{ConfigFault, Key, KeyAtFault, read_text, value_at};
 use toml::Table;

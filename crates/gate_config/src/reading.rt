@@ -6,7 +6,7 @@ ghost use Rattle.toml.specs.Errors.{IsBlank};
 ghost use Rattle.toml.specs.View.{table_view};
 ghost use Rattle.partitions.specs.Table.{placed};
 ghost use Rattle.windowed.specs.WindowedRules.{windows_made};
-ghost use Rattle.limit_kinds.specs.Specs.{limit_made};
+ghost use Rattle.limit_kinds.specs.Kinds.{limit_made};
 ghost use Rattle.gate_config.specs.declared.fault.ConfigFault.{ConfigFault as FaultValue};
 ghost use Rattle.gate_config.specs.Outcomes.{Answers};
 ghost use Rattle.gate_config.specs.Bypass.{bypass_member};
@@ -126,6 +126,8 @@ fn made_of(alloc: Global, document: Document) -> Result<Settings, ConfigFault>
     let places = table.placed() as u32;
     let TopKeys { front, kept, gate } = top;
     let KeptKeys {
+        clients,
+        client_idle_ms,
         backends,
         backend_idle_ms,
     } = kept_of(kept);
@@ -135,6 +137,8 @@ fn made_of(alloc: Global, document: Document) -> Result<Settings, ConfigFault>
         backlog: front.backlog + places,
         wait: front.wait,
         timeout_ns: u64::from(front.timeout_ms) * MILLI,
+        clients,
+        client_idle_ns: u64::from(client_idle_ms) * MILLI,
         backends,
         backend_idle_ns: u64::from(backend_idle_ms) * MILLI,
         keep: gate.keep,
@@ -148,12 +152,18 @@ fn made_of(alloc: Global, document: Document) -> Result<Settings, ConfigFault>
 /// The connections that are kept: none where the version keeps none.
 fn kept_of(kept: Option<KeptKeys>) -> KeptKeys
     ensures most { ForSome kept AreKept → AreKept result }
+    ensures clients { result.clients ≡ number_at (codes "clients") (kept_values kept) }
+    ensures client_idle { result.client_idle_ms
+        ≡ number_at (codes "client_idle_ms") (kept_values kept) }
     ensures backends { result.backends ≡ number_at (codes "backends") (kept_values kept) }
-    ensures idle { result.backend_idle_ms ≡ number_at (codes "backend_idle_ms") (kept_values kept) }
+    ensures backend_idle { result.backend_idle_ms
+        ≡ number_at (codes "backend_idle_ms") (kept_values kept) }
 {
     match kept {
         Some(kept) => kept,
         None => KeptKeys {
+            clients: 0,
+            client_idle_ms: 0,
             backends: 0,
             backend_idle_ms: 0,
         },

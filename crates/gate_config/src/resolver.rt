@@ -4,14 +4,13 @@ ghost use Rattle.std.specs.List.{list_all};
 ghost use Rattle.std.specs.Prelude.{◌≡◌, [], codes, Ok, Some, None, is_some, length, map, option_map, if◌then◌else◌};
 ghost use Rattle.toml.specs.Data.{as_str, get_member};
 ghost use Rattle.toml.specs.View.{table_view, view};
-ghost use Rattle.gate_config.specs.Key.{name_of};
+ghost use Rattle.gate_config.specs.Rows.{name_of, resolver_kinds, resolver_rows};
 ghost use Rattle.gate_config.specs.Outcomes.{Answers, Settles, of_member, result_map};
 ghost use Rattle.gate_config.specs.Table.{pairs_of, tables_among};
 ghost use Rattle.gate_config.specs.Text.{is_among, string_of, text_from};
 ghost use Rattle.gate_config.specs.ClassRows.{class_row, is_class};
 ghost use Rattle.gate_config.specs.Resolver.{resolver_after, resolver_member, resolver_values, resolver_word};
 ghost use Rattle.gate_config.specs.Routes.{routes_from, routes_of};
-ghost use Rattle.gate_config.specs.Rows.{resolver_kinds, resolver_rows};
 ghost use Rattle.gate_config.specs.Section.{names_of, read_each, section_values};
 
 use crate::class::{ClassKeys, class_name, is_class};

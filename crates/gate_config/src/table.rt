@@ -3,7 +3,7 @@ ghost use Rattle.std.specs.List.{list_all};
 ghost use Rattle.std.specs.Prelude.{◌≡◌, ◌≤◌, IfOk, is_some, length, map, option_map};
 ghost use Rattle.toml.specs.Data.{as_array, as_table, get_member};
 ghost use Rattle.toml.specs.View.{table_view, view};
-ghost use Rattle.gate_config.specs.Key.{name_of};
+ghost use Rattle.gate_config.specs.Rows.{name_of};
 ghost use Rattle.gate_config.specs.Outcomes.{result_map};
 ghost use Rattle.gate_config.specs.Table.{items_in, optional_from, table_from, tables_among, tables_from, tables_in};
 

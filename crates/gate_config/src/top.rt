@@ -14,13 +14,15 @@ use config_words::{default_of, range_of};
 use toml::Table;
 
 /// The keys outside all tables, in version 3.
-pub const TOP_KEYS: [Key; 15] = [
+pub const TOP_KEYS: [Key; 17] = [
     Key::Version,
     Key::Listen,
     Key::Backend,
     Key::Backlog,
     Key::Wait,
     Key::TimeoutMs,
+    Key::Clients,
+    Key::ClientIdleMs,
     Key::Backends,
     Key::BackendIdleMs,
     Key::Keep,
@@ -33,13 +35,15 @@ pub const TOP_KEYS: [Key; 15] = [
 ];
 
 /// Those beside a limit that has windows of its own.
-pub const NO_WINDOW: [Key; 14] = [
+pub const NO_WINDOW: [Key; 16] = [
     Key::Version,
     Key::Listen,
     Key::Backend,
     Key::Backlog,
     Key::Wait,
     Key::TimeoutMs,
+    Key::Clients,
+    Key::ClientIdleMs,
     Key::Backends,
     Key::BackendIdleMs,
     Key::Keep,
@@ -108,6 +112,10 @@ pub struct FrontKeys {
 /// The connections that are kept.
 #[derive(Clone, Copy, Drop)]
 pub struct KeptKeys {
+    /// How many places there are for clients that are kept or silent.
+    pub clients: u32,
+    /// How long a kept client may be idle, in milliseconds.
+    pub client_idle_ms: u32,
     /// How many connections to the backend are kept.
     pub backends: u32,
     /// How long one may be idle and be used again, in milliseconds.
@@ -178,9 +186,13 @@ fn read_kept_keys(table: &Table) -> Result<KeptKeys, ConfigFault>
         → result_map (λ kept. before ++ kept_values (Some kept)) result
         ≡ fold (read_row [] (table_view table.now)) (Ok before) (kept_rows Three) }
 {
+    let clients = read_number(table, Key::Clients, range_of!(Clients))?;
+    let client_idle_ms = read_number(table, Key::ClientIdleMs, range_of!(ClientIdleMs))?;
     let backends = read_number(table, Key::Backends, range_of!(Backends))?;
     let backend_idle_ms = read_number(table, Key::BackendIdleMs, range_of!(BackendIdleMs))?;
     Ok(KeptKeys {
+        clients,
+        client_idle_ms,
         backends,
         backend_idle_ms,
     })

@@ -4,7 +4,7 @@ ghost use Rattle.std.specs.List.{list_any};
 ghost use Rattle.std.specs.Ordering.{is_lt, nat_cmp};
 ghost use Rattle.std.specs.Prelude.{◌≡◌, IfOk, bytes_eq, fold, map, option_map};
 ghost use Rattle.toml.specs.View.{table_view};
-ghost use Rattle.gate_config.specs.Key.{name_of};
+ghost use Rattle.gate_config.specs.Rows.{name_of};
 ghost use Rattle.gate_config.specs.Text.{is_among};
 ghost use Rattle.gate_config.specs.Unknown.{lesser, unknown_key_of, unknown_key_path, unknown_key_text, unknown_keys_in};
 

@@ -1,7 +1,7 @@
 // The keys that aren't allowed where they stand.
 ghost use Rattle.std.specs.Prelude.{◌≡◌, flat_map, fold, map, option_map};
 ghost use Rattle.toml.specs.View.{table_view};
-ghost use Rattle.gate_config.specs.Key.{name_of};
+ghost use Rattle.gate_config.specs.Rows.{name_of};
 ghost use Rattle.gate_config.specs.Table.{tables_among};
 ghost use Rattle.gate_config.specs.declared.version.Version.TheVariants.{One, Two, Three};
 ghost use Rattle.gate_config.specs.Unknown.{least, lesser, unknown_key_of};

@@ -73,7 +73,10 @@ where
     }
 
     fn noted(&self) -> GatewayStats {
-        self.watch.noted()
+        GatewayStats {
+            clients: self.front.connections(),
+            ..self.watch.noted()
+        }
     }
 
     fn is_accepting(&self) -> bool {

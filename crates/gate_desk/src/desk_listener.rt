@@ -3,7 +3,7 @@ ghost use Rattle.std.specs.Prelude.{◌≡◌, true, false};
 ghost use Rattle.gate_desk.specs.Listeners.{is_shut, listener_in};
 
 use std::time::{Clock as SystemClock, Duration};
-use timed_io::Listener;
+use timed_io::{ClientConnections, Listener};
 
 /// A listener as a desk has it, which may ask whether connections still come, and close it for good
 /// only where it may change itself.
@@ -32,6 +32,11 @@ impl<'a, L: Listener> DeskListener<'a, L> {
         ensures { is_shut self.now ≡ true → result ≡ false }
     {
         !self.is_shut && self.listener.is_open()
+    }
+
+    // How many connections of clients wait there, and what became of those that there were.
+    pub(crate) fn connections(&self) -> ClientConnections {
+        self.listener.connections()
     }
 
     // Lets no further client come; those who wait still do, for so long at most.

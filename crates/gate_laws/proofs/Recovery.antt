@@ -86,17 +86,18 @@ mapped f [] = refl
 mapped f (x ∷ xs) = omega (arith, mapped f xs)
 
 pub recovers : LearnsFromEachWindow base_rules → RisesAtTheBase → RecoversAtTheBase
-recovers learns rises g o h t w due v base windows rules state within alpha is_base unset full =
+recovers learns rises g o h t w due last v base windows rules state within alpha is_base unset
+    full =
     let xs = samples_in t in
     let means = map (window_mean w) windows in
-    let from : WindowedState BaseLimit = emptied w due (Vegas v) in
+    let from : WindowedState BaseLimit = emptied w due last (Vegas v) in
     let after : (image_after g o (h ++ t)).state ≡ fold any_next (Windowed from) xs =
     folds (state_after_entry g.rules) o.state h t
     ∙ ap (λ (s : AnyLimit). fold (state_after_entry g.rules) s t) state
     ∙ over_samples g.rules (Windowed from) t unset
     ∙ ap (λ (r : Algorithm AnyLimit). fold r.next (Windowed from) xs) rules in
     let inner : (fold (windowed_next base_rules) from xs).inner ≡ Vegas (fold vegas_next v means) =
-    learns w due (Vegas v) xs windows full.rest (are_samples t) full.cut full.enough
+    learns w due last (Vegas v) xs windows full.rest (are_samples t) full.cut full.enough
     ∙ of_vegas v means in
     ap (λ (r : Algorithm AnyLimit). r.limit (image_after g o (h ++ t)).state) rules
     ∙ ap any_limit (after ∙ over_windows from xs)

@@ -1,5 +1,6 @@
 -- What an operator asks after a bad day: how soon the limit is up again.
-use Rattle.std.specs.Prelude.{◌≡◌, ◌+◌, ◌≤◌, ⊤, ℕ, Some, List, [], ◌∷◌, ◌++◌, All, length, map, min}
+use Rattle.std.specs.Prelude.{◌≡◌, ◌+◌, ◌≤◌, ⊤, ℕ, Option, Some, List, [], ◌∷◌, ◌++◌, All, length, map, min}
+use Rattle.limit_laws.specs.declared.view.WindowView.{WindowView}
 use Rattle.limit_laws.specs.Facts.{SampleFacts}
 use Rattle.limit_laws.specs.Algorithm.{IsWithin}
 use Rattle.limit_laws.specs.Use.{AreInUse}
@@ -47,9 +48,9 @@ pub record AreFullAtTheBase (w : WindowNumbers) (due : ℕ) (v : VegasState) (ba
 abbrev pub RecoversAtTheBase : Type 0
 RecoversAtTheBase =
     (g : Gate AnyLimit) (o : Image AnyLimit) (h t : List Entry) (w : WindowNumbers) (due : ℕ)
-    (v : VegasState) (base : ℕ) (windows : List Stretch)
+    (last : Option WindowView) (v : VegasState) (base : ℕ) (windows : List Stretch)
     → g.rules ≡ any_rules
-    → (image_after g o h).state ≡ Windowed (emptied w due (Vegas v))
+    → (image_after g o h).state ≡ Windowed (emptied w due last (Vegas v))
     → IsWithin vegas_rules v → 1 ≤ v.alpha → v.base ≡ Some base
     → AreUnset t → AreFullAtTheBase w due v base (samples_in t) windows
     → limit g (image_after g o (h ++ t)) ≡ min v.hi (v.limit + length windows)

@@ -13,7 +13,8 @@ abbrev pub told_parts : List Part
 told_parts = Known 0 ∷ Known 1 ∷ Known 2 ∷ Known 3 ∷ Unknown ∷ []
 
 -- THE REPORT of the state: the limit, all that is in flight, waits and is granted, the
--- in-flight counts and shares of the partitions, how many of each wait, and the counters
+-- in-flight counts and shares of the partitions, how many of each wait, what the limit tells of
+-- itself, and the counters
 abbrev pub report_in : {S : Type 0} → Gate S → Image S → Counters → Report
 report_in g i counters = record {
   limit = limit g i;
@@ -23,5 +24,6 @@ report_in g i counters = record {
   counts = map (λ part. i.inflight (place_of g.rows part)) told_parts;
   shares = map (λ part. share g.rows (place_of g.rows part) (limit g i)) told_parts;
   waiting = map (λ part. waiting_at g.rows i.waiters (place_of g.rows part)) told_parts;
+  view = g.rules.view i.state;
   counters = counters;
 }

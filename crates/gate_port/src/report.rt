@@ -3,7 +3,7 @@ ghost use Rattle.std.specs.Prelude.{◌≡◌};
 ghost use Rattle.limiter_core.specs.Limiter.{gate_of, stands};
 ghost use Rattle.gate_port.specs.Report.{report_in};
 
-use limit_laws::Limit;
+use limit_laws::{Limit, LimitView};
 use limiter_core::{Core, Counters};
 use partitions::Part;
 
@@ -25,6 +25,8 @@ pub struct Report {
     pub shares: [u32; 5],
     /// How many of the same partitions wait.
     pub waiting: [u32; 5],
+    /// What the limit reckons with.
+    pub view: LimitView,
     /// How many replies, promotions and outcomes of each kind there were so far.
     pub counters: Counters,
 }
@@ -62,6 +64,7 @@ pub fn report_of<L: Limit>(core: &Core<L>) -> Report
             core.waiting_of(Part::Known(3)),
             core.waiting_of(Part::Unknown),
         ],
+        view: core.algorithm().view(),
         counters: core.counters(),
     }
 }

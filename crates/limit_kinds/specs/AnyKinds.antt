@@ -1,15 +1,17 @@
 -- A limit over each sample or over windows, as one: each keeps its own rule.
 use Rattle.std.specs.Prelude.{ℕ, Option, None, Some, Result}
 use Rattle.limit_laws.specs.declared.limit.SetFault.{SetFault}
+use Rattle.limit_laws.specs.declared.view.LimitView.{LimitView}
 use Rattle.limit_laws.specs.Facts.{SampleFacts}
 use Rattle.limit_laws.specs.Algorithm.{Algorithm}
 use Rattle.windowed.specs.declared.numbers.WindowNumbers.{WindowNumbers}
 use Rattle.windowed.specs.WindowedRules.{WindowedState, opened, windowed_rules}
-use Rattle.limit_kinds.specs.declared.kind.LimitKind.{LimitKind}
+use Rattle.limit_kinds.specs.declared.kinds.LimitKind.{LimitKind}
 use Rattle.limit_kinds.specs.declared.kinds.BaseLimit.{BaseLimit}
 use Rattle.limit_kinds.specs.declared.kinds.AnyLimit.{AnyLimit}
 use Rattle.limit_kinds.specs.declared.kinds.AnyLimit.TheVariants.{Plain, Windowed}
-use Rattle.limit_kinds.specs.Kinds.{base_kind, base_rules, set_in}
+use Rattle.limit_kinds.specs.Wrapped.{set_in}
+use Rattle.limit_kinds.specs.Kinds.{base_kind, base_rules}
 
 -- the rule over windows
 abbrev pub window_rules : Algorithm (WindowedState BaseLimit)
@@ -26,6 +28,10 @@ any_limit (Windowed s) = window_rules.limit s
 abbrev pub any_hi : AnyLimit → ℕ
 any_hi (Plain s) = base_rules.hi s
 any_hi (Windowed s) = window_rules.hi s
+
+abbrev pub any_view : AnyLimit → LimitView
+any_view (Plain s) = base_rules.view s
+any_view (Windowed s) = window_rules.view s
 
 abbrev pub any_next : AnyLimit → SampleFacts → AnyLimit
 any_next (Plain s) x = Plain (base_rules.next s x)
@@ -50,6 +56,7 @@ any_rules = record {
   lo = any_lo;
   limit = any_limit;
   hi = any_hi;
+  view = any_view;
   next = any_next;
   put = any_put;
   first = any_first;

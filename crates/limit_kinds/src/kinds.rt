@@ -1,14 +1,71 @@
-// The kinds of limit, as one.
-ghost use Rattle.std.specs.Prelude.{◌≡◌};
+// The kinds of limit: their list, the limit of a kind, and a kind with its numbers.
+ghost use Rattle.std.specs.List.{list_any};
+ghost use Rattle.std.specs.Prelude.{◌≡◌, IfOk, None, Some, bytes_eq, option_map};
+ghost use Rattle.std.specs.Prelude.{if◌then◌else◌};
 ghost use Rattle.limit_kinds.specs.AnyKinds.{any_from, any_kind};
-ghost use Rattle.limit_kinds.specs.Kinds.{base_kind};
+ghost use Rattle.limit_kinds.specs.Kinds.{base_kind, first_limit, kind_named, kind_word};
+ghost use Rattle.limit_kinds.specs.Kinds.{kind_words, limit_made};
 
-use super::kind::LimitKind;
-use aimd::Aimd;
+use aimd::{Aimd, AimdNumbers};
 use auto::Auto;
-use limit_laws::{Fixed, Limit, Sample, SetFault, Settable};
-use vegas::Vegas;
+use limit_laws::{Fixed, Limit, LimitView, MakeFault, Sample, SetFault, Settable};
+use vegas::{Vegas, VegasNumbers};
 use windowed::{WindowSettings, Windowed};
+
+/// A kind of limit.
+#[derive(Clone, Copy)]
+pub enum LimitKind {
+    /// A limit that never changes.
+    Fixed,
+    /// One that changes by hand alone.
+    Settable,
+    /// One that changes by AIMD.
+    Aimd,
+    /// One that changes by Vegas.
+    Vegas,
+    /// One that finds itself.
+    Auto,
+}
+
+/// All of them.
+const KINDS: [LimitKind; 5] = [
+    LimitKind::Fixed,
+    LimitKind::Settable,
+    LimitKind::Aimd,
+    LimitKind::Vegas,
+    LimitKind::Auto,
+];
+
+impl LimitKind {
+    /// What the kind is called.
+    pub fn word(self) -> &'static str
+        ensures { result.now ≡ kind_word self }
+    {
+        match self {
+            LimitKind::Fixed => "fixed",
+            LimitKind::Settable => "settable",
+            LimitKind::Aimd => "aimd",
+            LimitKind::Vegas => "vegas",
+            LimitKind::Auto => "auto",
+        }
+    }
+
+    /// The kind that is called so.
+    pub fn named(word: &[u8]) -> Option<LimitKind>
+        ensures kind { result ≡ kind_named word.now }
+        ensures word { option_map kind_word result
+            ≡ if list_any (bytes_eq word.now) kind_words then Some word.now else None }
+    {
+        KINDS.iter().copied().find(|kind| kind.is_called(word))
+    }
+
+    /// Whether the kind is called so.
+    fn is_called(self, word: &[u8]) -> bool
+        ensures { result ≡ bytes_eq word.now (kind_word self) }
+    {
+        word == self.word().as_bytes()
+    }
+}
 
 /// A limit of one of the kinds.
 #[derive(Clone, Copy)]
@@ -36,8 +93,7 @@ impl BaseLimit {
 }
 
 impl Limit for BaseLimit {
-    ghost use Rattle.limit_kinds.specs.Kinds.{base_rules};
-    ghost use Rattle.limit_kinds.specs.KindsLaws.{IsLawful-base};
+    ghost use Rattle.limit_kinds.specs.Kinds.{IsLawful-base, base_rules};
 
     ghost rules = { base_rules };
 
@@ -68,6 +124,16 @@ impl Limit for BaseLimit {
             BaseLimit::Aimd(limit) => limit.limit(),
             BaseLimit::Vegas(limit) => limit.limit(),
             BaseLimit::Auto(limit) => limit.limit(),
+        }
+    }
+
+    fn view(&self) -> LimitView {
+        match self {
+            BaseLimit::Fixed(limit) => limit.view(),
+            BaseLimit::Settable(limit) => limit.view(),
+            BaseLimit::Aimd(limit) => limit.view(),
+            BaseLimit::Vegas(limit) => limit.view(),
+            BaseLimit::Auto(limit) => limit.view(),
         }
     }
 
@@ -106,6 +172,51 @@ impl Limit for BaseLimit {
     }
 
     ghost lawful = { IsLawful-base };
+}
+
+/// A limit to begin with and the ends of its range, in permits, whichever they are.
+#[derive(Clone, Copy)]
+pub struct Limits {
+    /// The least limit.
+    pub lo: u32,
+    /// The limit to begin with.
+    pub first: u32,
+    /// The greatest limit.
+    pub hi: u32,
+}
+
+/// A kind of limit with its numbers, whichever they are.
+#[derive(Clone, Copy)]
+pub enum LimitSpec {
+    Fixed { permits: u32 },
+    Settable(Limits),
+    Aimd(AimdNumbers),
+    Vegas(VegasNumbers),
+    Auto(Limits),
+}
+
+impl LimitSpec {
+    /// The limit of these numbers, in its first state; else the fault that its kind has first.
+    ///
+    /// [`MakeFault::Range`] unless a fixed limit has 1 to 10,000 permits, and one that is set by
+    /// hand, or finds itself, `1 <= lo <= first <= hi <= 10,000`. The others are made by
+    /// [`Aimd::of`] and [`Vegas::of`].
+    pub fn make(self) -> Result<BaseLimit, MakeFault>
+        ensures made { result ≡ limit_made self }
+        ensures value { IfOk result (λ limit. limit ≡ first_limit self) }
+    {
+        match self {
+            LimitSpec::Fixed { permits } => Ok(BaseLimit::Fixed(Fixed::new(permits)?)),
+            LimitSpec::Settable(Limits { lo, first, hi }) => {
+                Ok(BaseLimit::Settable(Settable::new(lo, first, hi)?))
+            }
+            LimitSpec::Aimd(numbers) => Ok(BaseLimit::Aimd(Aimd::of(numbers)?)),
+            LimitSpec::Vegas(numbers) => Ok(BaseLimit::Vegas(Vegas::of(numbers)?)),
+            LimitSpec::Auto(Limits { lo, first, hi }) => {
+                Ok(BaseLimit::Auto(Auto::new(lo, first, hi)?))
+            }
+        }
+    }
 }
 
 /// A limit that learns from each sample, or from windows of samples.
@@ -162,6 +273,13 @@ impl Limit for AnyLimit {
         match self {
             AnyLimit::Plain(limit) => limit.limit(),
             AnyLimit::Windowed(limit) => limit.limit(),
+        }
+    }
+
+    fn view(&self) -> LimitView {
+        match self {
+            AnyLimit::Plain(limit) => limit.view(),
+            AnyLimit::Windowed(limit) => limit.view(),
         }
     }
 

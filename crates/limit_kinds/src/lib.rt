@@ -5,13 +5,9 @@
 //! says which number is out of its range.
 //!
 //! A limit passes each call on to what it holds. That each is a lawful limit again is
-//! proved in `specs/KindsLaws.antt` and `specs/AnyKindsLaws.antt`.
+//! proved in `specs/Kinds.antt` and `specs/AnyKindsLaws.antt`.
 #![tactic(auto)]
 
-mod kind;
 mod kinds;
-mod spec;
 
-pub use kind::LimitKind;
-pub use kinds::{AnyLimit, BaseLimit};
-pub use spec::{LimitSpec, Limits};
+pub use kinds::{AnyLimit, BaseLimit, LimitKind, LimitSpec, Limits};

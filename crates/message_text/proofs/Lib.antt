@@ -1,4 +1,5 @@
 pub mod Kept
+pub mod Fronts
 pub mod Texts
 pub mod Apart
 mod Commonest

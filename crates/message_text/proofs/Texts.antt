@@ -1,6 +1,6 @@
 -- Texts that are written in pieces.
 use Rattle.std.proofs.Common.{◌≡◌, ℕ, List, [], ◌∷◌, ◌++◌, map, refl, ap, sym, subst, ◌∙◌, Option, None, Some, Result, Ok, Err, OnOk, true, false, drop, append_assoc}
-use Rattle.std.specs.Prelude.{codes, unwrap_or, if◌then◌else◌}
+use Rattle.std.specs.Prelude.{codes, decimal, unwrap_or, if◌then◌else◌}
 use Rattle.std.specs.List.{before_first}
 use Rattle.std.specs.Io.KnownBytes.{Appends}
 use Rattle.std.proofs.KnownBytes.{Appends-trans}
@@ -12,7 +12,7 @@ use Rattle.message_fields.specs.Target.{authority_of, ends_authority, forwarded_
 use Rattle.message_text.specs.Line.{line_of, line_text, lines_text, close_lines}
 use Rattle.message_text.specs.Forwarded.{ForwardedValue, hosted, host_lines, length_lines, via_line, first_text, forwarded_lines, forwarded_text}
 use Rattle.message_text.specs.declared.persistence.Persistence.{Persistence}
-use Rattle.message_text.specs.Answer.{AnswerValue, told_lines, answer_lines, answer_text, status_text, written_body, local_text, marked_text}
+use Rattle.message_text.specs.Answer.{AnswerValue, told_lines, answer_lines, answer_text, phrase_of, status_text, written_body, local_text, marked_text}
 
 -- a front was written, and then the rest
 pub wrote_then : {T E : Type 0} (r : Result T E) (a b c : Option (List ℕ)) (x y text : List ℕ)
@@ -26,6 +26,20 @@ lines_text-append : (one other : List Header)
     → lines_text (one ++ other) ≡ lines_text one ++ lines_text other
 unfolding lines_text
 lines_text-append one other = flat_map-append line_text one other
+
+-- a line, in four pieces
+pub line_pieces : (line : Header)
+    → line_text line ≡ ((line.name ++ codes ": ") ++ line.value) ++ codes "\r\n"
+unfolding line_text
+line_pieces line = simp (append_assoc, append-nil)
+
+-- the first line of an answer, in five pieces
+pub status_pieces : (status : ℕ)
+    → status_text status
+    ≡ (((codes "HTTP/1.1 " ++ decimal status) ++ codes " ") ++ phrase_of status)
+    ++ codes "\r\n"
+unfolding status_text
+status_pieces status = simp (append_assoc, append-nil)
 
 -- the lines of an answer and the empty line, in two pieces
 pub answer_pieces : (answer : AnswerValue)

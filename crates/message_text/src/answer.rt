@@ -5,6 +5,7 @@ ghost use Rattle.counted_io.specs.Count.{raised};
 ghost use Rattle.counted_io.specs.Effects.{Wrote};
 ghost use Rattle.counted_io.specs.Causes.{IsWriteCause};
 ghost use Rattle.message_text.specs.Line.{close_lines, line_of, lines_text};
+ghost use Rattle.message_text.specs.Fronts.{WroteFront};
 ghost use Rattle.message_fields.specs.Lengths.{length_digits};
 ghost use Rattle.message_text.specs.Forwarded.{lent};
 ghost use Rattle.message_text.specs.Answer.{seen, is_bodiless, written_body, received_lines, told_lines, answer_lines, status_text, answer_text, local_text, marked_text};
@@ -58,6 +59,8 @@ fn write_status<W: Write>(writer: &mut Counted<W>, status: u16) -> Result<(), Wr
     requires three_digits { (100 ≤ status) × (status ≤ 999) }
     ensures all { OnOk result (Wrote W.contents writer.old writer.new (status_text status)) }
     ensures unfailing { OnOk result (failures_of writer.new ≡ failures_of writer.old) }
+    ensures front { OnErr result (WroteFront W.contents writer.old writer.new
+        (status_text status)) }
     ensures failed { OnErr result (IsWriteCause writer.old writer.new) }
     ensures flushes { flushes_of writer.new ≡ flushes_of writer.old }
 {
@@ -90,19 +93,26 @@ impl Answer<'_> {
         }
     }
 
-    /// Writes the length that came, where its lines give one.
+    /// Writes the length that came, where its lines give one, and what stands behind it.
     #[tactic(auto, using(crate::proofs::Kept::one_line), unfolding(crate::specs::Line::lines_text))]
-    fn write_received<W: Write>(&self, writer: &mut Counted<W>) -> Result<(), WriteFault>
+    fn write_received<W: Write>(
+        &self,
+        writer: &mut Counted<W>,
+        rest: &[u8],
+    ) -> Result<(), WriteFault>
         ensures all { OnOk result (Wrote W.contents writer.old writer.new
-            (lines_text (received_lines (length_digits self.now.headers.now)))) }
+            (lines_text (received_lines (length_digits self.now.headers.now)) ++ rest.now)) }
         ensures unfailing { OnOk result (failures_of writer.new ≡ failures_of writer.old) }
+        ensures front { OnErr result (WroteFront W.contents writer.old writer.new
+            (lines_text (received_lines (length_digits self.now.headers.now)) ++ rest.now)) }
         ensures failed { OnErr result (IsWriteCause writer.old writer.new) }
         ensures flushes { flushes_of writer.new ≡ flushes_of writer.old }
     {
-        match length_digits(self.headers) {
-            Some(digits) => write_line(writer, b"Content-Length", digits),
-            None => Ok(()),
+        if let Some(digits) = length_digits(self.headers) {
+            write_line(writer, b"Content-Length", digits)?;
+            return write_all(writer, rest);
         }
+        write_all(writer, rest)
     }
 
     /// Writes the length that is told, the line that ends the connection where it ends, and the
@@ -113,6 +123,9 @@ impl Answer<'_> {
             (lines_text (told_lines (seen self.now))
             ++ (lines_text (close_lines self.now.persistence) ++ codes "\r\n"))) }
         ensures unfailing { OnOk result (failures_of writer.new ≡ failures_of writer.old) }
+        ensures front { OnErr result (WroteFront W.contents writer.old writer.new
+            (lines_text (told_lines (seen self.now))
+            ++ (lines_text (close_lines self.now.persistence) ++ codes "\r\n"))) }
         ensures failed { OnErr result (IsWriteCause writer.old writer.new) }
         ensures flushes { flushes_of writer.new ≡ flushes_of writer.old }
     {
@@ -121,8 +134,7 @@ impl Answer<'_> {
             return write_all(writer, end);
         }
         if is_bodiless(self.method, self.status) {
-            self.write_received(writer)?;
-            return write_all(writer, end);
+            return self.write_received(writer, end);
         }
         match self.body {
             Some(body) => write_length(writer, body, end),
@@ -136,6 +148,8 @@ impl Answer<'_> {
             (Wrote W.contents writer.old writer.new
             (lines_text (answer_lines (seen self.now)) ++ codes "\r\n")) }
         ensures unfailing { OnOk result (failures_of writer.new ≡ failures_of writer.old) }
+        ensures front { OnErr result (WroteFront W.contents writer.old writer.new
+            (lines_text (answer_lines (seen self.now)) ++ codes "\r\n")) }
         ensures failed { OnErr result (IsWriteCause writer.old writer.new) }
         ensures flushes { flushes_of writer.new ≡ flushes_of writer.old }
     {
@@ -145,7 +159,7 @@ impl Answer<'_> {
 
     /// Writes the answer, and flushes once.
     ///
-    /// The one fault comes where the writer failed; then nothing is said of how much was written.
+    /// The one fault comes where the writer failed; then a beginning of the text was written.
     pub fn write<W: Write>(&self, writer: &mut Counted<W>) -> Result<(), WriteFault>
         requires three_digits { (100 ≤ self.now.status) × (self.now.status ≤ 999) }
         ensures all { OnOk result
@@ -153,6 +167,8 @@ impl Answer<'_> {
         ensures unfailing { OnOk result (failures_of writer.new ≡ failures_of writer.old) }
         ensures flushed { OnOk result (is_flushed writer.new ≡ true) }
         ensures flushes { OnOk result (flushes_of writer.new ≡ raised (flushes_of writer.old)) }
+        ensures front { OnErr result (WroteFront W.contents writer.old writer.new
+            (answer_text (seen self.now))) }
         ensures failed { OnErr result (IsWriteCause writer.old writer.new) }
     {
         write_status(writer, self.status)?;
@@ -176,7 +192,7 @@ fn local_rest(persistence: Persistence) -> &'static [u8]
 
 /// Writes the gateway's own answer of a status, without a body. It flushes once.
 ///
-/// The one fault comes where the writer failed; then nothing is said of how much was written.
+/// The one fault comes where the writer failed; then a beginning of the text was written.
 pub fn write_local_answer<W: Write>(
     writer: &mut Counted<W>,
     status: u16,
@@ -188,6 +204,8 @@ pub fn write_local_answer<W: Write>(
     ensures unfailing { OnOk result (failures_of writer.new ≡ failures_of writer.old) }
     ensures flushed { OnOk result (is_flushed writer.new ≡ true) }
     ensures flushes { OnOk result (flushes_of writer.new ≡ raised (flushes_of writer.old)) }
+    ensures front { OnErr result (WroteFront W.contents writer.old writer.new
+        (local_text persistence status)) }
     ensures failed { OnErr result (IsWriteCause writer.old writer.new) }
 {
     write_status(writer, status)?;
@@ -196,7 +214,7 @@ pub fn write_local_answer<W: Write>(
 
 /// Writes the same with a mark: the line `X-Admission` with a word that needs no escape.
 ///
-/// The one fault comes where the writer failed; then nothing is said of how much was written.
+/// The one fault comes where the writer failed; then a beginning of the text was written.
 pub fn write_marked_answer<W: Write>(
     writer: &mut Counted<W>,
     status: u16,
@@ -209,6 +227,8 @@ pub fn write_marked_answer<W: Write>(
     ensures unfailing { OnOk result (failures_of writer.new ≡ failures_of writer.old) }
     ensures flushed { OnOk result (is_flushed writer.new ≡ true) }
     ensures flushes { OnOk result (flushes_of writer.new ≡ raised (flushes_of writer.old)) }
+    ensures front { OnErr result (WroteFront W.contents writer.old writer.new
+        (marked_text persistence status mark.now)) }
     ensures failed { OnErr result (IsWriteCause writer.old writer.new) }
 {
     write_status(writer, status)?;

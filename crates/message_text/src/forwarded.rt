@@ -4,8 +4,9 @@ ghost use Rattle.counted_io.specs.Counted.{failures_of, flushes_of, is_flushed};
 ghost use Rattle.counted_io.specs.Count.{raised};
 ghost use Rattle.counted_io.specs.Effects.{Wrote};
 ghost use Rattle.counted_io.specs.Causes.{IsWriteCause};
-ghost use Rattle.message_fields.specs.Target.{authority_of, turned, forwarded_target};
+ghost use Rattle.message_fields.specs.Target.{authority_of, forwarded_target, turned, wants_slash};
 ghost use Rattle.message_text.specs.Line.{lines_text, line_text, close_lines};
+ghost use Rattle.message_text.specs.Fronts.{WroteFront};
 ghost use Rattle.message_text.specs.Forwarded.{lent, seen, first_text, forwarded_lines, forwarded_text, host_lines, via_line};
 
 use super::lines::{bytes_of, write_body_length, write_line, write_request_lines};
@@ -33,16 +34,23 @@ pub struct Forwarded<'a> {
     pub persistence: Persistence,
 }
 
+/// The `/` that has to stand before the local part of a target, or nothing.
+fn leading_slash(target: &[u8]) -> &'static [u8]
+    ensures { result.now ≡ if wants_slash target.now then codes "/" else [] }
+{
+    if wants_slash(target) { b"/" } else { b"" }
+}
+
 /// Writes a target without scheme and authority.
 fn write_turned<W: Write>(writer: &mut Counted<W>, target: &[u8]) -> Result<(), WriteFault>
     ensures all { OnOk result (Wrote W.contents writer.old writer.new (turned target.now)) }
     ensures unfailing { OnOk result (failures_of writer.new ≡ failures_of writer.old) }
+    ensures front { OnErr result (WroteFront W.contents writer.old writer.new
+        (turned target.now)) }
     ensures failed { OnErr result (IsWriteCause writer.old writer.new) }
     ensures flushes { flushes_of writer.new ≡ flushes_of writer.old }
 {
-    if wants_slash(target) {
-        write_all(writer, b"/")?;
-    }
+    write_all(writer, leading_slash(target))?;
     write_all(writer, local_part(target))
 }
 
@@ -55,6 +63,8 @@ fn write_target<W: Write>(
     ensures all { OnOk result
         (Wrote W.contents writer.old writer.new (forwarded_target method.now target.now)) }
     ensures unfailing { OnOk result (failures_of writer.new ≡ failures_of writer.old) }
+    ensures front { OnErr result (WroteFront W.contents writer.old writer.new
+        (forwarded_target method.now target.now)) }
     ensures failed { OnErr result (IsWriteCause writer.old writer.new) }
     ensures flushes { flushes_of writer.new ≡ flushes_of writer.old }
 {
@@ -88,6 +98,8 @@ impl Forwarded<'_> {
         ensures all { OnOk result
             (Wrote W.contents writer.old writer.new (first_text (seen self.now))) }
         ensures unfailing { OnOk result (failures_of writer.new ≡ failures_of writer.old) }
+        ensures front { OnErr result (WroteFront W.contents writer.old writer.new
+            (first_text (seen self.now))) }
         ensures failed { OnErr result (IsWriteCause writer.old writer.new) }
         ensures flushes { flushes_of writer.new ≡ flushes_of writer.old }
     {
@@ -111,6 +123,8 @@ impl Forwarded<'_> {
         ensures all { OnOk result
             (Wrote W.contents writer.old writer.new (lines_text (host_lines (seen self.now)))) }
         ensures unfailing { OnOk result (failures_of writer.new ≡ failures_of writer.old) }
+        ensures front { OnErr result (WroteFront W.contents writer.old writer.new
+            (lines_text (host_lines (seen self.now)))) }
         ensures failed { OnErr result (IsWriteCause writer.old writer.new) }
         ensures flushes { flushes_of writer.new ≡ flushes_of writer.old }
     {
@@ -127,6 +141,9 @@ impl Forwarded<'_> {
             (line_text (via_line self.now.is_old) ++ lines_text (close_lines self.now.persistence)
             ++ codes "\r\n")) }
         ensures unfailing { OnOk result (failures_of writer.new ≡ failures_of writer.old) }
+        ensures front { OnErr result (WroteFront W.contents writer.old writer.new
+            (line_text (via_line self.now.is_old) ++ lines_text (close_lines self.now.persistence)
+            ++ codes "\r\n")) }
         ensures failed { OnErr result (IsWriteCause writer.old writer.new) }
         ensures flushes { flushes_of writer.new ≡ flushes_of writer.old }
     {
@@ -144,6 +161,8 @@ impl Forwarded<'_> {
             (Wrote W.contents writer.old writer.new
             (lines_text (forwarded_lines (seen self.now)) ++ codes "\r\n")) }
         ensures unfailing { OnOk result (failures_of writer.new ≡ failures_of writer.old) }
+        ensures front { OnErr result (WroteFront W.contents writer.old writer.new
+            (lines_text (forwarded_lines (seen self.now)) ++ codes "\r\n")) }
         ensures failed { OnErr result (IsWriteCause writer.old writer.new) }
         ensures flushes { flushes_of writer.new ≡ flushes_of writer.old }
     {
@@ -155,13 +174,15 @@ impl Forwarded<'_> {
 
     /// Writes the request as it is forwarded, and flushes once.
     ///
-    /// The one fault comes where the writer failed; then nothing is said of how much was written.
+    /// The one fault comes where the writer failed; then a beginning of the text was written.
     pub fn write<W: Write>(&self, writer: &mut Counted<W>) -> Result<(), WriteFault>
         ensures all { OnOk result
             (Wrote W.contents writer.old writer.new (forwarded_text (seen self.now))) }
         ensures unfailing { OnOk result (failures_of writer.new ≡ failures_of writer.old) }
         ensures flushed { OnOk result (is_flushed writer.new ≡ true) }
         ensures flushes { OnOk result (flushes_of writer.new ≡ raised (flushes_of writer.old)) }
+        ensures front { OnErr result (WroteFront W.contents writer.old writer.new
+            (forwarded_text (seen self.now))) }
         ensures failed { OnErr result (IsWriteCause writer.old writer.new) }
     {
         let authority = authority(self.target);

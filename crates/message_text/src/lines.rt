@@ -9,6 +9,7 @@ ghost use Rattle.message_fields.specs.Lines.{is_named};
 ghost use Rattle.message_fields.specs.Passed.{is_passed, is_passed_in_request, request_lines, response_lines};
 ghost use Rattle.message_fields.specs.Passing.{lines_of};
 ghost use Rattle.message_text.specs.Line.{line_of, line_text, lines_text, length_line};
+ghost use Rattle.message_text.specs.Fronts.{WroteFront};
 ghost use Rattle.message_text.specs.Forwarded.{hosted, length_lines, lent};
 
 use arrayvec::ArrayVec;
@@ -35,6 +36,8 @@ pub fn write_line<W: Write>(
     ensures all { OnOk result
         (Wrote W.contents writer.old writer.new (line_text (line_of name.now value.now))) }
     ensures unfailing { OnOk result (failures_of writer.new ≡ failures_of writer.old) }
+    ensures front { OnErr result (WroteFront W.contents writer.old writer.new
+        (line_text (line_of name.now value.now))) }
     ensures failed { OnErr result (IsWriteCause writer.old writer.new) }
     ensures flushes { flushes_of writer.new ≡ flushes_of writer.old }
 {
@@ -49,6 +52,8 @@ pub fn write_line<W: Write>(
 fn write_kept<W: Write>(writer: &mut Counted<W>, line: &Header) -> Result<(), WriteFault>
     ensures all { OnOk result (Wrote W.contents writer.old writer.new (line_text line.now)) }
     ensures unfailing { OnOk result (failures_of writer.new ≡ failures_of writer.old) }
+    ensures front { OnErr result (WroteFront W.contents writer.old writer.new
+        (line_text line.now)) }
     ensures failed { OnErr result (IsWriteCause writer.old writer.new) }
     ensures flushes { flushes_of writer.new ≡ flushes_of writer.old }
 {
@@ -95,6 +100,8 @@ pub fn write_length<W: Write>(
     ensures all { OnOk result (Wrote W.contents writer.old writer.new
         (line_text (length_line body.now) ++ rest.now)) }
     ensures unfailing { OnOk result (failures_of writer.new ≡ failures_of writer.old) }
+    ensures front { OnErr result (WroteFront W.contents writer.old writer.new
+        (line_text (length_line body.now) ++ rest.now)) }
     ensures failed { OnErr result (IsWriteCause writer.old writer.new) }
     ensures flushes { flushes_of writer.new ≡ flushes_of writer.old }
 {
@@ -110,6 +117,8 @@ pub fn write_body_length<W: Write>(
     ensures all { OnOk result (Wrote W.contents writer.old writer.new
         (lines_text (length_lines (lent body.entry)))) }
     ensures unfailing { OnOk result (failures_of writer.new ≡ failures_of writer.old) }
+    ensures front { OnErr result (WroteFront W.contents writer.old writer.new
+        (lines_text (length_lines (lent body.entry)))) }
     ensures failed { OnErr result (IsWriteCause writer.old writer.new) }
     ensures flushes { flushes_of writer.new ≡ flushes_of writer.old }
 {
@@ -128,6 +137,8 @@ fn write_hosted<W: Write>(
     ensures all { OnOk result (Wrote W.contents writer.old writer.new
         (line_text (hosted (lent authority.entry) line.now))) }
     ensures unfailing { OnOk result (failures_of writer.new ≡ failures_of writer.old) }
+    ensures front { OnErr result (WroteFront W.contents writer.old writer.new
+        (line_text (hosted (lent authority.entry) line.now))) }
     ensures failed { OnErr result (IsWriteCause writer.old writer.new) }
     ensures flushes { flushes_of writer.new ≡ flushes_of writer.old }
 {
@@ -153,6 +164,10 @@ fn write_passed_in_request<W: Write>(
         then line_text (hosted (lent authority.entry) line.now)
         else [])) }
     ensures unfailing { OnOk result (failures_of writer.new ≡ failures_of writer.old) }
+    ensures front { OnErr result (WroteFront W.contents writer.old writer.new
+        (if is_passed_in_request (lines_of passing.now) line.now
+        then line_text (hosted (lent authority.entry) line.now)
+        else [])) }
     ensures failed { OnErr result (IsWriteCause writer.old writer.new) }
     ensures flushes { flushes_of writer.new ≡ flushes_of writer.old }
 {
@@ -172,6 +187,9 @@ pub fn write_request_lines<W: Write>(
         (lines_text (map (hosted (lent authority.entry))
         (request_lines lines.now)))) }
     ensures unfailing { OnOk result (failures_of writer.new ≡ failures_of writer.old) }
+    ensures front { OnErr result (WroteFront W.contents writer.old writer.new
+        (lines_text (map (hosted (lent authority.entry))
+        (request_lines lines.now)))) }
     ensures failed { OnErr result (IsWriteCause writer.old writer.new) }
     ensures flushes { flushes_of writer.new ≡ flushes_of writer.old }
 {
@@ -191,6 +209,8 @@ fn write_passed<W: Write>(
     ensures all { OnOk result (Wrote W.contents writer.old writer.new
         (if is_passed (lines_of passing.now) line.now then line_text line.now else [])) }
     ensures unfailing { OnOk result (failures_of writer.new ≡ failures_of writer.old) }
+    ensures front { OnErr result (WroteFront W.contents writer.old writer.new
+        (if is_passed (lines_of passing.now) line.now then line_text line.now else [])) }
     ensures failed { OnErr result (IsWriteCause writer.old writer.new) }
     ensures flushes { flushes_of writer.new ≡ flushes_of writer.old }
 {
@@ -208,6 +228,8 @@ pub fn write_response_lines<W: Write>(
     ensures all { OnOk result
         (Wrote W.contents writer.old writer.new (lines_text (response_lines lines.now))) }
     ensures unfailing { OnOk result (failures_of writer.new ≡ failures_of writer.old) }
+    ensures front { OnErr result (WroteFront W.contents writer.old writer.new
+        (lines_text (response_lines lines.now))) }
     ensures failed { OnErr result (IsWriteCause writer.old writer.new) }
     ensures flushes { flushes_of writer.new ≡ flushes_of writer.old }
 {

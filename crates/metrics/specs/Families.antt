@@ -1,5 +1,5 @@
 -- Families of samples, in the text format of Prometheus.
-use Rattle.std.specs.Prelude.{ℕ, List, [], ◌∷◌, ◌++◌, codes, decimal, flat_map}
+use Rattle.std.specs.Prelude.{ℕ, List, [], ◌∷◌, ◌++◌, codes, decimal, flat_map, Option, None, Some}
 use Rattle.std.specs.List.{concat}
 
 -- the head of a family: what it tells, and of which kind it is
@@ -43,6 +43,25 @@ samples_text name label samples =
 -- a family of one sample without labels
 unfoldable pub gauge_text : List ℕ → List ℕ → ℕ → List ℕ
 gauge_text name help value = head_text name (codes "gauge") help ++ number_text name value
+
+-- a sample in seconds, of which it has nanoseconds
+unfoldable pub seconds_text : List ℕ → ℕ → List ℕ
+seconds_text name value = concat (name ∷ codes " " ∷ decimal value ∷ codes "e-9\n" ∷ [])
+
+-- a sample by its text, where the value is known
+abbrev pub where_known : (ℕ → List ℕ) → Option ℕ → List ℕ
+where_known text None = []
+where_known text (Some value) = text value
+
+-- a family of one sample without labels, or of none where the value isn't known
+unfoldable pub known_text : List ℕ → List ℕ → Option ℕ → List ℕ
+known_text name help value =
+    head_text name (codes "gauge") help ++ where_known (number_text name) value
+
+-- the same in seconds, of which the value has nanoseconds
+unfoldable pub known_seconds_text : List ℕ → List ℕ → Option ℕ → List ℕ
+known_seconds_text name help value =
+    head_text name (codes "gauge") help ++ where_known (seconds_text name) value
 
 -- a family of counters, one for each word
 abbrev pub counters_text : List ℕ → List ℕ → List ℕ → List (List ℕ × ℕ) → List ℕ

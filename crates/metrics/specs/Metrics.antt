@@ -7,6 +7,7 @@ use Rattle.limiter_core.specs.declared.counters.Counters.{Counters}
 use Rattle.gate_port.specs.declared.report.Report.{Report}
 use Rattle.histogram.specs.declared.histogram.Histogram.{Histogram}
 use Rattle.release.specs.Release.{version}
+use Rattle.timed_io.specs.declared.client_counts.ClientConnections.{ClientConnections}
 use Rattle.serve_reports.specs.declared.connections.BackendConnections.{BackendConnections}
 use Rattle.serve_reports.specs.declared.noted.GatewayStats.{GatewayStats}
 use Rattle.serve_reports.specs.declared.noted.LimitRange.{LimitRange}
@@ -17,6 +18,7 @@ use Rattle.serve_reports.specs.declared.refusals.RefusalTally.{RefusalTally}
 use Rattle.serve_reports.specs.declared.tally.AnswerTally.{AnswerTally}
 use Rattle.serve_reports.specs.declared.times.TimeTally.{TimeTally}
 use Rattle.serve_reports.specs.declared.workers.Workers.{Workers}
+use Rattle.metrics.specs.LimitView.{view_text}
 use Rattle.metrics.specs.Families.{counters_text, gauge_text, head_text, histogram_text}
 use Rattle.metrics.specs.Families.{number_text, of_class_text, sample_text}
 
@@ -168,6 +170,18 @@ connections_text c =
     ++ gauge_text (codes "admission_idle_backend_connections")
     (codes "Open connections to the backend that wait for another request.") c.idle
 
+-- how many connections of clients wait, and what became of those that there were
+abbrev pub clients_text : ClientConnections → List ℕ
+clients_text c =
+    counters_text (codes "admission_client_connections_total") (codes "event")
+    (codes "Connections of clients, by what became of them.")
+    ((codes "opened", c.opened) ∷ (codes "reused", c.reused) ∷ (codes "late", c.late)
+    ∷ (codes "displaced", c.displaced) ∷ [])
+    ++ gauge_text (codes "admission_silent_client_connections")
+    (codes "Open connections of clients that have sent nothing yet.") c.silent
+    ++ gauge_text (codes "admission_idle_client_connections")
+    (codes "Open connections of clients that wait for their next request.") c.idle
+
 -- how many workers there are, and how many of them serve a client
 abbrev pub workers_text : Workers → List ℕ
 workers_text w =
@@ -221,11 +235,12 @@ durations_text t =
     ++ times_text (codes "admission_exchange_seconds")
     (codes "How long each client kept its worker, from its accept to its close.") t.exchange
 
--- THE TEXT OF THE METRICS: twenty-eight families
+-- THE TEXT OF THE METRICS: thirty-three families
 abbrev pub metrics_text : Report → List Row → GatewayStats → List ℕ
 metrics_text r rows n =
-    standing_text r ++ range_text n.limit ++ by_class_text r rows n.refusals n.outcomes
+    standing_text r ++ range_text n.limit ++ view_text r.view
+    ++ by_class_text r rows n.refusals n.outcomes
     ++ decisions_text r.counters ++ outcomes_text r.counters ++ answers_text n.answers
     ++ empty_text n.answers ++ troubles_text n.troubles ++ connections_text n.connections
-    ++ workers_text n.workers ++ oldest_text n.outstanding ++ durations_text n.times
-    ++ program_text n.seconds
+    ++ clients_text n.clients ++ workers_text n.workers ++ oldest_text n.outstanding
+    ++ durations_text n.times ++ program_text n.seconds

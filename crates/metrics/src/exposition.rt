@@ -5,10 +5,12 @@ ghost use Rattle.metrics.specs.Families.{sample_text};
 ghost use Rattle.metrics.specs.Metrics.{answers_text, by_class_text, class_text, classes_text};
 ghost use Rattle.metrics.specs.Metrics.{decisions_text, empty_text, metrics_text, oldest_text};
 ghost use Rattle.metrics.specs.Metrics.{outcomes_text, program_text, standing_text, troubles_text};
-ghost use Rattle.metrics.specs.Metrics.{connections_text, durations_text, range_text, workers_text};
+ghost use Rattle.metrics.specs.Metrics.{clients_text, connections_text, durations_text, range_text};
+ghost use Rattle.metrics.specs.Metrics.{workers_text};
 
 use crate::by_class::{push_class_outcomes, push_refusals};
 use crate::families::{push_gauge, push_head, push_number, push_sample, push_samples};
+use crate::limit_view::push_view;
 use crate::times::push_durations;
 use gate_port::Report;
 use limiter_core::Counters;
@@ -18,6 +20,7 @@ use serve_reports::{
     AnswerTally, BackendConnections, GatewayStats, LimitRange, Outstanding, Troubles, Workers,
 };
 use std::alloc::{AllocError, Global};
+use timed_io::ClientConnections;
 
 /// The text of the metrics in the text format of Prometheus, version 0.0.4: of the state in a
 /// gate over these classes, in permits and callers, and of what was noted since the start. It fails
@@ -34,6 +37,7 @@ pub fn metrics_text(
     let mut text = String::new(alloc);
     push_standing(&mut text, report)?;
     push_range(&mut text, &noted.limit)?;
+    push_view(&mut text, &report.view)?;
     push_by_class(&mut text, report, table, noted)?;
     push_decisions(&mut text, &report.counters)?;
     push_outcomes(&mut text, &report.counters)?;
@@ -41,6 +45,7 @@ pub fn metrics_text(
     push_empty(&mut text, &noted.answers)?;
     push_troubles(&mut text, &noted.troubles)?;
     push_connections(&mut text, &noted.connections)?;
+    push_clients(&mut text, &noted.clients)?;
     push_workers(&mut text, &noted.workers)?;
     push_oldest(&mut text, &noted.outstanding)?;
     push_durations(&mut text, &noted.times)?;
@@ -272,6 +277,37 @@ fn push_connections(text: &mut String, connections: &BackendConnections) -> Resu
         "admission_idle_backend_connections",
         help,
         connections.idle,
+    )
+}
+
+/// Adds how many connections of clients wait, and what became of those that there were.
+fn push_clients(text: &mut String, clients: &ClientConnections) -> Result<(), AllocError>
+    ensures { OnOk result (string_bytes text.new
+        ≡ string_bytes text.old ++ clients_text clients.now) }
+{
+    let name = "admission_client_connections_total";
+    let help = "Connections of clients, by what became of them.";
+    push_head(text, name, "counter", help)?;
+    let samples = [
+        ("opened", clients.opened),
+        ("reused", clients.reused),
+        ("late", clients.late),
+        ("displaced", clients.displaced),
+    ];
+    push_samples(text, name, "event", &samples)?;
+    let help = "Open connections of clients that have sent nothing yet.";
+    push_gauge(
+        text,
+        "admission_silent_client_connections",
+        help,
+        clients.silent,
+    )?;
+    let help = "Open connections of clients that wait for their next request.";
+    push_gauge(
+        text,
+        "admission_idle_client_connections",
+        help,
+        clients.idle,
     )
 }
 

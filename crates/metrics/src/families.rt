@@ -1,7 +1,8 @@
 // Families of samples, in the text format of Prometheus.
 ghost use Rattle.std.specs.Prelude.{◌≡◌, ◌++◌, OnOk, codes, flat_map, string_bytes};
-ghost use Rattle.metrics.specs.Families.{bucket_text, gauge_text, head_text};
-ghost use Rattle.metrics.specs.Families.{number_text, of_class_text, sample_text, totals_text};
+ghost use Rattle.metrics.specs.Families.{bucket_text, gauge_text, head_text, known_seconds_text};
+ghost use Rattle.metrics.specs.Families.{known_text, number_text, of_class_text, sample_text};
+ghost use Rattle.metrics.specs.Families.{seconds_text, totals_text, where_known};
 
 use std::alloc::AllocError;
 
@@ -18,6 +19,67 @@ pub(crate) fn push_gauge(
 {
     push_head(text, name, "gauge", help)?;
     push_number(text, name, value)
+}
+
+/// Adds a family of one sample without labels, or of none where the value isn't known.
+#[tactic(auto, unfolding(crate::specs::Families::known_text))]
+pub(crate) fn push_known(
+    text: &mut String,
+    name: &str,
+    help: &str,
+    value: Option<u64>,
+) -> Result<(), AllocError>
+    ensures { OnOk result (string_bytes text.new
+        ≡ string_bytes text.old ++ known_text name.now help.now value) }
+{
+    push_head(text, name, "gauge", help)?;
+    push_number_if(text, name, value)
+}
+
+/// Adds a sample without labels, where its value is known.
+fn push_number_if(text: &mut String, name: &str, value: Option<u64>) -> Result<(), AllocError>
+    ensures { OnOk result (string_bytes text.new
+        ≡ string_bytes text.old ++ where_known (number_text name.now) value) }
+{
+    match value {
+        None => Ok(()),
+        Some(value) => push_number(text, name, value),
+    }
+}
+
+/// The same in seconds, of which the value has nanoseconds.
+#[tactic(auto, unfolding(crate::specs::Families::known_seconds_text))]
+pub(crate) fn push_known_seconds(
+    text: &mut String,
+    name: &str,
+    help: &str,
+    value: Option<u64>,
+) -> Result<(), AllocError>
+    ensures { OnOk result (string_bytes text.new
+        ≡ string_bytes text.old ++ known_seconds_text name.now help.now value) }
+{
+    push_head(text, name, "gauge", help)?;
+    push_seconds_if(text, name, value)
+}
+
+/// Adds a sample in seconds, of which the value has nanoseconds, where it is known.
+fn push_seconds_if(text: &mut String, name: &str, value: Option<u64>) -> Result<(), AllocError>
+    ensures { OnOk result (string_bytes text.new
+        ≡ string_bytes text.old ++ where_known (seconds_text name.now) value) }
+{
+    match value {
+        None => Ok(()),
+        Some(value) => push_seconds(text, name, value),
+    }
+}
+
+/// Adds a sample in seconds, of which the value has nanoseconds.
+#[tactic(auto, unfolding(crate::specs::Families::seconds_text))]
+fn push_seconds(text: &mut String, name: &str, value: u64) -> Result<(), AllocError>
+    ensures { OnOk result (string_bytes text.new
+        ≡ string_bytes text.old ++ seconds_text name.now value) }
+{
+    write!(text, "{name} {value}e-9\n")
 }
 
 /// Adds the head of a family: what it tells, and of which kind it is.

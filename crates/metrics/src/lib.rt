@@ -7,6 +7,7 @@
 mod by_class;
 mod exposition;
 mod families;
+mod limit_view;
 mod page;
 mod times;
 

@@ -104,6 +104,12 @@ function note(told) {
   if (told) lastAnswer = look;
 }
 
+// A time of the limit, in milliseconds; none where the limit doesn't know it.
+function millisOf(told, name) {
+  const seconds = told[`admission_limit_${name}_seconds`];
+  return seconds === undefined ? null : 1000 * seconds;
+}
+
 const classesOf = told => Object.keys(told.admission_class_in_flight);
 const colorOf = (name, place) => name === 'unknown' ? UNKNOWN_COLOR : CLASS_COLORS[place];
 
@@ -136,6 +142,12 @@ const PANELS = [
   { title: 'Mean times, in milliseconds', series: () => TIMES.map(([name, said, color]) => ({
     color, line: true, value: look => look.means[name],
     said: `${said} ${lastAnswer.means[name]?.toFixed(1) ?? 'none'}` })) },
+  { title: 'What the limit learns by, in milliseconds', series: told => [
+    { color: '#0072b2', line: true, value: look => millisOf(look.told, 'window_mean'),
+      said: `last window ${millisOf(told, 'window_mean')?.toFixed(1) ?? 'none'}` },
+    { color: '#009e73', line: true, dashed: true, value: look => millisOf(look.told, 'base'),
+      said: `base ${millisOf(told, 'base')?.toFixed(1) ?? 'none'}`
+        + `, queue ${told.admission_limit_queue ?? 'none'}` }] },
 ];
 
 for (const panel of PANELS) {
@@ -267,6 +279,8 @@ function showFigures(told) {
   const figures = [['limit', told.admission_limit], ['in flight', told.admission_in_flight],
     ['waiting', told.admission_waiting],
     ['busy workers', `${told.admission_busy_workers} / ${told.admission_workers}`],
+    ['clients that wait', `${told.admission_silent_client_connections} silent, `
+      + `${told.admission_idle_client_connections} kept`],
     ['backend connections', `${told.admission_open_backend_connections}, `
       + `${told.admission_idle_backend_connections} idle`],
     ['serving for', lastingOf(told.admission_uptime_seconds)],

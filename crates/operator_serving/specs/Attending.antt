@@ -102,7 +102,8 @@ module _ {D : Type 0} (rows : D → List Row) (shows : D → Sight → Type 0)
   Deals tells audience page old new asked writer refused refused' (Err f) x =
       (x.is_read ≡ false) × (new ≡ old) × (refused' ≡ refused_by f refused)
       × (x.answer ≡ fault_status f)
-      × (x.is_written ≡ true → Wrote known asked writer (own_or_nothing None (fault_status f)))
+      × (x.is_written ≡ true → Wrote known asked writer
+      (own_or_nothing Close None (fault_status f)))
   Deals tells audience page old new asked writer refused refused' (Ok request) x =
       (x.is_read ≡ true) × (status : ℕ) × (x.answer ≡ Some status)
       × (left : Bool) × tells left

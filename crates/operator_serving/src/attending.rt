@@ -2,6 +2,7 @@
 ghost use Rattle.std.specs.Prelude.{◌≡◌, ◌⊎◌, None, false, true};
 ghost use Rattle.counted_io.specs.Causes.{IsWriteCause};
 ghost use Rattle.counted_io.specs.Effects.{Wrote};
+ghost use Rattle.message_text.specs.declared.persistence.Persistence.TheVariants.{Close};
 ghost use Rattle.proxy.specs.Exchanges.{told_by};
 ghost use Rattle.proxy.specs.Made.{counts_of};
 ghost use Rattle.proxy.specs.Table.{fault_status, own_or_nothing};
@@ -154,7 +155,7 @@ fn counts_of<T>(counted: &Counted<T>) -> CallCounts
 fn unread<W: Write>(fault: WireFault, writer: &mut Counted<W>) -> (Option<u16>, bool)
     ensures answer { result.0 ≡ fault_status fault }
     ensures text { result.1 ≡ true → Wrote W.contents writer.old writer.new
-        (own_or_nothing None (fault_status fault)) }
+        (own_or_nothing Close None (fault_status fault)) }
     ensures untouched { fault ≡ WireFault.Write → writer.new ≡ writer.old }
     ensures broken { result.1 ≡ false →
         (fault ≡ WireFault.Write) ⊎ IsWriteCause writer.old writer.new }

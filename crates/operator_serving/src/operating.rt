@@ -109,11 +109,23 @@ where
     ensures looks { common.now.audience ≡ Anyone → HasLooked D.does desk.old desk.new }
 {
     let patience = Unhurried {};
-    let AcceptedClient { stream, ends } = client;
+    let AcceptedClient {
+        stream,
+        is_kept,
+        ends,
+    } = client;
     let (ends, attended, buffers) = serve_over(
         common, &stream, ends, &patience, desk, memory, buffers,
     );
-    (AcceptedClient { stream, ends }, attended, buffers)
+    (
+        AcceptedClient {
+            stream,
+            is_kept,
+            ends,
+        },
+        attended,
+        buffers,
+    )
 }
 
 /// The same over a connection and its ends, by somebody's patience with who sends nothing.

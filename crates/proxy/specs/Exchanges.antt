@@ -20,6 +20,7 @@ use Rattle.wire.specs.declared.answer.BackendAnswer.{BackendAnswer}
 use Rattle.wire.specs.Forwards.{Forwarded}
 use Rattle.proxy.specs.declared.told.ExchangeSummary.{ExchangeSummary}
 use Rattle.proxy.specs.declared.told.Verdict.TheVariants as verdict
+use Rattle.proxy.specs.Keeping.{Persists}
 use Rattle.proxy.specs.Settling.{IsSettled, class_by}
 use Rattle.proxy.specs.Table.{is_sent_own, outcome_at, sent_status, sent_text}
 
@@ -40,10 +41,12 @@ told_by bytes c = record {
   is_flushed = c.is_flushed;
 }
 
--- what exchanges are made by: settings, and whether own answers have marks
+-- what exchanges are made by: settings, whether own answers have marks, and what clients' keeper
+-- tells, where that is known
 pub record Policy : Type 0 where
   pub settings : Settings
   pub marks : Bool
+  pub keeps : Option Bool
 
 -- what an exchange finds and leaves: the client's two ends, the gate's entries where they are
 -- shown, what is known of its log where that is told, the looks at the clock, how many requests the
@@ -97,7 +100,8 @@ is_unsent (Ok request) before reads = false
 
 -- AN EXCHANGE: something is read, and dealt with; what is told of it, and without a fault of
 -- writing what is written to the client, is by the table of answers, its own answers with marks or
--- without. A fault of writing as something was read is reported as such
+-- without; and whether the client is kept was decided by then. A fault of writing as something was
+-- read is reported as such
 pub record IsExchange (p : Policy) (old new : World) (x : ExchangeSummary) : Type 0 where
   pub read : Result Request WireFault
   pub asked : Bytes
@@ -108,6 +112,7 @@ pub record IsExchange (p : Policy) (old new : World) (x : ExchangeSummary) : Typ
   pub own : x.is_own ≡ is_sent_own read answer
   pub empty : x.is_empty ≡ is_unsent read old.reader.calls new.reader.calls
   pub outcome : x.outcome ≡ outcome_at answer
-  pub text : x.written_fault ≡ None
-      → Appends asked (inner_of new.writer) (sent_text p.marks read x.admission answer)
+  pub persists : Persists p.keeps x.is_drained read answer x.persistence
+  pub text : x.written_fault ≡ None → Appends asked (inner_of new.writer)
+      (sent_text x.persistence p.marks read x.admission answer)
   pub unasked : IsErrOf read fault.Write → x.written_fault ≡ Some fault.Write

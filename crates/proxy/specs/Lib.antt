@@ -1,4 +1,5 @@
 pub mod Exchanges
+pub mod Keeping
 pub mod Made
 pub mod Settling
 pub mod Table

@@ -1,6 +1,8 @@
 -- An exchange that was carried out.
-use Rattle.std.specs.Prelude.{Bool}
+use Rattle.std.specs.Prelude.{Bool, false, ◌&&◌, is_none}
 use Rattle.counted_io.specs.declared.counted.Counted.{Counted}
+use Rattle.message_text.specs.declared.persistence.Persistence.{Persistence}
+use Rattle.message_text.specs.declared.persistence.Persistence.TheVariants.{Close, Keep}
 use Rattle.proxy.specs.declared.told.CallCounts.{CallCounts}
 use Rattle.proxy.specs.declared.told.Exchange.{Exchange}
 use Rattle.proxy.specs.declared.told.ExchangeSummary.{ExchangeSummary}
@@ -38,6 +40,14 @@ writes_of x = x.writes
 -- whether it is told that all that was written was sent
 abbrev pub is_all_sent : Exchange → Bool
 is_all_sent x = x.is_sent
+
+-- KEPT: the client was told that its connection goes on, no write failed, and all was sent
+abbrev pub keeps_if : Persistence → Bool → Bool
+keeps_if Close well = false
+keeps_if Keep well = well
+
+abbrev pub is_kept : Exchange → Bool
+is_kept x = keeps_if x.told.persistence (x.is_sent && is_none x.told.written_fault)
 
 abbrev pub with_sent : Bool → Exchange → Exchange
 with_sent sent x = record {

@@ -5,7 +5,7 @@ use Rattle.limiter_core.specs.declared.event.Outcome.{Outcome}
 use Rattle.limiter_core.specs.declared.event.Outcome.TheVariants.{Success, Ignored, Dropped}
 use Rattle.gate_port.specs.declared.port.Why.{Why}
 use Rattle.gate_port.specs.declared.port.Why.TheVariants as why
-use Rattle.message_text.specs.declared.persistence.Persistence.TheVariants.{Close}
+use Rattle.message_text.specs.declared.persistence.Persistence.{Persistence}
 use Rattle.message_text.specs.Answer.{local_text, marked_text}
 use Rattle.wire.specs.declared.fault.WireFault.{WireFault}
 use Rattle.wire.specs.declared.fault.WireFault.TheVariants as fault
@@ -98,15 +98,16 @@ mark_of said None = None
 abbrev pub if_marked : Bool → Option (List ℕ) → Option (List ℕ)
 if_marked marks mark = if marks then mark else None
 
--- the gateway's own answer of a status, with this mark
-abbrev pub own_text : Option (List ℕ) → ℕ → List ℕ
-own_text None status = local_text Close status
-own_text (Some mark) status = marked_text Close status mark
+-- the gateway's own answer of a status, with this mark, to a client whose connection ends with it
+-- or goes on
+abbrev pub own_text : Persistence → Option (List ℕ) → ℕ → List ℕ
+own_text persistence None status = local_text persistence status
+own_text persistence (Some mark) status = marked_text persistence status mark
 
 -- and its text, where the request has this method; the backend's response is never marked
-abbrev pub text_of : Option (List ℕ) → List ℕ → Result ResponseValue ℕ → List ℕ
-text_of mark method (Ok response) = response_text Close method response
-text_of mark method (Err status) = own_text mark status
+abbrev pub text_of : Persistence → Option (List ℕ) → List ℕ → Result ResponseValue ℕ → List ℕ
+text_of persistence mark method (Ok response) = response_text persistence method response
+text_of persistence mark method (Err status) = own_text persistence mark status
 
 abbrev pub reply_status : Option BackendAnswer → ℕ
 reply_status answer = status_of (reply_of answer)
@@ -115,12 +116,12 @@ reply_status answer = status_of (reply_of answer)
 abbrev pub is_own : Option BackendAnswer → Bool
 is_own answer = is_err (reply_of answer)
 
-abbrev pub reply_text : Option (List ℕ) → List ℕ → Option BackendAnswer → List ℕ
-reply_text mark method answer = text_of mark method (reply_of answer)
+abbrev pub reply_text : Persistence → Option (List ℕ) → List ℕ → Option BackendAnswer → List ℕ
+reply_text persistence mark method answer = text_of persistence mark method (reply_of answer)
 
-abbrev pub own_or_nothing : Option (List ℕ) → Option ℕ → List ℕ
-own_or_nothing mark None = []
-own_or_nothing mark (Some status) = own_text mark status
+abbrev pub own_or_nothing : Persistence → Option (List ℕ) → Option ℕ → List ℕ
+own_or_nothing persistence mark None = []
+own_or_nothing persistence mark (Some status) = own_text persistence mark status
 
 -- the status and the text that the client gets, by what was read
 abbrev pub sent_status : Result Request WireFault → Option BackendAnswer → Option ℕ
@@ -132,8 +133,9 @@ abbrev pub is_sent_own : Result Request WireFault → Option BackendAnswer → B
 is_sent_own (Err f) answer = is_some (fault_status f)
 is_sent_own (Ok request) answer = is_own answer
 
-abbrev pub sent_text : Bool → Result Request WireFault → Verdict → Option BackendAnswer → List ℕ
-sent_text marks (Err f) said answer =
-    own_or_nothing (if_marked marks (Some (fault_mark f))) (fault_status f)
-sent_text marks (Ok request) said answer =
-    reply_text (if_marked marks (mark_of said answer)) request.method answer
+abbrev pub sent_text : Persistence → Bool → Result Request WireFault → Verdict
+    → Option BackendAnswer → List ℕ
+sent_text persistence marks (Err f) said answer =
+    own_or_nothing persistence (if_marked marks (Some (fault_mark f))) (fault_status f)
+sent_text persistence marks (Ok request) said answer =
+    reply_text persistence (if_marked marks (mark_of said answer)) request.method answer

@@ -1,12 +1,14 @@
 // An exchange.
-ghost use Rattle.std.specs.Prelude.{◌≡◌, ◌⊎◌, None, Some, IfSome, is_some, true, false};
+ghost use Rattle.std.specs.Prelude.{◌≡◌, ◌==◌, ◌⊎◌, None, Some, IfSome, is_some, true, false, length};
 ghost use Rattle.counted_io.specs.Causes.{IsWriteCause};
-ghost use Rattle.counted_io.specs.Counted.{failures_of, is_flushed};
+ghost use Rattle.counted_io.specs.Counted.{failures_of, inner_of, is_flushed};
 ghost use Rattle.counted_io.specs.Effects.{Wrote};
+ghost use Rattle.message_text.specs.declared.persistence.Persistence.TheVariants.{Close};
 ghost use Rattle.proxy.specs.Table.{fault_mark, fault_status, if_marked, own_or_nothing};
 ghost use Rattle.proxy.specs.Exchanges.{IsExchange, is_empty, told_by};
 ghost use Rattle.proxy.specs.Made.{counts_of, is_all_sent, reads_of, summary_of, writes_of};
 
+use crate::keeping::{ExchangePolicy, Keeper, persistence_behind};
 use crate::replying::{
     fault_mark, fault_status, is_own, reply, reply_mark, reply_status, write_own,
 };
@@ -16,12 +18,14 @@ use clocks::{Clock, MonotonicClock};
 use counted_io::Counted;
 use gate_config::Settings;
 use gate_port::GatePort;
+use lent_io::ReadAhead;
+use message_text::Persistence;
 use std::alloc::Global;
 use std::io::{BufRead, Write};
 use wire::{Backend, BackendAnswer, WireFault, read_request};
 
-/// Serves one connection: reads a request, asks the gate for it, forwards it once where it is let
-/// through, ends its permit, and answers the client.
+/// Serves one request of a connection: reads it, asks the gate for it, forwards it once where it is
+/// let through, ends its permit, and answers the client.
 ///
 /// After a fault of reading the gate isn't asked and nothing is forwarded; the client gets the
 /// fault's own status, or after `Read`, `Write` and `TurnLimit` nothing. The clock is looked at as
@@ -29,17 +33,34 @@ use wire::{Backend, BackendAnswer, WireFault, read_request};
 /// client is answered and no write fails, a flush comes last. With `marks` each of the gateway's
 /// own answers has the line `X-Admission` with its word. `written_fault` comes only where the
 /// writer failed; by then an admitted permit is ended.
-pub fn exchange<P: GatePort, B: Backend, C: Clock, R: BufRead, W: Write>(
+///
+/// The answer has no line `Connection: close`, and `persistence` is `Keep`, where the request is in
+/// HTTP/1.1 and has no such option (RFC 9112, section 9.3), it was read and nothing behind it, the
+/// answer tells where it ends, and the policy's keeper lets the client be kept; it is asked as the
+/// permit is ended.
+pub fn exchange<P, B, C, R, W, K>(
     alloc: Global,
     port: &mut P,
     backend: &mut B,
     settings: &Settings,
-    marks: bool,
+    policy: &ExchangePolicy<'_, K>,
     looks: &mut MonotonicClock<'_, C, BackendAnswer>,
     reader: &mut Counted<R>,
     writer: &mut Counted<W>,
 ) -> Exchange
-    ensures exchanged { IsExchange (record { settings = settings.now; marks = marks })
+where
+    P: GatePort,
+    B: Backend,
+    C: Clock,
+    R: BufRead + ReadAhead,
+    W: Write,
+    K: Keeper,
+    ensures exchanged { IsExchange
+        (record {
+          settings = settings.now;
+          marks = policy.now.marks;
+          keeps = K.tells policy.now.keeper.now;
+        })
         (record {
           reader = told_by R.remaining reader.old;
           writer = told_by W.contents writer.old;
@@ -62,6 +83,8 @@ pub fn exchange<P: GatePort, B: Backend, C: Clock, R: BufRead, W: Write>(
     ensures reads { reads_of result ≡ counts_of reader.new }
     ensures writes { writes_of result ≡ counts_of writer.new }
     ensures unsent { is_all_sent result ≡ false }
+    ensures drained { (summary_of result).is_drained
+        ≡ (length (R.ahead (inner_of reader.new)) == 0) }
     ensures flushed { (summary_of result).written_fault ≡ None
         → is_some (summary_of result).answer ≡ true → is_flushed writer.new ≡ true }
     ensures unfailing { (summary_of result).written_fault ≡ None →
@@ -74,7 +97,8 @@ pub fn exchange<P: GatePort, B: Backend, C: Clock, R: BufRead, W: Write>(
         Ok(request) => request,
         Err(fault) => {
             let is_empty = is_empty(fault, before, reader.calls());
-            let told = unread(fault, is_empty, marks, writer);
+            let is_drained = reader.inner().is_drained();
+            let told = unread(fault, is_empty, is_drained, policy.marks, writer);
             return Exchange {
                 told,
                 reads: CallCounts::of(reader),
@@ -84,8 +108,11 @@ pub fn exchange<P: GatePort, B: Backend, C: Clock, R: BufRead, W: Write>(
         }
     };
     let settled = settle(port, backend, settings, looks, &request);
-    let mark = reply_mark(marks, settled.admission, &settled.answer);
-    let written_fault = reply(writer, mark, &settled.answer, &request.method);
+    let is_drained = reader.inner().is_drained();
+    let keeps = policy.keeper.may_keep();
+    let persistence = persistence_behind(keeps, is_drained, &request, &settled.answer);
+    let mark = reply_mark(policy.marks, settled.admission, &settled.answer);
+    let written_fault = reply(writer, mark, persistence, &settled.answer, &request.method);
     let told = ExchangeSummary {
         class: Some(settled.class),
         admission: settled.admission,
@@ -94,6 +121,8 @@ pub fn exchange<P: GatePort, B: Backend, C: Clock, R: BufRead, W: Write>(
         is_own: is_own(&settled.answer),
         is_empty: false,
         outcome: outcome_at(&settled.answer),
+        is_drained,
+        persistence,
         written_fault,
     };
     Exchange {
@@ -115,10 +144,12 @@ fn is_empty(fault: WireFault, before: u64, reads: u64) -> bool
     }
 }
 
-/// Answers a request that was not read, of which nothing came at all where it is empty.
+/// Answers a request that was not read, of which nothing came at all where it is empty. The
+/// client's connection ends.
 fn unread<W: Write>(
     fault: WireFault,
     is_empty: bool,
+    is_drained: bool,
     marks: bool,
     writer: &mut Counted<W>,
 ) -> ExchangeSummary
@@ -129,8 +160,11 @@ fn unread<W: Write>(
     ensures answer { result.answer ≡ fault_status fault }
     ensures own { result.is_own ≡ is_some (fault_status fault) }
     ensures outcome { result.outcome ≡ None }
+    ensures drained { result.is_drained ≡ is_drained }
+    ensures persistence { result.persistence ≡ Close }
     ensures text { result.written_fault ≡ None → Wrote W.contents writer.old writer.new
-        (own_or_nothing (if_marked marks (Some (fault_mark fault))) (fault_status fault)) }
+        (own_or_nothing result.persistence (if_marked marks (Some (fault_mark fault)))
+        (fault_status fault)) }
     ensures flushed { result.written_fault ≡ None → is_some result.answer ≡ true
         → is_flushed writer.new ≡ true }
     ensures unfailing { result.written_fault ≡ None →
@@ -142,7 +176,7 @@ fn unread<W: Write>(
 {
     let answer = fault_status(fault);
     let written_fault = match answer {
-        Some(status) => write_own(writer, status, fault_mark(marks, fault))
+        Some(status) => write_own(writer, status, fault_mark(marks, fault), Persistence::Close)
             .err()
             .map(WireFault::from),
         None if fault == WireFault::Write => Some(fault),
@@ -156,6 +190,8 @@ fn unread<W: Write>(
         is_own: answer.is_some(),
         is_empty,
         outcome: None,
+        is_drained,
+        persistence: Persistence::Close,
         written_fault,
     }
 }

@@ -17,7 +17,7 @@ use wire::{BackendAnswer, Response, WireFault, write_response};
 /// What the client gets of a backend that answered so or wasn't asked: the response, where it is
 /// passed on, or else the status of the gateway's own answer. A status below 200 is of no final
 /// response, and isn't passed on.
-fn reply_of(answer: &Option<BackendAnswer>) -> Result<&Response, u16>
+pub(crate) fn reply_of(answer: &Option<BackendAnswer>) -> Result<&Response, u16>
     ensures passed { IfOk result (λ response. reply_of answer.now ≡ Ok response.now) }
     ensures own { IfErr result (λ status. reply_of answer.now ≡ Err status) }
     ensures three_digits { IfErr result (λ status. (100 ≤ status) × (status ≤ 999)) }
@@ -112,22 +112,24 @@ pub(crate) fn fault_mark(marks: bool, fault: WireFault) -> Option<&'static str>
     }
 }
 
-/// Writes and flushes the gateway's own answer of a status, with this mark.
+/// Writes and flushes the gateway's own answer of a status, with this mark, to a client whose
+/// connection ends with it or goes on.
 pub(crate) fn write_own<W: Write>(
     writer: &mut Counted<W>,
     status: u16,
     mark: Option<&'static str>,
+    persistence: Persistence,
 ) -> Result<(), WriteFault>
     requires three_digits { (100 ≤ status) × (status ≤ 999) }
     ensures all { OnOk result (Wrote W.contents writer.old writer.new
-        (own_text (option_map (λ mark. mark.now) mark.entry) status)) }
+        (own_text persistence (option_map (λ mark. mark.now) mark.entry) status)) }
     ensures flushed { OnOk result (is_flushed writer.new ≡ true) }
     ensures unfailing { OnOk result (failures_of writer.new ≡ failures_of writer.old) }
     ensures failed { OnErr result (IsWriteCause writer.old writer.new) }
 {
     match mark {
-        Some(mark) => write_marked_answer(writer, status, mark, Persistence::Close),
-        None => write_local_answer(writer, status, Persistence::Close),
+        Some(mark) => write_marked_answer(writer, status, mark, persistence),
+        None => write_local_answer(writer, status, persistence),
     }
 }
 
@@ -136,17 +138,18 @@ pub(crate) fn write_own<W: Write>(
 pub(crate) fn reply<W: Write>(
     writer: &mut Counted<W>,
     mark: Option<&'static str>,
+    persistence: Persistence,
     answer: &Option<BackendAnswer>,
     method: &Method,
 ) -> Option<WireFault>
     ensures all { result ≡ None → Wrote W.contents writer.old writer.new
-        (reply_text (option_map (λ mark. mark.now) mark.entry) method.now answer.now) }
+        (reply_text persistence (option_map (λ mark. mark.now) mark.entry) method.now answer.now) }
     ensures flushed { result ≡ None → is_flushed writer.new ≡ true }
     ensures unfailing { result ≡ None → failures_of writer.new ≡ failures_of writer.old }
     ensures failed { IfSome result (λ fault.
         (fault ≡ WireFault.Write) × IsWriteCause writer.old writer.new) }
 {
-    match write_reply(writer, mark, answer, method) {
+    match write_reply(writer, mark, persistence, answer, method) {
         Ok(()) => None,
         Err(_) => Some(WireFault::Write),
     }
@@ -157,18 +160,19 @@ pub(crate) fn reply<W: Write>(
 fn write_reply<W: Write>(
     writer: &mut Counted<W>,
     mark: Option<&'static str>,
+    persistence: Persistence,
     answer: &Option<BackendAnswer>,
     method: &Method,
 ) -> Result<(), WriteFault>
     ensures all { OnOk result (Wrote W.contents writer.old writer.new
-        (reply_text (option_map (λ mark. mark.now) mark.entry) method.now answer.now)) }
+        (reply_text persistence (option_map (λ mark. mark.now) mark.entry) method.now answer.now)) }
     ensures flushed { OnOk result (is_flushed writer.new ≡ true) }
     ensures unfailing { OnOk result (failures_of writer.new ≡ failures_of writer.old) }
     ensures failed { OnErr result (IsWriteCause writer.old writer.new) }
 {
     match reply_of(answer) {
-        Ok(response) => write_response(writer, response, method, Persistence::Close),
-        Err(status) => write_own(writer, status, mark),
+        Ok(response) => write_response(writer, response, method, persistence),
+        Err(status) => write_own(writer, status, mark, persistence),
     }
 }
 

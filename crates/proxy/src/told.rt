@@ -1,13 +1,13 @@
 // What is told of an exchange.
 ghost use Rattle.std.specs.Prelude.{◌≡◌};
-ghost use Rattle.proxy.specs.Made.{counts_of, is_all_sent, summary_of, with_sent};
+ghost use Rattle.proxy.specs.Made.{counts_of, is_all_sent, is_kept, summary_of, with_sent};
 ghost use Rattle.proxy.specs.Settling.{times_between};
 
 use classifier::Class;
 use counted_io::Counted;
 use gate_port::Why;
 use limiter_core::Outcome;
-use wire::WireFault;
+use wire::{Persistence, WireFault};
 
 /// What the gate said of a request.
 #[derive(Clone, Copy)]
@@ -63,6 +63,10 @@ pub struct ExchangeSummary {
     pub is_empty: bool,
     /// What the backend's answer told the gate, where the request was forwarded.
     pub outcome: Option<Outcome>,
+    /// Whether nothing was taken of the client's connection that isn't read.
+    pub is_drained: bool,
+    /// What the text meant for the client says of its connection; `Close` where there is none.
+    pub persistence: Persistence,
     /// `Write` where the writer failed.
     pub written_fault: Option<WireFault>,
 }
@@ -119,6 +123,17 @@ impl Exchange {
         ensures { result ≡ is_all_sent self.now }
     {
         self.is_sent
+    }
+
+    /// Whether the client is kept: its answer says that its connection goes on, no write failed,
+    /// and all was sent. Then nothing was taken of its connection that isn't read.
+    pub fn is_kept(&self) -> bool
+        ensures { result ≡ is_kept self.now }
+    {
+        match self.told.persistence {
+            Persistence::Close => false,
+            Persistence::Keep => self.is_sent && self.told.written_fault.is_none(),
+        }
     }
 
     /// The same, of which its caller tells whether all was sent.

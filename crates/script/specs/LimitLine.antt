@@ -4,12 +4,12 @@ use Rattle.limit_laws.specs.Facts.{hour}
 use Rattle.limit_laws.specs.Algorithm.{greatest_limit}
 use Rattle.aimd.specs.AimdRules.{least_ratio, greatest_ratio}
 use Rattle.vegas.specs.VegasRules.{most_queue, most_probe}
-use Rattle.limit_kinds.specs.declared.kind.LimitKind.{LimitKind}
-use Rattle.limit_kinds.specs.declared.kind.LimitKind.TheVariants as kind
-use Rattle.limit_kinds.specs.declared.spec.Limits.{Limits}
-use Rattle.limit_kinds.specs.declared.spec.LimitSpec.{LimitSpec}
-use Rattle.limit_kinds.specs.declared.spec.LimitSpec.TheVariants.{Fixed, Settable, Aimd, Vegas, Auto}
-use Rattle.limit_kinds.specs.Kind.{kind_named}
+use Rattle.limit_kinds.specs.declared.kinds.LimitKind.{LimitKind}
+use Rattle.limit_kinds.specs.declared.kinds.LimitKind.TheVariants as kind
+use Rattle.limit_kinds.specs.declared.kinds.Limits.{Limits}
+use Rattle.limit_kinds.specs.declared.kinds.LimitSpec.{LimitSpec}
+use Rattle.limit_kinds.specs.declared.kinds.LimitSpec.TheVariants.{Fixed, Settable, Aimd, Vegas, Auto}
+use Rattle.limit_kinds.specs.Kinds.{kind_named}
 use Rattle.script.specs.declared.place.RangeEnd.TheVariants.{At, Of}
 use Rattle.script.specs.Forms.{Wanted, one_of, number, word, from_to}
 use Rattle.script.specs.Words.{with_count, with_word, alone, lone_number, in_32_bits}

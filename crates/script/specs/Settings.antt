@@ -13,9 +13,9 @@ use Rattle.windowed.specs.WindowedRules.{windows_made}
 use Rattle.limit_kinds.specs.declared.kinds.BaseLimit.{BaseLimit}
 use Rattle.limit_kinds.specs.declared.kinds.BaseLimit.TheVariants.{Fixed}
 use Rattle.limit_kinds.specs.declared.kinds.AnyLimit.{AnyLimit}
-use Rattle.limit_kinds.specs.declared.spec.LimitSpec.{LimitSpec}
+use Rattle.limit_kinds.specs.declared.kinds.LimitSpec.{LimitSpec}
 use Rattle.limit_kinds.specs.AnyKinds.{any_from}
-use Rattle.limit_kinds.specs.Specs.{limit_made}
+use Rattle.limit_kinds.specs.Kinds.{limit_made}
 use Rattle.script.specs.declared.setting.Setting.{Setting}
 use Rattle.script.specs.declared.setting.Setting.TheVariants.{Limit, Window, Class, Share, Places, Backlog, Keep, Timeout, Promotion}
 use Rattle.script.specs.declared.fault_kind.FaultKind.{FaultKind}

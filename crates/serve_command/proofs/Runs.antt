@@ -26,6 +26,7 @@ use Rattle.serving.specs.declared.jobs.JobResult.{JobResult}
 use Rattle.serving.specs.declared.jobs.JobResult.TheVariants as left
 use Rattle.serving.specs.declared.working.WorkerSettings.{WorkerSettings}
 use Rattle.serving.specs.Doors.{failed_of, given_of, is_closed}
+use Rattle.serving.specs.Served.{policy_of}
 use Rattle.serving.specs.Turns.{IsRun}
 use Rattle.serving.specs.Workers.{HasRun, ended_in}
 use Rattle.gate_port.specs.declared.report.Report.{Report}
@@ -56,7 +57,7 @@ module _ {L C S W : Type 0} (R T V M : Type 0) (gives : S → Settings → Type 
   ran_to : (pass : Pass) (ended : End) → pass.log ≡ [] → Ran (port_of pass) ended
       → RanTo (pass_in ended)
   ran_to pass ended empty did = record {
-    policy = record { settings = did.settings; marks = common.marks };
+    policy = policy_of did.settings common.marks;
     is_given = (did.are_given, refl);
     given = given_of ended.door;
     failed = failed_of ended.door;
@@ -65,7 +66,7 @@ module _ {L C S W : Type 0} (R T V M : Type 0) (gives : S → Settings → Type 
     tally = ended.tally;
     run =
         subst (λ (log : List Entry). IsRun
-        (record { settings = did.settings; marks = common.marks }) (came common.listener.now)
+        (policy_of did.settings common.marks) (came common.listener.now)
         common.per_worker (stood_at 0 0 false 0 log)
         (stood_at (given_of ended.door) (failed_of ended.door) (is_closed ended.door)
         (count_of ended.backend) ended.port.pass.log) ended.tally) empty did.run;

@@ -15,17 +15,19 @@ use Rattle.shared_gate.specs.Reported.{AreCountersBehind}
 use Rattle.proxy.specs.Exchanges.{Policy}
 use Rattle.proxy.specs.Made.{summary_of}
 use Rattle.gate_laws.specs.Decided.{IsDecided}
-use Rattle.serving.specs.Turns.{Missing, Serving, Turn}
+use Rattle.serving.specs.Turns.{Ending, Keeping, Missing, Turn}
 use Rattle.serve_command.specs.Worked.{HasRunTo, calls_told}
 
--- each client of these turns, in order, was let through or refused as one thread's limiter decides
+-- each request of these turns, in order, was let through or refused as one thread's limiter decides
 abbrev pub AreDecided : {S : Type 0} → Gate S → Image S → List Entry → Settings → List Turn → Type 0
 AreDecided g o log s [] = ⊤
 AreDecided g o log s (Missing ∷ turns) = AreDecided g o log s turns
-AreDecided g o log s (Serving sent written told ∷ turns) =
+AreDecided g o log s (Ending before behind told ∷ turns) =
+    IsDecided g o log s (summary_of told) × AreDecided g o log s turns
+AreDecided g o log s (Keeping before behind told ∷ turns) =
     IsDecided g o log s (summary_of told) × AreDecided g o log s turns
 
--- RAN IN A LOG: a worker that ran, with clients each of whom was decided there
+-- RAN IN A LOG: a worker that ran, with requests each of which was decided there
 pub record HasRunIn {S : Type 0} (g : Gate S) (o : Image S) (log : List Entry)
     (Gives : Policy → Type 0) (Came : Option (List ℕ) → Type 0) (most : ℕ) (pass : Pass)
     : Type 0 where

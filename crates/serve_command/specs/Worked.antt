@@ -6,6 +6,7 @@ use Rattle.shared_gate.specs.Calls.{Pass}
 use Rattle.gate_config.specs.declared.settings.Settings.{Settings}
 use Rattle.proxy.specs.Exchanges.{Policy}
 use Rattle.serving.specs.declared.working.TurnCounts.{TurnCounts}
+use Rattle.serving.specs.Served.{policy_of}
 use Rattle.serving.specs.Turns.{IsRun, Place}
 
 -- where a worker stands: by the counts of its door and of its backend, of which sockets show
@@ -19,14 +20,14 @@ stood_at given failed closed forwarded log = record {
   back = record { shown = None; known = Some log; count = forwarded; log = None };
 }
 
--- by these settings, and with marks or without
+-- by these settings, which may keep clients, and with marks or without
 abbrev pub IsBy : (Settings → Type 0) → Bool → Policy → Type 0
-IsBy Gives marks p = Gives p.settings × (p.marks ≡ marks)
+IsBy Gives marks p = Gives p.settings × (p ≡ policy_of p.settings marks)
 
 -- RAN: by a policy that is given, a worker took its turns, or fewer where the listener was closed,
 -- from where its pass knew nothing to what that knows now; each client came where they are to come,
--- each accept was counted, for each client there was one exchange, and no more was forwarded than
--- there were clients
+-- each time that one came was counted, for each there was one exchange, and no more was forwarded
+-- than there were exchanges
 pub record HasRunTo (Gives : Policy → Type 0) (Came : Option (List ℕ) → Type 0) (most : ℕ)
     (pass : Pass) : Type 0 where
   pub policy : Policy

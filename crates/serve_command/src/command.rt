@@ -21,6 +21,7 @@ use crate::config_text::ConfigText;
 use crate::context::{ServeContext, serve_in};
 use crate::fault::{ServiceFault, report_service_fault};
 use clocks::ProgramClock;
+use commands::ServeOptions;
 use config_file::{FileFault, Opener, read_bytes, read_file_text};
 use counted_io::Counted;
 use fault_lines::{DONE, FAULT};
@@ -41,37 +42,6 @@ use std::time::Clock as SystemClock;
 use tasks::Spawner;
 use timed_io::{Binder, Listener};
 
-/// What a gateway is asked to do.
-#[derive(Clone, Copy)]
-pub struct Service<'a> {
-    /// The path of its configuration.
-    pub path: &'a str,
-    /// How many workers serve clients, each on a thread of its own: 1 to 64.
-    pub workers: u32,
-    /// How many connections each worker accepts before it ends: 1 to 1,000,000,000.
-    pub per_worker: u32,
-    /// How long a client may take to send its request, and again to take its answer, in
-    /// milliseconds: 1 to 3,600,000.
-    pub client_timeout_ms: u32,
-    /// For how long a client whose head isn't whole may hold a worker where no other one is free,
-    /// in milliseconds: 1 to 3,600,000. It isn't longer than the client's time.
-    pub head_timeout_ms: u32,
-    /// How long a call of the backend may take, from its connect to the end of its answer, in
-    /// milliseconds: 1 to 3,600,000; as long as the backend takes without it.
-    pub backend_timeout_ms: Option<u32>,
-    /// Whether each of the gateway's own answers has the line `X-Admission` with its word.
-    pub marks: bool,
-    /// How many seconds there are from one line of the report to the next, 1 to 3,600; there is
-    /// none without it.
-    pub report_seconds: Option<u32>,
-    /// A loopback address at which an operator looks at the gateway and changes it; there is none
-    /// without it.
-    pub admin: Option<SocketAddrV4>,
-    /// Any address of this machine at which whoever comes looks at the gateway's state, and changes
-    /// nothing; there is none without it.
-    pub status: Option<SocketAddrV4>,
-}
-
 /// Serves clients by the configuration in the file that is opened at the path, and at the end of
 /// all workers writes the line of the gate's counters to `writer`; or the line of the first fault
 /// to `errors`. Answers the exit status.
@@ -84,7 +54,7 @@ pub fn serve_file<R, F, B, W, E>(
     files: &F,
     addresses: &B,
     alloc: Global,
-    service: &Service<'_>,
+    service: &ServeOptions<'_>,
     writer: &mut Counted<W>,
     errors: &mut Counted<E>,
 ) -> u8
@@ -134,7 +104,7 @@ fn serve_and_count<R, F, B, W>(
     files: &F,
     addresses: &B,
     alloc: Global,
-    service: &Service<'_>,
+    service: &ServeOptions<'_>,
     writer: &mut Counted<W>,
 ) -> Result<(), ServiceFault>
 where
@@ -202,7 +172,7 @@ fn serve_settings<R, F, B>(
     alloc: Global,
     text: &ConfigText,
     settings: &Settings,
-    service: &Service<'_>,
+    service: &ServeOptions<'_>,
 ) -> Result<Counters, ServiceFault>
 where
     R: Net + Threads + Wait + SystemClock + Log + Sync,
@@ -255,7 +225,7 @@ fn make_watch<'a, R: SystemClock>(
     alloc: Global,
     clock: &'a ProgramClock<&'a R>,
     settings: &Settings,
-    service: &Service<'_>,
+    service: &ServeOptions<'_>,
 ) -> Result<Watcher<'a, R>, ServiceFault>
     requires sound { AreSound settings.now }
     ensures lacking { IfErr result (λ fault. fault ≡ Memory) }

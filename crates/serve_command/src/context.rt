@@ -13,10 +13,10 @@ ghost use Rattle.serve_command.specs.Beside.{IsServedThere};
 ghost use Rattle.serve_command.specs.Runs.{AreToldOfRuns, IsBy};
 
 use crate::admin::{AdminAddress, SideAddresses, listener_of};
-use crate::command::Service;
 use crate::config_text::ConfigText;
 use crate::gateway::{Gateway, serve_gateway};
 use clocks::ProgramClock;
+use commands::ServeOptions;
 use gate_config::Settings;
 use gate_desk::LameDuck;
 use limiter_core::Counters;
@@ -64,7 +64,7 @@ pub(crate) fn serve_in<'c, R, L>(
     spawner: &mut Spawner<'_, R>,
     context: &ServeContext<'c, R, L>,
     settings: &'c Settings,
-    service: &Service<'_>,
+    service: &ServeOptions<'_>,
 ) -> Result<Option<Counters>, ServeFault>
 where
     R: Net + Threads + Wait + SystemClock + Log + Sync,

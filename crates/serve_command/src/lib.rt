@@ -14,5 +14,5 @@ mod fault;
 mod gateway;
 mod operators;
 
-pub use command::{Service, serve_file};
+pub use command::serve_file;
 pub use fault::ServiceFault;

@@ -6,6 +6,7 @@ use crate::refusals::RefusalTally;
 use crate::tally::AnswerTally;
 use crate::times::TimeTally;
 use crate::workers::Workers;
+use timed_io::ClientConnections;
 
 /// How often each trouble came since the start. A count stays at `u64::MAX`.
 #[derive(Clone, Copy)]
@@ -50,6 +51,9 @@ pub struct GatewayStats {
     pub troubles: Troubles,
     /// How many connections to the backend there are, and what became of those that there were.
     pub connections: BackendConnections,
+    /// How many connections of clients wait, and what became of those that there were; none where
+    /// whoever notes doesn't see where they wait.
+    pub clients: ClientConnections,
     /// How many workers serve a client at this moment.
     pub workers: Workers,
     /// How old the permits are that haven't ended.

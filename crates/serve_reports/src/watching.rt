@@ -24,6 +24,7 @@ use std::sync::atomic::{AtomicU32, AtomicU64, Ordering};
 use std::sync::{Mutex, Wait};
 use std::time::Clock as SystemClock;
 use tcp_backend::{BackendWatch, ConnectionEvent};
+use timed_io::ClientConnections;
 use wire::WireFault;
 
 /// The nanoseconds of a second.
@@ -168,6 +169,7 @@ impl<R: SystemClock + Log + Wait> Watcher<'_, R> {
             times: measures.times,
             troubles: notes.troubles(),
             connections: self.connections.counted(),
+            clients: ClientConnections::none(),
             workers: self.workers(),
             outstanding: self.moments.outstanding(now),
             seconds: now / SECOND,

@@ -23,6 +23,7 @@ use Rattle.serving.specs.declared.working.WorkerSettings.{WorkerSettings}
 use Rattle.timed_io.specs.Accepted.{listener_of}
 use Rattle.proxy.specs.Exchanges.{Bytes, Policy}
 use Rattle.serving.specs.Doors.{counted_in, failed_of, given_of, is_closed}
+use Rattle.serving.specs.Served.{policy_of}
 use Rattle.serving.specs.Turns.{IsRun, Place}
 use Rattle.serving.specs.Visits.{Visits}
 use Rattle.serving.specs.Workers.{AreWithin, Begins, HasRun, HasWorked, Makes}
@@ -183,7 +184,7 @@ module _ {R T L C S W V P : Type 0} (gives : S → Settings → Type 0) (lacks :
       → Begins common.listener.now common.backend_timeout_ns address port worker
       → Did worker ended → HasRun gives came shown known common port ended
   ran port worker ended begins did =
-      let p : Policy = record { settings = did.settings; marks = common.marks } in
+      let p : Policy = policy_of did.settings common.marks in
       let most = common.per_worker in
       let given = given_of worker.door in
       let failed = failed_of worker.door in
@@ -221,7 +222,8 @@ module _ {R T L C S W V P : Type 0} (gives : S → Settings → Type 0) (lacks :
         whole = did.whole;
       }
 
-  pub all_ran : (ports : List P) (workers : List (Worker (Door L W) P (TcpBackend (Dialer R T) T V C)))
+  pub all_ran : (ports : List P)
+      (workers : List (Worker (Door L W) P (TcpBackend (Dialer R T) T V C)))
       (ended : List (WorkerExit (Door L W) P (TcpBackend (Dialer R T) T V C)))
       → AllZip (Begins common.listener.now common.backend_timeout_ns address) ports workers
       → AllZip Did workers ended → AllZip (HasRun gives came shown known common) ports ended

@@ -2,3 +2,4 @@ pub mod All
 pub mod Forwards
 pub mod Runs
 pub mod Told
+mod Visit

@@ -6,15 +6,20 @@ use Rattle.counted_io.specs.Count.{count_end, raised}
 use Rattle.limiter_core.specs.declared.event.Entry.{Entry}
 use Rattle.gate_port.specs.Shown.{Shown}
 use Rattle.wire.specs.Forwards.{Forwarded}
+use Rattle.timed_io.specs.declared.client_ends.ClientEnds.{ClientEnds}
+use Rattle.timed_io.specs.Client.{from_of, to_of}
 use Rattle.proxy.specs.declared.told.Exchange.{Exchange}
 use Rattle.proxy.specs.Exchanges.{Bytes, Policy}
 use Rattle.proxy.specs.Made.{summary_of}
 use Rattle.proxy.specs.Settling.{is_through}
 use Rattle.serving.specs.declared.working.TurnCounts.{TurnCounts}
 use Rattle.serving.specs.Served.{Back, IsServed}
-use Rattle.serving.specs.Turns.{AreServed, AreTaken, IsRun, Missing, Place, Serving, Shows, Turn}
-use Rattle.serving.specs.Turns.{events_of, failed_by, given_by, missed, sent_by, served}
-use Rattle.serving.specs.Visits.{Arrives, Closed, Closes, Event, Missed, Misses, Opened, Visits}
+use Rattle.proxy.specs.Made.{is_kept}
+use Rattle.serving.specs.Turns.{AreServed, AreTaken, Ending, IsRun, IsTurn, Keeping, Missing}
+use Rattle.serving.specs.Turns.{Place, Shows, Turn, Wait}
+use Rattle.serving.specs.Turns.{events_of, failed_by, given_by, missed, served}
+use Rattle.serving.specs.Visits.{Arrives, Client, Closed, Closes, Event, Keeps, Kept, LeavesBy}
+use Rattle.serving.specs.Visits.{Missed, Misses, Opened, Visits}
 use Rattle.serving.proofs.Forwards.{exchanged_once}
 
 -- what stands behind a worker at a port and a backend
@@ -27,40 +32,57 @@ back_of shown known forwarded log port backend = record {
   log = log backend;
 }
 
+-- a client by the ends of its connection
+abbrev pub client_of : {I O : Type 0} → (I → Bytes) → (O → Bytes) → ClientEnds I O → Bool → Client
+client_of remaining contents ends is_kept = record {
+  sent = remaining (from_of ends);
+  written = contents (to_of ends);
+  is_kept = is_kept;
+}
+
 served_more : (ts : List Turn) (t : Turn) → served (ts ++ t ∷ []) ≡ served ts + served (t ∷ [])
 served_more [] t = sym (zero-add (served (t ∷ [])))
 served_more (Missing ∷ ts) t = served_more ts t
-served_more (Serving sent written told ∷ ts) t = let same = served_more ts t in omega arith
+served_more (Ending before behind told ∷ ts) t = let same = served_more ts t in omega arith
+served_more (Keeping before behind told ∷ ts) t = let same = served_more ts t in omega arith
 
 missed_more : (ts : List Turn) (t : Turn) → missed (ts ++ t ∷ []) ≡ missed ts + missed (t ∷ [])
 missed_more [] t = sym (zero-add (missed (t ∷ [])))
 missed_more (Missing ∷ ts) t = let same = missed_more ts t in omega arith
-missed_more (Serving sent written told ∷ ts) t = missed_more ts t
+missed_more (Ending before behind told ∷ ts) t = missed_more ts t
+missed_more (Keeping before behind told ∷ ts) t = missed_more ts t
 
 given_more : (ts : List Turn) (t : Turn) (n : ℕ)
     → given_by (ts ++ t ∷ []) n ≡ given_by (t ∷ []) (given_by ts n)
 given_more [] t n = refl
 given_more (Missing ∷ ts) t n = given_more ts t n
-given_more (Serving sent written told ∷ ts) t n = given_more ts t (raised n)
+given_more (Ending before behind told ∷ ts) t n = given_more ts t (raised n)
+given_more (Keeping before behind told ∷ ts) t n = given_more ts t (raised n)
 
 failed_more : (ts : List Turn) (t : Turn) (n : ℕ)
     → failed_by (ts ++ t ∷ []) n ≡ failed_by (t ∷ []) (failed_by ts n)
 failed_more [] t n = refl
 failed_more (Missing ∷ ts) t n = failed_more ts t (raised n)
-failed_more (Serving sent written told ∷ ts) t n = failed_more ts t n
+failed_more (Ending before behind told ∷ ts) t n = failed_more ts t n
+failed_more (Keeping before behind told ∷ ts) t n = failed_more ts t n
 
-sent_more : (ts : List Turn) (t : Turn) → sent_by (ts ++ t ∷ []) ≡ sent_by ts ++ sent_by (t ∷ [])
-sent_more [] t = refl
-sent_more (Missing ∷ ts) t = sent_more ts t
-sent_more (Serving sent written told ∷ ts) t =
-    ap (λ (xs : List Bytes). sent ∷ xs) (sent_more ts t)
+wait_more : (ts : List Turn) (t : Turn) (old mid new : List Client) → Wait ts old mid
+    → Wait (t ∷ []) mid new → Wait (ts ++ t ∷ []) old new
+wait_more [] t old mid new same one = subst (λ (c : List Client). Wait (t ∷ []) c new) same one
+wait_more (Missing ∷ ts) t old mid new all one = wait_more ts t old mid new all one
+wait_more (Ending before behind told ∷ ts) t old mid new all one =
+    (all.0, all.1, wait_more ts t all.0 mid new all.2 one)
+wait_more (Keeping before behind told ∷ ts) t old mid new all one =
+    (all.0, all.1, all.2, all.3, wait_more ts t all.1 mid new all.4 one)
 
 events_more : (ts : List Turn) (t : Turn)
     → events_of (ts ++ t ∷ []) ≡ events_of ts ++ events_of (t ∷ [])
 events_more [] t = refl
 events_more (Missing ∷ ts) t = ap (λ (xs : List Event). Missed ∷ xs) (events_more ts t)
-events_more (Serving sent written told ∷ ts) t =
-    ap (λ (xs : List Event). Opened sent ∷ Closed written told ∷ xs) (events_more ts t)
+events_more (Ending before behind told ∷ ts) t =
+    ap (λ (xs : List Event). Opened before ∷ Closed behind.written told ∷ xs) (events_more ts t)
+events_more (Keeping before behind told ∷ ts) t =
+    ap (λ (xs : List Event). Opened before ∷ Kept behind told ∷ xs) (events_more ts t)
 
 all_served : (s : Policy) (came : Bytes → Type 0) (ts : List Turn) (t : Turn) (old mid new : Back)
     → AreServed s came ts old mid → AreServed s came (t ∷ []) mid new
@@ -68,8 +90,10 @@ all_served : (s : Policy) (came : Bytes → Type 0) (ts : List Turn) (t : Turn) 
 all_served s came [] t old mid new same one =
     subst (λ (b : Back). AreServed s came (t ∷ []) b new) same one
 all_served s came (Missing ∷ ts) t old mid new all one = all_served s came ts t old mid new all one
-all_served s came (Serving sent written told ∷ ts) t old mid new all one =
-    (all.0, all.1, all.2, all.3, all.4, all_served s came ts t all.1 mid new all.5 one)
+all_served s came (Ending before behind told ∷ ts) t old mid new all one =
+    (all.0, all.1, all.2, all_served s came ts t all.0 mid new all.3 one)
+all_served s came (Keeping before behind told ∷ ts) t old mid new all one =
+    (all.0, all.1, all.2, all_served s came ts t all.0 mid new all.3 one)
 
 all_shown : (ts : List Turn) (t : Turn) (old mid new : Option Visits) → Shows ts old mid
     → Shows (t ∷ []) mid new → Shows (ts ++ t ∷ []) old new
@@ -79,9 +103,7 @@ all_shown ts t None None (Some n) p q = absurd q
 all_shown ts t None (Some m) (Some n) p q = absurd p
 all_shown ts t (Some o) None (Some n) p q = absurd q
 all_shown ts t (Some o) (Some m) (Some n) p q = (
-  p.0 ∙ ap (λ (xs : List Bytes). sent_by ts ++ xs) q.0
-      ∙ sym (append_assoc (sent_by ts) (sent_by (t ∷ [])) n.coming)
-      ∙ ap (λ (xs : List Bytes). xs ++ n.coming) (sym (sent_more ts t)),
+  wait_more ts t o.waiting m.waiting n.waiting p.0 q.0,
   q.1 ∙ ap (λ (xs : List Event). xs ++ events_of (t ∷ [])) p.1
       ∙ append_assoc o.log (events_of ts) (events_of (t ∷ []))
       ∙ ap (λ (xs : List Event). o.log ++ xs) (sym (events_more ts t)),
@@ -91,20 +113,34 @@ pub missing_shown : (old new : Option Visits) → Misses old new → Shows (Miss
 missing_shown None None p = tt
 missing_shown (Some o) None p = tt
 missing_shown None (Some n) p = absurd p
-missing_shown (Some o) (Some n) p = (sym p.0, p.1)
+missing_shown (Some o) (Some n) p = p
 
-pub serving_shown : (old mid new : Option Visits) (sent written : Bytes) (told : Exchange)
-    → Arrives old mid sent → Closes mid new written told
-    → Shows (Serving sent written told ∷ []) old new
-serving_shown None mid None sent written told p q = tt
-serving_shown (Some o) mid None sent written told p q = tt
-serving_shown None None (Some n) sent written told p q = absurd q
-serving_shown None (Some m) (Some n) sent written told p q = absurd p
-serving_shown (Some o) None (Some n) sent written told p q = absurd q
-serving_shown (Some o) (Some m) (Some n) sent written told p q = (
-  p.0 ∙ ap (λ (xs : List Bytes). sent ∷ xs) (sym q.0),
-  q.1 ∙ ap (λ (xs : List Event). xs ++ Closed written told ∷ []) p.1
-      ∙ append_assoc o.log (Opened sent ∷ []) (Closed written told ∷ []),
+ending_shown : (old mid new : Option Visits) (before behind : Client) (told : Exchange)
+    → Arrives old mid before → Closes mid new behind told
+    → Shows (Ending before behind told ∷ []) old new
+ending_shown None mid None before behind told p q = tt
+ending_shown (Some o) mid None before behind told p q = tt
+ending_shown None None (Some n) before behind told p q = absurd q
+ending_shown None (Some m) (Some n) before behind told p q = absurd p
+ending_shown (Some o) None (Some n) before behind told p q = absurd q
+ending_shown (Some o) (Some m) (Some n) before behind told p q = (
+  (m.waiting, p.0, q.0),
+  q.1 ∙ ap (λ (xs : List Event). xs ++ Closed behind.written told ∷ []) p.1
+      ∙ append_assoc o.log (Opened before ∷ []) (Closed behind.written told ∷ []),
+)
+
+keeping_shown : (old mid new : Option Visits) (before behind : Client) (told : Exchange)
+    → Arrives old mid before → Keeps mid new behind told
+    → Shows (Keeping before behind told ∷ []) old new
+keeping_shown None mid None before behind told p q = tt
+keeping_shown (Some o) mid None before behind told p q = tt
+keeping_shown None None (Some n) before behind told p q = absurd q
+keeping_shown None (Some m) (Some n) before behind told p q = absurd p
+keeping_shown (Some o) None (Some n) before behind told p q = absurd q
+keeping_shown (Some o) (Some m) (Some n) before behind told p q = (
+  (m.waiting, n.waiting, p.0, q.0, refl),
+  q.1 ∙ ap (λ (xs : List Event). xs ++ Kept behind told ∷ []) p.1
+      ∙ append_assoc o.log (Opened before ∷ []) (Kept behind told ∷ []),
 )
 
 nothing_shown : (visits : Option Visits) → Shows [] visits visits
@@ -163,10 +199,31 @@ goes_on s came count old mid new before after t took accepted unaccepted given f
       many = length-append turns (t ∷ []) ∙ ap (λ (n : ℕ). n + 1) took.many;
     }
 
+-- one more was, in which a client was let go or kept
+pub goes_on_served : (s : Policy) (came : Bytes → Type 0) (count : ℕ) (old mid new : Place)
+    (before after : TurnCounts) (c left : Client) (told : Exchange) (visits : Option Visits)
+    (back : Back) (k : Bool) → is_kept told ≡ k → Took s came count old mid before
+    → after.accepted ≡ before.accepted + 1 → after.unaccepted ≡ before.unaccepted
+    → new.given ≡ raised mid.given → new.failed ≡ mid.failed
+    → IsTurn s came c left mid.back back told → new.back ≡ back
+    → Arrives mid.visits visits c → LeavesBy k visits new.visits left told
+    → Took s came (count + 1) old new after
+goes_on_served s came count old mid new before after c left told visits back false is took accepted
+    unaccepted given failed turn same arrives leaves =
+    goes_on s came count old mid new before after (Ending c left told) took accepted
+    (unaccepted ∙ sym (add-zero before.unaccepted)) given failed (back, turn, is, same)
+    (ending_shown mid.visits visits new.visits c left told arrives leaves)
+goes_on_served s came count old mid new before after c left told visits back true is took accepted
+    unaccepted given failed turn same arrives leaves =
+    goes_on s came count old mid new before after (Keeping c left told) took accepted
+    (unaccepted ∙ sym (add-zero before.unaccepted)) given failed (back, turn, is, same)
+    (keeping_shown mid.visits visits new.visits c left told arrives leaves)
+
 both_counted : (ts : List Turn) → served ts + missed ts ≡ length ts
 both_counted [] = refl
 both_counted (Missing ∷ ts) = let same = both_counted ts in omega arith
-both_counted (Serving sent written told ∷ ts) = let same = both_counted ts in omega arith
+both_counted (Ending before behind told ∷ ts) = let same = both_counted ts in omega arith
+both_counted (Keeping before behind told ∷ ts) = let same = both_counted ts in omega arith
 
 -- each turn has a client, or none
 pub both_of : (s : Policy) (came : Bytes → Type 0) (count : ℕ) (old new : Place)
@@ -184,9 +241,9 @@ once_by n m true same = omega arith
 once_by n m false same = omega arith
 
 -- an exchange forwards once at most
-once : (s : Policy) (sent unwritten written : Bytes) (old new : Back) (x : Exchange)
-    → IsServed s sent unwritten written old new x → new.count ≤ old.count + 1
-once s sent unwritten written old new x is =
+once : (s : Policy) (sent unwritten yet written : Bytes) (old new : Back) (x : Exchange)
+    → IsServed s sent unwritten yet written old new x → new.count ≤ old.count + 1
+once s sent unwritten yet written old new x is =
     once_by old.count new.count (is_through (summary_of x).admission)
     (exchanged_once s _ _ (summary_of x) is.exchanged)
 
@@ -195,9 +252,13 @@ all_once : (s : Policy) (came : Bytes → Type 0) (ts : List Turn) (old new : Ba
     → new.count ≤ old.count + served ts
 all_once s came [] old new same = let count = ap (λ (b : Back). b.count) same in omega arith
 all_once s came (Missing ∷ ts) old new all = all_once s came ts old new all
-all_once s came (Serving sent written told ∷ ts) old new all =
-    let one = once s sent all.0 written old all.1 told all.3 in
-    let others = all_once s came ts all.1 new all.5 in
+all_once s came (Ending before behind told ∷ ts) old new all =
+    let one = once s _ _ _ _ old all.0 told all.1.served in
+    let others = all_once s came ts all.0 new all.3 in
+    omega arith
+all_once s came (Keeping before behind told ∷ ts) old new all =
+    let one = once s _ _ _ _ old all.0 told all.1.served in
+    let others = all_once s came ts all.0 new all.3 in
     omega arith
 
 pub forwarded_at_most : (s : Policy) (came : Bytes → Type 0) (count : ℕ) (old new : Place)
@@ -215,7 +276,12 @@ given_exactly : (ts : List Turn) (n : ℕ) → n + served ts ≤ count_end
     → given_by ts n ≡ n + served ts
 given_exactly [] n h = sym (add-zero n)
 given_exactly (Missing ∷ ts) n h = given_exactly ts n h
-given_exactly (Serving sent written told ∷ ts) n h =
+given_exactly (Ending before behind told ∷ ts) n h =
+    let up : raised n ≡ n + 1 = raised_once n (omega arith) in
+    let rest : given_by ts (raised n) ≡ raised n + served ts =
+    given_exactly ts (raised n) (omega arith) in
+    omega arith
+given_exactly (Keeping before behind told ∷ ts) n h =
     let up : raised n ≡ n + 1 = raised_once n (omega arith) in
     let rest : given_by ts (raised n) ≡ raised n + served ts =
     given_exactly ts (raised n) (omega arith) in
@@ -229,7 +295,8 @@ failed_exactly (Missing ∷ ts) n h =
     let rest : failed_by ts (raised n) ≡ raised n + missed ts =
     failed_exactly ts (raised n) (omega arith) in
     omega arith
-failed_exactly (Serving sent written told ∷ ts) n h = failed_exactly ts n h
+failed_exactly (Ending before behind told ∷ ts) n h = failed_exactly ts n h
+failed_exactly (Keeping before behind told ∷ ts) n h = failed_exactly ts n h
 
 -- where a door's counts don't come to their ends, they rise by what is tallied
 pub all_given : (s : Policy) (came : Bytes → Type 0) (count most : ℕ) (old new : Place)

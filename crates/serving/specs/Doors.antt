@@ -1,7 +1,7 @@
 -- What a clause reads of a door.
 use Rattle.std.specs.Prelude.{ℕ, Bool}
 use Rattle.timed_io.specs.declared.counted_listener.CountedListener.{CountedListener}
-use Rattle.timed_io.specs.Accepted.{accepted_of, missed_of}
+use Rattle.timed_io.specs.Accepted.{accepted_of, kept_of, missed_of}
 use Rattle.serving.specs.declared.doors.Door.{Door}
 
 -- where its clients come from, with the counts of the accepts
@@ -14,6 +14,10 @@ given_of door = accepted_of door.listener
 
 abbrev pub failed_of : {L W : Type 0} → Door L W → ℕ
 failed_of door = missed_of door.listener
+
+-- how many clients were left to wait
+abbrev pub left_at : {L W : Type 0} → Door L W → ℕ
+left_at door = kept_of door.listener
 
 -- whether its listener was found closed
 abbrev pub is_closed : {L W : Type 0} → Door L W → Bool

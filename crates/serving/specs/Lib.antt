@@ -3,5 +3,6 @@ pub mod Faults
 pub mod Reports
 pub mod Served
 pub mod Turns
+pub mod Visit
 pub mod Visits
 pub mod Workers

@@ -1,17 +1,19 @@
 -- What it is that a client was served, told by the bytes of its two ends.
-use Rattle.std.specs.Prelude.{◌≡◌, ℕ, Bool, true, false, List, [], Option, IfSome}
+use Rattle.std.specs.Prelude.{◌≡◌, ℕ, zero, suc, Bool, true, false, List, [], Option, Some, None}
+use Rattle.std.specs.Prelude.{IfSome}
 use Rattle.std.specs.Io.KnownBytes.{append_known}
 use Rattle.clocks.specs.Looks.{Looked, unlooked}
 use Rattle.counted_io.specs.declared.counted.Counted.{Counted}
 use Rattle.counted_io.specs.Causes.{IsWriteCause}
 use Rattle.limiter_core.specs.declared.event.Entry.{Entry}
+use Rattle.gate_config.specs.declared.settings.Settings.{Settings}
 use Rattle.gate_port.specs.Shown.{Shown}
 use Rattle.wire.specs.declared.fault.WireFault.TheVariants as fault
 use Rattle.wire.specs.declared.answer.BackendAnswer.{BackendAnswer}
 use Rattle.wire.specs.Forwards.{Forwarded}
 use Rattle.proxy.specs.declared.told.Exchange.{Exchange}
 use Rattle.proxy.specs.Exchanges.{Bytes, IsExchange, Policy, World}
-use Rattle.proxy.specs.Made.{counted_with, is_all_sent, reads_of, summary_of, writes_of}
+use Rattle.proxy.specs.Made.{counted_with, is_all_sent, is_kept, reads_of, summary_of, writes_of}
 
 -- what stands behind a worker: the gate's entries where they are shown, what is known of its log
 -- where that is told, how many requests the worker's backend was given, and which where it shows
@@ -47,9 +49,10 @@ IsSent given written sent =
 -- SERVED by this exchange: it began with what the client would send and with what had been written
 -- to it, over a reader and a writer that weren't called yet, before any look at the clock; it ended
 -- with just the counts that it has; and what was written to the client is what it gave its writer.
--- A fault of writing has its cause in these counts
-pub record IsServed (p : Policy) (sent unwritten written : Bytes) (old new : Back) (x : Exchange)
-    : Type 0 where
+-- A fault of writing has its cause in these counts. Where the client is kept, all that was taken of
+-- its connection was read: what it has yet to send is just what the exchange left unread
+pub record IsServed (p : Policy) (sent unwritten yet written : Bytes) (old new : Back)
+    (x : Exchange) : Type 0 where
   pub left : Bytes
   pub given : Bytes
   pub looks : Looked BackendAnswer
@@ -59,3 +62,17 @@ pub record IsServed (p : Policy) (sent unwritten written : Bytes) (old new : Bac
   pub broken : IfSome (summary_of x).written_fault (λ f.
       (f ≡ fault.Write) × IsWriteCause (fresh unwritten) (counted_with given (writes_of x)))
   pub ended : IsSent given written (is_all_sent x)
+  pub unread : is_kept x ≡ true → yet ≡ left
+
+-- what a keeper tells whose settings have so many places for clients: without one nobody is kept
+abbrev pub told_by_places : ℕ → Option Bool
+told_by_places zero = Some false
+told_by_places (suc n) = None
+
+-- what a worker of these settings serves by, with marks or without
+abbrev pub policy_of : Settings → Bool → Policy
+policy_of settings marks = record {
+  settings = settings;
+  marks = marks;
+  keeps = told_by_places settings.clients;
+}

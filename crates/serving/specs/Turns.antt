@@ -1,52 +1,74 @@
 -- The turns of a worker.
-use Rattle.std.specs.Prelude.{◌≡◌, ◌≤◌, ◌+◌, ℕ, Bool, false, List, [], ◌∷◌, ◌++◌, length}
-use Rattle.std.specs.Prelude.{Option, IfSome}
+use Rattle.std.specs.Prelude.{◌≡◌, ◌≤◌, ◌+◌, ℕ, Bool, true, false, List, [], ◌∷◌, ◌++◌, length}
+use Rattle.std.specs.Prelude.{Option}
 use Rattle.counted_io.specs.Count.{raised}
 use Rattle.proxy.specs.declared.told.Exchange.{Exchange}
 use Rattle.proxy.specs.Exchanges.{Bytes, Policy}
+use Rattle.proxy.specs.Made.{is_kept}
 use Rattle.serving.specs.declared.working.TurnCounts.{TurnCounts}
 use Rattle.serving.specs.Served.{Back, IsServed}
-use Rattle.serving.specs.Visits.{Event, Opened, Missed, Closed, Follows, Visits}
+use Rattle.serving.specs.Visits.{Client, Event, Opened, Missed, Closed, Kept, Follows, IsUnwritten}
+use Rattle.serving.specs.Visits.{Visits, Waits}
 
--- a turn: nobody was to be had; or a client, with what it would send, what was written to it, and
--- what is told of it
+-- a turn: nobody was to be had; or a client as it came, as it was left, and what is told of it: it
+-- was let go, or kept
 pub data Turn : Type 0 where
   Missing : Turn
-  Serving : Bytes → Bytes → Exchange → Turn
+  Ending : Client → Client → Exchange → Turn
+  Keeping : Client → Client → Exchange → Turn
 
--- how many clients there were, and how often none
+-- how many exchanges there were, and how often nobody came
 abbrev pub served : List Turn → ℕ
 served [] = 0
 served (Missing ∷ turns) = served turns
-served (Serving sent written told ∷ turns) = served turns + 1
+served (Ending before behind told ∷ turns) = served turns + 1
+served (Keeping before behind told ∷ turns) = served turns + 1
 
 abbrev pub missed : List Turn → ℕ
 missed [] = 0
 missed (Missing ∷ turns) = missed turns + 1
-missed (Serving sent written told ∷ turns) = missed turns
+missed (Ending before behind told ∷ turns) = missed turns
+missed (Keeping before behind told ∷ turns) = missed turns
 
--- what the clients would send, in order
-abbrev pub sent_by : List Turn → List Bytes
-sent_by [] = []
-sent_by (Missing ∷ turns) = sent_by turns
-sent_by (Serving sent written told ∷ turns) = sent ∷ sent_by turns
-
--- what a door shows of the turns: each client is let go before the next one is asked for
+-- what a door shows of the turns: each client is let go or kept before the next one is asked for
 abbrev pub events_of : List Turn → List Event
 events_of [] = []
 events_of (Missing ∷ turns) = Missed ∷ events_of turns
-events_of (Serving sent written told ∷ turns) =
-    Opened sent ∷ Closed written told ∷ events_of turns
+events_of (Ending before behind told ∷ turns) =
+    Opened before ∷ Closed behind.written told ∷ events_of turns
+events_of (Keeping before behind told ∷ turns) =
+    Opened before ∷ Kept behind told ∷ events_of turns
 
--- THE EXCHANGES: one for each client, in order, who came where they are served and to whom nothing
--- had been written; and nothing else is asked of the gate, or forwarded
+-- WHO WAITS: each who comes was the first of those who waited, as it was left, and one who is kept
+-- waits again with what it has yet to send; nobody else comes or goes
+abbrev pub Wait : List Turn → List Client → List Client → Type 0
+Wait [] old new = new ≡ old
+Wait (Missing ∷ turns) old new = Wait turns old new
+Wait (Ending before behind told ∷ turns) old new =
+    (rest : List Client) × (old ≡ before ∷ rest) × Wait turns rest new
+Wait (Keeping before behind told ∷ turns) old new =
+    (rest : List Client) × (mid : List Client) × (old ≡ before ∷ rest) × Waits behind rest mid
+    × Wait turns mid new
+
+-- an exchange for a client who came where it is served, and to whom nothing had been written,
+-- unless it had been kept
+pub record IsTurn (p : Policy) (came : Bytes → Type 0) (before behind : Client) (old new : Back)
+    (told : Exchange) : Type 0 where
+  pub unwritten : IsUnwritten before
+  pub served : IsServed p before.sent before.written behind.sent behind.written old new told
+  pub comes : came before.sent
+
+-- THE EXCHANGES: one for each client that came, in order, and nothing else is asked of the gate, or
+-- forwarded; who was told so is kept, and nobody else
 abbrev pub AreServed : Policy → (Bytes → Type 0) → List Turn → Back → Back → Type 0
 AreServed p came [] old new = new ≡ old
 AreServed p came (Missing ∷ turns) old new = AreServed p came turns old new
-AreServed p came (Serving sent written told ∷ turns) old new =
-    (unwritten : Bytes) × (mid : Back)
-    × IfSome unwritten (λ bytes. bytes ≡ [])
-    × IsServed p sent unwritten written old mid told × came sent × AreServed p came turns mid new
+AreServed p came (Ending before behind told ∷ turns) old new =
+    (mid : Back) × IsTurn p came before behind old mid told × (is_kept told ≡ false)
+    × AreServed p came turns mid new
+AreServed p came (Keeping before behind told ∷ turns) old new =
+    (mid : Back) × IsTurn p came before behind old mid told × (is_kept told ≡ true)
+    × AreServed p came turns mid new
 
 -- what a worker finds and leaves: its door's counts, whether that was found closed, what it shows,
 -- and what stands behind the worker
@@ -61,17 +83,19 @@ pub record Place : Type 0 where
 abbrev pub given_by : List Turn → ℕ → ℕ
 given_by [] n = n
 given_by (Missing ∷ turns) n = given_by turns n
-given_by (Serving sent written told ∷ turns) n = given_by turns (raised n)
+given_by (Ending before behind told ∷ turns) n = given_by turns (raised n)
+given_by (Keeping before behind told ∷ turns) n = given_by turns (raised n)
 
 abbrev pub failed_by : List Turn → ℕ → ℕ
 failed_by [] n = n
 failed_by (Missing ∷ turns) n = failed_by turns (raised n)
-failed_by (Serving sent written told ∷ turns) n = failed_by turns n
+failed_by (Ending before behind told ∷ turns) n = failed_by turns n
+failed_by (Keeping before behind told ∷ turns) n = failed_by turns n
 
 -- what a door shows that shows its visits: these came, and this happened
 abbrev pub Shows : List Turn → Option Visits → Option Visits → Type 0
 Shows turns old new = Follows old new (λ o n.
-    (o.coming ≡ sent_by turns ++ n.coming) × (n.log ≡ o.log ++ events_of turns))
+    Wait turns o.waiting n.waiting × (n.log ≡ o.log ++ events_of turns))
 
 -- TAKEN: the turns, as they are tallied, as the door counts and shows them, and as they are served
 pub record AreTaken (p : Policy) (came : Bytes → Type 0) (turns : List Turn) (old new : Place)

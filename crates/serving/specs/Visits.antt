@@ -1,18 +1,32 @@
 -- What a door shows of its clients.
-use Rattle.std.specs.Prelude.{◌≡◌, List, [], ◌∷◌, ◌++◌, Option, Some, None, ⊤}
+use Rattle.std.specs.Prelude.{◌≡◌, Bool, true, false, List, [], ◌∷◌, ◌++◌, Option, Some, None, ⊤}
+use Rattle.std.specs.Prelude.{IfSome}
 use Rattle.proxy.specs.declared.told.Exchange.{Exchange}
 use Rattle.proxy.specs.Exchanges.{Bytes}
+use Rattle.proxy.specs.Made.{is_kept}
 
--- a client came, who would send these bytes, where they are known; none was to be had; the one who
--- came last was let go: this had been written to it, and this is told of it
+-- a client between two exchanges: what it has yet to send, and what was written to it so far, where
+-- they are known; and whether it was served before, and kept
+pub record Client : Type 0 where
+  pub sent : Bytes
+  pub written : Bytes
+  pub is_kept : Bool
+
+-- nothing was written to it yet, unless it was served before
+abbrev pub IsUnwritten : Client → Type 0
+IsUnwritten client = client.is_kept ≡ false → IfSome client.written (λ written. written ≡ [])
+
+-- a client came; none was to be had; the one who came last was let go, and this had been written to
+-- it and is told of it; or it was kept, as it is now
 pub data Event : Type 0 where
-  Opened : Bytes → Event
+  Opened : Client → Event
   Missed : Event
   Closed : Bytes → Exchange → Event
+  Kept : Client → Exchange → Event
 
--- what those who are still to come will send, and what happened so far
+-- who waits, new or kept, in the order in which they come, and what happened so far
 pub record Visits : Type 0 where
-  pub coming : List Bytes
+  pub waiting : List Client
   pub log : List Event
 
 -- a fact of a door before and after: one that shows its visits did so before. It may stop showing
@@ -22,14 +36,33 @@ Follows old None P = ⊤
 Follows None (Some new) P = ⊥
 Follows (Some old) (Some new) P = P old new
 
-abbrev pub Arrives : Option Visits → Option Visits → Bytes → Type 0
-Arrives old new sent = Follows old new (λ o n.
-    (o.coming ≡ sent ∷ n.coming) × (n.log ≡ o.log ++ Opened sent ∷ []))
+abbrev pub Arrives : Option Visits → Option Visits → Client → Type 0
+Arrives old new client = Follows old new (λ o n.
+    (o.waiting ≡ client ∷ n.waiting) × (n.log ≡ o.log ++ Opened client ∷ []))
 
 abbrev pub Misses : Option Visits → Option Visits → Type 0
 Misses old new = Follows old new (λ o n.
-    (n.coming ≡ o.coming) × (n.log ≡ o.log ++ Missed ∷ []))
+    (n.waiting ≡ o.waiting) × (n.log ≡ o.log ++ Missed ∷ []))
 
-abbrev pub Closes : Option Visits → Option Visits → Bytes → Exchange → Type 0
-Closes old new written told = Follows old new (λ o n.
-    (n.coming ≡ o.coming) × (n.log ≡ o.log ++ Closed written told ∷ []))
+abbrev pub Closes : Option Visits → Option Visits → Client → Exchange → Type 0
+Closes old new client told = Follows old new (λ o n.
+    (n.waiting ≡ o.waiting) × (n.log ≡ o.log ++ Closed client.written told ∷ []))
+
+-- it waits again, wherever among the others
+pub record Waits (client : Client) (old new : List Client) : Type 0 where
+  pub before : List Client
+  pub behind : List Client
+  pub was : old ≡ before ++ behind
+  pub is : new ≡ before ++ client ∷ behind
+
+abbrev pub Keeps : Option Visits → Option Visits → Client → Exchange → Type 0
+Keeps old new client told = Follows old new (λ o n.
+    Waits client o.waiting n.waiting × (n.log ≡ o.log ++ Kept client told ∷ []))
+
+-- it waits again where it was told so, and else it is let go
+abbrev pub LeavesBy : Bool → Option Visits → Option Visits → Client → Exchange → Type 0
+LeavesBy true old new client told = Keeps old new client told
+LeavesBy false old new client told = Closes old new client told
+
+abbrev pub Leaves : Option Visits → Option Visits → Client → Exchange → Type 0
+Leaves old new client told = LeavesBy (is_kept told) old new client told

@@ -20,6 +20,7 @@ use Rattle.serving.specs.declared.working.WorkerSettings.{WorkerSettings}
 use Rattle.timed_io.specs.Accepted.{listener_of}
 use Rattle.proxy.specs.Exchanges.{Bytes}
 use Rattle.serving.specs.Doors.{counted_in, failed_of, given_of, is_closed}
+use Rattle.serving.specs.Served.{policy_of}
 use Rattle.serving.specs.Turns.{IsRun, Place}
 use Rattle.serving.specs.Visits.{Visits}
 
@@ -81,7 +82,7 @@ module _ {A P B S : Type 0} (given failed : A → ℕ) (closed : A → Bool)
     pub bounded : most ≤ count_end
     pub settings : Settings
     pub are_given : gives source settings
-    pub run : IsRun (record { settings = settings; marks = marks }) (came worker.door) most
+    pub run : IsRun (policy_of settings marks) (came worker.door) most
         (place_of worker.door worker.port worker.backend)
         (place_of ended.door ended.port ended.backend) ended.tally
     pub turns : ended.tally.accepted + ended.tally.unaccepted ≤ most
@@ -136,7 +137,7 @@ pub record HasRun {R T L C S W V P : Type 0} (gives : S → Settings → Type 0)
     (ended : WorkerExit (Door L W) P (TcpBackend (Dialer R T) T V C)) : Type 0 where
   pub settings : Settings
   pub are_given : gives common.source.now settings
-  pub run : IsRun (record { settings = settings; marks = common.marks })
+  pub run : IsRun (policy_of settings common.marks)
       (came common.listener.now) common.per_worker
       (record {
         given = 0;

@@ -1,9 +1,10 @@
 // How a worker comes to its clients.
 ghost use Rattle.std.specs.Prelude.{◌≡◌, ℕ, List, [], Option, None, false, is_ok};
-ghost use Rattle.std.specs.Prelude.{if◌then◌else◌, IfOk, IfSome, OnErr};
+ghost use Rattle.std.specs.Prelude.{if◌then◌else◌, IfOk, OnErr};
 ghost use Rattle.counted_io.specs.Count.{raised, raised_by_err};
-ghost use Rattle.serving.specs.Doors.{counted_in, failed_of, given_of, is_closed};
-ghost use Rattle.serving.specs.Visits.{Arrives, Closes, Misses};
+ghost use Rattle.proxy.specs.Made.{is_kept};
+ghost use Rattle.serving.specs.Doors.{counted_in, failed_of, given_of, is_closed, left_at};
+ghost use Rattle.serving.specs.Visits.{Arrives, IsUnwritten, Leaves, Misses};
 ghost use Rattle.timed_io.specs.Accepted.{listener_of};
 ghost use Rattle.timed_io.specs.Client.{from_of, to_of};
 
@@ -12,7 +13,7 @@ use std::io::Result;
 use timed_io::{AcceptedClient, Connection, CountedListener, Inlet, Listener, Outlet};
 
 /// One worker's own way to its clients: it counts them, and may show what it did. Nobody else lets
-/// a client go: only [`close`](Accepts::close) takes one, with the exchange that served it.
+/// a client go: only [`leave`](Accepts::leave) takes one, with the exchange that served it.
 pub trait Accepts {
     /// A client's connection, which a worker can't let go.
     type Stream: Connection;
@@ -31,6 +32,9 @@ pub trait Accepts {
 
     ghost failed: { Self → ℕ };
 
+    // How many clients were left to wait for their next request.
+    ghost kept: { Self → ℕ };
+
     // Whether it was found closed.
     ghost closed: { Self → Bool };
 
@@ -40,28 +44,46 @@ pub trait Accepts {
     // Who is still to come and what happened so far, where that is shown.
     ghost visits: { Self → Option Visits };
 
-    /// Waits for the next client, to whom nothing was written yet.
+    /// Waits for the next client, a new one or one who was kept.
     fn accept(&mut self) -> Result<AcceptedClient<Self::Stream, Self::From, Self::To>>
         ensures given { given self.new
             ≡ (if is_ok result then raised (given self.old) else given self.old) }
         ensures failed { failed self.new ≡ raised_by_err result (failed self.old) }
+        ensures kept { kept self.new ≡ kept self.old }
         ensures place { (sent : Option (List ℕ)) → came self.new sent → came self.old sent }
         ensures came { IfOk result (λ client.
             came self.old (Self.From.remaining (from_of client.ends))) }
-        ensures arrived { IfOk result (λ client.
-            Arrives (visits self.old) (visits self.new)
-            (Self.From.remaining (from_of client.ends))) }
-        ensures unwritten { IfOk result (λ client.
-            IfSome (Self.To.contents (to_of client.ends)) (λ written. written ≡ [])) }
+        ensures arrived { IfOk result (λ client. Arrives (visits self.old) (visits self.new)
+            (record {
+              sent = Self.From.remaining (from_of client.ends);
+              written = Self.To.contents (to_of client.ends);
+              is_kept = client.is_kept;
+            })) }
+        ensures unwritten { IfOk result (λ client. IsUnwritten (record {
+          sent = Self.From.remaining (from_of client.ends);
+          written = Self.To.contents (to_of client.ends);
+          is_kept = client.is_kept;
+        })) }
         ensures missed { OnErr result (Misses (visits self.old) (visits self.new)) };
 
-    /// Lets the client go that was served by this exchange: its connection is closed.
-    fn close(&mut self, client: AcceptedClient<Self::Stream, Self::From, Self::To>, told: Exchange)
+    /// Leaves the client that was served by this exchange: it waits for its next request where it
+    /// was told that it is kept, and else its connection is closed.
+    fn leave(&mut self, client: AcceptedClient<Self::Stream, Self::From, Self::To>, told: Exchange)
         ensures given { given self.new ≡ given self.old }
         ensures failed { failed self.new ≡ failed self.old }
+        ensures kept { kept self.new
+            ≡ (if is_kept told then raised (kept self.old) else kept self.old) }
         ensures place { (sent : Option (List ℕ)) → came self.new sent → came self.old sent }
-        ensures closed { Closes (visits self.old) (visits self.new)
-            (Self.To.contents (to_of client.ends)) told };
+        ensures left { Leaves (visits self.old) (visits self.new)
+            (record {
+              sent = Self.From.remaining (from_of client.ends);
+              written = Self.To.contents (to_of client.ends);
+              is_kept = is_kept told;
+            })
+            told };
+
+    /// Whether a client who is served now may be kept.
+    fn keeps(&self) -> bool;
 
     /// Whether it was found closed: nobody comes any more.
     fn is_closed(&self) -> bool
@@ -106,11 +128,13 @@ where
 
     ghost use Rattle.std.specs.Prelude.{None};
     ghost use Rattle.timed_io.specs.Accepted.{listener_of};
-    ghost use Rattle.serving.specs.Doors.{counted_in, failed_of, given_of, is_closed};
+    ghost use Rattle.serving.specs.Doors.{counted_in, failed_of, given_of, is_closed, left_at};
 
     ghost given = { given_of };
 
     ghost failed = { failed_of };
+
+    ghost kept = { left_at };
 
     ghost closed = { is_closed };
 
@@ -119,7 +143,7 @@ where
     ghost visits = { λ _. None };
 
     fn accept(&mut self) -> Result<AcceptedClient<L::Stream, L::From, L::To>> {
-        let outcome = self.listener.accept();
+        let outcome = self.listener.next();
         match &outcome {
             Ok(_) => self.since = self.watch.accepted(),
             Err(error) => {
@@ -132,16 +156,32 @@ where
         outcome
     }
 
-    fn close(&mut self, client: AcceptedClient<L::Stream, L::From, L::To>, told: Exchange)
+    fn leave(&mut self, client: AcceptedClient<L::Stream, L::From, L::To>, told: Exchange)
         ensures given { given_of self.new ≡ given_of self.old }
         ensures failed { failed_of self.new ≡ failed_of self.old }
+        ensures kept { left_at self.new
+            ≡ (if is_kept told then raised (left_at self.old) else left_at self.old) }
         ensures place { (sent : Option (List ℕ))
             → L.came (listener_of (counted_in self.new)) sent
             → L.came (listener_of (counted_in self.old)) sent }
-        ensures closed { Closes None None (L.To.contents (to_of client.ends)) told }
+        ensures left { Leaves None None
+            (record {
+              sent = L.From.remaining (from_of client.ends);
+              written = L.To.contents (to_of client.ends);
+              is_kept = is_kept told;
+            })
+            told }
     {
-        client.close();
+        if told.is_kept() {
+            self.listener.keep(client);
+        } else {
+            client.close();
+        }
         self.watch.ended(&told.end(), self.since);
+    }
+
+    fn keeps(&self) -> bool {
+        self.listener.keeps()
     }
 
     fn is_closed(&self) -> bool {

@@ -86,7 +86,11 @@ where
         refused_of spawner.new ≡ refused_of spawner.old }
 {
     let workers = make_workers(rt, common, settings, ports)?;
-    prepare(common, wanted_descriptors(workers.len(), settings.backends));
+    prepare(
+        common,
+        settings,
+        wanted_descriptors(workers.len(), settings.backends),
+    );
     let active = ActiveWorkers::new(workers.len());
     let reporter = Reporter {
         rt,
@@ -110,16 +114,25 @@ fn wanted_descriptors(workers: usize, backends: u32) -> u64 {
         .saturating_add(OTHER_DESCRIPTORS)
 }
 
-/// Has the listener keep clients who have sent nothing, as far as there are descriptors for them
-/// beside so many that are wanted, and end those who take nothing.
-fn prepare<L: Listener, C, S, W>(common: &WorkerSettings<'_, L, C, S, W>, wanted: u64) {
+/// Has the listener keep clients who have sent nothing, and those who were served where the
+/// settings keep some, as far as there are descriptors for them beside so many that are wanted, and
+/// end those who take nothing.
+fn prepare<L: Listener, C, S, W>(
+    common: &WorkerSettings<'_, L, C, S, W>,
+    settings: &Settings,
+    wanted: u64,
+) {
     let most_ns = common.client_timeout_ns;
-    let spare = spare_descriptors(wanted);
+    let asked = match settings.clients {
+        0 => common.client_places,
+        places => places,
+    };
     let places = Places {
-        count: u32::try_from(spare)
+        count: u32::try_from(spare_descriptors(wanted))
             .unwrap_or(u32::MAX)
-            .min(common.client_places),
-        most: Duration::from_nanos(most_ns),
+            .min(asked),
+        silent: Duration::from_nanos(most_ns),
+        idle: Duration::from_nanos(settings.client_idle_ns),
     };
     common.listener.offer_places(common.alloc, places);
     let untaken = Duration::from_nanos(most_ns.max(UNTAKEN_NS));

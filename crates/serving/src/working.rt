@@ -1,8 +1,9 @@
 // What one worker does.
-ghost use Rattle.std.specs.Prelude.{◌≡◌, ◌≤◌, ◌+◌, false, IfOk, OnErr};
+ghost use Rattle.std.specs.Prelude.{◌≡◌, ◌≤◌, ◌+◌, true, false, IfOk, OnErr};
 ghost use Rattle.counted_io.specs.Count.{count_end};
 ghost use Rattle.gate_config.specs.declared.settings.Settings.{Settings as SettingsValue};
-ghost use Rattle.serving.specs.Served.{IsServed};
+ghost use Rattle.proxy.specs.Made.{is_kept};
+ghost use Rattle.serving.specs.Served.{IsServed, policy_of};
 ghost use Rattle.serving.specs.Turns.{IsRun};
 ghost use Rattle.timed_io.specs.Client.{from_of, to_of};
 
@@ -10,7 +11,7 @@ use crate::doors::Accepts;
 use clocks::{Clock, MonotonicClock};
 use gate_config::Settings;
 use gate_port::GatePort;
-use proxy::{Exchange, Watch, exchange};
+use proxy::{Exchange, ExchangePolicy, Keeper, Watch, exchange};
 use std::alloc::{AllocError, Global};
 use std::thread;
 use std::time::{Clock as SystemClock, Duration};
@@ -51,14 +52,15 @@ pub struct WorkerSettings<'a, L, C, S, W> {
     pub source: &'a S,
     /// The clock of deadlines.
     pub clock: &'a C,
-    /// How many connections a worker accepts, one after the other.
+    /// How many exchanges a worker carries out, or tries to, one after the other.
     pub per_worker: u64,
-    /// How long a client may take to send its request, and again to take its answer; and how long
-    /// one may wait that has sent nothing.
+    /// How long a client may take to send its request, and again to take its answer, at each of its
+    /// exchanges anew; and how long one may wait that has sent nothing.
     pub client_timeout_ns: u64,
     /// For how long a client whose head isn't whole may hold a worker where no other one is free.
     pub head_timeout_ns: u64,
-    /// How many clients that have sent nothing may wait beside those who are served.
+    /// How many clients that have sent nothing may wait beside those who are served, where settings
+    /// keep none.
     pub client_places: u32,
     /// How long a call of the backend may take, from its connect to the end of its answer; as long
     /// as the backend takes without it.
@@ -76,16 +78,17 @@ pub struct WorkerSettings<'a, L, C, S, W> {
 /// What came of a worker's turns.
 #[derive(Clone, Copy)]
 pub struct TurnCounts {
-    /// How many clients it had.
+    /// How many exchanges it carried out.
     pub accepted: u64,
     /// How often none was to be had.
     pub unaccepted: u64,
 }
 
-/// Takes `per_worker` turns, or fewer where the door is found closed. In each a client is accepted,
-/// served by one exchange and let go; or none was to be had, and then nothing is forwarded, and the
-/// next turn comes a while later: what was missing, such as a free descriptor, isn't there at once.
-/// What the backend's answer left is waited for once the client's connection is closed.
+/// Takes `per_worker` turns, or fewer where the door is found closed. In each a client comes, a new
+/// one or one who was kept, is served by one exchange, and is let go, or waits for its next request
+/// where it was told so; or none was to be had, and then nothing is forwarded, and the next turn
+/// comes a while later: what was missing, such as a free descriptor, isn't there at once. What the
+/// backend's answer left is waited for once the client was left.
 /// The settings are some that the workers' source gives.
 pub fn work<R, A, P, B, C, L, S, W>(
     rt: &R,
@@ -105,7 +108,7 @@ where
     S: Source,
     W: Watch,
     requires settings { S.gives common.now.source.now settings.now }
-    ensures run { IsRun (record { settings = settings.now; marks = common.now.marks })
+    ensures run { IsRun (policy_of settings.now common.now.marks)
         (A.came door.old) common.now.per_worker
         (record {
           given = A.given door.old;
@@ -150,11 +153,15 @@ where
     for _ in 0..common.per_worker {
         match door.accept() {
             Ok(client) => {
+                let keeper = DoorKeeper {
+                    door: &*door,
+                    places: settings.clients,
+                };
                 let (client, served, used) = serve_client(
-                    common, settings, client, port, backend, buffers,
+                    common, settings, client, &keeper, port, backend, buffers,
                 );
                 buffers = used;
-                door.close(client, served);
+                door.leave(client, served);
                 backend.leave();
                 tally.accepted += 1;
             }
@@ -171,14 +178,15 @@ where
 }
 
 /// Serves one client by one exchange over the two ends of its connection, which last as long as it
-/// may take; one that is slow to send its head is let go where no worker is free. Where it is
-/// answered before its whole request was read, or has sent more than that, what it still sends is
-/// dropped, so that it gets to read the answer. A signal that cuts a read or a write short changes
-/// nothing.
-fn serve_client<T, I, O, P, B, C, L, S, W>(
+/// may take; one that is slow to send its head is let go where no worker is free. Where it isn't
+/// kept, and is answered before its whole request was read, or has sent more than that, what it
+/// still sends is dropped, so that it gets to read the answer. A signal that cuts a read or a write
+/// short changes nothing.
+fn serve_client<T, I, O, P, B, C, L, S, W, K>(
     common: &WorkerSettings<'_, L, C, S, W>,
     settings: &Settings,
     client: AcceptedClient<T, I, O>,
+    keeper: &K,
     port: &mut P,
     backend: &mut B,
     buffers: ClientBuffers,
@@ -191,9 +199,15 @@ where
     B: Backend,
     C: Clock,
     W: Watch,
-    ensures { IsServed (record { settings = settings.now; marks = common.now.marks })
-        (I.remaining (from_of client.ends))
-        (O.contents (to_of client.ends)) (O.contents (to_of result.0.ends))
+    K: Keeper,
+    ensures { IsServed
+        (record {
+          settings = settings.now;
+          marks = common.now.marks;
+          keeps = K.tells keeper.now;
+        })
+        (I.remaining (from_of client.ends)) (O.contents (to_of client.ends))
+        (I.remaining (from_of result.0.ends)) (O.contents (to_of result.0.ends))
         (record {
           shown = P.shown port.old;
           known = P.known port.old;
@@ -212,17 +226,31 @@ where
         watch: common.watch,
         least_ns: common.head_timeout_ns,
     };
-    let AcceptedClient { stream, ends } = client;
+    let AcceptedClient {
+        stream,
+        is_kept,
+        ends,
+    } = client;
+    let policy = ExchangePolicy {
+        marks: common.marks,
+        keeper,
+    };
     let (ends, served, buffers) = serve_over(
-        common, settings, &stream, ends, &patience, port, backend, buffers,
+        common, settings, &policy, &stream, ends, &patience, port, backend, buffers,
     );
-    (AcceptedClient { stream, ends }, served, buffers)
+    let client = AcceptedClient {
+        stream,
+        is_kept,
+        ends,
+    };
+    (client, served, buffers)
 }
 
 /// The same over a connection and its ends, by somebody's patience with who is slow.
-fn serve_over<'s, T, I, O, P, B, C, L, S, W, A>(
+fn serve_over<'s, T, I, O, P, B, C, L, S, W, A, K>(
     common: &WorkerSettings<'_, L, C, S, W>,
     settings: &Settings,
+    policy: &ExchangePolicy<'_, K>,
     stream: &'s T,
     ends: ClientEnds<I, O>,
     patience: &'s A,
@@ -238,9 +266,15 @@ where
     B: Backend,
     C: Clock,
     A: Patience,
-    ensures { IsServed (record { settings = settings.now; marks = common.now.marks })
+    K: Keeper,
+    ensures { IsServed
+        (record {
+          settings = settings.now;
+          marks = policy.now.marks;
+          keeps = K.tells policy.now.keeper.now;
+        })
         (I.remaining (from_of ends)) (O.contents (to_of ends))
-        (O.contents (to_of result.0))
+        (I.remaining (from_of result.0)) (O.contents (to_of result.0))
         (record {
           shown = P.shown port.old;
           known = P.known port.old;
@@ -270,7 +304,7 @@ where
         port,
         backend,
         settings,
-        common.marks,
+        policy,
         &mut looks,
         &mut reader,
         &mut writer,
@@ -282,15 +316,17 @@ where
     (ends, served, buffers)
 }
 
-/// Sees that a client that was served by this exchange gets to read its answer, where it has one,
-/// and gives the ends of its connection back, with the buffers. Nothing more is written to it.
+/// Sees that a client that was served by this exchange gets to read its answer, where it has one
+/// and isn't kept, and gives the ends of its connection back, with the buffers. Nothing more is
+/// written to it, and of who is kept nothing more is read.
 fn linger_behind<T: Connection, I: Inlet<T>, O, C: Clock>(
     left: ServedClient<I, O>,
     served: &Exchange,
     stream: &T,
     time: &ClientTime<'_, C>,
 ) -> (ClientEnds<I, O>, ClientBuffers)
-    ensures { to_of result.0 ≡ to_of left.ends }
+    ensures to { to_of result.0 ≡ to_of left.ends }
+    ensures kept { is_kept served.now ≡ true → from_of result.0 ≡ from_of left.ends }
 {
     let ServedClient {
         ends,
@@ -298,11 +334,32 @@ fn linger_behind<T: Connection, I: Inlet<T>, O, C: Clock>(
         is_sent: _,
         sent,
     } = left;
-    if !is_answered(served) {
+    if served.is_kept() || !is_answered(served) {
         return (ends, buffers);
     }
     let is_unread = served.summary().class.is_none() || buffers.has_unread();
     (ends.linger(stream, time, is_unread, sent), buffers)
+}
+
+/// Who tells whether a client that is answered may be kept: the door that it came by, where there
+/// are places for it.
+#[derive(Drop)]
+struct DoorKeeper<'d, A> {
+    door: &'d A,
+    places: u32,
+}
+
+impl<A: Accepts> Keeper for DoorKeeper<'_, A> {
+    ghost use Rattle.serving.specs.Served.{told_by_places};
+
+    ghost tells = { λ keeper. told_by_places keeper.places };
+
+    fn may_keep(&self) -> bool {
+        if self.places == 0 {
+            return false;
+        }
+        self.door.keeps()
+    }
 }
 
 /// The workers that are free for others than who is slow to send its head.

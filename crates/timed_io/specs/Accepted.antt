@@ -12,3 +12,7 @@ accepted_of counted = counted.accepted
 
 abbrev pub missed_of : {L : Type 0} → CountedListener L → ℕ
 missed_of counted = counted.missed
+
+-- how many clients were left there
+abbrev pub kept_of : {L : Type 0} → CountedListener L → ℕ
+kept_of counted = counted.kept

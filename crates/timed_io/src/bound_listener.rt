@@ -1,4 +1,5 @@
 // Clients over TCP.
+use crate::client_counts::ClientConnections;
 use crate::client_ends::ClientEnds;
 use crate::ends::OpaqueEnd;
 use crate::keeping::{ask_after, end_untaken, send_at_once};
@@ -27,14 +28,19 @@ const OPEN_TO_ALL_MS: u64 = 500;
 const NEWCOMER_MS: u64 = 500;
 
 /// Clients over TCP. Where it has places, those who have sent nothing wait there, and are given to
-/// nobody before they have sent something, or have left.
+/// nobody before they have sent something, or have left; and those who are kept, until they send
+/// their next request.
 #[derive(Drop)]
 pub struct BoundListener<'r, R> {
     rt: &'r R,
     listener: TcpListener,
     room: Room<'r, R>,
     open: AtomicBool,
+    has_places: AtomicBool,
 }
+
+/// A client over TCP.
+type Arrival = AcceptedClient<TcpStream, OpaqueEnd, OpaqueEnd>;
 
 impl<'r, R: Net + Wait + Clock> BoundListener<'r, R> {
     /// Binds the address; the fault is the system's, mostly that another program has it. As many
@@ -53,15 +59,20 @@ impl<'r, R: Net + Wait + Clock> BoundListener<'r, R> {
             listener,
             room,
             open: AtomicBool::new(true),
+            has_places: AtomicBool::new(false),
         })
     }
 
     // The next event, and the client that comes of it.
-    fn next(&self) -> Result<Option<TcpStream>> {
+    fn await_event(&self) -> Result<Option<Arrival>> {
         match self.room.wait() {
             Came::Nothing => Ok(None),
-            Came::Client(client) => Ok(Some(client)),
-            Came::Connection => self.welcome(),
+            Came::New(stream) => Ok(Some(arrival_of(stream, false))),
+            Came::Kept(stream) => Ok(Some(arrival_of(stream, true))),
+            Came::Connection => match self.welcome()? {
+                Some(stream) => Ok(Some(arrival_of(stream, false))),
+                None => Ok(None),
+            },
         }
     }
 
@@ -117,19 +128,47 @@ impl<'r, R: Net + Wait + Clock> Listener for BoundListener<'r, R> {
 
     ghost closed = { λ _. ⊤ };
 
-    fn accept(&self) -> Result<AcceptedClient<TcpStream, OpaqueEnd, OpaqueEnd>> {
+    fn accept(&self) -> Result<Arrival> {
         for _ in self.rt.forever() {
-            if let Some(stream) = self.next()? {
-                return Ok(AcceptedClient {
-                    stream,
-                    ends: ClientEnds::new(OpaqueEnd::new(), OpaqueEnd::new()),
-                });
+            let client = self.next()?;
+            if !client.is_kept {
+                return Ok(client);
+            }
+            client.close();
+        }
+        Err(Error::from(ErrorKind::NotConnected))
+    }
+
+    fn next(&self) -> Result<Arrival> {
+        for _ in self.rt.forever() {
+            if let Some(client) = self.await_event()? {
+                return Ok(client);
             }
         }
         Err(Error::from(ErrorKind::NotConnected))
     }
 
+    fn keep(&self, client: Arrival) {
+        let AcceptedClient {
+            stream,
+            is_kept: _,
+            ends: _,
+        } = client;
+        if self.keeps() {
+            let _unseated = self.room.keep(stream);
+        }
+    }
+
+    fn keeps(&self) -> bool {
+        self.has_places.load(Ordering::SeqCst) && self.is_open()
+    }
+
+    fn connections(&self) -> ClientConnections {
+        self.room.connections()
+    }
+
     fn offer_places(&self, alloc: Global, places: Places) {
+        self.has_places.store(places.count > 0, Ordering::SeqCst);
         self.room.offer(alloc, places);
     }
 
@@ -156,6 +195,15 @@ impl<'r, R: Net + Wait + Clock> Listener for BoundListener<'r, R> {
             shutdown(file, SHUT_RD);
             self.room.close();
         }
+    }
+}
+
+/// A client, whom nobody serves yet; whether it was served before.
+fn arrival_of(stream: TcpStream, is_kept: bool) -> Arrival {
+    AcceptedClient {
+        stream,
+        is_kept,
+        ends: ClientEnds::new(OpaqueEnd::new(), OpaqueEnd::new()),
     }
 }
 

@@ -1,7 +1,7 @@
 // A client while it is served.
-ghost use Rattle.std.specs.Prelude.{◌≡◌, [], IsTrue};
+ghost use Rattle.std.specs.Prelude.{◌≡◌, [], IsTrue, length};
 ghost use Rattle.counted_io.specs.Counted.{inner_of};
-ghost use Rattle.lent_io.specs.Through.{pending_of};
+ghost use Rattle.lent_io.specs.Through.{held_of, pending_of};
 ghost use Rattle.timed_io.specs.Client.{IsUnused, from_of, inlet_in, outlet_in, to_of};
 ghost use Rattle.timed_io.specs.Client.{unread_of, written_of};
 
@@ -121,9 +121,13 @@ where
         }
     }
 
-    /// Gives the ends back, as they are now, and the buffers. What wasn't sent is lost.
+    /// Gives the ends back, as they are now, and the buffers. What wasn't sent is lost. Where the
+    /// reader holds nothing, what the client has left to send is what wasn't read.
     pub fn close(self) -> ServedClient<I, O>
         ensures from { from_of result.ends ≡ inlet_in self.entry.reader }
+        ensures unread { length (held_of (inner_of self.entry.reader)) ≡ 0
+            → unread_of I.remaining (inner_of self.entry.reader)
+            ≡ I.remaining (from_of result.ends) }
         ensures to { to_of result.ends ≡ outlet_in self.entry.writer }
         ensures sent { IsTrue result.is_sent → pending_of (inner_of self.entry.writer) ≡ [] }
     {

@@ -1,19 +1,20 @@
 // A listener whose accepts are counted.
-ghost use Rattle.std.specs.Prelude.{◌≡◌, [], is_ok, if◌then◌else◌, IfOk, IfSome};
+ghost use Rattle.std.specs.Prelude.{◌≡◌, [], false, is_ok, if◌then◌else◌, IfOk, IfSome};
 ghost use Rattle.counted_io.specs.Count.{raised, raised_by_err};
-ghost use Rattle.timed_io.specs.Accepted.{accepted_of, listener_of, missed_of};
+ghost use Rattle.timed_io.specs.Accepted.{accepted_of, kept_of, listener_of, missed_of};
 ghost use Rattle.timed_io.specs.Client.{from_of, to_of};
 
 use crate::listener::{AcceptedClient, Listener};
 use std::io::Result;
 
-/// A listener, as one of those has it who share it: each of its accepts is counted. A count stays
-/// at its greatest value.
+/// A listener, as one of those has it who share it: each of its accepts is counted, and each client
+/// who is left there. A count stays at its greatest value.
 #[derive(Drop)]
 pub struct CountedListener<'a, L> {
     listener: &'a L,
     accepted: u64,
     missed: u64,
+    kept: u64,
 }
 
 impl<'a, L> CountedListener<'a, L> {
@@ -22,22 +23,25 @@ impl<'a, L> CountedListener<'a, L> {
         ensures listener { listener_of result ≡ listener.now }
         ensures accepted { accepted_of result ≡ 0 }
         ensures missed { missed_of result ≡ 0 }
+        ensures kept { kept_of result ≡ 0 }
     {
         CountedListener {
             listener,
             accepted: 0,
             missed: 0,
+            kept: 0,
         }
     }
 }
 
 impl<'a, L: Listener> CountedListener<'a, L> {
-    /// Waits for the next client, to whom nothing was written yet.
+    /// Waits for the next new client, to whom nothing was written yet.
     pub fn accept(&mut self) -> Result<AcceptedClient<L::Stream, L::From, L::To>>
         ensures listener { listener_of self.new ≡ listener_of self.old }
         ensures accepted { accepted_of self.new
             ≡ (if is_ok result then raised (accepted_of self.old) else accepted_of self.old) }
         ensures missed { missed_of self.new ≡ raised_by_err result (missed_of self.old) }
+        ensures kept { kept_of self.new ≡ kept_of self.old }
         ensures came { IfOk result (λ client.
             L.came (listener_of self.old) (L.From.remaining (from_of client.ends))) }
         ensures unwritten { IfOk result (λ client.
@@ -49,6 +53,42 @@ impl<'a, L: Listener> CountedListener<'a, L> {
             Err(_) => self.missed = self.missed.saturating_add(1),
         }
         outcome
+    }
+
+    /// Waits for the next client, a new one or one who is kept.
+    pub fn next(&mut self) -> Result<AcceptedClient<L::Stream, L::From, L::To>>
+        ensures listener { listener_of self.new ≡ listener_of self.old }
+        ensures accepted { accepted_of self.new
+            ≡ (if is_ok result then raised (accepted_of self.old) else accepted_of self.old) }
+        ensures missed { missed_of self.new ≡ raised_by_err result (missed_of self.old) }
+        ensures kept { kept_of self.new ≡ kept_of self.old }
+        ensures came { IfOk result (λ client.
+            L.came (listener_of self.old) (L.From.remaining (from_of client.ends))) }
+        ensures unwritten { IfOk result (λ client. client.is_kept ≡ false
+            → IfSome (L.To.contents (to_of client.ends)) (λ written. written ≡ [])) }
+    {
+        let outcome = self.listener.next();
+        match &outcome {
+            Ok(_) => self.accepted = self.accepted.saturating_add(1),
+            Err(_) => self.missed = self.missed.saturating_add(1),
+        }
+        outcome
+    }
+
+    /// Has a client wait for its next request.
+    pub fn keep(&mut self, client: AcceptedClient<L::Stream, L::From, L::To>)
+        ensures listener { listener_of self.new ≡ listener_of self.old }
+        ensures accepted { accepted_of self.new ≡ accepted_of self.old }
+        ensures missed { missed_of self.new ≡ missed_of self.old }
+        ensures kept { kept_of self.new ≡ raised (kept_of self.old) }
+    {
+        self.listener.keep(client);
+        self.kept = self.kept.saturating_add(1);
+    }
+
+    /// Whether a client who is served now may be kept.
+    pub fn keeps(&self) -> bool {
+        self.listener.keeps()
     }
 
     /// Whether connections may still come.

@@ -8,8 +8,9 @@
 //!
 //! Clients who have sent nothing hold nobody who serves: where a listener is offered [`Places`],
 //! they wait in its room (`room.rt`), one set of epoll(7) that all who serve them wait at, until
-//! they send something, or have left. No thread polls for the others. Who waits longest goes first
-//! (`seats.rt`): where its time is over, or where somebody else needs the place.
+//! they send something, or have left; and so do those who were served and are kept for another
+//! request. No thread polls for the others. Each of the two rows has its own time (`row.rt`), and
+//! where somebody needs a place, who has waited longest of all goes (`seats.rt`).
 //!
 //! [`TimedReader`] and [`TimedWriter`] go round what reads and writes a connection. All reads of a
 //! request together, and all writes of an answer up to its flush, each have so long, counted from
@@ -27,6 +28,7 @@
 mod binding;
 mod bound_listener;
 mod client;
+mod client_counts;
 mod client_ends;
 mod connection;
 mod countdown;
@@ -40,6 +42,7 @@ mod listener;
 mod patient_read;
 mod reading;
 mod room;
+mod row;
 mod seats;
 mod uninterrupted;
 mod writing;
@@ -47,6 +50,7 @@ mod writing;
 pub use binding::{Binder, SystemAddresses};
 pub use bound_listener::BoundListener;
 pub use client::{Client, ClientBuffers, ClientReader, ClientTime, ClientWriter, ServedClient};
+pub use client_counts::ClientConnections;
 pub use client_ends::ClientEnds;
 pub use connection::{Connection, Lent};
 pub use countdown::Countdown;

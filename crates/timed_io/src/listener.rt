@@ -1,7 +1,8 @@
 // Where connections come from.
-ghost use Rattle.std.specs.Prelude.{◌≡◌, [], IfOk, IfSome};
+ghost use Rattle.std.specs.Prelude.{◌≡◌, [], false, IfOk, IfSome};
 ghost use Rattle.timed_io.specs.Client.{from_of, to_of};
 
+use crate::client_counts::ClientConnections;
 use crate::client_ends::ClientEnds;
 use crate::connection::Connection;
 use crate::ends::{Inlet, Outlet};
@@ -15,6 +16,8 @@ use std::time::{Clock, Duration};
 pub struct AcceptedClient<S, F, T> {
     /// Its connection.
     pub stream: S,
+    /// Whether it was served before, and kept: this is not its first request.
+    pub is_kept: bool,
     /// The two ends of it.
     pub ends: ClientEnds<F, T>,
 }
@@ -22,7 +25,11 @@ pub struct AcceptedClient<S, F, T> {
 impl<S: Drop, F: Drop, T: Drop> AcceptedClient<S, F, T> {
     /// Closes its connection.
     pub fn close(self) {
-        let AcceptedClient { stream: _, ends: _ } = self;
+        let AcceptedClient {
+            stream: _,
+            is_kept: _,
+            ends: _,
+        } = self;
     }
 }
 
@@ -49,17 +56,36 @@ pub trait Listener {
     // It was closed for good.
     ghost closed: { Self → Type 0 };
 
-    /// Waits for the next client, to whom nothing was written yet; the fault is the system's, where
-    /// there was none to be had. Once it is closed, nobody waits.
+    /// Waits for the next new client, to whom nothing was written yet; the fault is the system's,
+    /// where there was none to be had. Once it is closed, nobody waits. Nobody is kept where this
+    /// is asked: who was, is let go.
     fn accept(&self) -> Result<AcceptedClient<Self::Stream, Self::From, Self::To>>
         ensures came { IfOk result (λ client.
             came self.now (Self.From.remaining (from_of client.ends))) }
         ensures unwritten { IfOk result (λ client.
             IfSome (Self.To.contents (to_of client.ends)) (λ written. written ≡ [])) };
 
-    /// From now on so many who have sent nothing may wait beside those who are served, each for so
-    /// long; where all places are taken, who has waited longest goes. Without places `accept` gives
-    /// each as it comes.
+    /// Waits for the next client, a new one as [`accept`](Self::accept) does, or one who is kept
+    /// and has sent something.
+    fn next(&self) -> Result<AcceptedClient<Self::Stream, Self::From, Self::To>>
+        ensures came { IfOk result (λ client.
+            came self.now (Self.From.remaining (from_of client.ends))) }
+        ensures unwritten { IfOk result (λ client. client.is_kept ≡ false
+            → IfSome (Self.To.contents (to_of client.ends)) (λ written. written ≡ [])) };
+
+    /// Has a client who was served wait for its next request, as long as a kept one may; it is let
+    /// go where it can't: without places, once this is closed, or where there is no memory.
+    fn keep(&self, client: AcceptedClient<Self::Stream, Self::From, Self::To>);
+
+    /// Whether a client who is served now may be kept: there are places, and it wasn't closed.
+    fn keeps(&self) -> bool;
+
+    /// How many connections of clients wait, and what became of those that there were.
+    fn connections(&self) -> ClientConnections;
+
+    /// From now on so many may wait beside those who are served, who have sent nothing or are kept,
+    /// each for so long; where all places are taken, who has waited longest goes. Without places
+    /// each client is given as it comes, and nobody is kept.
     fn offer_places(&self, alloc: Global, places: Places);
 
     /// From now on the system ends the connections of those who come, where for so long nothing is
@@ -73,7 +99,7 @@ pub trait Listener {
 
     /// Closes it for good, with all who wait in `accept`. Connections that wait are still accepted,
     /// for so long at most; it returns once there are none, and whoever connects then is refused.
-    /// Who has sent nothing for a while is let go.
+    /// Who has sent nothing for a while is let go, and so is who is kept and sends nothing.
     fn close<R: Clock>(&self, rt: &R, most: Duration)
         ensures { closed self.now };
 }

@@ -1,5 +1,6 @@
 // Where clients wait until they send something.
-use crate::connection::is_silent;
+use crate::client_counts::{ClientConnections, ClientCounts, ClientEvent};
+use crate::connection::{Connection, is_silent};
 use crate::seats::{Places, Seats};
 use libc::net::{EPOLL_CTL_ADD, EPOLL_CTL_MOD, EPOLLIN, EPOLLONESHOT, EPOLLRDHUP};
 use os::{EpollEvent, epoll_ctl, epoll_wait};
@@ -26,8 +27,10 @@ pub(crate) enum Came {
     Nothing,
     /// A connection lies at the listener, or that was closed.
     Connection,
-    /// Someone who waited has sent something, or has left.
-    Client(TcpStream),
+    /// Someone who waited has sent something, or has left before it was served.
+    New(TcpStream),
+    /// Someone who is kept has sent something.
+    Kept(TcpStream),
 }
 
 /// Where clients wait until they send something: a set of the system's (`epoll(7)`) that all who
@@ -38,6 +41,7 @@ pub(crate) struct Room<'r, R> {
     set: mio::Poll,
     // None until places are offered, and once it is closed.
     seats: Mutex<Option<Seats<TcpStream>>>,
+    counts: ClientCounts,
 }
 
 impl<'r, R: Net + Wait + Clock> Room<'r, R> {
@@ -48,6 +52,7 @@ impl<'r, R: Net + Wait + Clock> Room<'r, R> {
             rt,
             set,
             seats: Mutex::new(None),
+            counts: ClientCounts::new(),
         };
         room.watch(EPOLL_CTL_ADD, listener.as_raw_fd(), LISTENER)?;
         Ok(room)
@@ -72,10 +77,7 @@ impl<'r, R: Net + Wait + Clock> Room<'r, R> {
         }
         match events[0].data {
             LISTENER => Came::Connection,
-            number => match self.take(number) {
-                Some(client) => Came::Client(client),
-                None => Came::Nothing,
-            },
+            number => self.called(number, events[0].events),
         }
     }
 
@@ -84,13 +86,28 @@ impl<'r, R: Net + Wait + Clock> Room<'r, R> {
         self.watch(EPOLL_CTL_MOD, listener.as_raw_fd(), LISTENER)
     }
 
+    /// How many wait, and what became of those who came.
+    pub(crate) fn connections(&self) -> ClientConnections {
+        let (silent, idle) = match &*self.seats.lock(self.rt) {
+            Some(seats) => seats.lens(),
+            None => (0, 0),
+        };
+        self.counts.beside(silent, idle)
+    }
+
     /// Who came just now is handed back where it has sent something, or can't wait; else it waits.
     pub(crate) fn admit(&self, client: TcpStream) -> Option<TcpStream> {
+        self.counts.count(ClientEvent::Opened);
         if is_silent(&client) {
-            self.seat(client)
+            self.seat(client, false)
         } else {
             Some(client)
         }
+    }
+
+    /// Who was served waits for its next request; it is handed back where it can't.
+    pub(crate) fn keep(&self, client: TcpStream) -> Option<TcpStream> {
+        self.seat(client, true)
     }
 
     /// The set's descriptor, which can be read where there is an event.
@@ -98,7 +115,7 @@ impl<'r, R: Net + Wait + Clock> Room<'r, R> {
         self.set.as_raw_fd()
     }
 
-    /// Whether somebody waits who came less than so long ago.
+    /// Whether somebody new waits who came less than so long ago.
     pub(crate) fn has_newcomer(&self, newest: Duration) -> bool {
         let Ok(now) = self.rt.monotonic() else {
             return false;
@@ -111,7 +128,7 @@ impl<'r, R: Net + Wait + Clock> Room<'r, R> {
 
     // Has the client wait. It is seated and watched under one lock: who is told of it finds it
     // there, and nobody lets it go in between.
-    fn seat(&self, client: TcpStream) -> Option<TcpStream> {
+    fn seat(&self, client: TcpStream, is_kept: bool) -> Option<TcpStream> {
         let Ok(now) = self.rt.monotonic() else {
             return Some(client);
         };
@@ -120,18 +137,38 @@ impl<'r, R: Net + Wait + Clock> Room<'r, R> {
         let Some(seats) = &mut *places else {
             return Some(client);
         };
-        match seats.seat(client, now) {
-            Ok(seat) => match self.watch(EPOLL_CTL_ADD, file, seat.number) {
-                Ok(()) => None,
-                Err(_) => seats.take(seat.number),
-            },
+        match seats.seat(client, now, is_kept) {
+            Ok(seat) => {
+                if seat.displaced.is_some() {
+                    self.counts.count(ClientEvent::Displaced);
+                }
+                match self.watch_client(file, seat.number, is_kept) {
+                    Ok(()) => None,
+                    Err(_) => take(seats, seat.number, is_kept),
+                }
+            }
             Err(client) => Some(client),
         }
     }
 
-    fn take(&self, number: u64) -> Option<TcpStream> {
+    // Who waits by this number, of whom the system tells this. Who is kept and has left is let go.
+    fn called(&self, number: u64, told: u32) -> Came {
+        if let Some(client) = self.take(number, false) {
+            return Came::New(client);
+        }
+        let Some(client) = self.take(number, true) else {
+            return Came::Nothing;
+        };
+        if told & EPOLLRDHUP != 0 && client.has_left() {
+            return Came::Nothing;
+        }
+        self.counts.count(ClientEvent::Reused);
+        Came::Kept(client)
+    }
+
+    fn take(&self, number: u64, is_kept: bool) -> Option<TcpStream> {
         match &mut *self.seats.lock(self.rt) {
-            Some(seats) => seats.take(number),
+            Some(seats) => take(seats, number, is_kept),
             None => None,
         }
     }
@@ -146,6 +183,7 @@ impl<'r, R: Net + Wait + Clock> Room<'r, R> {
             if self.take_late(now).is_none() {
                 return self.until_next(now);
             }
+            self.counts.count(ClientEvent::Late);
         }
         0
     }
@@ -170,6 +208,15 @@ impl<'r, R: Net + Wait + Clock> Room<'r, R> {
         }
     }
 
+    // Has the system tell of a client, by this number. Who is kept is mostly watched already, since
+    // it waited before its first request.
+    fn watch_client(&self, file: RawFd, number: u64, is_kept: bool) -> Result<()> {
+        if is_kept && self.watch(EPOLL_CTL_MOD, file, number).is_ok() {
+            return Ok(());
+        }
+        self.watch(EPOLL_CTL_ADD, file, number)
+    }
+
     // Has the system tell once when something comes of this descriptor, by this number.
     fn watch(&self, how: i32, file: RawFd, number: u64) -> Result<()> {
         let wanted = EPOLLIN | EPOLLRDHUP | EPOLLONESHOT;
@@ -177,5 +224,14 @@ impl<'r, R: Net + Wait + Clock> Room<'r, R> {
             return Err(Error::from_raw_os_error(os::errno()));
         }
         Ok(())
+    }
+}
+
+/// Takes the one of this number out of its row.
+fn take(seats: &mut Seats<TcpStream>, number: u64, is_kept: bool) -> Option<TcpStream> {
+    if is_kept {
+        seats.take_kept(number)
+    } else {
+        seats.take_silent(number)
     }
 }

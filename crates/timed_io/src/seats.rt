@@ -1,13 +1,13 @@
-// Who waits, in the order in which they came.
-ghost use Rattle.std.specs.Prelude.{◌≡◌, ◌≢◌, ℕ, ◌<◌, ◌==◌, ◌++◌, [], ◌∷◌, All, Some, length};
-ghost use Rattle.std.specs.Prelude.{option_map, option_to_list, IfErr, IfNone, IfOk, IfSome};
-ghost use Rattle.std.specs.Prelude.{IsSome, OnErr, OnSome};
+// Who waits, in two rows: those who have sent nothing yet, and those who are kept.
+ghost use Rattle.std.specs.Prelude.{◌≡◌, ◌≢◌, ℕ, ◌<◌, ◌==◌, [], All, Some, length, Bool};
+ghost use Rattle.std.specs.Prelude.{option_map, IfErr, IfNone, IfOk, IfSome, IsSome, OnErr, OnOk, OnSome};
 ghost use Rattle.std.specs.Duration.{as_nanos};
 ghost use Rattle.std.specs.Map.{lookup, remove_entry};
-ghost use Rattle.timed_io.specs.Seats.{left_at};
+ghost use Rattle.timed_io.specs.Seats.{HasLeft, HasLeftRows, JoinedRows, LeavesFirst};
+ghost use Rattle.timed_io.specs.Seats.{MadeRoom, comes_first, joined, left_at, taken_in};
 
+use crate::row::{Row, Seated};
 use std::alloc::Global;
-use std::collections::BTreeMap;
 use std::marker::Model;
 use std::time::Duration;
 
@@ -16,15 +16,10 @@ use std::time::Duration;
 pub struct Places {
     /// How many places there are; without one nobody waits.
     pub count: u32,
-    /// For how long one may wait.
-    pub most: Duration,
-}
-
-/// One who waits, and since when.
-#[derive(Drop)]
-pub(crate) struct Seated<T> {
-    pub(crate) who: T,
-    pub(crate) since: Duration,
+    /// For how long one may wait who has sent nothing yet.
+    pub silent: Duration,
+    /// For how long one may wait who is kept.
+    pub idle: Duration,
 }
 
 /// A seat that was taken: its number, and who had to leave for it.
@@ -34,113 +29,202 @@ pub(crate) struct Seat<T> {
     pub(crate) displaced: Option<(u64, Seated<T>)>,
 }
 
-/// Those who wait, the first who came first, each by the number of its seat, which nobody else ever
-/// has.
+/// Those who wait, each by the number of its seat, which nobody else ever has: in one row who has
+/// sent nothing yet, in the other who is kept. They share the places.
 #[derive(Drop)]
 pub(crate) struct Seats<T> {
-    seated: BTreeMap<u64, Seated<T>>,
-    places: Places,
+    silent: Row<T>,
+    kept: Row<T>,
+    count: u32,
     next: u64,
 }
 
 impl<T> Model for Seats<T> {
-    ghost use Rattle.std.specs.Duration.{as_nanos};
     ghost use Rattle.timed_io.specs.Seats.{AreSeats, Seating};
 
     ghost Value = { Seating T };
 
     ghost view = { λ seats. record {
-      taken = seats.seated.entries;
-      places = seats.places.count;
-      limit = as_nanos seats.places.most;
+      silent = seats.silent;
+      kept = seats.kept;
+      places = seats.count;
     } };
 
-    ghost invariant = { λ seats. AreSeats seats.seated.entries seats.next seats.places.count };
+    ghost invariant = { λ seats.
+        AreSeats seats.silent.taken seats.kept.taken seats.next seats.count };
 }
 
 impl<T: Drop> Seats<T> {
     /// So many places, which are free.
     pub(crate) fn new(alloc: Global, places: Places) -> Seats<T>
-        ensures { result
-            ≡ record { taken = []; places = places.count; limit = as_nanos places.most } }
+        ensures { result ≡ record {
+          silent = record { taken = []; limit = as_nanos places.silent };
+          kept = record { taken = []; limit = as_nanos places.idle };
+          places = places.count;
+        } }
     {
         Seats {
-            seated: BTreeMap::new(alloc),
-            places,
+            silent: Row::new(alloc, places.silent),
+            kept: Row::new(alloc, places.idle),
+            count: places.count,
             next: 0,
         }
     }
 
-    /// Seats one behind all others; where all places are taken, who came first leaves. It comes
-    /// back where there are no places, or no memory for one more.
-    pub(crate) fn seat(&mut self, who: T, since: Duration) -> Result<Seat<T>, T>
-        ensures seated { IfOk result (λ seat.
-            self.old.taken ++ (seat.number, record { who = who; since = since }) ∷ []
-            ≡ option_to_list seat.displaced ++ self.new.taken) }
-        ensures own { IfOk result (λ seat. All (λ entry. entry.0 < seat.number) self.old.taken) }
+    /// Seats one at the end of its row; where all places are taken, who has waited longest of all
+    /// leaves. It comes back where there are no places, or no memory for one more.
+    pub(crate) fn seat(&mut self, who: T, since: Duration, is_kept: bool) -> Result<Seat<T>, T>
+        ensures seated { IfOk result (λ seat. HasLeft seat.displaced
+            (joined is_kept (seat.number, record { who = who; since = since }) self.old)
+            self.new) }
+        ensures own { IfOk result (λ seat. All (λ entry. entry.0 < seat.number)
+            (taken_in self.old)) }
         ensures full { IfOk result (λ seat.
-            IsSome seat.displaced → length self.old.taken ≡ self.old.places) }
-        ensures same { self.new ≡ record self.old { taken = self.new.taken } }
+            IsSome seat.displaced → length (taken_in self.old) ≡ self.old.places) }
         ensures back { IfErr result (λ back. back ≡ who) }
         ensures unchanged { OnErr result (self.new ≡ self.old) }
     {
         let number = self.next;
-        if self.places.count == 0 || number == u64::MAX {
+        if self.count == 0 || number == u64::MAX {
             return Err(who);
         }
-        if let Err(lacking) = self.seated.insert(number, Seated { who, since }) {
-            let (_, seated) = lacking.value;
-            return Err(seated.who);
+        let seated = seat_in(
+            &mut self.silent,
+            &mut self.kept,
+            number,
+            who,
+            since,
+            is_kept,
+        );
+        if let Err(back) = seated {
+            return Err(back);
         }
         self.next = number + 1;
-        let displaced = if self.seated.len() > self.places.count as usize {
-            self.seated.pop_first()
-        } else {
-            None
-        };
+        let displaced = make_room(&mut self.silent, &mut self.kept, self.count as usize);
         Ok(Seat { number, displaced })
     }
 
-    /// Takes the one of this seat, where it still waits.
-    pub(crate) fn take(&mut self, number: u64) -> Option<T>
-        ensures taken { result
-            ≡ option_map (λ seated. seated.who) (lookup (λ one. one == number) self.old.taken) }
+    /// Takes the one of this seat who has sent nothing, where it still waits.
+    pub(crate) fn take_silent(&mut self, number: u64) -> Option<T>
+        ensures taken { result ≡ option_map (λ seated. seated.who)
+            (lookup (λ one. one == number) self.old.silent.taken) }
         ensures others { self.new ≡ record self.old {
-          taken = remove_entry (λ one. one == number) self.old.taken;
+          silent = record self.old.silent {
+            taken = remove_entry (λ one. one == number) self.old.silent.taken;
+          };
         } }
     {
-        let seated = self.seated.remove(&number)?;
-        Some(seated.who)
+        self.silent.take(number)
     }
 
-    /// Takes the first one, where its time is over.
+    /// Takes the one of this seat who is kept, where it still waits.
+    pub(crate) fn take_kept(&mut self, number: u64) -> Option<T>
+        ensures taken { result ≡ option_map (λ seated. seated.who)
+            (lookup (λ one. one == number) self.old.kept.taken) }
+        ensures others { self.new ≡ record self.old {
+          kept = record self.old.kept {
+            taken = remove_entry (λ one. one == number) self.old.kept.taken;
+          };
+        } }
+    {
+        self.kept.take(number)
+    }
+
+    /// Takes the first one of a row whose time is over.
     pub(crate) fn take_late(&mut self, now: Duration) -> Option<T>
-        ensures first { IfSome result (λ who. (number : ℕ) × (since : Duration)
-            × (self.old.taken ≡ (number, record { who = who; since = since }) ∷ self.new.taken)) }
-        ensures same { self.new ≡ record self.old { taken = self.new.taken } }
+        ensures first { IfSome result (LeavesFirst self.old self.new) }
         ensures late { OnSome result (left_at (as_nanos now) self.old ≡ Some 0) }
         ensures unchanged { IfNone result (self.new ≡ self.old) }
         ensures early { IfNone result (left_at (as_nanos now) self.old ≢ Some 0) }
     {
-        if !self.left(now)?.is_zero() {
-            return None;
+        if let Some(who) = self.silent.take_late(now) {
+            return Some(who);
         }
-        let (_, first) = self.seated.pop_first()?;
-        Some(first.who)
+        self.kept.take_late(now)
     }
 
-    /// How much time the first one has left.
+    /// How much time is left to the first one whose time is over.
     pub(crate) fn left(&self, now: Duration) -> Option<Duration>
         ensures { option_map as_nanos result ≡ left_at (as_nanos now) self.now }
     {
-        let (_, first) = self.seated.first_key_value()?;
-        let waited = now.saturating_sub(first.since);
-        Some(self.places.most.saturating_sub(waited))
+        match (self.silent.left(now), self.kept.left(now)) {
+            (Some(silent), Some(kept)) => Some(silent.min(kept)),
+            (Some(silent), None) => Some(silent),
+            (None, kept) => kept,
+        }
     }
 
-    /// For how long the last one has waited.
+    /// For how long the last one has waited who has sent nothing.
     pub(crate) fn last_waited(&self, now: Duration) -> Option<Duration> {
-        let (_, last) = self.seated.last_key_value()?;
-        Some(now.saturating_sub(last.since))
+        self.silent.last_waited(now)
+    }
+
+    /// How many have sent nothing, and how many are kept.
+    pub(crate) fn lens(&self) -> (usize, usize)
+        ensures silent { result.0 ≡ length self.now.silent.taken }
+        ensures kept { result.1 ≡ length self.now.kept.taken }
+    {
+        (self.silent.len(), self.kept.len())
+    }
+}
+
+/// Seats one at the end of one of two rows, by a number above all others. It comes back where there
+/// is no memory for one more.
+fn seat_in<T: Drop>(
+    silent: &mut Row<T>,
+    kept: &mut Row<T>,
+    number: u64,
+    who: T,
+    since: Duration,
+    is_kept: bool,
+) -> Result<(), T>
+    requires above_silent { All (λ entry. entry.0 < number) silent.old.taken }
+    requires above_kept { All (λ entry. entry.0 < number) kept.old.taken }
+    ensures joined { OnOk result (JoinedRows is_kept
+        (number, record { who = who; since = since }) silent.old kept.old silent.new kept.new) }
+    ensures back { IfErr result (λ back. back ≡ who) }
+    ensures unchanged { OnErr result ((silent.new ≡ silent.old) × (kept.new ≡ kept.old)) }
+{
+    if is_kept {
+        kept.seat(number, who, since)
+    } else {
+        silent.seat(number, who, since)
+    }
+}
+
+/// Takes the one who has waited longest in two rows, where they have more than so many.
+fn make_room<T: Drop>(
+    silent: &mut Row<T>,
+    kept: &mut Row<T>,
+    most: usize,
+) -> Option<(u64, Seated<T>)>
+    ensures { MadeRoom most result silent.old kept.old silent.new kept.new }
+{
+    let seated = silent.len();
+    if seated <= most && kept.len() <= most - seated {
+        return None;
+    }
+    take_longest(silent, kept)
+}
+
+/// Takes the one who has waited longest in two rows.
+fn take_longest<T: Drop>(silent: &mut Row<T>, kept: &mut Row<T>) -> Option<(u64, Seated<T>)>
+    ensures { HasLeftRows result silent.old kept.old silent.new kept.new }
+{
+    if comes_first(silent, kept) {
+        silent.take_first()
+    } else {
+        kept.take_first()
+    }
+}
+
+/// Whether the first one of a row was seated before that of another one.
+fn comes_first<T>(one: &Row<T>, other: &Row<T>) -> bool
+    ensures { result ≡ comes_first one.now.taken other.now.taken }
+{
+    match (one.first_number(), other.first_number()) {
+        (Some(one), Some(other)) => one < other,
+        (Some(_), None) => true,
+        (None, _) => false,
     }
 }

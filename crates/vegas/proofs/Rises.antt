@@ -17,19 +17,25 @@ measured_raised s base x a at half =
     rw (at.success, used, at.rtt, queue-at_base s.limit base) (raised s a)
 
 -- the state after one of them
-abbrev raised_to : VegasState → ℕ → VegasState
-raised_to s count = record s { limit = min s.hi (s.limit + 1); count = count }
+abbrev raised_to : VegasState → ℕ → ℕ → VegasState
+raised_to s last count =
+    record s { limit = min s.hi (s.limit + 1); last = last; count = count }
 
 next_raised : (s : VegasState) (base : ℕ) (x : SampleFacts) → IsWithin vegas_rules s →
     1 ≤ s.alpha → s.base ≡ Some base → probes s ≡ false → IsAtBase base x →
-    s.limit ≤ 2 * x.inflight → vegas_next s x ≡ raised_to s (count_after s)
+    s.limit ≤ 2 * x.inflight → vegas_next s x ≡ raised_to s x.rtt (count_after s)
 next_raised s base x w a known no_probe at half =
     let same : nat_lt x.rtt base ≡ false = le-ltb x.rtt base (omega (arith, at.rtt)) in
     let more = measured_raised s base x a at half in
     let bounded : min (max (measured s base x) s.lo) s.hi ≡ min s.hi (s.limit + 1) =
     omega (arith, more, w.least) in
     rw (no_probe, known, same)
-    (ap (λ n. record s { limit = n; base = Some base; count = count_after s }) bounded)
+    (ap (λ n. record s {
+      limit = n;
+      base = Some base;
+      last = x.rtt;
+      count = count_after s;
+    }) bounded)
 
 no_probe_now : (s : VegasState) (x : SampleFacts) (xs : List SampleFacts) →
     HasNoProbe s (x ∷ xs) → probes s ≡ false
@@ -42,7 +48,7 @@ no_probe_now s x xs (inr later) =
     rw (some, early) refl
 
 no_probe_later : (s : VegasState) (x : SampleFacts) (xs : List SampleFacts) →
-    HasNoProbe s (x ∷ xs) → HasNoProbe (raised_to s (count_after s)) xs
+    HasNoProbe s (x ∷ xs) → HasNoProbe (raised_to s x.rtt (count_after s)) xs
 no_probe_later s x xs (inl never) = inl never
 no_probe_later s x xs (inr later) =
     let some : nat_eq s.probe_every 0 ≡ false =
@@ -57,9 +63,9 @@ run_raised s base (x ∷ xs) w a known none all used =
     let at = All-head (IsAtBase base) x xs all in
     let first =
     next_raised s base x w a known (no_probe_now s x xs none) at (used [] x xs refl) in
-    let t : VegasState = raised_to s (count_after s) in
+    let t : VegasState = raised_to s x.rtt (count_after s) in
     let within =
-    state_within s t.limit s.base t.count w (omega (arith, w.least, w.most)) (omega arith) in
+    state_within s t.limit s.base t.last t.count w (omega (arith, w.least, w.most)) (omega arith) in
     let rest =
     run_raised t base xs within.within a known (no_probe_later s x xs none)
     (All-tail (IsAtBase base) x xs all)

@@ -1,4 +1,3 @@
 pub mod VegasRules
-pub mod VegasNumbers
 pub mod VegasLaws
 pub mod Queues

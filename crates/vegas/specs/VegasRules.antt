@@ -1,15 +1,17 @@
--- A limit by the length of its queue, after TCP Vegas.
-use Rattle.std.specs.Prelude.{ℕ, ◌+◌, ◌-◌, ◌*◌, ◌≤◌, Bool, true, false, Option, Some, None, Err, min, max, nat_eq, nat_lt, nat_le, ◌||◌, if◌then◌else◌, find, unwrap_or}
+-- A limit by the length of its queue, after TCP Vegas, and the limit that numbers make.
+use Rattle.std.specs.Prelude.{ℕ, ◌+◌, ◌-◌, ◌*◌, ◌≤◌, IfSome, Bool, true, false, Option, Some, None, Result, Ok, Err, min, max, nat_eq, nat_lt, nat_le, ◌&&◌, ◌||◌, if◌then◌else◌, find, unwrap_or}
 use Rattle.std.specs.List.{range_with_len}
+use Rattle.limit_laws.specs.declared.limit.MakeFault.{MakeFault}
+use Rattle.limit_laws.specs.declared.limit.MakeFault.TheVariants.{Range, Alpha}
 use Rattle.limit_laws.specs.declared.limit.SetFault.TheVariants.{NotSettable}
-use Rattle.limit_laws.specs.Facts.{SampleFacts}
+use Rattle.limit_laws.specs.declared.view.LimitView.{LimitView}
+use Rattle.limit_laws.specs.Facts.{SampleFacts, hour}
 use Rattle.limit_laws.specs.Algorithm.{Algorithm, greatest_limit}
+use Rattle.vegas.specs.declared.numbers.VegasNumbers.{VegasNumbers}
 
--- the bounds, the limit now and the first one in permits; the thresholds of the queue in
--- permits; how
--- many samples come to a probe, none where that is 0; the base round trip in nanoseconds, once
--- there is
--- one; the samples since the last probe
+-- the bounds, the limit now and the first one in permits; the thresholds of the queue in permits;
+-- how many samples come to a probe, none where that is 0; the base round trip in nanoseconds, once
+-- there is one; the last round trip, 0 before it; the samples since the last probe
 pub record VegasState : Type 0 where
   pub lo : ℕ
   pub limit : ℕ
@@ -19,6 +21,7 @@ pub record VegasState : Type 0 where
   pub beta : ℕ
   pub probe_every : ℕ
   pub base : Option ℕ
+  pub last : ℕ
   pub count : ℕ
 
 -- the most samples that come to a probe
@@ -50,6 +53,8 @@ pub record IsVegas (s : VegasState) : Type 0 where
   pub least : s.lo ≤ s.limit
   pub most : s.limit ≤ s.hi
   pub counted : s.count ≤ s.probe_every
+  pub last : s.last ≤ hour
+  pub base : IfSome s.base (λ base. (1 ≤ base) × (base ≤ s.last))
 
 -- the first state of these numbers
 abbrev pub vegas_from : ℕ → ℕ → ℕ → ℕ → ℕ → ℕ → VegasState
@@ -62,8 +67,29 @@ vegas_from lo first hi alpha beta probe_every = record {
   beta = beta;
   probe_every = probe_every;
   base = None;
+  last = 0;
   count = 0;
 }
+
+-- 1 ≤ lo ≤ first ≤ hi ≤ 10,000, and a probe each 1,000,000 samples or more often
+abbrev pub is_in_range : VegasNumbers → Bool
+is_in_range n =
+    nat_le 1 n.lo && nat_le n.lo n.first && nat_le n.first n.hi && nat_le n.hi greatest_limit
+    && nat_le n.probe_every most_probe
+
+-- thresholds of a queue: 1 ≤ alpha ≤ beta ≤ 100
+abbrev pub are_thresholds : VegasNumbers → Bool
+are_thresholds n =
+    nat_le 1 n.alpha && nat_le n.alpha n.beta && nat_le n.beta most_queue
+
+-- the first state of these numbers
+abbrev pub vegas_of : VegasNumbers → VegasState
+vegas_of n = vegas_from n.lo n.first n.hi n.alpha n.beta n.probe_every
+
+-- THE LIMIT of these numbers, or their first fault
+abbrev pub vegas_made : VegasNumbers → Result VegasState MakeFault
+vegas_made n =
+    if is_in_range n then (if are_thresholds n then Ok (vegas_of n) else Err Alpha) else Err Range
 
 -- whether the next sample is a probe: the count reaches its end with it
 abbrev pub probes : VegasState → Bool
@@ -104,8 +130,8 @@ measured s base x =
 
 -- a probe and a new base set the base and leave the limit; every other sample is measured, and
 -- the limit brought into the bounds
-abbrev pub vegas_next : VegasState → SampleFacts → VegasState
-vegas_next s x =
+abbrev pub vegas_step : VegasState → SampleFacts → VegasState
+vegas_step s x =
     if probes s || is_new_base s.base x.rtt
     then record s { base = Some x.rtt; count = count_after s }
     else record s {
@@ -113,12 +139,30 @@ vegas_next s x =
       count = count_after s;
     }
 
+-- then its round trip is the last one
+abbrev pub vegas_next : VegasState → SampleFacts → VegasState
+vegas_next s x = record (vegas_step s x) { last = x.rtt }
+
+-- the queue of a round trip against a base, where there is one
+abbrev pub queue_at : ℕ → ℕ → Option ℕ → Option ℕ
+queue_at limit rtt None = None
+queue_at limit rtt (Some base) = Some (queue limit rtt base)
+
+-- THE QUEUE NOW: that of the last round trip under the limit now
+abbrev pub queue_now : VegasState → Option ℕ
+queue_now s = queue_at s.limit s.last s.base
+
+abbrev pub vegas_view : VegasState → LimitView
+vegas_view s =
+    record { by_hand = false; base_ns = s.base; window = None; queue = queue_now s }
+
 abbrev pub vegas_rules : Algorithm VegasState
 vegas_rules = record {
   lo = λ s. s.lo;
   limit = λ s. s.limit;
   hi = λ s. s.hi;
+  view = vegas_view;
   next = vegas_next;
   put = λ s n. Err NotSettable;
-  first = λ s. record s { limit = s.first; base = None; count = 0 };
+  first = λ s. record s { limit = s.first; base = None; last = 0; count = 0 };
 }

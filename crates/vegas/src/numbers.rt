@@ -1,10 +1,10 @@
 // What a limit by Vegas is made of.
 
 /// The greatest threshold of a queue, in permits.
-pub const MOST_QUEUE: u32 = 100;
+pub(crate) const MOST_QUEUE: u32 = 100;
 
 /// The most samples from probe to probe.
-pub const MOST_PROBE: u32 = 1_000_000;
+pub(crate) const MOST_PROBE: u32 = 1_000_000;
 
 /// The numbers of a [`Vegas`](crate::Vegas), whichever they are. Limits and queues are in permits.
 #[derive(Clone, Copy)]
@@ -17,8 +17,18 @@ pub struct VegasNumbers {
     pub hi: u32,
     /// The least wanted queue: 1 or more.
     pub alpha: u32,
-    /// The greatest wanted queue: [`MOST_QUEUE`] or less.
+    /// The greatest wanted queue: 100 or less.
     pub beta: u32,
-    /// How many samples come to a probe, [`MOST_PROBE`] or fewer; 0 for no probes.
+    /// How many samples come to a probe, 1,000,000 or fewer; 0 for no probes.
     pub probe_every: u32,
 }
+
+/// The usual ones, as a configuration has them which names none.
+pub const USUAL: VegasNumbers = VegasNumbers {
+    lo: 1,
+    first: 20,
+    hi: 200,
+    alpha: 3,
+    beta: 6,
+    probe_every: 0,
+};

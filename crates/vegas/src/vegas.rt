@@ -2,12 +2,13 @@
 ghost use Rattle.std.specs.Prelude.{◌≡◌, ◌≤◌, ◌↔◌, IfOk, IsOk};
 ghost use Rattle.limit_laws.specs.Facts.{hour};
 ghost use Rattle.limit_laws.specs.Algorithm.{greatest_limit};
-ghost use Rattle.vegas.specs.VegasRules.{vegas_rules, vegas_from, queue as queue_lem, measured, probes, count_after, IsInRange, AreThresholds};
-ghost use Rattle.vegas.specs.VegasNumbers.{vegas_made, vegas_of};
+ghost use Rattle.vegas.specs.VegasRules.{AreThresholds, IsInRange, count_after, measured, probes};
+ghost use Rattle.vegas.specs.VegasRules.{queue as queue_lem, queue_now, vegas_from, vegas_made};
+ghost use Rattle.vegas.specs.VegasRules.{vegas_of, vegas_rules};
 ghost use Rattle.vegas.specs.VegasLaws.{IsLawful-vegas};
 
 use crate::numbers::{MOST_PROBE, MOST_QUEUE, VegasNumbers};
-use limit_laws::{GREATEST_LIMIT, Limit, MakeFault, Sample, SetFault};
+use limit_laws::{GREATEST_LIMIT, Limit, LimitView, MakeFault, Sample, SetFault};
 use std::marker::Model;
 
 /// Rises by one permit while the queue behind it is short, and falls by one where it is long or a
@@ -25,6 +26,7 @@ pub struct Vegas {
     beta: u32,
     probe_every: u32,
     base: Option<u64>,
+    last: u64,
     count: u32,
 }
 
@@ -42,6 +44,7 @@ impl Model for Vegas {
       beta = v.beta;
       probe_every = v.probe_every;
       base = v.base;
+      last = v.last;
       count = v.count;
     } };
 
@@ -54,6 +57,7 @@ impl Model for Vegas {
       beta = v.beta;
       probe_every = v.probe_every;
       base = v.base;
+      last = v.last;
       count = v.count;
     }) };
 
@@ -66,6 +70,7 @@ impl Model for Vegas {
       beta = s.beta;
       probe_every = s.probe_every;
       base = s.base;
+      last = s.last;
       count = s.count;
     } };
 }
@@ -76,8 +81,8 @@ impl Vegas {
     /// anew, never where that is 0.
     ///
     /// The faults, the first that applies: [`MakeFault::Range`] unless
-    /// `1 <= lo <= first <= hi <= 10,000` and `probe_every` is at most [`MOST_PROBE`];
-    /// [`MakeFault::Alpha`] unless `1 <= alpha <= beta` and `beta` is at most [`MOST_QUEUE`].
+    /// `1 <= lo <= first <= hi <= 10,000` and `probe_every` is at most 1,000,000;
+    /// [`MakeFault::Alpha`] unless `1 <= alpha <= beta <= 100`.
     pub fn new(
         lo: u32,
         first: u32,
@@ -135,6 +140,7 @@ impl Vegas {
             beta,
             probe_every,
             base: None,
+            last: 0,
             count: 0,
         })
     }
@@ -153,6 +159,16 @@ impl Vegas {
         }
         self.count = 0;
         true
+    }
+
+    /// The queue that the last round trip stands for under the limit now, where there is a base.
+    fn queue_now(&self) -> Option<u64>
+        ensures { result ≡ queue_now self.now }
+    {
+        match self.base {
+            None => None,
+            Some(base) => Some(queue(self.limit, self.last, base)),
+        }
     }
 
     /// The limit after a sample that took no less than the base, before it is brought into bounds.
@@ -192,6 +208,15 @@ impl Limit for Vegas {
         self.limit
     }
 
+    fn view(&self) -> LimitView {
+        LimitView {
+            by_hand: false,
+            base_ns: self.base,
+            window: None,
+            queue: self.queue_now(),
+        }
+    }
+
     fn on_sample(&mut self, sample: &Sample) {
         let probes = self.count_sample();
         match self.base {
@@ -201,6 +226,7 @@ impl Limit for Vegas {
             }
             _ => self.base = Some(sample.rtt()),
         }
+        self.last = sample.rtt();
     }
 
     fn set(&mut self, _n: u32) -> Result<(), SetFault> {
@@ -210,6 +236,7 @@ impl Limit for Vegas {
     fn reset(&mut self) {
         self.limit = self.first;
         self.base = None;
+        self.last = 0;
         self.count = 0;
     }
 

@@ -1,9 +1,10 @@
 -- What windows teach the inner algorithm, where all that comes are samples.
-use Rattle.std.proofs.Common.{◌≡◌, ℕ, inl, inr, List, [], ◌∷◌, ◌++◌, All, length, filter, fold, map, refl, sym, ◌∙◌, ap, subst, arith, append_assoc, nat_le, if◌then◌else◌}
+use Rattle.std.proofs.Common.{◌≡◌, ℕ, inl, inr, List, [], ◌∷◌, ◌++◌, All, Option, length, filter, fold, map, refl, sym, ◌∙◌, ap, subst, arith, append_assoc, nat_le, if◌then◌else◌}
 use Rattle.std.specs.List.{flat_map}
 use Rattle.std.proofs.lemmas.Bool.{cases_Bool, le-leb, lt-leb}
 use Rattle.std.proofs.lemmas.List.Elements.{All-head, All-tail, All-cons, filter-append}
 use Rattle.std.proofs.lemmas.List.Folds.{fold-map}
+use Rattle.limit_laws.specs.declared.view.WindowView.{WindowView}
 use Rattle.limit_laws.specs.Facts.{SampleFacts, IsSample}
 use Rattle.limit_laws.specs.Algorithm.{Algorithm}
 use Rattle.windowed.specs.declared.numbers.WindowNumbers.{WindowNumbers}
@@ -73,31 +74,32 @@ module _ (w : WindowNumbers) where
       (none_taught windows (All-tail (HasTooFew w) s windows all))
 
 module _ {S : Type 0} (rules : Algorithm S) where
-  learned : (w : WindowNumbers) (due : ℕ) (inner : S) (xs : List SampleFacts)
-      (windows : List Stretch) (rest : List Input) → All IsSample xs →
+  learned : (w : WindowNumbers) (due : ℕ) (last : Option WindowView) (inner : S)
+      (xs : List SampleFacts) (windows : List Stretch) (rest : List Input) → All IsSample xs →
       IsCuttingFrom w due (map Sampled xs) windows rest →
-      (fold (windowed_next rules) (emptied w due inner) xs).inner
+      (fold (windowed_next rules) (emptied w due last inner) xs).inner
       ≡ run rules inner (flat_map (taught w) windows)
-  learned w due inner xs windows rest samples cutting =
+  learned w due last inner xs windows rest samples cutting =
       let all : All IsSample (samples_of w (flat_map inputs_of windows ++ rest)) =
       subst (λ ys. All IsSample (samples_of w ys)) cutting.whole (samples_kept w xs samples) in
       let none : filter is_setting (flat_map inputs_of windows ++ rest) ≡ [] =
       ap (filter is_setting) (sym cutting.whole) ∙ no_settings xs in
-      let ran = run_windows rules w due inner windows rest cutting.each cutting.none_after all in
+      let ran =
+      run_windows rules w due last inner windows rest cutting.each cutting.none_after all in
       ap (λ s. s.inner)
-      (sym (fold-map (after (windowed_rules rules)) Sampled (emptied w due inner) xs)
-      ∙ ap (run (windowed_rules rules) (emptied w due inner)) cutting.whole
+      (sym (fold-map (after (windowed_rules rules)) Sampled (emptied w due last inner) xs)
+      ∙ ap (run (windowed_rules rules) (emptied w due last inner)) cutting.whole
       ∙ ran)
       ∙ ap (run rules inner) (told w windows rest none)
 
   pub learns_from_each : LearnsFromEachWindow rules
-  learns_from_each w due inner xs windows rest samples cutting all =
-      learned w due inner xs windows rest samples cutting
+  learns_from_each w due last inner xs windows rest samples cutting all =
+      learned w due last inner xs windows rest samples cutting
       ∙ ap (run rules inner) (each_taught w windows all)
       ∙ fold-map (after rules) (λ s. Sampled (window_mean w s)) inner windows
       ∙ sym (fold-map rules.next (window_mean w) inner windows)
 
   pub learns_nothing : LearnsNothingFromFew rules
-  learns_nothing w due inner xs windows rest samples cutting all =
-      learned w due inner xs windows rest samples cutting
+  learns_nothing w due last inner xs windows rest samples cutting all =
+      learned w due last inner xs windows rest samples cutting
       ∙ ap (run rules inner) (none_taught w windows all)

@@ -1,10 +1,11 @@
 -- Windows over a lawful algorithm are lawful.
-use Rattle.std.proofs.Common.{ℕ, [], Bool, true, false, Result, Ok, Err, IfOk, if◌then◌else◌, nat_le, nat_lt, ◌||◌, refl, arith, ap}
+use Rattle.std.proofs.Common.{ℕ, [], Bool, true, false, Option, None, Some, Result, Ok, Err, IfOk, if◌then◌else◌, nat_le, nat_lt, ◌||◌, refl, arith, ap}
 use Rattle.limit_laws.specs.declared.limit.SetFault.{SetFault}
+use Rattle.limit_laws.specs.declared.view.WindowView.{WindowView}
 use Rattle.limit_laws.specs.Facts.{SampleFacts, IsSample}
 use Rattle.limit_laws.specs.Algorithm.{Algorithm, IsLawful, IsWithin, Follows}
 use Rattle.windowed.specs.Totals.{WindowTotals, totals, with_sample, most_samples}
-use Rattle.windowed.specs.WindowedRules.{WindowedState, opened, windowed_rules, is_kept, end_of, update_after, mean_sample, in_range, with_inner}
+use Rattle.windowed.specs.WindowedRules.{WindowedState, opened, windowed_rules, is_kept, end_of, update_after, mean_sample, in_range, with_inner, seen}
 
 module _ {S : Type 0} (rules : Algorithm S) where
   inner_within : (s : WindowedState S) → IsWithin (windowed_rules rules) s → IsWithin rules s.inner
@@ -18,11 +19,11 @@ module _ {S : Type 0} (rules : Algorithm S) where
   }
 
   -- whatever its window, a state follows where its inner state does
-  outer_follows : (s : WindowedState S) (inner : S) (t : WindowTotals) (update : ℕ) →
-      Follows rules s.inner inner →
+  outer_follows : (s : WindowedState S) (inner : S) (t : WindowTotals)
+      (last : Option WindowView) (update : ℕ) → Follows rules s.inner inner →
       Follows (windowed_rules rules) s
-      (record s { inner = inner; totals = t; next_update = update })
-  outer_follows s inner t update f = record {
+      (record s { inner = inner; totals = t; last = last; next_update = update })
+  outer_follows s inner t last update f = record {
     within = record {
       positive = f.within.positive;
       least = f.within.least;
@@ -50,21 +51,23 @@ module _ {S : Type 0} (rules : Algorithm S) where
 
   -- by the tests of a sample
   next_follows : (s : WindowedState S) (kept ends : Bool) (inner : S) (t : WindowTotals)
-      (update : ℕ) →
+      (last : Option WindowView) (update : ℕ) →
       IsWithin (windowed_rules rules) s → Follows rules s.inner inner →
       Follows (windowed_rules rules) s (if kept
-      then (if ends then record s { inner = inner; totals = totals []; next_update = update }
+      then (if ends
+      then record s { inner = inner; totals = totals []; last = last; next_update = update }
       else record s { totals = t })
       else s)
-  next_follows s true true inner t update w f = outer_follows s inner (totals []) update f
-  next_follows s true false inner t update w f =
-      outer_follows s s.inner t s.next_update (stays s.inner (inner_within s w))
-  next_follows s false ends inner t update w f =
-      outer_follows s s.inner s.totals s.next_update (stays s.inner (inner_within s w))
+  next_follows s true true inner t last update w f =
+      outer_follows s inner (totals []) last update f
+  next_follows s true false inner t last update w f =
+      outer_follows s s.inner t s.last s.next_update (stays s.inner (inner_within s w))
+  next_follows s false ends inner t last update w f =
+      outer_follows s s.inner s.totals s.last s.next_update (stays s.inner (inner_within s w))
 
   put_follows : (s : WindowedState S) (r : Result S SetFault) → IfOk r (Follows rules s.inner) →
       IfOk (with_inner s r) (Follows (windowed_rules rules) s)
-  put_follows s (Ok inner) f = outer_follows s inner s.totals s.next_update f
+  put_follows s (Ok inner) f = outer_follows s inner s.totals s.last s.next_update f
   put_follows s (Err fault) f = tt
 
   after_sample : IsLawful rules → (s : WindowedState S) (x : SampleFacts) →
@@ -79,7 +82,7 @@ module _ {S : Type 0} (rules : Algorithm S) where
       handed_on (nat_le s.settings.size t.count) s.inner (rules.next s.inner mean) inner next in
       next_follows s (is_kept s.settings x)
       (nat_lt s.next_update (end_of x) || nat_le most_samples t.count) _ t
-      (update_after s.settings t x) w learned
+      (Some (seen t)) (update_after s.settings t x) w learned
 
   pub IsLawful-windowed : IsLawful rules → IsLawful (windowed_rules rules)
   IsLawful-windowed law = record {
@@ -87,6 +90,6 @@ module _ {S : Type 0} (rules : Algorithm S) where
     after_setting = λ s n w.
         put_follows s (rules.put s.inner n) (law.after_setting s.inner n (inner_within s w));
     after_reset = λ s w.
-        outer_follows s (rules.first s.inner) (totals []) 0
+        outer_follows s (rules.first s.inner) (totals []) None 0
         (law.after_reset s.inner (inner_within s w));
   }

@@ -1,8 +1,9 @@
 -- A limit algorithm that learns from windows of samples, by the totals that it keeps.
-use Rattle.std.specs.Prelude.{ℕ, ◌+◌, ◌*◌, ◌/◌, ◌≤◌, Bool, [], Result, Ok, Err, min, max, nat_lt, nat_le, ◌||◌, ◌&&◌, if◌then◌else◌}
+use Rattle.std.specs.Prelude.{ℕ, ◌+◌, ◌*◌, ◌/◌, ◌≤◌, Bool, [], Option, None, Some, Result, Ok, Err, min, max, nat_lt, nat_le, ◌||◌, ◌&&◌, if◌then◌else◌}
 use Rattle.limit_laws.specs.declared.limit.MakeFault.{MakeFault}
 use Rattle.limit_laws.specs.declared.limit.MakeFault.TheVariants.{Window}
 use Rattle.limit_laws.specs.declared.limit.SetFault.{SetFault}
+use Rattle.limit_laws.specs.declared.view.WindowView.{WindowView}
 use Rattle.limit_laws.specs.Facts.{SampleFacts, hour}
 use Rattle.limit_laws.specs.Algorithm.{Algorithm}
 use Rattle.windowed.specs.Totals.{WindowTotals, totals, with_sample, most_samples}
@@ -38,16 +39,24 @@ are_settings w =
 abbrev pub windows_made : WindowNumbers → Result WindowNumbers MakeFault
 windows_made w = if are_settings w then Ok w else Err Window
 
--- the inner algorithm, the totals of the open window, and the moment after which a sample ends it
+-- the inner algorithm, the totals of the open window, what the last one that ended came to, and the
+-- moment after which a sample ends the open one
 pub record WindowedState (S : Type 0) : Type 0 where
   pub inner : S
   pub totals : WindowTotals
+  pub last : Option WindowView
   pub next_update : ℕ
   pub settings : WindowNumbers
 
 -- a state with an empty window, before its first sample
 abbrev pub opened : {S : Type 0} → WindowNumbers → S → WindowedState S
-opened w inner = record { inner = inner; totals = totals []; next_update = 0; settings = w }
+opened w inner = record {
+  inner = inner;
+  totals = totals [];
+  last = None;
+  next_update = 0;
+  settings = w;
+}
 
 -- when a sample's round trip ended
 abbrev pub end_of : SampleFacts → ℕ
@@ -71,12 +80,17 @@ mean_sample t x = record {
   dropped = t.dropped;
 }
 
+-- what a window of these totals is shown as
+abbrev pub seen : WindowTotals → WindowView
+seen t = record { mean_ns = t.sum / t.count; count = t.count }
+
 -- a sample with its round trip brought into the range of samples, in which each mean of samples
 -- already lies: so the rule is lawful at any totals, those that no samples have among them
 abbrev pub in_range : SampleFacts → SampleFacts
 in_range x = record x { rtt = min (max x.rtt 1) hour }
 
--- a window ends: its mean sample is handed on where it has enough, and an empty one begins
+-- a window ends: its mean sample is handed on where it has enough, it is the last one that ended,
+-- and an empty one begins
 abbrev pub end_window : {S : Type 0} → Algorithm S → WindowedState S → WindowTotals →
     SampleFacts → WindowedState S
 end_window rules s t x = record s {
@@ -84,6 +98,7 @@ end_window rules s t x = record s {
       if nat_le s.settings.size t.count then rules.next s.inner (in_range (mean_sample t x))
       else s.inner;
   totals = totals [];
+  last = Some (seen t);
   next_update = update_after s.settings t x;
 }
 
@@ -112,6 +127,7 @@ windowed_rules rules = record {
   lo = λ s. rules.lo s.inner;
   limit = λ s. rules.limit s.inner;
   hi = λ s. rules.hi s.inner;
+  view = λ s. record (rules.view s.inner) { window = s.last };
   next = windowed_next rules;
   put = λ s n. with_inner s (rules.put s.inner n);
   first = λ s. opened s.settings (rules.first s.inner);

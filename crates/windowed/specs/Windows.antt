@@ -2,11 +2,12 @@
 use Rattle.std.specs.Prelude.{◌≡◌, ℕ, ◌≤◌, ◌<◌, ◌⊎◌, Bool, true, false, Option, Some, None, List, [], ◌∷◌, ◌++◌, All, length, fold, filter, nat_le, if◌then◌else◌}
 use Rattle.std.specs.List.{filter_map, flat_map}
 use Rattle.std.specs.Result.{result_unwrap_or}
+use Rattle.limit_laws.specs.declared.view.WindowView.{WindowView}
 use Rattle.limit_laws.specs.Facts.{SampleFacts, IsSample}
 use Rattle.limit_laws.specs.Algorithm.{Algorithm}
 use Rattle.windowed.specs.Totals.{totals, most_samples}
 use Rattle.windowed.specs.declared.numbers.WindowNumbers.{WindowNumbers}
-use Rattle.windowed.specs.WindowedRules.{opened, windowed_rules, is_kept, end_of, update_after, mean_sample}
+use Rattle.windowed.specs.WindowedRules.{opened, windowed_rules, is_kept, end_of, update_after, mean_sample, seen}
 
 -- what an algorithm is told: a sample, or a setting by hand
 pub data Input : Type 0 where
@@ -66,6 +67,11 @@ due_after w s = update_after w (totals (window_samples w s)) s.last
 abbrev pub due_after_all : WindowNumbers → ℕ → List Stretch → ℕ
 due_after_all w due windows = fold (λ _ s. due_after w s) due windows
 
+-- what the last of these windows is shown as; before the first this was
+abbrev pub last_seen : WindowNumbers → Option WindowView → List Stretch → Option WindowView
+last_seen w before windows =
+    fold (λ _ s. Some (seen (totals (window_samples w s)))) before windows
+
 -- each is a window by the due moment that the one before it leaves
 abbrev pub AreWindows : WindowNumbers → ℕ → List Stretch → Type 0
 AreWindows w due [] = Unit {0}
@@ -100,7 +106,8 @@ CutsIntoWindows =
     (windows : List Stretch) × ((rest : List Input) × IsCutting w inputs windows rest)
 
 -- THE LAW of windows: from an empty window on, the inner algorithm is where its own run over
--- what the windows hand on leads, and the totals are those of the rest
+-- what the windows hand on leads, the totals are those of the rest, and the last of the windows is
+-- shown
 abbrev pub InnerRunsOverWindows : {S : Type 0} → Algorithm S → Type 0
 InnerRunsOverWindows {S} rules =
     (w : WindowNumbers) (inner : S) (inputs : List Input) (windows : List Stretch)
@@ -109,6 +116,7 @@ InnerRunsOverWindows {S} rules =
     run (windowed_rules rules) (opened w inner) inputs ≡ record {
       inner = run rules inner (flat_map (handed_on w) windows ++ filter is_setting rest);
       totals = totals (samples_of w rest);
+      last = last_seen w None windows;
       next_update = due_after_all w 0 windows;
       settings = w;
     }

@@ -6,17 +6,18 @@ ghost use Rattle.windowed.specs.WindowedLaws.{IsLawful-windowed};
 use crate::numbers::MOST_SAMPLES;
 use crate::settings::WindowSettings;
 use crate::window::Window;
-use limit_laws::{Limit, MakeFault, Sample, SetFault};
+use limit_laws::{Limit, LimitView, MakeFault, Sample, SetFault, WindowView};
 use std::marker::Model;
 
 /// Any limit algorithm, learning from the mean samples of windows.
 ///
 /// A window lasts for twice its least round trip, within bounds, or for 1,000,000 samples. It
-/// takes no memory for them: five totals are kept.
+/// takes no memory for them: five totals are kept, and what the last window came to.
 #[derive(Drop)]
 pub struct Windowed<L: Limit> {
     inner: L,
     window: Window,
+    last: Option<WindowView>,
     next_update: u64,
     settings: WindowSettings,
 }
@@ -31,6 +32,7 @@ impl<L: Limit> Model for Windowed<L> {
     ghost view = { λ w. record {
       inner = w.inner;
       totals = w.window;
+      last = w.last;
       next_update = w.next_update;
       settings = w.settings;
     } };
@@ -68,6 +70,7 @@ impl<L: Limit> Windowed<L> {
         Windowed {
             inner,
             window: Window::empty(),
+            last: None,
             next_update: 0,
             settings,
         }
@@ -96,6 +99,13 @@ impl<L: Limit> Limit for Windowed<L> {
         self.inner.limit()
     }
 
+    fn view(&self) -> LimitView {
+        LimitView {
+            window: self.last,
+            ..self.inner.view()
+        }
+    }
+
     fn on_sample(&mut self, sample: &Sample) {
         if sample.rtt() < self.settings.min_rtt() {
             return;
@@ -107,6 +117,11 @@ impl<L: Limit> Limit for Windowed<L> {
         }
         let window = self.window;
         self.window = Window::empty();
+        let mean_ns = window.mean();
+        self.last = Some(WindowView {
+            mean_ns,
+            count: u64::from(window.count()),
+        });
         let lasts = (2 * window.least())
             .max(self.settings.min_window())
             .min(self.settings.max_window());
@@ -114,7 +129,7 @@ impl<L: Limit> Limit for Windowed<L> {
         if self.settings.size() <= window.count() {
             let mean = Sample::of_rtt(
                 sample.start(),
-                window.mean(),
+                mean_ns,
                 window.greatest_inflight(),
                 window.dropped(),
             );
@@ -129,6 +144,7 @@ impl<L: Limit> Limit for Windowed<L> {
     fn reset(&mut self) {
         self.inner.reset();
         self.window = Window::empty();
+        self.last = None;
         self.next_update = 0;
     }
 
@@ -136,6 +152,7 @@ impl<L: Limit> Limit for Windowed<L> {
         Windowed {
             inner: self.inner.copy(),
             window: self.window,
+            last: self.last,
             next_update: self.next_update,
             settings: self.settings,
         }

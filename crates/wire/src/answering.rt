@@ -4,6 +4,7 @@ ghost use Rattle.counted_io.specs.Counted.{failures_of, flushes_of, is_flushed};
 ghost use Rattle.counted_io.specs.Count.{raised};
 ghost use Rattle.counted_io.specs.Effects.{Wrote};
 ghost use Rattle.counted_io.specs.Causes.{IsWriteCause};
+ghost use Rattle.message_text.specs.Fronts.{WroteFront};
 ghost use Rattle.wire.specs.Written.{response_text};
 
 use crate::response::Response;
@@ -26,8 +27,8 @@ fn body_of(response: &Response) -> Option<&[u8]>
 /// kept, and flushes once. Takes no memory.
 ///
 /// To HEAD, and with status 204 or 304, no body is written, and to HEAD and with 304 the length
-/// that came is passed on. The one fault comes where the writer failed; then nothing is said of how
-/// much was written.
+/// that came is passed on. The one fault comes where the writer failed; then a beginning of the
+/// text was written.
 pub fn write_response<W: Write>(
     writer: &mut Counted<W>,
     response: &Response,
@@ -40,6 +41,8 @@ pub fn write_response<W: Write>(
     ensures unfailing { OnOk result (failures_of writer.new ≡ failures_of writer.old) }
     ensures flushed { OnOk result (is_flushed writer.new ≡ true) }
     ensures flushes { OnOk result (flushes_of writer.new ≡ raised (flushes_of writer.old)) }
+    ensures front { OnErr result (WroteFront W.contents writer.old writer.new
+        (response_text persistence method.now response.now)) }
     ensures failed { OnErr result (IsWriteCause writer.old writer.new) }
 {
     let answer = Answer {

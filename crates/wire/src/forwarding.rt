@@ -4,6 +4,7 @@ ghost use Rattle.counted_io.specs.Counted.{failures_of, flushes_of, is_flushed};
 ghost use Rattle.counted_io.specs.Count.{raised};
 ghost use Rattle.counted_io.specs.Effects.{Wrote};
 ghost use Rattle.counted_io.specs.Causes.{IsWriteCause};
+ghost use Rattle.message_text.specs.Fronts.{WroteFront};
 ghost use Rattle.wire.specs.Written.{is_old, request_text};
 
 use counted_io::{Counted, WriteFault};
@@ -35,7 +36,7 @@ fn bytes_of(body: &Option<Bytes>) -> Option<&[u8]>
 /// request names none, by a connection that ends with the exchange or is kept, and flushes once.
 /// Takes no memory.
 ///
-/// The one fault comes where the writer failed; then nothing is said of how much was written.
+/// The one fault comes where the writer failed; then a beginning of the text was written.
 pub fn write_request<W: Write>(
     writer: &mut Counted<W>,
     request: &Request,
@@ -48,6 +49,8 @@ pub fn write_request<W: Write>(
     ensures unfailing { OnOk result (failures_of writer.new ≡ failures_of writer.old) }
     ensures flushed { OnOk result (is_flushed writer.new ≡ true) }
     ensures flushes { OnOk result (flushes_of writer.new ≡ raised (flushes_of writer.old)) }
+    ensures front { OnErr result (WroteFront W.contents writer.old writer.new
+        (request_text persistence backend.now request.now)) }
     ensures failed { OnErr result (IsWriteCause writer.old writer.new) }
 {
     let forwarded = Forwarded {

@@ -1,4 +1,5 @@
 // When the callers of a load give up, by a clock of the test's own.
+use crate::checks::check;
 use counted_io::Counted;
 use load_run::load_with;
 use shared_gate::Clock;
@@ -83,5 +84,5 @@ fn is_in_time(written: &[u8]) -> bool {
 // reached as it begins to wait.
 #[test]
 fn a_deadline_is_reckoned_from_the_clock(rt: HostRuntime) {
-    assert!(rt; is_in_time(&crowded(&rt, rt.alloc())));
+    check(&rt, is_in_time(&crowded(&rt, rt.alloc())));
 }

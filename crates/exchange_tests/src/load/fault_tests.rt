@@ -1,5 +1,6 @@
 // Readers and writers that fail at any of their calls.
 use super::devices::{Sink, Source};
+use crate::checks::check;
 use counted_io::Counted;
 use load_run::{LoadFault, load};
 use std::alloc::Global;
@@ -56,12 +57,15 @@ fn reading_is_told<T: Threads + Wait + SystemClock + Sync>(
 fn a_reader_that_fails_at_any_call_is_told(rt: HostRuntime) {
     // Six reads give the bytes, and the seventh none: the trace is at its end.
     for failing in 0..7u64 {
-        assert!(rt;
+        check(
+            &rt,
             reading_is_told(&rt, rt.alloc(), failing, Err(LoadFault::Read), ""),
-            "{failing}"
         );
     }
-    assert!(rt; reading_is_told(&rt, rt.alloc(), 7, Ok(()), BYPASSED_TEXT));
+    check(
+        &rt,
+        reading_is_told(&rt, rt.alloc(), 7, Ok(()), BYPASSED_TEXT),
+    );
 }
 
 /// Where the writer fails from a call on, this is answered, and the text's bytes before written.
@@ -87,10 +91,10 @@ fn a_writer_that_fails_at_any_call_is_told(rt: HostRuntime) {
     // So many writes of nine bytes at most, and the flush.
     let calls = BYPASSED_TEXT.len().div_ceil(9) as u64 + 1;
     for failing in 0..calls {
-        assert!(rt;
+        check(
+            &rt,
             writing_is_told(&rt, rt.alloc(), failing, Err(LoadFault::Write)),
-            "{failing}"
         );
     }
-    assert!(rt; writing_is_told(&rt, rt.alloc(), calls, Ok(())));
+    check(&rt, writing_is_told(&rt, rt.alloc(), calls, Ok(())));
 }

@@ -1,4 +1,5 @@
 // Workers at the same time.
+use crate::checks::check;
 use counted_io::Counted;
 use load_run::load_with;
 use shared_gate::Clock;
@@ -64,8 +65,8 @@ fn two_workers_call_at_the_same_time(rt: HostRuntime) -> Result<(), Fail> {
         2,
         &clock,
     );
-    assert!(rt; answer.is_ok());
-    assert!(rt; clock.was_met.load(Ordering::SeqCst));
-    assert!(rt; written.as_slice() == TWO_TEXT.as_bytes());
+    check(&rt, answer.is_ok());
+    check(&rt, clock.was_met.load(Ordering::SeqCst));
+    check(&rt, written.as_slice() == TWO_TEXT.as_bytes());
     Ok(())
 }

@@ -3,7 +3,7 @@ ghost use Rattle.std.specs.Option.{ForSome};
 ghost use Rattle.std.specs.Prelude.{◌≡◌, IsOk};
 ghost use Rattle.windowed.specs.WindowedRules.{windows_made};
 ghost use Rattle.limit_kinds.specs.AnyKinds.{any_from};
-ghost use Rattle.limit_kinds.specs.Specs.{first_limit, limit_made};
+ghost use Rattle.limit_kinds.specs.Kinds.{first_limit, limit_made};
 
 use limit_kinds::{AnyLimit, LimitSpec};
 use windowed::{WindowNumbers, WindowSettings};

@@ -1,6 +1,6 @@
 use Rattle.std.proofs.Common.{◌≡◌, fold, map, option_map, string_bytes}
 use Rattle.toml.specs.View.{table_view}
-use Rattle.gate_config.specs.Key.{name_of}
+use Rattle.gate_config.specs.Rows.{name_of}
 use Rattle.gate_config.specs.Unknown.{lesser, unknown_key_of, unknown_keys_among, unknown_keys_in}
 use Rattle.gate_config.proofs.unknown.least_unknown.Given as goal
 

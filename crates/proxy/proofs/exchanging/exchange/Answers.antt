@@ -45,6 +45,7 @@ returns-in-Err-clause-exchanged g c = record {
   own = c.unread-told.ensures.own;
   empty = search rules;
   outcome = c.unread-told.ensures.outcome;
+  persists = c.unread-told.ensures.persistence;
   text = c.unread-told.ensures.text;
   unasked = λ same. c.unread-told.ensures.told (ap fault_in same);
 }
@@ -84,11 +85,17 @@ returns-clause-exchanged g c = record {
   own = c.is_own.ensures;
   empty = refl;
   outcome = c.outcome_at.ensures;
+  persists = (
+    c.may_keep-keeps.result,
+    c.may_keep-keeps.ensures,
+    c.persistence_behind-persistence.ensures,
+  );
   text =
       subst (λ (mark : Option (List ℕ)). c.reply-written_fault.result ≡ None
       → Appends (g.W.Write.contents (inner_of c.read_request.new.writer))
       (g.W.Write.contents (inner_of c.reply-written_fault.new.writer))
-      (reply_text mark c.in-Ok.request.method c.settle-settled.result.answer))
+      (reply_text c.persistence_behind-persistence.result mark c.in-Ok.request.method
+      c.settle-settled.result.answer))
       c.reply_mark-mark.ensures c.reply-written_fault.ensures.all;
   unasked = λ same. absurd (true≢false (ap is_ok same));
 }

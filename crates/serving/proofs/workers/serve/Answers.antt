@@ -6,5 +6,6 @@ pub returns-clause-ran : goal.returns-clause-ran
 returns-clause-ran g c = on_ok c.serve_by.result _ _ c.serve_by.ensures.worked
     (λ lefts all. all_ran g.S.Source.gives g.S.Source.lacks g.L.Listener.came g.P.GatePort.shown
     g.P.GatePort.known
-    c.args.common.now c.args.settings.now.backend c.args.ports.items c.in_ok-workers.workers.items (ended_in lefts.items)
+    c.args.common.now c.args.settings.now.backend c.args.ports.items
+    c.in_ok-workers.workers.items (ended_in lefts.items)
     c.in_ok-workers.ensures.workers all)

@@ -1,9 +1,10 @@
 use Rattle.std.proofs.Common.{rules, ◌≡◌, ◌∙◌, arith, refl, subst}
 use Rattle.counted_io.specs.Count.{raised}
-use Rattle.timed_io.specs.Client.{from_of, to_of}
-use Rattle.serving.specs.Turns.{Missing, Serving}
-use Rattle.serving.proofs.Runs.{all_failed, all_given, back_of, begins, forwarded_at_most, goes_on}
-use Rattle.serving.proofs.Runs.{missing_shown, run_of, same_back, serving_shown}
+use Rattle.proxy.specs.Made.{is_kept}
+use Rattle.serving.specs.Turns.{Missing}
+use Rattle.serving.proofs.Runs.{all_failed, all_given, back_of, begins, client_of}
+use Rattle.serving.proofs.Runs.{forwarded_at_most, goes_on, goes_on_served, missing_shown, run_of}
+use Rattle.serving.proofs.Runs.{same_back}
 use Rattle.serving.proofs.working.work.Goals.{in-Ok, in-Err+else-is_closed}
 use Rattle.serving.proofs.working.work.Goals as goal
 
@@ -13,25 +14,28 @@ loop-init g c = record { took = begins _ _ _; turns = refl; same = λ sent came.
 pub loop-preserved : goal.loop-preserved
 loop-preserved g c = elim c.match-accept.branch [
   | in-Ok w ↦ record {
-    took = goes_on _ _ _ _ _ _ _ _ (Serving (g.A.From.Inlet.remaining (from_of w.in-Ok.client.ends))
-        (g.A.To.Outlet.contents (to_of w.serve_client-client.result.0.ends))
-        w.serve_client-client.result.1) c.loop.invariant.took
-        (search rules) (search rules) (search rules) (search rules) (
-          g.A.To.Outlet.contents (to_of w.in-Ok.client.ends),
-          back_of g.P.GatePort.shown g.P.GatePort.known g.B.Backend.forwarded g.B.Backend.shown
-              w.serve_client-client.new.port w.serve_client-client.new.backend,
-          w.in-Ok.ensures.unwritten,
-          w.serve_client-client.ensures,
-          c.loop.invariant.same _ w.in-Ok.ensures.came,
-          same_back g.P.GatePort.shown g.P.GatePort.known g.B.Backend.forwarded g.B.Backend.shown
-              _ _ _ _ w.leave.new.self w.port-is w.backend-is
-              w.leave.ensures.count w.leave.ensures.log,
-        )
-        (serving_shown _ (g.A.Accepts.visits c.accept.new.self) _ _ _ _ w.in-Ok.ensures.arrived
-        (search rules));
+    took = goes_on_served _ _ _ _ _ _ _ _
+        (client_of g.A.From.Inlet.remaining g.A.To.Outlet.contents w.in-Ok.client.ends
+        w.in-Ok.client.is_kept)
+        (client_of g.A.From.Inlet.remaining g.A.To.Outlet.contents
+        w.serve_client-client.result.0.ends (is_kept w.serve_client-client.result.1))
+        w.serve_client-client.result.1 (g.A.Accepts.visits c.accept.new.self)
+        (back_of g.P.GatePort.shown g.P.GatePort.known g.B.Backend.forwarded g.B.Backend.shown
+        w.serve_client-client.new.port w.serve_client-client.new.backend)
+        (is_kept w.serve_client-client.result.1) refl c.loop.invariant.took
+        (search rules) (search rules) (search rules) (search rules)
+        (record {
+          unwritten = w.in-Ok.ensures.unwritten;
+          served = w.serve_client-client.ensures;
+          comes = c.loop.invariant.same _ w.in-Ok.ensures.came;
+        })
+        (same_back g.P.GatePort.shown g.P.GatePort.known g.B.Backend.forwarded g.B.Backend.shown
+        _ _ _ _ w.leave-in-Ok.new.self w.port-is w.backend-is w.leave-in-Ok.ensures.count
+        w.leave-in-Ok.ensures.log)
+        w.in-Ok.ensures.arrived (search rules);
     turns = search rules;
     same = λ sent came. c.loop.invariant.same sent
-        (c.accept.ensures.place sent (w.close.ensures.place sent
+        (c.accept.ensures.place sent (w.leave.ensures.place sent
         (subst (λ door. g.A.Accepts.came door sent) w.door-is came)));
   }
   | in-Err+else-is_closed w ↦ record {

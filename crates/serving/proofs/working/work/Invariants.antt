@@ -1,11 +1,12 @@
 use Rattle.std.proofs.Common.{◌≡◌, ◌+◌, ℕ, List, Option}
+use Rattle.serving.specs.Served.{policy_of}
 use Rattle.serving.proofs.Runs.{Took}
 use Rattle.serving.proofs.working.work.Given as goal
 
 -- so many turns so far
 abbrev pub invariant-loop : goal.invariant-loop
 invariant-loop g l = record {
-  took : Took (record { settings = l.settings; marks = l.common.marks })
+  took : Took (policy_of l.settings l.common.marks)
       (g.A.Accepts.came l.fn.door) l.counter
       (record {
         given = g.A.Accepts.given l.fn.door;

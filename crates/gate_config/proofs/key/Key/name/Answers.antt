@@ -19,6 +19,12 @@ returns-in-Wait c = search rules
 pub returns-in-TimeoutMs : goal.returns-in-TimeoutMs
 returns-in-TimeoutMs c = search rules
 
+pub returns-in-Clients : goal.returns-in-Clients
+returns-in-Clients c = search rules
+
+pub returns-in-ClientIdleMs : goal.returns-in-ClientIdleMs
+returns-in-ClientIdleMs c = search rules
+
 pub returns-in-Backends : goal.returns-in-Backends
 returns-in-Backends c = search rules
 

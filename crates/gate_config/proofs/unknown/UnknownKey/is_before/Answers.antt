@@ -3,7 +3,7 @@ use Rattle.std.proofs.Common.{◌≡◌, refl}
 use Rattle.std.proofs.lemmas.Iterator.Adapters.{YieldsList-from_bytes}
 use Rattle.std.proofs.lemmas.Iterator.Consumers.{YieldsList-from_chain}
 use Rattle.std.proofs.lemmas.Iterator.Search.{cmp_from_yields_List}
-use Rattle.gate_config.specs.Key.{prefix_of}
+use Rattle.gate_config.specs.Rows.{prefix_of}
 use Rattle.gate_config.proofs.unknown.UnknownKey.is_before.Goals as goal
 
 pub returns : goal.returns

@@ -1,13 +1,11 @@
-use Rattle.timed_io.proofs.Seated.{first_leaves}
+use Rattle.timed_io.proofs.Seated.{late_leaves, silent_leaves}
 use Rattle.timed_io.proofs.seats.Seats.take_late.Goals as goal
 
-pub invariant_of-self-2 : goal.invariant_of-self-2
-invariant_of-self-2 g c = first_leaves _ _ (c.in_ok-first.field-0-0, c.in_ok-first.first) _ _
-    c.self.invariant c.in_ok-first.ensures.removal
+pub invariant_of-self : goal.invariant_of-self
+invariant_of-self g c = silent_leaves _ _ _ _ _ _ c.self.invariant c.in-Some.ensures.first.2
 
-pub returns-clause-first : goal.returns-clause-first
-returns-clause-first g c = (
-  c.in_ok-first.field-0-0,
-  c.in_ok-first.first.since,
-  rw (← c.self.view_is) c.in_ok-first.ensures.removal,
-)
+pub invariant_of-self-2 : goal.invariant_of-self-2
+invariant_of-self-2 g c =
+    late_leaves c.take_late-2.result c.self.inside.silent c.self.inside.kept c.take_late.new.self
+    c.take_late-2.new.self _ _ c.self.invariant c.in_default.ensures.unchanged
+    c.take_late-2.ensures.first c.take_late-2.ensures.unchanged

@@ -1,0 +1,8 @@
+use Rattle.timed_io.proofs.row.Row.take_late.Goals as goal
+
+pub returns-clause-first : goal.returns-clause-first
+returns-clause-first g c = (
+  c.in_ok-first.field-0-0,
+  c.in_ok-first.first.since,
+  rw (← c.self.view_is) c.in_ok-first.ensures.removal,
+)

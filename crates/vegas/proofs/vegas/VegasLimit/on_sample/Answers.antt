@@ -1,8 +1,0 @@
-use Rattle.std.proofs.Common.{rules}
-use Rattle.vegas.proofs.vegas.VegasLimit.on_sample.Goals as goal
-
-pub returns-in-Some : goal.returns-in-Some
-returns-in-Some c = search rules
-
-pub returns-in_default : goal.returns-in_default
-returns-in_default c = search rules
