@@ -2,6 +2,7 @@
 have to go."""
 import contextlib
 import dataclasses
+import select
 import socket
 import time
 import typing
@@ -10,7 +11,7 @@ from keeping import Talkative
 from loopback import BODY, Backend, Gateway, Later, Listener, read_all
 from operating import Operating
 from operator_rows import DRAINED, told
-from running import until
+from running import PATIENCE, until
 from sockets import passed_on, timed, tried
 from waiting import AT_ONCE, MANY, has_ended, raised_descriptors
 from wires import CONTINUE, local
@@ -23,6 +24,8 @@ KEPT = b"HTTP/1.1 200 OK\r\nContent-Length: 4\r\n\r\nnext"
 ENDED = b"HTTP/1.1 200 OK\r\nContent-Length: 4\r\nConnection: close\r\n\r\nnext"
 # So many idle at once: fewer than there are places.
 CROWD = 900
+# So many ask again and again, and so many come at once beside them.
+BUSY, NEW = 32, 16
 # One who waits for its next request is met within this.
 SOON = 0.3
 FIRST = b"HTTP/1.1 200 OK\r\nContent-Length: 13\r\n\r\n" + BODY
@@ -88,6 +91,51 @@ def asked(client: socket.socket, piece: bytes, length: int) -> bytes:
         while len(text) < length and (more := client.recv(length - len(text))):
             text += more
     return text
+
+
+class Beside:
+    """Busy clients, each of which asks again once it is answered, and others who come beside them; and how often a busy
+    one was answered until each of the others was."""
+
+    def __init__(self, busy: list[socket.socket]) -> None:
+        self.poll, self.clients = select.poll(), {it.fileno(): it for it in busy}
+        self.texts: dict[int, bytes] = dict.fromkeys(self.clients, b"")
+        self.answered = 0
+        self.found: dict[int, int] = {}
+        for client in busy:
+            self.poll.register(client, select.POLLIN)
+            client.sendall(GET)
+
+    def come(self, others: list[socket.socket]) -> None:
+        """Others come, and ask once."""
+        for client in others:
+            client.sendall(LAST)
+            self.clients[client.fileno()] = client
+            self.texts[client.fileno()] = b""
+            self.found[client.fileno()] = -1
+            self.poll.register(client, select.POLLIN)
+
+    def go_on(self, most: int) -> None:
+        """Has the busy ones ask until they were answered so often, or all others were, or nothing comes any more."""
+        while self.answered < most and (not self.found or -1 in self.found.values()):
+            ready = self.poll.poll(1000 * PATIENCE)
+            for file, _ in ready:
+                self.hear(file)
+            if not ready:
+                return
+
+    def hear(self, file: int) -> None:
+        """Takes what came of an answer to one of them. Who gets another one, or its end, isn't heard any more."""
+        piece = self.clients[file].recv(65_536)
+        self.texts[file] += piece
+        if self.texts[file] == KEPT and file not in self.found:
+            self.answered, self.texts[file] = self.answered + 1, b""
+            self.clients[file].sendall(GET)
+        elif self.texts[file] == ENDED and file in self.found:
+            self.found[file] = self.answered
+            self.poll.unregister(file)
+        elif not piece:
+            self.poll.unregister(file)
 
 
 class KeptClients(Operating):
@@ -194,6 +242,22 @@ class KeptClients(Operating):
             self.judge("all of them stay", (CROWD, []), (len(idle), [it for it in idle if has_ended(it)]))
             again = [asked(it, GET, len(KEPT)) for it in idle[:: CROWD // 20]]
             self.judge("some that ask again", [KEPT] * 20, again)
+        gate.process.terminate()
+        backend.close()
+
+    def serves_new_ones_beside_busy_ones(self, _unused: Backend) -> None:
+        """Clients who come at once wait for a turn or two of those who are busy, and not for one turn each."""
+        backend = Talkative()
+        gate = self.keeping(backend, workers=1, each=1_000_000)
+        with contextlib.ExitStack() as stack:
+            beside = Beside([stack.enter_context(gate.connect()) for _ in range(BUSY)])
+            beside.go_on(3 * BUSY)
+            begun = beside.answered
+            beside.come([stack.enter_context(gate.connect()) for _ in range(NEW)])
+            beside.go_on(begun + BUSY * NEW)
+            before = [it - begun for it in beside.found.values()]
+            self.judge("each new one is answered", True, min(before) >= 0)
+            self.judge("how many are served before it", True, max(before) < 4 * BUSY or before)
         gate.process.terminate()
         backend.close()
 

@@ -6,14 +6,17 @@ import socket
 import time
 
 from loopback import BODY, Backend, Gateway, Later, read_all
-from operating import Operating
+from operating import Operated, Operating
 from operator_rows import DRAINED, told
 from running import PATIENCE, until
 from sockets import PLAIN, passed_on, timed, tried
+from wires import reset
 
 # As many as a front may hold, and how many of them a gateway keeps at most.
 CROWD, PLACES = 9_000, 1_000
 WORKERS = 64
+# As many as may connect before one of them is accepted.
+BURST = 300
 # Well within the second for which a silent client held a worker once.
 AT_ONCE = 0.5
 PATIENT = ("--client-timeout-ms", "60000")
@@ -70,6 +73,32 @@ class Waiting(Operating):
             self.judge("one that asks in pieces", passed_on(BODY), read_all(silent[1]))
             silent[2].shutdown(socket.SHUT_WR)
             self.judge("one that ends without a byte", b"HTTP/1.1 400 ", read_all(silent[2])[:13])
+
+    def serves_a_burst(self, backend: Backend) -> None:
+        """All who connect at once are served, whether they ask before they are accepted or a while later."""
+        gate = self.gateway(backend, workers=4, each=1_000_000, words=PATIENT)
+        with contextlib.ExitStack() as stack:
+            clients = []
+            for number in range(BURST):
+                clients += crowd_of(gate, stack, 1)
+                if number % 3:
+                    clients[-1].sendall(PLAIN)
+            for client in clients[::3]:
+                client.sendall(PLAIN)
+            found = [read_all(it) for it in clients]
+            self.judge("all of a burst", BURST, found.count(passed_on(BODY)))
+
+    def serves_nobody_who_broke_off(self, backend: Backend) -> None:
+        """Clients whose connection breaks before they have sent anything take no turn of a worker."""
+        gate = Operated(self.program, self.room, backend.port, workers=1, each=1, words=PATIENT)
+        with contextlib.ExitStack() as stack:
+            silent = crowd_of(gate, stack, BURST)
+            self.judge("all of them wait", True, gate.shows(silent_client_connections=BURST))
+            for client in silent:
+                reset(client)
+            self.judge("none of them is left", True, gate.shows(silent_client_connections=0))
+        self.judge("one behind them", passed_on(BODY), gate.ask(PLAIN))
+        self.judge("counters behind them", {"admitted": 1, "success": 1}, gate.ending())
 
     def lets_the_longest_go(self, backend: Backend) -> None:
         """Where all places are taken, who has waited longest goes; and a crowd keeps nobody waiting."""

@@ -1,5 +1,5 @@
 -- Who waits.
-use Rattle.std.specs.Prelude.{◌≡◌, ◌⊎◌, ℕ, ◌+◌, ◌-◌, ◌<◌, ◌≤◌, min, nat_lt, Bool, true, false}
+use Rattle.std.specs.Prelude.{◌≡◌, ◌⊎◌, ℕ, ◌+◌, ◌-◌, ◌<◌, ◌≤◌, min, nat_le, nat_lt, Bool, true, false}
 use Rattle.std.specs.Prelude.{List, [], ◌∷◌, ◌++◌, All, length, Option, Some, None}
 use Rattle.std.specs.Duration.{as_nanos}
 use Rattle.std.specs.declared.time.Duration.{Duration}
@@ -21,6 +21,10 @@ pub record Seating (T : Type 0) : Type 0 where
 -- all who wait
 abbrev pub taken_in : {T : Type 0} → Seating T → List (ℕ × Seated T)
 taken_in seats = seats.silent.taken ++ seats.kept.taken
+
+-- all places are taken
+abbrev pub is_full : {T : Type 0} → Seating T → Bool
+is_full seats = nat_le seats.places (length seats.silent.taken + length seats.kept.taken)
 
 -- all numbers so far are below the next one, and no more seats are taken than there are
 pub record AreSeats {T : Type 0} (silent kept : List (ℕ × Seated T)) (next places : ℕ)

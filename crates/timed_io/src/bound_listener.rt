@@ -12,8 +12,8 @@ use std::alloc::Global;
 use std::io::{Error, ErrorKind, Result};
 use std::net::{Net, SocketAddr, TcpListener, TcpStream};
 use std::os::fd::{AsFd, AsRawFd, RawFd};
-use std::sync::Wait;
 use std::sync::atomic::{AtomicBool, Ordering};
+use std::sync::{Mutex, Wait};
 use std::thread;
 use std::time::{Clock, Duration};
 
@@ -27,6 +27,9 @@ const OPEN_TO_ALL_MS: u64 = 500;
 /// For how long it waits for one who came and hasn't sent anything yet, in milliseconds.
 const NEWCOMER_MS: u64 = 500;
 
+/// How many are accepted before somebody is served.
+const MOST_AT_ONCE: u32 = 64;
+
 /// Clients over TCP. Where it has places, those who have sent nothing wait there, and are given to
 /// nobody before they have sent something, or have left; and those who are kept, until they send
 /// their next request.
@@ -35,6 +38,8 @@ pub struct BoundListener<'r, R> {
     rt: &'r R,
     listener: TcpListener,
     room: Room<'r, R>,
+    // One who was accepted, but can't wait, while somebody else was to be served.
+    unseated: Mutex<Option<TcpStream>>,
     open: AtomicBool,
     has_places: AtomicBool,
 }
@@ -58,6 +63,7 @@ impl<'r, R: Net + Wait + Clock> BoundListener<'r, R> {
             rt,
             listener,
             room,
+            unseated: Mutex::new(None),
             open: AtomicBool::new(true),
             has_places: AtomicBool::new(false),
         })
@@ -65,27 +71,61 @@ impl<'r, R: Net + Wait + Clock> BoundListener<'r, R> {
 
     // The next event, and the client that comes of it.
     fn await_event(&self) -> Result<Option<Arrival>> {
-        match self.room.wait() {
-            Came::Nothing => Ok(None),
-            Came::New(stream) => Ok(Some(arrival_of(stream, false))),
-            Came::Kept(stream) => Ok(Some(arrival_of(stream, true))),
-            Came::Connection => match self.welcome()? {
-                Some(stream) => Ok(Some(arrival_of(stream, false))),
-                None => Ok(None),
-            },
+        let (came, is_kept) = match self.room.wait() {
+            Came::Nothing => (self.unseated.lock(self.rt).take(), false),
+            Came::New(stream) => (Some(stream), false),
+            Came::Kept(stream) => (Some(stream), true),
+            Came::Connection => (self.welcome()?, false),
+        };
+        match came {
+            Some(stream) => Ok(Some(arrival_of(stream, is_kept))),
+            None => Ok(None),
         }
     }
 
-    // Accepts a connection, and has the next one be told of to whoever waits; none came where
-    // another one was quicker.
+    // Accepts those who have come, as far as places are free, and one in any case. The first one
+    // who has sent something is served now, and all others wait in the room: a new client waits
+    // there beside those who are kept, and not for one event of each of these behind every client
+    // that came before it. None came where somebody else was quicker.
     fn welcome(&self) -> Result<Option<TcpStream>> {
-        let accepted = self.listener.accept();
-        self.room.watch_listener(&self.listener)?;
-        match accepted {
-            Ok((client, _)) => Ok(self.room.admit(client)),
-            Err(fault) if fault.kind() == ErrorKind::WouldBlock => Ok(None),
-            Err(fault) => Err(fault),
+        let mut unseated = self.unseated.lock(self.rt);
+        let mut first = unseated.take();
+        for _ in 0..MOST_AT_ONCE {
+            let client = match self.listener.accept() {
+                Ok((client, _)) => client,
+                Err(fault) if fault.kind() == ErrorKind::WouldBlock => return Ok(first),
+                Err(fault) => return self.served_first(first, Some(fault)),
+            };
+            if let Some(client) = self.room.admit(client, first.is_none()) {
+                if first.is_some() {
+                    *unseated = Some(client);
+                    break;
+                }
+                first = Some(client);
+            }
+            if !self.room.has_place() {
+                break;
+            }
         }
+        self.served_first(first, None)
+    }
+
+    // Has those be told of who still lie at the listener, and gives who is served now, or else the
+    // fault that there was.
+    fn served_first(
+        &self,
+        first: Option<TcpStream>,
+        fault: Option<Error>,
+    ) -> Result<Option<TcpStream>> {
+        let watched = self.room.watch_listener(&self.listener);
+        if first.is_some() {
+            return Ok(first);
+        }
+        if let Some(fault) = fault {
+            return Err(fault);
+        }
+        watched?;
+        Ok(None)
     }
 
     // Whether a connection waits to be accepted, or somebody who was accepted waits to be served,
@@ -93,6 +133,7 @@ impl<'r, R: Net + Wait + Clock> BoundListener<'r, R> {
     fn has_waiting(&self) -> bool {
         has_waiting(self.listener.as_raw_fd())
             || has_waiting(self.room.as_raw_fd())
+            || self.unseated.lock(self.rt).is_some()
             || self.room.has_newcomer(Duration::from_millis(NEWCOMER_MS))
     }
 

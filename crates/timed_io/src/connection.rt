@@ -67,11 +67,6 @@ impl Connection for TcpStream {
     }
 }
 
-/// Whether nothing has come of the other side yet, neither a byte nor its end. It waits for none.
-pub(crate) fn is_silent(connection: &TcpStream) -> bool {
-    peek(connection.as_raw_fd()) < 0 && is_transient(&Error::from_raw_os_error(os::errno()))
-}
-
 // How many bytes lie unread, of one that is looked for: none at the end of what was sent, and below
 // zero where the call failed.
 fn peek(file: RawFd) -> isize {

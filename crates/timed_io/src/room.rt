@@ -1,8 +1,10 @@
 // Where clients wait until they send something.
 use crate::client_counts::{ClientConnections, ClientCounts, ClientEvent};
-use crate::connection::{Connection, is_silent};
+use crate::connection::Connection;
 use crate::seats::{Places, Seats};
-use libc::net::{EPOLL_CTL_ADD, EPOLL_CTL_MOD, EPOLLIN, EPOLLONESHOT, EPOLLRDHUP};
+use libc::net::{
+    EPOLL_CTL_ADD, EPOLL_CTL_MOD, EPOLLET, EPOLLHUP, EPOLLIN, EPOLLONESHOT, EPOLLRDHUP,
+};
 use os::{EpollEvent, epoll_ctl, epoll_wait};
 use std::alloc::Global;
 use std::io::{Error, Result};
@@ -13,6 +15,12 @@ use std::time::{Clock, Duration};
 
 /// The number of the listener among the events: no seat has it.
 const LISTENER: u64 = u64::MAX;
+
+/// What is told of the listener: whenever another connection comes, to one of those who wait.
+const OF_LISTENER: u32 = EPOLLIN | EPOLLET;
+
+/// What is told of a client: that something comes of it, or its end, once.
+const OF_CLIENTS: u32 = EPOLLIN | EPOLLRDHUP | EPOLLONESHOT;
 
 /// How long a wait is at most, in milliseconds: so often whoever waits looks for those whose time
 /// is over.
@@ -25,9 +33,9 @@ const MOST_AT_ONCE: u32 = 64;
 pub(crate) enum Came {
     /// Nothing yet.
     Nothing,
-    /// A connection lies at the listener, or that was closed.
+    /// Connections lie at the listener, or that was closed.
     Connection,
-    /// Someone who waited has sent something, or has left before it was served.
+    /// Someone who waited has sent something, or has ended what it sends.
     New(TcpStream),
     /// Someone who is kept has sent something.
     Kept(TcpStream),
@@ -54,7 +62,7 @@ impl<'r, R: Net + Wait + Clock> Room<'r, R> {
             seats: Mutex::new(None),
             counts: ClientCounts::new(),
         };
-        room.watch(EPOLL_CTL_ADD, listener.as_raw_fd(), LISTENER)?;
+        room.watch(EPOLL_CTL_ADD, listener.as_raw_fd(), OF_LISTENER, LISTENER)?;
         Ok(room)
     }
 
@@ -81,9 +89,9 @@ impl<'r, R: Net + Wait + Clock> Room<'r, R> {
         }
     }
 
-    /// Has the next connection at the listener be told of.
+    /// Has those be told of who lie at the listener still.
     pub(crate) fn watch_listener<L: AsRawFd>(&self, listener: &L) -> Result<()> {
-        self.watch(EPOLL_CTL_MOD, listener.as_raw_fd(), LISTENER)
+        self.watch(EPOLL_CTL_MOD, listener.as_raw_fd(), OF_LISTENER, LISTENER)
     }
 
     /// How many wait, and what became of those who came.
@@ -95,13 +103,21 @@ impl<'r, R: Net + Wait + Clock> Room<'r, R> {
         self.counts.beside(silent, idle)
     }
 
-    /// Who came just now is handed back where it has sent something, or can't wait; else it waits.
-    pub(crate) fn admit(&self, client: TcpStream) -> Option<TcpStream> {
+    /// Who came just now is handed back where it is wanted and has sent something, or can't wait;
+    /// else it waits. Who has sent something already is told of at once.
+    pub(crate) fn admit(&self, client: TcpStream, is_wanted: bool) -> Option<TcpStream> {
         self.counts.count(ClientEvent::Opened);
-        if is_silent(&client) {
-            self.seat(client, false)
-        } else {
-            Some(client)
+        if is_wanted && client.has_unread() {
+            return Some(client);
+        }
+        self.seat(client, false)
+    }
+
+    /// Whether a place is free, so that one more may wait and nobody has to go for it.
+    pub(crate) fn has_place(&self) -> bool {
+        match &*self.seats.lock(self.rt) {
+            Some(seats) => !seats.is_full(),
+            None => false,
         }
     }
 
@@ -151,24 +167,35 @@ impl<'r, R: Net + Wait + Clock> Room<'r, R> {
         }
     }
 
-    // Who waits by this number, of whom the system tells this. Who is kept and has left is let go.
+    // Who waits by this number, of whom the system tells this. Who has left is let go: one who is
+    // kept with its end, and another one, who may wait for an answer still, where its connection is
+    // broken.
     fn called(&self, number: u64, told: u32) -> Came {
-        if let Some(client) = self.take(number, false) {
-            return Came::New(client);
-        }
-        let Some(client) = self.take(number, true) else {
+        let Some((client, is_kept)) = self.take(number) else {
             return Came::Nothing;
         };
-        if told & EPOLLRDHUP != 0 && client.has_left() {
+        let end = if is_kept { EPOLLRDHUP } else { EPOLLHUP };
+        if told & end != 0 && client.has_left() {
             return Came::Nothing;
+        }
+        if !is_kept {
+            return Came::New(client);
         }
         self.counts.count(ClientEvent::Reused);
         Came::Kept(client)
     }
 
-    fn take(&self, number: u64, is_kept: bool) -> Option<TcpStream> {
-        match &mut *self.seats.lock(self.rt) {
-            Some(seats) => take(seats, number, is_kept),
+    // Takes the one of this number, and tells whether it is kept.
+    fn take(&self, number: u64) -> Option<(TcpStream, bool)> {
+        let mut places = self.seats.lock(self.rt);
+        let Some(seats) = &mut *places else {
+            return None;
+        };
+        if let Some(client) = seats.take_silent(number) {
+            return Some((client, false));
+        }
+        match seats.take_kept(number) {
+            Some(client) => Some((client, true)),
             None => None,
         }
     }
@@ -180,50 +207,52 @@ impl<'r, R: Net + Wait + Clock> Room<'r, R> {
             return LONGEST_WAIT_MS;
         };
         for _ in 0..MOST_AT_ONCE {
-            if self.take_late(now).is_none() {
-                return self.until_next(now);
+            if let Err(most) = self.take_late(now) {
+                return most;
             }
             self.counts.count(ClientEvent::Late);
         }
         0
     }
 
-    fn take_late(&self, now: Duration) -> Option<TcpStream> {
-        match &mut *self.seats.lock(self.rt) {
-            Some(seats) => seats.take_late(now),
-            None => None,
-        }
-    }
-
-    fn until_next(&self, now: Duration) -> i32 {
-        let Some(seats) = &*self.seats.lock(self.rt) else {
-            return -1;
+    // Takes one whose time is over, or tells for how many milliseconds there is none.
+    fn take_late(&self, now: Duration) -> std::result::Result<TcpStream, i32> {
+        let mut places = self.seats.lock(self.rt);
+        let Some(seats) = &mut *places else {
+            return Err(-1);
         };
-        match seats.left(now) {
-            Some(left) => i32::try_from(left.as_millis())
-                .unwrap_or(i32::MAX)
-                .saturating_add(1)
-                .min(LONGEST_WAIT_MS),
-            None => LONGEST_WAIT_MS,
+        match seats.take_late(now) {
+            Some(client) => Ok(client),
+            None => Err(until_next(seats, now)),
         }
     }
 
     // Has the system tell of a client, by this number. Who is kept is mostly watched already, since
     // it waited before its first request.
     fn watch_client(&self, file: RawFd, number: u64, is_kept: bool) -> Result<()> {
-        if is_kept && self.watch(EPOLL_CTL_MOD, file, number).is_ok() {
+        if is_kept && self.watch(EPOLL_CTL_MOD, file, OF_CLIENTS, number).is_ok() {
             return Ok(());
         }
-        self.watch(EPOLL_CTL_ADD, file, number)
+        self.watch(EPOLL_CTL_ADD, file, OF_CLIENTS, number)
     }
 
-    // Has the system tell once when something comes of this descriptor, by this number.
-    fn watch(&self, how: i32, file: RawFd, number: u64) -> Result<()> {
-        let wanted = EPOLLIN | EPOLLRDHUP | EPOLLONESHOT;
+    // Has the system tell of what is wanted of this descriptor, by this number.
+    fn watch(&self, how: i32, file: RawFd, wanted: u32, number: u64) -> Result<()> {
         if epoll_ctl(self.set.as_raw_fd(), how, file, wanted, number) < 0 {
             return Err(Error::from_raw_os_error(os::errno()));
         }
         Ok(())
+    }
+}
+
+/// For how many milliseconds nobody's time is over, up to a second.
+fn until_next(seats: &Seats<TcpStream>, now: Duration) -> i32 {
+    match seats.left(now) {
+        Some(left) => i32::try_from(left.as_millis())
+            .unwrap_or(i32::MAX)
+            .saturating_add(1)
+            .min(LONGEST_WAIT_MS),
+        None => LONGEST_WAIT_MS,
     }
 }
 

@@ -4,7 +4,7 @@ ghost use Rattle.std.specs.Prelude.{option_map, IfErr, IfNone, IfOk, IfSome, IsS
 ghost use Rattle.std.specs.Duration.{as_nanos};
 ghost use Rattle.std.specs.Map.{lookup, remove_entry};
 ghost use Rattle.timed_io.specs.Seats.{HasLeft, HasLeftRows, JoinedRows, LeavesFirst};
-ghost use Rattle.timed_io.specs.Seats.{MadeRoom, comes_first, joined, left_at, taken_in};
+ghost use Rattle.timed_io.specs.Seats.{MadeRoom, comes_first, is_full, joined, left_at, taken_in};
 
 use crate::row::{Row, Seated};
 use std::alloc::Global;
@@ -157,6 +157,14 @@ impl<T: Drop> Seats<T> {
     /// For how long the last one has waited who has sent nothing.
     pub(crate) fn last_waited(&self, now: Duration) -> Option<Duration> {
         self.silent.last_waited(now)
+    }
+
+    /// Whether all places are taken.
+    pub(crate) fn is_full(&self) -> bool
+        ensures { result ≡ is_full self.now }
+    {
+        let free = (self.count as usize).saturating_sub(self.silent.len());
+        free <= self.kept.len()
     }
 
     /// How many have sent nothing, and how many are kept.
