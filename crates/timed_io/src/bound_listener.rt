@@ -12,7 +12,7 @@ use std::alloc::Global;
 use std::io::{Error, ErrorKind, Result};
 use std::net::{Net, SocketAddr, TcpListener, TcpStream};
 use std::os::fd::{AsFd, AsRawFd, RawFd};
-use std::sync::atomic::{AtomicBool, Ordering};
+use std::sync::atomic::{AtomicBool, AtomicU64, Ordering};
 use std::sync::{Mutex, Wait};
 use std::thread;
 use std::time::{Clock, Duration};
@@ -38,6 +38,8 @@ pub struct BoundListener<'r, R> {
     rt: &'r R,
     listener: TcpListener,
     room: Room<'r, R>,
+    // How many were told of the listener since one of them began to accept.
+    told: AtomicU64,
     // One who was accepted, but can't wait, while somebody else was to be served.
     unseated: Mutex<Option<TcpStream>>,
     open: AtomicBool,
@@ -63,6 +65,7 @@ impl<'r, R: Net + Wait + Clock> BoundListener<'r, R> {
             rt,
             listener,
             room,
+            told: AtomicU64::new(0),
             unseated: Mutex::new(None),
             open: AtomicBool::new(true),
             has_places: AtomicBool::new(false),
@@ -84,21 +87,25 @@ impl<'r, R: Net + Wait + Clock> BoundListener<'r, R> {
     }
 
     // Accepts those who have come, as far as places are free, and one in any case. The first one
-    // who has sent something is served now, and all others wait in the room: a new client waits
-    // there beside those who are kept, and not for one event of each of these behind every client
-    // that came before it. None came where somebody else was quicker.
+    // who has sent something is served now, and all others wait in the room: with one accept for
+    // each event, a new client would wait for all who are busy once for each who came before it.
+    // One at a time accepts; who is told meanwhile leaves it to that one, who looks again.
     fn welcome(&self) -> Result<Option<TcpStream>> {
-        let mut unseated = self.unseated.lock(self.rt);
-        let mut first = unseated.take();
+        if self.told.fetch_add(1, Ordering::SeqCst) > 0 {
+            return Ok(None);
+        }
+        let mut first = self.unseated.lock(self.rt).take();
         for _ in 0..MOST_AT_ONCE {
             let client = match self.listener.accept() {
                 Ok((client, _)) => client,
-                Err(fault) if fault.kind() == ErrorKind::WouldBlock => return Ok(first),
-                Err(fault) => return self.served_first(first, Some(fault)),
+                Err(fault) if fault.kind() == ErrorKind::WouldBlock => {
+                    return self.end_welcome(first, None, false);
+                }
+                Err(fault) => return self.end_welcome(first, Some(fault), true),
             };
             if let Some(client) = self.room.admit(client, first.is_none()) {
                 if first.is_some() {
-                    *unseated = Some(client);
+                    *self.unseated.lock(self.rt) = Some(client);
                     break;
                 }
                 first = Some(client);
@@ -107,17 +114,23 @@ impl<'r, R: Net + Wait + Clock> BoundListener<'r, R> {
                 break;
             }
         }
-        self.served_first(first, None)
+        self.end_welcome(first, None, true)
     }
 
-    // Has those be told of who still lie at the listener, and gives who is served now, or else the
-    // fault that there was.
-    fn served_first(
+    // Has those be told of who may still lie at the listener, which they may also where another one
+    // was told meanwhile; and gives who is served now, or else the fault that there was.
+    fn end_welcome(
         &self,
         first: Option<TcpStream>,
         fault: Option<Error>,
+        may_lie: bool,
     ) -> Result<Option<TcpStream>> {
-        let watched = self.room.watch_listener(&self.listener);
+        let told = self.told.swap(0, Ordering::SeqCst);
+        let watched = if may_lie || told > 1 {
+            self.room.watch_listener(&self.listener)
+        } else {
+            Ok(())
+        };
         if first.is_some() {
             return Ok(first);
         }
