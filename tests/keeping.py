@@ -4,9 +4,11 @@ import re
 import socket
 import time
 import typing
+from concurrent.futures import ThreadPoolExecutor
 
 from loopback import FIVE, Backend, Gateway, Listener
 from operating import Operated, Operating
+from sockets import tried
 from wires import local, reset, whole_request
 
 GET = b"GET /first HTTP/1.1\r\nHost: h\r\nConnection: close\r\n\r\n"
@@ -151,6 +153,10 @@ ROWS = [
     ),
 ]
 PATIENT = "backend_idle_ms = 20000"
+# A connection that has waited for so many seconds tells whether its backend leaves it open.
+SETTLES = 0.15
+# So many calls, and so many of them at once.
+CALLS, AT_ONCE = 300, 24
 # With a body of megabytes, which the backend doesn't take before it answers.
 CUT = Row(
     "an early answer to a request that wasn't written",
@@ -213,6 +219,14 @@ class Talkative(Listener):
         return [len(it) for it in self.given]
 
 
+class Secretive(Listener):
+    """A backend that closes each connection behind its answer, and doesn't say so."""
+
+    def serve(self, client: socket.socket) -> None:
+        whole_request(client)
+        client.sendall(OTHER)
+
+
 class Keeping(Operating):
     """Cases on connections to the backend that are kept."""
 
@@ -224,8 +238,9 @@ class Keeping(Operating):
         """One connection serves one client after the other, and no request asks for its end."""
         backend = Talkative()
         gate = self.kept(backend, each=8)
-        for _ in range(8):
+        for turn in range(8):
             self.judge("an answer over a kept connection", passed(b"200 OK", b"next"), gate.ask(NEXT))
+            time.sleep(0 if turn else SETTLES)
         self.judge("counters of kept connections", {"admitted": 8, "success": 8}, gate.ending())
         self.judge("requests of each connection", [8], backend.requests())
         told = {re.search(rb"(?mi)^connection:.*$", it) for given in backend.given for it in given}
@@ -260,7 +275,7 @@ class Keeping(Operating):
         backend = Talkative(row)
         gate = self.kept(backend, each=2)
         first = gate.ask(row.request)
-        time.sleep(0.1)
+        time.sleep(SETTLES)
         second = gate.ask(NEXT)
         self.judge(f"{row.what}: the answer", row.wanted, first)
         self.judge(f"{row.what}: the next answer", passed(b"200 OK", b"next"), second)
@@ -284,10 +299,28 @@ class Keeping(Operating):
             backend = Breaking()
             gate = self.kept(backend, each=3)
             wanted = [passed(b"200 OK", b"next"), local(502), passed(b"200 OK", b"next")]
-            self.judge("answers where one breaks", wanted, [gate.ask(NEXT) for _ in range(3)])
+            found = [gate.ask(NEXT)]
+            time.sleep(SETTLES)
+            self.judge("answers where one breaks", wanted, found + [gate.ask(NEXT) for _ in range(2)])
             self.judge("counters where one breaks", {"admitted": 3, "success": 2, "dropped": 1}, gate.ending())
             self.judge("requests of each connection where one breaks", [2, 1], backend.requests())
             backend.close()
+
+    def loses_nothing_to_an_end_untold(self, _: Backend) -> None:
+        """A backend that closes behind each answer without saying so costs nobody a request."""
+        backend = Secretive()
+        gate = self.kept(backend, workers=AT_ONCE, each=1_000_000)
+
+        def lost() -> int:
+            with ThreadPoolExecutor(AT_ONCE) as pool:
+                found = [*pool.map(gate.ask, [NEXT] * CALLS)]
+            return CALLS - found.count(passed(b"200 OK", b"next"))
+
+        # Other work on the machine may hold the backend up between its answer and its end.
+        found = tried(lost, 1)
+        self.judge("requests that are lost", 0, found[-1] and found)
+        gate.process.terminate()
+        backend.close()
 
     def keeps_them_for_a_while(self, _: Backend) -> None:
         """One that is idle for too long isn't used again, and is closed."""
@@ -296,6 +329,7 @@ class Keeping(Operating):
         gate.ask(NEXT)
         time.sleep(2)
         gate.ask(NEXT)
+        time.sleep(SETTLES)
         gate.ask(NEXT)
         self.judge("counters of idle ones", {"admitted": 3, "success": 3}, gate.ending())
         self.judge("requests of each connection where one was idle", [1, 2], backend.requests())
@@ -306,6 +340,7 @@ class Keeping(Operating):
         backend = Talkative()
         gate = self.operated(backend, "backend_idle_ms = 1500", workers=1, version=3)
         gate.ask(NEXT)
+        time.sleep(SETTLES)
         gate.ask(NEXT)
         self.judge(
             "one connection, which is idle", (1, 1, {"opened": 1, "reused": 1, "stale": 0}), self.connections(gate)

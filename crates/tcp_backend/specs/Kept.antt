@@ -1,5 +1,5 @@
 -- When a connection carries another request.
-use Rattle.std.specs.Prelude.{◌≡◌, ℕ, Bool, true, false, ◌&&◌, ◌==◌, ◌-◌, nat_lt, List, length, Result, Ok, Err}
+use Rattle.std.specs.Prelude.{◌≡◌, ℕ, Bool, true, false, ◌&&◌, ◌||◌, ◌==◌, ◌-◌, nat_le, nat_lt, List, length, Result, Ok, Err}
 use Rattle.std.specs.Net.Text.{socket_v4_text}
 use Rattle.lent_io.specs.Buffers.{ahead_of}
 use Rattle.message_text.specs.declared.persistence.Persistence.{Persistence}
@@ -20,6 +20,20 @@ dialed_at end = socket_v4_text end.address
 -- one that waits since then has waited for less than the most that it may
 abbrev pub is_young : ℕ → ℕ → ℕ → Bool
 is_young since most now = nat_lt (now - since) most
+
+-- one that waits since then has settled: it has waited for as long as one does on trial, so that its
+-- end would have come where the backend closed it behind its answer
+abbrev pub has_settled : ℕ → ℕ → ℕ → Bool
+has_settled trial since now = nat_le trial (now - since)
+
+-- MAY BE TAKEN: the backend is trusted, or the connection has settled
+abbrev pub may_be_taken : Bool → ℕ → ℕ → ℕ → Bool
+may_be_taken trusted trial since now = trusted || has_settled trial since now
+
+-- behind a look at one the backend is trusted where that was silent, and it was trusted before or
+-- the connection has settled
+abbrev pub is_trusted_behind : Bool → Bool → Bool → Bool
+is_trusted_behind trusted silent settled = silent && (trusted || settled)
 
 -- a response leaves its connection ready for another request
 abbrev pub is_ready : Reuse → Bool
