@@ -2,11 +2,13 @@
 import dataclasses
 import re
 import socket
+import threading
 import time
 import typing
 
 from loopback import FIVE, Backend, Gateway, Listener
 from operating import Operated, Operating
+from running import PATIENCE
 from wires import local, reset, whole_request
 
 GET = b"GET /first HTTP/1.1\r\nHost: h\r\nConnection: close\r\n\r\n"
@@ -169,6 +171,8 @@ class Talkative(Listener):
     def __init__(self, row: Row | None = None) -> None:
         self.row = row
         self.given: list[list[bytes]] = []
+        # Whether all was said of the row, and the connection closed where it closes.
+        self.is_through = threading.Event()
         super().__init__()
 
     def serve(self, client: socket.socket) -> None:
@@ -206,6 +210,9 @@ class Talkative(Listener):
         if self.row.later:
             time.sleep(0.05)
             client.sendall(self.row.later)
+        if self.row.closes:
+            client.shutdown(socket.SHUT_RDWR)
+        self.is_through.set()
         return not self.row.closes
 
     def requests(self) -> list[int]:
@@ -260,6 +267,8 @@ class Keeping(Operating):
         backend = Talkative(row)
         gate = self.kept(backend, each=2)
         first = gate.ask(row.request)
+        if row.later or row.closes:
+            backend.is_through.wait(PATIENCE)
         time.sleep(0.1)
         second = gate.ask(NEXT)
         self.judge(f"{row.what}: the answer", row.wanted, first)
