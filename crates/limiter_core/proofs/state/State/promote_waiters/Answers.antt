@@ -1,38 +1,14 @@
-use Rattle.std.proofs.Common.{rules}
+use Rattle.std.proofs.Common.{List, sym, ap, map, ◌∙◌}
+use Rattle.limiter_core.specs.declared.event.Promotion.{Promotion}
+use Rattle.limiter_core.specs.History.{image_after}
+use Rattle.limiter_core.specs.Limiter.{entry_of}
+use Rattle.limiter_core.specs.Standing.{gate_in, stands_in}
+use Rattle.limiter_core.proofs.ImageJoins.{image_nil}
 use Rattle.limiter_core.proofs.state.State.promote_waiters.Goals as goal
 
-pub returns-in-Newest-clause-promoted : goal.returns-in-Newest-clause-promoted
-returns-in-Newest-clause-promoted g c = search rules
-
-pub returns-in-Newest-clause-stands : goal.returns-in-Newest-clause-stands
-returns-in-Newest-clause-stands g c = search rules
-
-pub returns-in-Newest-clause-held : goal.returns-in-Newest-clause-held
-returns-in-Newest-clause-held g c = search rules
-
-pub returns-in-Newest-clause-kept : goal.returns-in-Newest-clause-kept
-returns-in-Newest-clause-kept g c = search rules
-
-pub returns-in-Newest-clause-few : goal.returns-in-Newest-clause-few
-returns-in-Newest-clause-few g c = search rules
-
-pub returns-in-Newest-clause-capacity : goal.returns-in-Newest-clause-capacity
-returns-in-Newest-clause-capacity g c = search rules
-
-pub returns-in-All-clause-promoted : goal.returns-in-All-clause-promoted
-returns-in-All-clause-promoted g c = search rules
-
-pub returns-in-All-clause-stands : goal.returns-in-All-clause-stands
-returns-in-All-clause-stands g c = search rules
-
-pub returns-in-All-clause-held : goal.returns-in-All-clause-held
-returns-in-All-clause-held g c = search rules
-
-pub returns-in-All-clause-kept : goal.returns-in-All-clause-kept
-returns-in-All-clause-kept g c = search rules
-
-pub returns-in-All-clause-few : goal.returns-in-All-clause-few
-returns-in-All-clause-few g c = search rules
-
-pub returns-in-All-clause-capacity : goal.returns-in-All-clause-capacity
-returns-in-All-clause-capacity g c = search rules
+pub returns-else-not-is_empty-clause-stands : goal.returns-else-not-is_empty-clause-stands
+returns-else-not-is_empty-clause-stands g c =
+    let s = c.args.self.now in
+    sym (ap (λ (ps : List Promotion).
+    image_after (gate_in g.L.Limit.rules s) (stands_in s) (map entry_of ps)) c.requires.none
+    ∙ image_nil (gate_in g.L.Limit.rules s) (stands_in s))
