@@ -1,7 +1,7 @@
 -- The line of a configuration that is accepted.
 use Rattle.std.specs.Prelude.{ℕ, List, [], ◌∷◌, length, codes, decimal}
 use Rattle.std.specs.List.{concat}
-use Rattle.gate_config.specs.declared.settings.Settings.{Settings}
+use Rattle.gateway_settings.specs.declared.settings.Settings.{Settings}
 use Rattle.limit_kinds.specs.AnyKinds.{any_kind, any_limit}
 use Rattle.limit_kinds.specs.Kinds.{kind_word}
 use Rattle.fault_lines.specs.FaultLine.{line}

@@ -7,7 +7,7 @@ ghost use Rattle.config_check.specs.Accepted.{accepted_line};
 
 use counted_io::{Counted, WriteFault};
 use fault_lines::write_line;
-use gate_config::Settings;
+use gateway_settings::Settings;
 use itoa::Buffer;
 use limit_laws::Limit;
 use std::io::Write;

@@ -1,6 +1,7 @@
 // What is worth knowing of the addresses, and of how callers are told apart.
 use crate::members::items_at;
-use gate_config::{Address, Key, Settings, read_text};
+use gate_config::{Key, read_text};
+use gateway_settings::{Address, Settings};
 use std::alloc::AllocError;
 use toml::{Table, Value};
 

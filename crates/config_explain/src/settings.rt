@@ -1,9 +1,10 @@
 // What is worth knowing of a configuration without fault.
-ghost use Rattle.gate_config.specs.Settings.{AreSound};
+ghost use Rattle.gateway_settings.specs.Settings.{AreSound};
 
 use crate::callers::explain_callers;
 use crate::limits::explain_limit;
-use gate_config::{AnyLimit, Key, Settings, value_at};
+use gate_config::{AnyLimit, Key, value_at};
+use gateway_settings::Settings;
 use limit_kinds::LimitKind;
 use limit_laws::Limit;
 use std::alloc::AllocError;

@@ -8,7 +8,7 @@ use Rattle.counted_io.specs.Counted.{failures_of, inner_of}
 use Rattle.counted_io.specs.Effects.{IfLeft}
 use Rattle.gate_config.specs.declared.fault.ConfigFault.{ConfigFault}
 use Rattle.gate_config.specs.declared.fault.ConfigFault.TheVariants as Config
-use Rattle.gate_config.specs.declared.settings.Settings.{Settings}
+use Rattle.gateway_settings.specs.declared.settings.Settings.{Settings}
 use Rattle.gate_config.specs.Settings.{Reads, settings_of}
 use Rattle.config_file.specs.declared.file_fault.FileFault.{FileFault}
 use Rattle.config_file.specs.declared.file_fault.FileFault.TheVariants as File

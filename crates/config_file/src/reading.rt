@@ -3,13 +3,14 @@ ghost use Rattle.std.specs.Prelude.{◌≡◌, ◌≤◌, ◌+◌, Ok, IfErr, If
 ghost use Rattle.counted_io.specs.declared.counted.Counted.{Counted as CountedValue};
 ghost use Rattle.counted_io.specs.Causes.{HasRead};
 ghost use Rattle.counted_io.specs.Counted.{calls_of, failures_of, inner_of};
-ghost use Rattle.gate_config.specs.Settings.{AreSound};
+ghost use Rattle.gateway_settings.specs.Settings.{AreSound};
 ghost use Rattle.config_file.specs.Reading.{Held, IsFaultOf, IsUnread, IsUnreadFile, Says, most_reads};
 
 use super::file_fault::FileFault;
 use crate::opening::Opener;
 use counted_io::{Counted, read_all};
-use gate_config::{Settings, read};
+use gate_config::read;
+use gateway_settings::Settings;
 use std::alloc::Global;
 use std::io::Read;
 

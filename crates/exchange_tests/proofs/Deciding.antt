@@ -10,7 +10,7 @@ use Rattle.limiter_core.specs.History.{Gate}
 use Rattle.gate_journal.specs.Image.{image_of}
 use Rattle.gate_ledgers.specs.Making.{Making}
 use Rattle.gate_port.specs.declared.report.Report.{Report}
-use Rattle.gate_config.specs.declared.settings.Settings.{Settings}
+use Rattle.gateway_settings.specs.declared.settings.Settings.{Settings}
 use Rattle.shared_gate.specs.Calls.{Pass}
 use Rattle.shared_gate.specs.Closing.{limiter_of}
 use Rattle.shared_gate.specs.Reported.{AreCountersBehind}

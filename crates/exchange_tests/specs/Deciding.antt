@@ -8,7 +8,7 @@ use Rattle.limiter_core.specs.Legal.{IsLegal}
 use Rattle.gate_journal.specs.Image.{Standing, image_of}
 use Rattle.gate_ledgers.specs.Making.{Making}
 use Rattle.gate_history.specs.Book.{IsUnasked}
-use Rattle.gate_config.specs.declared.settings.Settings.{Settings}
+use Rattle.gateway_settings.specs.declared.settings.Settings.{Settings}
 use Rattle.shared_gate.specs.Closing.{limiter_of}
 use Rattle.proxy.specs.declared.told.ExchangeSummary.{ExchangeSummary}
 use Rattle.proxy.specs.Exchanges.{IsExchange, Policy, World}

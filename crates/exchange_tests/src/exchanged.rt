@@ -2,7 +2,8 @@
 use crate::devices::{KEPT, Moments, Says, Sink, Source, Ticking, Told, Watched};
 use clocks::MonotonicClock;
 use counted_io::Counted;
-use gate_config::{Settings, read};
+use gate_config::read;
+use gateway_settings::Settings;
 use limiter_core::Outcome;
 use proxy::{ExchangePolicy, ExchangeSummary, exchange};
 use std::alloc::Global;

@@ -1,5 +1,4 @@
 mod Lists
-mod Addresses
 mod Blank
 mod Documents
 mod Made

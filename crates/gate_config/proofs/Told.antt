@@ -6,7 +6,7 @@ use Rattle.gate_config.specs.declared.fault.ConfigFault.TheVariants as Fault
 use Rattle.gate_config.specs.Outcomes.{◌>>=◌}
 use Rattle.gate_config.specs.Unknown.{UnknownKey, least}
 use Rattle.gate_config.specs.declared.version.Version.{Version}
-use Rattle.gate_config.specs.declared.settings.Settings.{Settings}
+use Rattle.gateway_settings.specs.declared.settings.Settings.{Settings}
 use Rattle.gate_config.specs.Document.{DocumentValues}
 use Rattle.gate_config.specs.Settings.{IsOfKey, known, made_of}
 use Rattle.gate_config.specs.UnknownKeys.{unknown_keys_of}

@@ -4,7 +4,6 @@ pub mod Fault
 pub mod Outcomes
 pub mod Number
 pub mod Text
-pub mod Address
 pub mod Table
 pub mod Unknown
 pub mod ClassRows
@@ -21,4 +20,3 @@ pub mod Document
 pub mod UnknownKeys
 pub mod Rules
 pub mod Settings
-pub mod Workers

@@ -4,7 +4,7 @@ use Rattle.toml.specs.Data.{Data, Members, get_member}
 use Rattle.partitions.specs.Table.{Row as ClassRow}
 use Rattle.gate_config.specs.declared.fault.ConfigFault.{ConfigFault}
 use Rattle.gate_config.specs.declared.key.Key.{Key}
-use Rattle.gate_config.specs.Address.{is_address}
+use Rattle.gateway_settings.specs.Address.{is_address}
 use Rattle.gate_config.specs.Rows.{name_of}
 use Rattle.gate_config.specs.Number.{flag_from, number_from}
 use Rattle.gate_config.specs.Outcomes.{result_map, ◌>>=◌}

@@ -16,7 +16,7 @@ use Rattle.gate_config.specs.declared.version.Version.{Version}
 use Rattle.gate_config.specs.declared.version.Version.TheVariants.{One, Two, Three}
 use Rattle.gate_config.specs.Rows.{all}
 use Rattle.gate_config.specs.Section.{flag_at, number_at, text_at}
-use Rattle.gate_config.specs.declared.settings.Settings.{Settings}
+use Rattle.gateway_settings.specs.declared.settings.Settings.{Settings}
 use Rattle.gate_config.specs.Document.{DocumentValues, document_of}
 use Rattle.gate_config.specs.Rules.{bypass_from, resolvers_after}
 use Rattle.gate_config.specs.UnknownKeys.{unknown_keys_of}
@@ -93,17 +93,3 @@ IsOfKey (Fault.Kind key) = Unit {0}
 IsOfKey (Fault.Value key) = Unit {0}
 IsOfKey (Fault.Unknown path) = ⊥
 IsOfKey Fault.Route = ⊥
-
--- the numbers of settings are in their ranges: the backlog has the classes' own places, and the
--- timeout is from a millisecond to an hour, in nanoseconds
-pub record AreSound (s : Settings) : Type 0 where
-  pub backlog_most : s.backlog ≤ 10000
-  pub places_within : placed s.table ≤ s.backlog
-  pub timeout_least : 1000000 ≤ s.timeout_ns
-  pub timeout_most : s.timeout_ns ≤ 3600000000000
-  pub clients_most : s.clients ≤ 10000
-  pub client_idle_most : s.client_idle_ns ≤ 3600000000000
-  pub backends_most : s.backends ≤ 64
-  pub backend_idle_most : s.backend_idle_ns ≤ 3600000000000
-  pub keep_least : 1 ≤ s.keep
-  pub keep_most : s.keep ≤ 1000000

@@ -25,7 +25,6 @@ mod number;
 mod promote;
 mod reading;
 mod resolver;
-mod settings;
 mod table;
 mod text;
 mod top;
@@ -33,9 +32,8 @@ mod unknown;
 mod unknown_keys;
 mod version;
 mod window;
-mod workers;
 
-pub use address::{Address, read_address};
+pub use address::read_address;
 pub use bypass::{BypassKeys, check_bypasses, read_bypasses};
 pub use class::{ClassKeys, class_keys, read_classes};
 pub use entry::value_at;
@@ -47,7 +45,6 @@ pub use number::{Range, read_flag, read_number};
 pub use promote::PromoteRule;
 pub use reading::{read, settings_in, version_of};
 pub use resolver::{ResolverKeys, check_resolvers, read_resolvers};
-pub use settings::Settings;
 pub use table::{read_optional_table, read_table, read_tables};
 pub use text::{read_prefix, read_text, read_token, string_of};
 pub use top::{

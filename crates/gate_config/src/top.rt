@@ -9,8 +9,9 @@ ghost use Rattle.gate_config.specs.Section.{Values, read_row, section_values};
 ghost use Rattle.gate_config.specs.Top.{AreKept, IsTop, front_values, gate_values, kept_values, top_values};
 
 use crate::promote::{PromoteRule, read_promote};
-use crate::{Address, ConfigFault, Key, Range, Version, read_address, read_flag, read_number};
+use crate::{ConfigFault, Key, Range, Version, read_address, read_flag, read_number};
 use config_words::{default_of, range_of};
+use gateway_settings::Address;
 use toml::Table;
 
 /// The keys outside all tables, in version 3.

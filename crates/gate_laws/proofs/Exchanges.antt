@@ -15,7 +15,7 @@ use Rattle.limiter_core.specs.Legal.{IsLegal}
 use Rattle.limiter_core.specs.Laws.{LeavesNobodyWithRoom}
 use Rattle.message_parts.specs.declared.request.Request.{Request}
 use Rattle.classifier.specs.declared.class.Class.{Class}
-use Rattle.gate_config.specs.declared.settings.Settings.{Settings}
+use Rattle.gateway_settings.specs.declared.settings.Settings.{Settings}
 use Rattle.gate_port.specs.declared.port.Admission.{Admission}
 use Rattle.gate_port.specs.declared.port.Admission.TheVariants.{Admitted, Bypassed, Refused}
 use Rattle.gate_port.specs.Asking.{Ask}

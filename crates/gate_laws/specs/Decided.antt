@@ -17,7 +17,7 @@ use Rattle.limiter_core.specs.declared.promote.Promote.TheVariants as rule
 use Rattle.limiter_core.specs.History.{Gate, Image, image_after, limit, total}
 use Rattle.limiter_core.specs.Answer.{answer, waits}
 use Rattle.limiter_core.specs.Settled.{NobodyHasRoom}
-use Rattle.gate_config.specs.declared.settings.Settings.{Settings}
+use Rattle.gateway_settings.specs.declared.settings.Settings.{Settings}
 use Rattle.gate_port.specs.declared.port.Why.{Why}
 use Rattle.gate_port.specs.declared.port.Why.TheVariants as why
 use Rattle.gate_port.specs.Asking.{Ask, acquire}

@@ -6,8 +6,8 @@ use Rattle.limiter_core.specs.Limiter.{unasked}
 use Rattle.gate_journal.specs.Journal.{Journal, opened}
 use Rattle.gate_ledgers.specs.Making.{Making}
 use Rattle.gate_history.specs.Book.{made_with}
-use Rattle.gate_config.specs.declared.settings.Settings.{Settings}
-use Rattle.gate_config.specs.Workers.{limit_for}
+use Rattle.gateway_settings.specs.declared.settings.Settings.{Settings}
+use Rattle.gateway_settings.specs.Workers.{limit_for}
 
 -- the journal of a limiter that the settings make before so many workers, of which nothing was
 -- asked; it rolls

@@ -3,13 +3,14 @@ ghost use Rattle.std.specs.Prelude.{◌≡◌, IfOk, replicate, vec_len};
 ghost use Rattle.limit_kinds.specs.AnyKinds.{any_rules};
 ghost use Rattle.gate_journal.specs.Settings.{AreInRange, begun};
 ghost use Rattle.gate_ledgers.specs.Names.{AreNamed, AreWhole};
-ghost use Rattle.gate_config.specs.Settings.{AreSound};
+ghost use Rattle.gateway_settings.specs.Settings.{AreSound};
 ghost use Rattle.shared_gate.specs.Calls.{pass_of};
 ghost use Rattle.shared_gate.specs.Log.{CallsLegal};
 ghost use Rattle.gate_opening.specs.Opening.{journal_of, making_of};
 
-use gate_config::{AnyLimit, Settings};
 use gate_history::{Blanks, Book, GateSettings};
+use gateway_settings::Settings;
+use limit_kinds::AnyLimit;
 use shared_gate::{GateNaming, LogLength, SharedGate};
 use std::alloc::{AllocError, Global};
 

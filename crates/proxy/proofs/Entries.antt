@@ -6,7 +6,7 @@ use Rattle.limiter_core.specs.declared.event.Outcome.{Outcome}
 use Rattle.limiter_core.specs.declared.event.Entry.{Entry}
 use Rattle.limiter_core.specs.declared.event.PermitFacts.{PermitFacts}
 use Rattle.classifier.specs.declared.class.Class.{Class}
-use Rattle.gate_config.specs.declared.settings.Settings.{Settings}
+use Rattle.gateway_settings.specs.declared.settings.Settings.{Settings}
 use Rattle.gate_port.specs.declared.port.Admission.{Admission}
 use Rattle.gate_port.specs.declared.port.Admission.TheVariants as admission
 use Rattle.gate_port.specs.declared.port.Why.{Why}

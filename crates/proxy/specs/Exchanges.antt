@@ -14,7 +14,7 @@ use Rattle.wire.specs.declared.fault.WireFault.TheVariants as fault
 use Rattle.message_parts.specs.declared.request.Request.{Request}
 use Rattle.wire.specs.Fault.{IsUsedUp, Reads}
 use Rattle.wire.specs.Messages.{IsRequest, Said}
-use Rattle.gate_config.specs.declared.settings.Settings.{Settings}
+use Rattle.gateway_settings.specs.declared.settings.Settings.{Settings}
 use Rattle.gate_port.specs.Shown.{Shown}
 use Rattle.wire.specs.declared.answer.BackendAnswer.{BackendAnswer}
 use Rattle.wire.specs.Forwards.{Forwarded}

@@ -8,7 +8,7 @@ use Rattle.limiter_core.specs.declared.event.PermitFacts.{PermitFacts}
 use Rattle.message_parts.specs.declared.request.Request.{Request}
 use Rattle.classifier.specs.declared.class.Class.{Class}
 use Rattle.classifier.specs.Class.{class_of}
-use Rattle.gate_config.specs.declared.settings.Settings.{Settings}
+use Rattle.gateway_settings.specs.declared.settings.Settings.{Settings}
 use Rattle.gate_port.specs.declared.port.Admission.{Admission}
 use Rattle.gate_port.specs.declared.port.Admission.TheVariants as admission
 use Rattle.gate_port.specs.Asking.{Ask, IsAsked}

@@ -15,7 +15,7 @@ use Rattle.shared_gate.specs.Closing.{calls_by}
 use Rattle.shared_gate.specs.Reported.{AreCountersBehind}
 use Rattle.ports.specs.declared.asked.Receipts.TheVariants.{Nothing}
 use Rattle.ports.specs.Asked.{Shared, port_in}
-use Rattle.gate_config.specs.declared.settings.Settings.{Settings}
+use Rattle.gateway_settings.specs.declared.settings.Settings.{Settings}
 use Rattle.proxy.specs.Exchanges.{Policy}
 use Rattle.tcp_backend.specs.declared.connecting.TcpBackend.{TcpBackend}
 use Rattle.tcp_backend.specs.declared.dialing.Dialer.{Dialer}

@@ -11,7 +11,7 @@ use Rattle.config_file.specs.declared.file_fault.FileFault.TheVariants as File
 use Rattle.config_file.specs.Reading.{Held, IsFaultOf, IsUnread}
 use Rattle.serve_command.specs.declared.fault.ServiceFault.{ServiceFault}
 use Rattle.serve_command.specs.declared.fault.ServiceFault.TheVariants as Service
-use Rattle.gate_config.specs.declared.settings.Settings.{Settings}
+use Rattle.gateway_settings.specs.declared.settings.Settings.{Settings}
 use Rattle.serving.specs.declared.fault.ServeFault.{ServeFault}
 use Rattle.serving.specs.declared.fault.ServeFault.TheVariants as Serve
 use Rattle.serve_command.specs.ServiceFault.{of_workers}

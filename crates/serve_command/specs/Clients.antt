@@ -8,7 +8,7 @@ use Rattle.limiter_core.specs.declared.event.Entry.{Entry}
 use Rattle.limiter_core.specs.History.{Gate, Image}
 use Rattle.gate_journal.specs.Image.{image_of}
 use Rattle.gate_ledgers.specs.Making.{Making}
-use Rattle.gate_config.specs.declared.settings.Settings.{Settings}
+use Rattle.gateway_settings.specs.declared.settings.Settings.{Settings}
 use Rattle.shared_gate.specs.Calls.{Pass}
 use Rattle.shared_gate.specs.Closing.{calls_by, limiter_of}
 use Rattle.shared_gate.specs.Reported.{AreCountersBehind}

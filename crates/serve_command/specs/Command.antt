@@ -9,7 +9,7 @@ use Rattle.counted_io.specs.Counted.{failures_of, inner_of, is_flushed}
 use Rattle.counted_io.specs.Effects.{Wrote}
 use Rattle.limit_kinds.specs.AnyKinds.{any_rules}
 use Rattle.limiter_core.specs.declared.counters.Counters.{Counters}
-use Rattle.gate_config.specs.declared.settings.Settings.{Settings}
+use Rattle.gateway_settings.specs.declared.settings.Settings.{Settings}
 use Rattle.proxy.specs.Exchanges.{Policy}
 use Rattle.gate_opening.specs.Opening.{making_of}
 use Rattle.config_file.specs.Reading.{Held, IsUnset, Says}

@@ -3,7 +3,7 @@ use Rattle.std.specs.Prelude.{◌≡◌, ◌≤◌, ◌+◌, ℕ, Bool, false, L
 use Rattle.limiter_core.specs.declared.counters.Counters.{Counters}
 use Rattle.limiter_core.specs.declared.event.Entry.{Entry}
 use Rattle.shared_gate.specs.Calls.{Pass}
-use Rattle.gate_config.specs.declared.settings.Settings.{Settings}
+use Rattle.gateway_settings.specs.declared.settings.Settings.{Settings}
 use Rattle.proxy.specs.Exchanges.{Policy}
 use Rattle.serving.specs.declared.working.TurnCounts.{TurnCounts}
 use Rattle.serving.specs.Served.{policy_of}

@@ -5,7 +5,7 @@ ghost use Rattle.counted_io.specs.declared.counted.Counted.{Counted as CountedVa
 ghost use Rattle.counted_io.specs.Counted.{failures_of, inner_of};
 ghost use Rattle.tasks.specs.Refused.{refused_of};
 ghost use Rattle.limit_kinds.specs.AnyKinds.{any_rules};
-ghost use Rattle.gate_config.specs.Settings.{AreSound};
+ghost use Rattle.gateway_settings.specs.Settings.{AreSound};
 ghost use Rattle.fault_lines.specs.FaultLine.{IsTold, fault_line};
 ghost use Rattle.config_file.specs.Reading.{Held, IsUnreadFile, Says};
 ghost use Rattle.serve_command.specs.declared.fault.ServiceFault.TheVariants.{Listen, Memory};
@@ -25,8 +25,8 @@ use commands::ServeOptions;
 use config_file::{FileFault, Opener, read_bytes, read_file_text};
 use counted_io::Counted;
 use fault_lines::{DONE, FAULT};
-use gate_config::Settings;
 use gate_desk::LameDuck;
+use gateway_settings::Settings;
 use limit_laws::Limit;
 use limiter_core::Counters;
 use log::Log;

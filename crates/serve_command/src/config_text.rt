@@ -4,7 +4,7 @@ ghost use Rattle.config_file.specs.declared.file_fault.FileFault.{FileFault};
 ghost use Rattle.config_file.specs.Reading.{IsFaultOf, Says};
 
 use config_file::read_bytes;
-use gate_config::Settings;
+use gateway_settings::Settings;
 use serving::Source;
 use std::alloc::{AllocError, Global};
 

@@ -4,7 +4,7 @@ use Rattle.std.proofs.Common.{All, Option, None, Result, Ok, Err, IfOk, ap, sym,
 use Rattle.std.proofs.Common.{length, true≢false}
 use Rattle.std.specs.List.{AllZip, list_all}
 use Rattle.std.proofs.lemmas.List.Elements.{All-cons, All-nil}
-use Rattle.gate_config.specs.declared.settings.Settings.{Settings}
+use Rattle.gateway_settings.specs.declared.settings.Settings.{Settings}
 use Rattle.limiter_core.specs.declared.event.Entry.{Entry}
 use Rattle.gate_port.specs.Shown.{Shown}
 use Rattle.wire.specs.Forwards.{Forwarded}

@@ -3,7 +3,7 @@ use Rattle.std.proofs.Common.{◌≡◌, ◌∙◌, ap, sym, Option, Result, Ok,
 use Rattle.counted_io.specs.Count.{raised}
 use Rattle.wire.specs.declared.fault.WireFault.{WireFault}
 use Rattle.message_parts.specs.declared.request.Request.{Request}
-use Rattle.gate_config.specs.declared.settings.Settings.{Settings}
+use Rattle.gateway_settings.specs.declared.settings.Settings.{Settings}
 use Rattle.wire.specs.declared.answer.BackendAnswer.{BackendAnswer}
 use Rattle.proxy.specs.declared.told.ExchangeSummary.{ExchangeSummary}
 use Rattle.proxy.specs.Exchanges.{Deals, IsExchange, Policy, World}

@@ -6,7 +6,7 @@ use Rattle.clocks.specs.Looks.{Looked, unlooked}
 use Rattle.counted_io.specs.declared.counted.Counted.{Counted}
 use Rattle.counted_io.specs.Causes.{IsWriteCause}
 use Rattle.limiter_core.specs.declared.event.Entry.{Entry}
-use Rattle.gate_config.specs.declared.settings.Settings.{Settings}
+use Rattle.gateway_settings.specs.declared.settings.Settings.{Settings}
 use Rattle.gate_port.specs.Shown.{Shown}
 use Rattle.wire.specs.declared.fault.WireFault.TheVariants as fault
 use Rattle.wire.specs.declared.answer.BackendAnswer.{BackendAnswer}

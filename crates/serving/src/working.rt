@@ -1,7 +1,7 @@
 // What one worker does.
 ghost use Rattle.std.specs.Prelude.{◌≡◌, ◌≤◌, ◌+◌, true, false, IfOk, OnErr};
 ghost use Rattle.counted_io.specs.Count.{count_end};
-ghost use Rattle.gate_config.specs.declared.settings.Settings.{Settings as SettingsValue};
+ghost use Rattle.gateway_settings.specs.declared.settings.Settings.{Settings as SettingsValue};
 ghost use Rattle.proxy.specs.Made.{is_kept};
 ghost use Rattle.serving.specs.Served.{IsServed, policy_of};
 ghost use Rattle.serving.specs.Turns.{IsRun};
@@ -9,8 +9,8 @@ ghost use Rattle.timed_io.specs.Client.{from_of, to_of};
 
 use crate::doors::Accepts;
 use clocks::{Clock, MonotonicClock};
-use gate_config::Settings;
 use gate_port::GatePort;
+use gateway_settings::Settings;
 use proxy::{Exchange, ExchangePolicy, Keeper, Watch, exchange};
 use std::alloc::{AllocError, Global};
 use std::thread;

@@ -2,8 +2,8 @@
 use Rattle.std.specs.Prelude.{◌+◌, ℕ}
 use Rattle.limit_kinds.specs.AnyKinds.{any_hi}
 use Rattle.partitions.specs.Table.{bound}
-use Rattle.gate_config.specs.declared.settings.Settings.{Settings}
-use Rattle.gate_config.specs.Workers.{limit_for, waiting}
+use Rattle.gateway_settings.specs.declared.settings.Settings.{Settings}
+use Rattle.gateway_settings.specs.Workers.{limit_for, waiting}
 
 -- how many callers can be in flight at the greatest limit before so many workers, with each class's
 -- share of it, or wait

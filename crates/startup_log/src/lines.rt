@@ -1,11 +1,11 @@
 // What the log says as a gateway begins to serve.
 ghost use Rattle.std.specs.Prelude.{◌≡◌};
-ghost use Rattle.gate_config.specs.Settings.{AreSound};
+ghost use Rattle.gateway_settings.specs.Settings.{AreSound};
 ghost use Rattle.startup_log.specs.Inside.{most_inside};
 
 use crate::descriptors::most_descriptors;
 use config_file::{Opener, why_unread};
-use gate_config::Settings;
+use gateway_settings::Settings;
 use limit_kinds::LimitKind;
 use limit_laws::Limit;
 use log::{Log, error, info, warn};

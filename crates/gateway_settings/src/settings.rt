@@ -1,5 +1,5 @@
 // What a configuration says.
-use crate::Address;
+use crate::address::Address;
 use classifier::Rules;
 use limit_kinds::AnyLimit;
 use limiter_core::Promote;

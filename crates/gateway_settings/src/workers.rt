@@ -1,7 +1,7 @@
 // The limit that workers can serve.
 ghost use Rattle.std.specs.Prelude.{◌≡◌, ◌≤◌};
-ghost use Rattle.gate_config.specs.Settings.{AreSound};
-ghost use Rattle.gate_config.specs.Workers.{left_over, limit_for, waiting};
+ghost use Rattle.gateway_settings.specs.Settings.{AreSound};
+ghost use Rattle.gateway_settings.specs.Workers.{left_over, limit_for, waiting};
 
 use crate::settings::Settings;
 use limit_kinds::{AnyLimit, BaseLimit};

@@ -1,5 +1,5 @@
 use Rattle.std.proofs.Common.{rules}
-use Rattle.gate_config.proofs.address.Address.socket.Goals as goal
+use Rattle.gateway_settings.proofs.address.Address.socket.Goals as goal
 
 pub returns-clause-text : goal.returns-clause-text
 returns-clause-text c = search rules

@@ -1,6 +1,6 @@
 use Rattle.std.proofs.Common.{rules}
-use Rattle.gate_config.proofs.Addresses.{is_address_none, is_address_read}
-use Rattle.gate_config.proofs.address.Address.parse.Goals as goal
+use Rattle.gateway_settings.proofs.Addresses.{is_address_none, is_address_read}
+use Rattle.gateway_settings.proofs.address.Address.parse.Goals as goal
 
 pub returns-in_default : goal.returns-in_default
 returns-in_default c = rw (is_address_none c.args.text.now c.in_default.ensures.value)

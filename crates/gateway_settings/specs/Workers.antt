@@ -5,7 +5,7 @@ use Rattle.limit_kinds.specs.declared.kinds.AnyLimit.{AnyLimit}
 use Rattle.limit_kinds.specs.declared.kinds.AnyLimit.TheVariants.{Plain}
 use Rattle.limit_kinds.specs.declared.kinds.BaseLimit.TheVariants.{Auto}
 use Rattle.partitions.specs.Table.{bound}
-use Rattle.gate_config.specs.declared.settings.Settings.{Settings}
+use Rattle.gateway_settings.specs.declared.settings.Settings.{Settings}
 
 -- how many callers can wait
 abbrev pub waiting : Settings → ℕ

@@ -1,5 +1,5 @@
 use Rattle.std.proofs.Common.{rules}
-use Rattle.gate_config.proofs.address.printed.Goals as goal
+use Rattle.gateway_settings.proofs.address.printed.Goals as goal
 
 pub returns : goal.returns
 returns c = search rules

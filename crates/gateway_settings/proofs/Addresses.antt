@@ -8,7 +8,7 @@ use Rattle.std.specs.Option.{option_map_or}
 use Rattle.std.proofs.Common.{◌≡◌, refl, ℕ, Bool, false, ◌&&◌, List, [], ◌∷◌, Option, Some, None, length, append-nil, bytes_eq, nat_le, ◌==◌, arith}
 use Rattle.std.proofs.NetLemmas.Sockets.{read_socket_v4_complete, read_socket_v4_sound}
 use Rattle.std.proofs.lemmas.Bool.Decides.{nat_tests}
-use Rattle.gate_config.specs.Address.{is_address}
+use Rattle.gateway_settings.specs.Address.{is_address}
 
 -- where std reads an address, its text decides
 pub is_address_read : (text : List ℕ) (a : SocketAddrV4) → IsSocketV4Text text a

@@ -1,0 +1,3 @@
+pub mod Address
+pub mod Settings
+pub mod Workers
