@@ -104,8 +104,23 @@ class_outcomes_text rows t =
     ++ class_ended_text rows t 2 ++ class_ended_text rows t 3
     ++ ended_text (codes "unknown") t 4
 
--- how many of each class are in flight, its share, how many of it wait, whom the gate refused, and
--- how its permits ended
+-- how many permits of the class in a row were waited for
+abbrev pub promoted_text : List Row → OutcomeTally → ℕ → List ℕ
+promoted_text rows t row =
+    class_text (codes "admission_class_promoted_total") rows t.promoted row
+
+-- those of each class, in their order, and of the callers of none
+unfoldable pub class_promoted_text : List Row → OutcomeTally → List ℕ
+class_promoted_text rows t =
+    head_text (codes "admission_class_promoted_total") (codes "counter")
+    (codes "Permits of a class that their callers waited for.")
+    ++ promoted_text rows t 0 ++ promoted_text rows t 1
+    ++ promoted_text rows t 2 ++ promoted_text rows t 3
+    ++ sample_text (codes "admission_class_promoted_total") (codes "class") (codes "unknown")
+    (slice_index t.promoted 4)
+
+-- how many of each class are in flight, its share, how many of it wait, whom the gate refused, how
+-- its permits ended, and how many of these were waited for
 abbrev pub by_class_text : Report → List Row → RefusalTally → OutcomeTally → List ℕ
 by_class_text r rows t o =
     classes_text (codes "admission_class_in_flight")
@@ -114,7 +129,7 @@ by_class_text r rows t o =
     (codes "The share of a class at this limit, in permits.") rows r.shares
     ++ classes_text (codes "admission_class_waiting")
     (codes "Callers of a class that wait for a permit.") rows r.waiting
-    ++ refusals_text rows t ++ class_outcomes_text rows o
+    ++ refusals_text rows t ++ class_outcomes_text rows o ++ class_promoted_text rows o
 
 -- how often each reply and promotion was
 abbrev pub decisions_text : Counters → List ℕ

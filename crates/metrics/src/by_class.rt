@@ -1,9 +1,10 @@
 // What became of the requests of each class.
 ghost use Rattle.std.specs.Prelude.{◌≡◌, ◌++◌, ◌<◌, OnOk, string_bytes};
-ghost use Rattle.metrics.specs.Metrics.{class_ended_text, class_outcomes_text, class_refused_text};
-ghost use Rattle.metrics.specs.Metrics.{ended_text, refusals_text, refused_text};
+ghost use Rattle.metrics.specs.Metrics.{class_ended_text, class_outcomes_text, class_promoted_text};
+ghost use Rattle.metrics.specs.Metrics.{class_refused_text, ended_text, promoted_text};
+ghost use Rattle.metrics.specs.Metrics.{refusals_text, refused_text};
 
-use crate::families::{push_head, push_of_class};
+use crate::families::{push_head, push_of_class, push_sample};
 use partitions::{Part, PartitionTable};
 use serve_reports::{OutcomeTally, RefusalTally};
 use std::alloc::AllocError;
@@ -84,6 +85,45 @@ pub(crate) fn push_class_outcomes(
     push_class_ended(text, table, tally, 2)?;
     push_class_ended(text, table, tally, 3)?;
     push_ended(text, "unknown", tally, 4)
+}
+
+/// Adds how many permits of each class were waited for, and of callers of none.
+pub(crate) fn push_class_promoted(
+    text: &mut String,
+    table: &PartitionTable,
+    tally: &OutcomeTally,
+) -> Result<(), AllocError>
+    ensures { OnOk result (string_bytes text.new
+        ≡ string_bytes text.old ++ class_promoted_text table.now tally.now) }
+{
+    let name = "admission_class_promoted_total";
+    let help = "Permits of a class that their callers waited for.";
+    push_head(text, name, "counter", help)?;
+    push_promoted(text, table, tally, 0)?;
+    push_promoted(text, table, tally, 1)?;
+    push_promoted(text, table, tally, 2)?;
+    push_promoted(text, table, tally, 3)?;
+    push_sample(text, name, "class", "unknown", tally.promoted[4])
+}
+
+/// Adds those of the class in a row of the table, where it has one.
+fn push_promoted(
+    text: &mut String,
+    table: &PartitionTable,
+    tally: &OutcomeTally,
+    row: u8,
+) -> Result<(), AllocError>
+    requires { row < 4 }
+    ensures { OnOk result (string_bytes text.new
+        ≡ string_bytes text.old ++ promoted_text table.now tally.now row) }
+{
+    let place = usize::from(row);
+    if table.len() <= place {
+        return Ok(());
+    }
+    let name = "admission_class_promoted_total";
+    let class = table.name(Part::Known(row));
+    push_sample(text, name, "class", class, tally.promoted[place])
 }
 
 /// Adds the permits of the class in a row of the table, where it has one.

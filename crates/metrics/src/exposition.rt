@@ -8,7 +8,7 @@ ghost use Rattle.metrics.specs.Metrics.{outcomes_text, program_text, standing_te
 ghost use Rattle.metrics.specs.Metrics.{clients_text, connections_text, durations_text, range_text};
 ghost use Rattle.metrics.specs.Metrics.{workers_text};
 
-use crate::by_class::{push_class_outcomes, push_refusals};
+use crate::by_class::{push_class_outcomes, push_class_promoted, push_refusals};
 use crate::families::{push_gauge, push_head, push_number, push_sample, push_samples};
 use crate::limit_view::push_view;
 use crate::times::push_durations;
@@ -93,7 +93,7 @@ fn push_range(text: &mut String, limit: &LimitRange) -> Result<(), AllocError>
 }
 
 /// Adds how many of each class are in flight, its share, how many of it wait, whom of it the gate
-/// refused, and how its permits ended.
+/// refused, how its permits ended, and how many of these were waited for.
 fn push_by_class(
     text: &mut String,
     report: &Report,
@@ -122,7 +122,8 @@ fn push_by_class(
         &report.waiting,
     )?;
     push_refusals(text, table, &noted.refusals)?;
-    push_class_outcomes(text, table, &noted.outcomes)
+    push_class_outcomes(text, table, &noted.outcomes)?;
+    push_class_promoted(text, table, &noted.outcomes)
 }
 
 /// Adds a family with a sample for each class, and for the callers of none.
