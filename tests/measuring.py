@@ -75,6 +75,9 @@ class Measuring(Operating):
         wanted = {"busy_workers": 0, "class_outcomes_total": dict(ends)}
         self.judge("outcomes by class", True, gate.shows(**wanted))
         found = gate.metrics()
+        waited = (sum(found["class_promoted_total"].values()), True)
+        promoted = found["decisions_total"]["promoted"]
+        self.judge("those who waited, by class and in all", (promoted, 0 < promoted), waited)
         self.judge("times of so many", [len(calls)] * 3, [found[it]["count"] for it in TIMES])
         self.judge("what is wrong in a histogram", [[]] * 3, [histogram_faults(found[it]) for it in TIMES])
         self.compare_times(found, [millis / 1000 for _, _, millis in calls], [seconds for _, seconds in came])
@@ -83,6 +86,23 @@ class Measuring(Operating):
         counts = [gate.metrics()[it]["count"] for it in TIMES]
         self.judge("but an exchange", [len(calls), len(calls), len(calls) + 1], counts)
         slow.close()
+
+    def counts_who_was_promoted(self, backend: Backend) -> None:
+        """A permit that was waited for is counted in the class of its caller, whatever its outcome, and no other is."""
+        gate = self.operated(backend, f'timeout_ms = 60_000\n\n[limit]\nkind = "fixed"\ninitial = 1\n{CLASSES}')
+        held = Later(gate.ask, b"GET /held HTTP/1.1\r\nHost: h\r\nX-Class: live\r\n\r\n")
+        self.judge("one is at the backend", True, backend.held.acquire(timeout=PATIENCE))
+        others = []
+        for place, path in enumerate((b"X-Class: live", b"X-Class: none", b"X-Class: live")):
+            others.append(Later(gate.ask, b"GET / HTTP/1.1\r\nHost: h\r\n%s\r\n\r\n" % path))
+            self.judge("one more waits", True, gate.shows(waiting=place + 1))
+        self.judge("nobody was promoted", True, gate.shows(class_promoted_total={}))
+        backend.release.set()
+        self.judge("all are answered", [passed_on(BODY)] * 4, [held.result(), *(it.result() for it in others)])
+        ends = {"live,success": 3, "unknown,success": 1}
+        counts = {"live": 2, "unknown": 1}
+        told = gate.shows(class_promoted_total=counts, class_outcomes_total=ends)
+        self.judge("who waited, by class", True, told)
 
     def tells_what_its_limit_reckons(self, _backend: Backend) -> None:
         """The base, the last window and the queue are those of the answers that came, where the limit knows them."""

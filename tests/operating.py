@@ -179,6 +179,7 @@ class Operating(Served):
             "class_waiting": {},
             "class_refused_total": {"unknown,full": 1},
             "class_outcomes_total": {},
+            "class_promoted_total": {},
             "decisions_total": {"admitted": 2, "bypassed": 1, "full": 1},
             "outcomes_total": {},
             "answers_total": {"400": 1, "413": 1, "429": 1, "431": 1, "501": 1},

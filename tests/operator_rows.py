@@ -50,6 +50,7 @@ FAMILIES = {
     "admission_class_waiting": ("gauge", "class"),
     "admission_class_refused_total": ("counter", "class,cause"),
     "admission_class_outcomes_total": ("counter", "class,outcome"),
+    "admission_class_promoted_total": ("counter", "class"),
     "admission_decisions_total": ("counter", "decision"),
     "admission_outcomes_total": ("counter", "outcome"),
     "admission_answers_total": ("counter", "status"),

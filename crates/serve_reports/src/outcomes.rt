@@ -7,8 +7,8 @@ use limiter_core::Outcome;
 use proxy::{ExchangeSummary, Verdict};
 
 /// How many permits of each class ended since the start, by what the limit learned: of `Known(0)`
-/// to `Known(3)`, and last of all other callers, as a report tells its counts. The three outcomes of
-/// a class together are its requests that got a permit. A count stays at `u64::MAX`.
+/// to `Known(3)`, and last of all other callers, as a report tells its counts. The three outcomes
+/// of a class together are its requests that got a permit. A count stays at `u64::MAX`.
 #[derive(Clone, Copy, Default)]
 pub struct OutcomeTally {
     /// The backend answered.
