@@ -1,11 +1,10 @@
 // Clients over TCP.
-use crate::client_counts::ClientConnections;
 use crate::listener::{AcceptedClient, Listener};
 use crate::opaque_end::OpaqueEnd;
 use crate::room::{Came, Room};
 use libc::net::{POLLIN, SHUT_RD, listen, poll, shutdown};
 use libc::types::pollfd;
-use seats::Places;
+use seats::{ClientConnections, Places};
 use std::alloc::Global;
 use std::io::{Error, ErrorKind, Result};
 use std::net::{Net, SocketAddr, TcpListener, TcpStream};

@@ -2,8 +2,7 @@
 ghost use Rattle.std.specs.Prelude.{◌≡◌, [], false, IfOk, IfSome};
 ghost use Rattle.timed_io.specs.Client.{from_of, to_of};
 
-use crate::client_counts::ClientConnections;
-use seats::Places;
+use seats::{ClientConnections, Places};
 use std::alloc::Global;
 use std::io::Result;
 use std::time::{Clock, Duration};

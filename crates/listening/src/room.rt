@@ -1,10 +1,9 @@
 // Where clients wait until they send something.
-use crate::client_counts::{ClientConnections, ClientCounts, ClientEvent};
 use libc::net::{
     EPOLL_CTL_ADD, EPOLL_CTL_MOD, EPOLLET, EPOLLHUP, EPOLLIN, EPOLLONESHOT, EPOLLRDHUP,
 };
 use os::{EpollEvent, epoll_ctl, epoll_wait};
-use seats::{Places, Seats};
+use seats::{ClientConnections, ClientCounts, ClientEvent, Places, Seats};
 use std::alloc::Global;
 use std::io::{Error, Result};
 use std::net::{Net, TcpStream};

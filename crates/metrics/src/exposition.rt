@@ -14,9 +14,9 @@ use crate::limit_view::push_view;
 use crate::times::push_durations;
 use gate_port::Report;
 use limiter_core::Counters;
-use listening::ClientConnections;
 use partitions::{Part, PartitionTable};
 use release::version;
+use seats::ClientConnections;
 use serve_reports::{
     AnswerTally, BackendConnections, GatewayStats, LimitRange, Outstanding, Troubles, Workers,
 };

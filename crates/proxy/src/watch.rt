@@ -2,6 +2,7 @@
 use crate::told::ExchangeSummary;
 use gate_port::Report;
 use partitions::PartitionTable;
+use seats::ClientConnections;
 use std::io::Error;
 
 /// What hears of exchanges and of the gate that they ask, from each thread that carries them out.
@@ -20,6 +21,6 @@ pub trait Watch {
     /// A connection couldn't be accepted, for this cause.
     fn unaccepted(&self, error: &Error);
 
-    /// The state of the gate, over these classes.
-    fn report(&self, table: &PartitionTable, report: &Report);
+    /// The state of the gate, over these classes, and how many clients wait to be served.
+    fn report(&self, table: &PartitionTable, report: &Report, clients: &ClientConnections);
 }

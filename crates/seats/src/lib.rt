@@ -5,11 +5,14 @@
 //! its own time, and whose time is over can be taken. Where somebody needs a place and all are
 //! taken, who has waited longest of all leaves. Each seat has a number that no other ever has, by
 //! which who sits there is taken. Who waits may be of any type, and nothing here looks at a clock:
-//! each call is told the moment. `specs/` has the words.
+//! each call is told the moment. [`ClientCounts`] have how often each thing happened to the clients
+//! who waited and were served. `specs/` has the words.
 #![tactic(auto)]
 
+mod client_counts;
 mod row;
 mod seats;
 
+pub use client_counts::{ClientConnections, ClientCounts, ClientEvent};
 pub use row::Seated;
 pub use seats::{Places, Seat, Seats};

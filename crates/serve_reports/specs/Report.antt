@@ -5,6 +5,7 @@ use Rattle.partitions.specs.declared.part.Part.TheVariants.{Known}
 use Rattle.partitions.specs.Table.{Row, name_of}
 use Rattle.limiter_core.specs.declared.counters.Counters.{Counters}
 use Rattle.gate_port.specs.declared.report.Report.{Report}
+use Rattle.seats.specs.declared.client_counts.ClientConnections.{ClientConnections}
 use Rattle.serve_reports.specs.declared.connections.BackendConnections.{BackendConnections}
 use Rattle.serve_reports.specs.declared.tally.AnswerTally.{AnswerTally}
 use Rattle.serve_reports.specs.declared.workers.Workers.{Workers}
@@ -72,8 +73,25 @@ connections_text c = concat (
     ∷ codes " opened=" ∷ decimal c.opened ∷ codes " reused=" ∷ decimal c.reused
     ∷ codes " stale=" ∷ decimal c.stale ∷ [])
 
+-- the clients that wait: how many have sent nothing yet, and how many are kept
+abbrev pub waiting_text : ClientConnections → List ℕ
+waiting_text c = concat (
+    codes " clients.silent=" ∷ decimal c.silent ∷ codes " clients.idle=" ∷ decimal c.idle ∷ [])
+
+-- how many came, how often one who was kept asked again, and how many were let go since their time
+-- was over, or for another one
+abbrev pub events_text : ClientConnections → List ℕ
+events_text c = concat (
+    codes " clients.opened=" ∷ decimal c.opened ∷ codes " clients.reused=" ∷ decimal c.reused
+    ∷ codes " clients.late=" ∷ decimal c.late ∷ codes " clients.displaced=" ∷ decimal c.displaced
+    ∷ [])
+
+abbrev pub clients_text : ClientConnections → List ℕ
+clients_text c = waiting_text c ++ events_text c
+
 -- THE TEXT OF A REPORT
-abbrev pub report_text : Report → Workers → List Row → AnswerTally → BackendConnections → List ℕ
-report_text r w rows t c =
+abbrev pub report_text : Report → Workers → List Row → AnswerTally → BackendConnections
+    → ClientConnections → List ℕ
+report_text r w rows t c clients =
     stands_text r ++ workers_text w ++ classes_text r rows ++ counters_text r.counters
-    ++ answers_text t ++ connections_text c
+    ++ answers_text t ++ connections_text c ++ clients_text clients

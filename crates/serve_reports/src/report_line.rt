@@ -1,7 +1,8 @@
 // The text of a report.
 ghost use Rattle.std.specs.Prelude.{◌≡◌, ◌++◌, ◌<◌, IfOk, OnOk, string_bytes};
 ghost use Rattle.serve_reports.specs.Report.{acquires_text, answers_text, class_text, classes_text};
-ghost use Rattle.serve_reports.specs.Report.{connections_text};
+ghost use Rattle.serve_reports.specs.Report.{clients_text, connections_text, events_text};
+ghost use Rattle.serve_reports.specs.Report.{waiting_text};
 ghost use Rattle.serve_reports.specs.Report.{counters_text, outcomes_text, report_text, stands_text};
 ghost use Rattle.serve_reports.specs.Report.{unknown_text, waits_text, workers_text};
 
@@ -11,11 +12,12 @@ use crate::workers::Workers;
 use gate_port::Report;
 use limiter_core::Counters;
 use partitions::{Part, PartitionTable};
+use seats::ClientConnections;
 use std::alloc::{AllocError, Global};
 
 /// The text of the state of a gate over these classes, of how many of its workers serve a client,
 /// of how many exchanges ended in each of the gateway's own answers, and of the connections to the
-/// backend. It fails only out of memory.
+/// backend and of clients. It fails only out of memory.
 pub fn report_text(
     alloc: Global,
     report: &Report,
@@ -23,9 +25,10 @@ pub fn report_text(
     table: &PartitionTable,
     answers: &AnswerTally,
     connections: &BackendConnections,
+    clients: &ClientConnections,
 ) -> Result<String, AllocError>
-    ensures { IfOk result (λ text. string_bytes text
-        ≡ report_text report.now workers.now table.now answers.now connections.now) }
+    ensures { IfOk result (λ text. string_bytes text ≡ report_text report.now workers.now
+        table.now answers.now connections.now clients.now) }
 {
     let mut text = String::new(alloc);
     push_stands(&mut text, report)?;
@@ -34,6 +37,7 @@ pub fn report_text(
     push_counters(&mut text, &report.counters)?;
     push_answers(&mut text, answers)?;
     push_connections(&mut text, connections)?;
+    push_clients(&mut text, clients)?;
     Ok(text)
 }
 
@@ -179,5 +183,37 @@ fn push_connections(text: &mut String, connections: &BackendConnections) -> Resu
     write!(
         text,
         " open={open} idle={idle} opened={opened} reused={reused} stale={stale}"
+    )
+}
+
+/// Adds how many clients wait, and what became of their connections.
+fn push_clients(text: &mut String, clients: &ClientConnections) -> Result<(), AllocError>
+    ensures { OnOk result (string_bytes text.new
+        ≡ string_bytes text.old ++ clients_text clients.now) }
+{
+    push_waiting(text, clients)?;
+    push_events(text, clients)
+}
+
+/// Adds how many clients have sent nothing yet, and how many are kept.
+fn push_waiting(text: &mut String, clients: &ClientConnections) -> Result<(), AllocError>
+    ensures { OnOk result (string_bytes text.new
+        ≡ string_bytes text.old ++ waiting_text clients.now) }
+{
+    let (silent, idle) = (clients.silent, clients.idle);
+    write!(text, " clients.silent={silent} clients.idle={idle}")
+}
+
+/// Adds how often each thing happened to a client's connection.
+fn push_events(text: &mut String, clients: &ClientConnections) -> Result<(), AllocError>
+    ensures { OnOk result (string_bytes text.new
+        ≡ string_bytes text.old ++ events_text clients.now) }
+{
+    let (opened, reused) = (clients.opened, clients.reused);
+    let (late, displaced) = (clients.late, clients.displaced);
+    write!(
+        text,
+        " clients.opened={opened} clients.reused={reused} clients.late={late} \
+         clients.displaced={displaced}"
     )
 }

@@ -15,10 +15,10 @@ use crate::times::TimeTally;
 use crate::workers::Workers;
 use clocks::{Clock, ProgramClock};
 use gate_port::Report;
-use listening::ClientConnections;
 use log::{Log, info, warn};
 use partitions::PartitionTable;
 use proxy::{ExchangeSummary, Watch};
+use seats::ClientConnections;
 use std::alloc::{AllocError, Global};
 use std::io::Error;
 use std::sync::atomic::{AtomicU32, AtomicU64, Ordering};
@@ -267,7 +267,7 @@ impl<R: SystemClock + Log + Wait> Watch for Watcher<'_, R> {
         }
     }
 
-    fn report(&self, table: &PartitionTable, report: &Report) {
+    fn report(&self, table: &PartitionTable, report: &Report, clients: &ClientConnections) {
         self.tell_old();
         let look = self.looks.fetch_add(1, Ordering::SeqCst).saturating_add(1);
         if !self.pace.is_due(look) {
@@ -275,7 +275,15 @@ impl<R: SystemClock + Log + Wait> Watch for Watcher<'_, R> {
         }
         let answers = self.notes.lock(self.rt).answers;
         let (workers, connections) = (self.workers(), self.connections.counted());
-        let text = report_text(self.alloc, report, &workers, table, &answers, &connections);
+        let text = report_text(
+            self.alloc,
+            report,
+            &workers,
+            table,
+            &answers,
+            &connections,
+            clients,
+        );
         if let Ok(text) = text {
             info!(self.rt; target: "admission", "report {text}");
         }

@@ -5,6 +5,7 @@ ghost use Rattle.serving.specs.Reports.{next_report};
 use clocks::Clock;
 use gate_port::GateView;
 use limit_laws::LAST_MOMENT;
+use listening::Listener;
 use partitions::PartitionTable;
 use proxy::Watch;
 use std::sync::{Condvar, Mutex, Wait};
@@ -74,22 +75,24 @@ impl ActiveWorkers {
 /// Whoever looks at the gate while its workers serve, every so many nanoseconds where that is
 /// wanted, until all workers have ended.
 #[derive(Drop)]
-pub(crate) struct Reporter<'a, R, G, C, W> {
+pub(crate) struct Reporter<'a, R, G, C, W, L> {
     pub(crate) rt: &'a R,
     pub(crate) active: &'a ActiveWorkers,
     pub(crate) gate: G,
     pub(crate) table: &'a PartitionTable,
     pub(crate) clock: &'a C,
     pub(crate) watch: &'a W,
+    pub(crate) listener: &'a L,
     pub(crate) every_ns: Option<u64>,
 }
 
-impl<'a, R, G, C, W> Task for Reporter<'a, R, G, C, W>
+impl<'a, R, G, C, W, L> Task for Reporter<'a, R, G, C, W, L>
 where
     R: Wait + SystemClock,
     G: GateView + Drop,
     C: Clock,
     W: Watch,
+    L: Listener,
 {
     type Done = ();
 
@@ -101,12 +104,13 @@ where
     }
 }
 
-impl<'a, R, G, C, W> Reporter<'a, R, G, C, W>
+impl<'a, R, G, C, W, L> Reporter<'a, R, G, C, W, L>
 where
     R: Wait + SystemClock,
     G: GateView,
     C: Clock,
     W: Watch,
+    L: Listener,
 {
     fn report_every(&mut self, every_ns: u64) {
         let mut next = self.clock.now().saturating_add(every_ns);
@@ -115,7 +119,8 @@ where
                 return;
             }
             let report = self.gate.report();
-            self.watch.report(self.table, &report);
+            let clients = self.listener.connections();
+            self.watch.report(self.table, &report, &clients);
             next = after(next, every_ns, self.clock.now());
         }
     }

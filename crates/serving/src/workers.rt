@@ -101,6 +101,7 @@ where
         table: &settings.table,
         clock: common.clock,
         watch: common.watch,
+        listener: common.listener,
         every_ns: common.report_every_ns,
     };
     serve_by(rt, spawner, common, &active, reporter, workers, side_tasks)

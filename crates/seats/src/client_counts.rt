@@ -34,16 +34,20 @@ impl ClientConnections {
 
 /// What became of a connection.
 #[derive(Clone, Copy)]
-pub(crate) enum ClientEvent {
+pub enum ClientEvent {
+    /// It was accepted.
     Opened,
+    /// A request came on one that was kept.
     Reused,
+    /// It was let go since its time to wait was over.
     Late,
+    /// It was let go since another client needed its place.
     Displaced,
 }
 
 /// How often each of these came, counted by all who serve clients.
 #[derive(Drop)]
-pub(crate) struct ClientCounts {
+pub struct ClientCounts {
     opened: AtomicU64,
     reused: AtomicU64,
     late: AtomicU64,
@@ -52,7 +56,7 @@ pub(crate) struct ClientCounts {
 
 impl ClientCounts {
     /// Nothing came yet.
-    pub(crate) fn new() -> ClientCounts {
+    pub fn new() -> ClientCounts {
         ClientCounts {
             opened: AtomicU64::new(0),
             reused: AtomicU64::new(0),
@@ -62,7 +66,7 @@ impl ClientCounts {
     }
 
     /// It came once more.
-    pub(crate) fn count(&self, event: ClientEvent) {
+    pub fn count(&self, event: ClientEvent) {
         let counter = match event {
             ClientEvent::Opened => &self.opened,
             ClientEvent::Reused => &self.reused,
@@ -73,7 +77,7 @@ impl ClientCounts {
     }
 
     /// What was counted, beside so many who wait.
-    pub(crate) fn beside(&self, silent: usize, idle: usize) -> ClientConnections {
+    pub fn beside(&self, silent: usize, idle: usize) -> ClientConnections {
         ClientConnections {
             silent: silent as u64,
             idle: idle as u64,
