@@ -1,1 +1,2 @@
+mod Deciding
 pub mod Comings

@@ -1,6 +1,6 @@
 use Rattle.std.proofs.Common.{◌≡◌, ◌==◌, count_by, take}
 use Rattle.partitions.specs.Table.{place_of}
-use Rattle.gate_tests.proofs.random.four_threads_tests.lying_at.Given as goal
+use Rattle.gateway_tests.proofs.random.four_threads_tests.lying_at.Given as goal
 
 -- of the permits so far as many are of the place
 abbrev pub invariant-loop-permit : goal.invariant-loop-permit

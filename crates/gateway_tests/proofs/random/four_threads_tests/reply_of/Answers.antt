@@ -1,7 +1,7 @@
 use Rattle.std.proofs.Common.{arith}
 use Rattle.limiter_core.specs.Limiter.{gate_of, stands}
-use Rattle.gate_tests.proofs.Comings.{other_may_come, numbered_below}
-use Rattle.gate_tests.proofs.random.four_threads_tests.reply_of.Goals as goal
+use Rattle.gateway_tests.proofs.Comings.{other_may_come, numbered_below}
+use Rattle.gateway_tests.proofs.random.four_threads_tests.reply_of.Goals as goal
 
 pub apply-requires : goal.apply-requires
 apply-requires g c = record {

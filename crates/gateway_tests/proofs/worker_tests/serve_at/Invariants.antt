@@ -2,7 +2,7 @@ use Rattle.limit_kinds.specs.AnyKinds.{any_rules}
 use Rattle.gate_ledgers.specs.Names.{places_of}
 use Rattle.gate_opening.specs.Opening.{journal_of, making_of}
 use Rattle.shared_gate.specs.Log.{IsLegalFrom}
-use Rattle.exchange_tests.proofs.worker_tests.serve_at.Given as goal
+use Rattle.gateway_tests.proofs.worker_tests.serve_at.Given as goal
 
 -- the ledgers that were just made, of a gate of the settings before two workers
 abbrev pub ghosts-served_at-M-Naming : goal.ghosts-served_at-M-Naming

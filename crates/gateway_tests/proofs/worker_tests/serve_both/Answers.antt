@@ -1,7 +1,7 @@
 use Rattle.std.proofs.Common.{rules, ◌≡◌, ◌∙◌, [], ◌∷◌, ◌++◌, List, ap}
 use Rattle.shared_gate.specs.Calls.{Pass}
-use Rattle.exchange_tests.proofs.Deciding.{both_decided}
-use Rattle.exchange_tests.proofs.worker_tests.serve_both.Goals as goal
+use Rattle.gateway_tests.proofs.Deciding.{both_decided}
+use Rattle.gateway_tests.proofs.worker_tests.serve_both.Goals as goal
 
 pub returns : goal.returns
 returns g c =

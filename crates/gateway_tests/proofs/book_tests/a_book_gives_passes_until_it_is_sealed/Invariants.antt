@@ -2,7 +2,7 @@ use Rattle.limit_laws.specs.FixedRules.{fixed_rules}
 use Rattle.gate_journal.specs.Settings.{begun}
 use Rattle.gate_ledgers.specs.Names.{places_of}
 use Rattle.gate_history.specs.Book.{made_with}
-use Rattle.gate_tests.proofs.book_tests.a_book_gives_passes_until_it_is_sealed.Given as goal
+use Rattle.gateway_tests.proofs.book_tests.a_book_gives_passes_until_it_is_sealed.Given as goal
 
 -- the ledgers that were just made, and what the book is made with
 abbrev pub ghosts-gives : goal.ghosts-gives

@@ -2,7 +2,7 @@ use Rattle.limit_kinds.specs.AnyKinds.{any_rules}
 use Rattle.gate_journal.specs.Settings.{begun}
 use Rattle.gate_ledgers.specs.Names.{places_of}
 use Rattle.gate_history.specs.Book.{made_with}
-use Rattle.gate_tests.proofs.gates.try_at.Given as goal
+use Rattle.gateway_tests.proofs.gates.try_at.Given as goal
 
 -- the ledgers that were just made, as the gate is to be made
 abbrev pub ghosts-try_at_named-M-Naming : goal.ghosts-try_at_named-M-Naming

@@ -18,7 +18,7 @@ use Rattle.proxy.specs.declared.told.ExchangeSummary.{ExchangeSummary}
 use Rattle.proxy.specs.Exchanges.{Policy}
 use Rattle.gate_laws.specs.Decided.{IsDecided}
 use Rattle.gate_laws.specs.Exchanges.{ExchangesAreOneThreads}
-use Rattle.exchange_tests.specs.Deciding.{AreBothDecided, IsServed}
+use Rattle.gateway_tests.specs.Deciding.{AreBothDecided, IsServed}
 
 module _ {S : Type 0} (rules : Algorithm S) (m : Making) (passes : List Pass) (counters : Counters)
     (law : (g : Gate S) → ExchangesAreOneThreads g)

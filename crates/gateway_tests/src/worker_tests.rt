@@ -9,7 +9,7 @@ ghost use Rattle.gate_ledgers.specs.Names.{AreNamed, AreWhole};
 ghost use Rattle.gate_opening.specs.Opening.{journal_of, making_of};
 ghost use Rattle.shared_gate.specs.Log.{CallsLegal};
 ghost use Rattle.proxy.specs.Exchanges.{Policy};
-ghost use Rattle.exchange_tests.specs.Deciding.{AreBothDecided, IsServed};
+ghost use Rattle.gateway_tests.specs.Deciding.{AreBothDecided, IsServed};
 
 use crate::checks::check;
 use crate::devices::{KEPT, Sink, Source, Ticking};

@@ -1,0 +1,66 @@
+//! Tests by public calls, of what no script can ask the program.
+//!
+//! Of a gate: its book, calls through the lock by worked rows and by four threads at random, what a
+//! pass has seen, when who waits is woken, how it is closed, a port over it, and the windows of its
+//! limit. Of exchanges, over devices, clocks, backends and a gate of their own: their moments, ends
+//! that fail once, and what a backend answers. Of loads over devices that fail; and of counts of
+//! reads and writes, of the time of a connection, and of a clock. What clients, backends and
+//! operators see, the scripts of `tests/` try by the program.
+//!
+//! They are one crate, since each crate of tests reads and links all code below it.
+#![tactic(auto)]
+
+#[cfg(test)]
+mod answer_tests;
+#[cfg(test)]
+mod book_tests;
+#[cfg(test)]
+mod callers;
+#[cfg(test)]
+mod checks;
+#[cfg(test)]
+mod clocks_tests;
+#[cfg(test)]
+mod closing;
+#[cfg(test)]
+mod counted_io_tests;
+#[cfg(test)]
+mod devices;
+#[cfg(test)]
+mod exchanged;
+#[cfg(test)]
+mod gates;
+#[cfg(test)]
+mod keeping_tests;
+#[cfg(test)]
+mod limits;
+#[cfg(test)]
+mod load;
+#[cfg(test)]
+mod moment_tests;
+#[cfg(test)]
+mod once_tests;
+#[cfg(test)]
+mod port_tests;
+#[cfg(test)]
+mod raised_limit_tests;
+#[cfg(test)]
+mod random;
+#[cfg(test)]
+mod rolling_tests;
+#[cfg(test)]
+mod seen_tests;
+#[cfg(test)]
+mod shared_gate_tests;
+#[cfg(test)]
+mod test_clocks;
+#[cfg(test)]
+mod timed_io_tests;
+#[cfg(test)]
+mod waiting_tests;
+#[cfg(test)]
+mod waking_tests;
+#[cfg(test)]
+mod window_tests;
+#[cfg(test)]
+mod worker_tests;
