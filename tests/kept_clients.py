@@ -13,6 +13,7 @@ from operating import Operating
 from operator_rows import DRAINED, told
 from running import PATIENCE, until
 from sockets import passed_on, timed, tried
+from telling import reports
 from waiting import AT_ONCE, MANY, has_ended, raised_descriptors
 from wires import CONTINUE, local, reset
 
@@ -199,6 +200,25 @@ class KeptClients(Operating):
             counted = {"opened": 1, "reused": 2, "late": 1}
             shown = {"client_connections_total": counted, "idle_client_connections": 0}
             self.judge("one that was dropped", True, gate.shows(**shown))
+        backend.close()
+
+    def reports_its_clients(self, _unused: Backend) -> None:
+        """A report ends with the clients that wait, and with what became of those that there were."""
+        backend = Talkative()
+        gate = self.keeping(backend, "clients = 2", workers=2, each=50, words=("--report-seconds", "1"))
+
+        def tells(**wanted: int) -> bool:
+            ends = [(f"clients.{name}", str(number)) for name, number in wanted.items()]
+            return until(lambda: ends in [[*it.items()][-6:] for it in reports(gate)])
+
+        with gate.connect(), gate.connect() as client:
+            for _ in range(3):
+                asked(client, GET, len(KEPT))
+            told_so = tells(silent=1, idle=1, opened=2, reused=2, late=0, displaced=0)
+            self.judge("one that is silent and one that is kept", True, told_so)
+            with gate.connect():
+                told_so = tells(silent=1, idle=1, opened=3, reused=2, late=0, displaced=1)
+                self.judge("another one in the place of the first", True, told_so)
         backend.close()
 
     def keeps_its_clients(self, _unused: Backend) -> None:

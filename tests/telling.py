@@ -35,7 +35,8 @@ OF_WORKERS = ("exceed", "are taken", "too few")
 # The names of a report's numbers, those of two classes among them.
 NAMES = (
     "limit inflight waiters granted busy class.live class.batch class.unknown admitted bypassed full backlog "
-    "waiting promoted timed-out success ignored dropped 400 413 429 431 500 501 502 504 open idle opened reused stale"
+    "waiting promoted timed-out success ignored dropped 400 413 429 431 500 501 502 504 open idle opened reused stale "
+    "clients.silent clients.idle clients.opened clients.reused clients.late clients.displaced"
 ).split()
 
 
@@ -119,6 +120,7 @@ class Telling(Served):
             "501": "1",
             "open": "2",
             "opened": "3",
+            "clients.opened": "8",
         }
         self.judge("a report with all of it", True, until(lambda: wanted in reports(gate)))
         self.judge("the names in their order", [NAMES], [list(it) for it in reports(gate)[-1:]])
@@ -136,6 +138,7 @@ class Telling(Served):
             "502": "2",
             "open": "0",
             "opened": "6",
+            "clients.opened": "11",
         }
         self.judge("a report after that", True, until(lambda: wanted in reports(gate)))
         begun, count = time.monotonic(), len(reports(gate))
