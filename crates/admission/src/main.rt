@@ -9,6 +9,7 @@ use config_file::SystemFiles;
 use counted_io::Counted;
 use fault_lines::tell_unread_words;
 use line_explain::Kept;
+use listening::SystemAddresses;
 use log_lines::{LineStart, LogLines};
 use serve_command::serve_file;
 use std::env;
@@ -16,7 +17,6 @@ use std::io::Error;
 use std::process::ExitCode;
 use tasks::Spawner;
 use text_commands::{run_load, run_text};
-use timed_io::SystemAddresses;
 
 fn main(rt: HostRuntime) -> ExitCode {
     let alloc = rt.alloc();

@@ -10,13 +10,13 @@ use gate_history::{Receipt, Spent};
 use gate_port::Report;
 use limit_laws::{Limit, SetFault};
 use limiter_core::Reply;
+use listening::Listener;
 use operator_serving::{ChangeFault, Desk};
 use partitions::PartitionTable;
 use serve_reports::GatewayStats;
 use shared_gate::{GateNaming, Pass, SharedGate};
 use std::sync::Wait;
 use std::time::{Clock as SystemClock, Duration};
-use timed_io::Listener;
 
 /// The nanoseconds of a millisecond.
 const MILLI: u64 = 1_000_000;

@@ -2,8 +2,8 @@
 ghost use Rattle.std.specs.Prelude.{◌≡◌, true, false};
 ghost use Rattle.gate_desk.specs.Listeners.{is_shut, listener_in};
 
+use listening::{ClientConnections, Listener};
 use std::time::{Clock as SystemClock, Duration};
-use timed_io::{ClientConnections, Listener};
 
 /// A listener as a desk has it, which may ask whether connections still come, and close it for good
 /// only where it may change itself.

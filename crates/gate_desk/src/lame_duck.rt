@@ -2,10 +2,10 @@
 use crate::desk_listener::DeskListener;
 use clocks::Clock;
 use limit_laws::LAST_MOMENT;
+use listening::Listener;
 use std::sync::atomic::{AtomicU64, Ordering};
 use std::thread;
 use std::time::{Clock as SystemClock, Duration};
-use timed_io::Listener;
 
 /// From one look at the clock to the next, in milliseconds.
 const PAUSE_MS: u32 = 20;

@@ -8,13 +8,14 @@ use crate::desk::GateDesk;
 use crate::watch::DeskWatch;
 use clocks::Clock;
 use limit_laws::Limit;
+use listening::Listener;
 use operator_serving::{AnswerMemory, ListenerDoor, Operating, operate};
 use shared_gate::GateNaming;
 use std::alloc::AllocError;
 use std::sync::Wait;
 use std::time::{Clock as SystemClock, Duration};
 use tasks::Task;
-use timed_io::{ClientBuffers, Listener};
+use timed_io::ClientBuffers;
 
 /// Serves one operator after the other at a gateway's desk, until their listener is closed; and
 /// then closes another one too, where there is one.

@@ -7,7 +7,7 @@ use Rattle.limiter_core.specs.declared.counters.Counters.{Counters}
 use Rattle.gate_port.specs.declared.report.Report.{Report}
 use Rattle.histogram.specs.declared.histogram.Histogram.{Histogram}
 use Rattle.release.specs.Release.{version}
-use Rattle.timed_io.specs.declared.client_counts.ClientConnections.{ClientConnections}
+use Rattle.listening.specs.declared.client_counts.ClientConnections.{ClientConnections}
 use Rattle.serve_reports.specs.declared.connections.BackendConnections.{BackendConnections}
 use Rattle.serve_reports.specs.declared.noted.GatewayStats.{GatewayStats}
 use Rattle.serve_reports.specs.declared.noted.LimitRange.{LimitRange}

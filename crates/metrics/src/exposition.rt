@@ -14,13 +14,13 @@ use crate::limit_view::push_view;
 use crate::times::push_durations;
 use gate_port::Report;
 use limiter_core::Counters;
+use listening::ClientConnections;
 use partitions::{Part, PartitionTable};
 use release::version;
 use serve_reports::{
     AnswerTally, BackendConnections, GatewayStats, LimitRange, Outstanding, Troubles, Workers,
 };
 use std::alloc::{AllocError, Global};
-use timed_io::ClientConnections;
 
 /// The text of the metrics in the text format of Prometheus, version 0.0.4: of the state in a
 /// gate over these classes, in permits and callers, and of what was noted since the start. It fails

@@ -1,8 +1,8 @@
 -- How clients come to whoever serves operators.
 use Rattle.std.specs.Prelude.{ℕ, Bool}
 use Rattle.counted_io.specs.Count.{raised}
-use Rattle.timed_io.specs.declared.counted_listener.CountedListener.{CountedListener}
-use Rattle.timed_io.specs.Accepted.{accepted_of, missed_of}
+use Rattle.listening.specs.declared.counted_listener.CountedListener.{CountedListener}
+use Rattle.listening.specs.Accepted.{accepted_of, missed_of}
 use Rattle.operator_serving.specs.declared.door.ListenerDoor.{ListenerDoor}
 
 -- where the clients of a door come from, with the counts of the accepts

@@ -3,12 +3,13 @@ ghost use Rattle.std.specs.Prelude.{◌≡◌, ℕ, List, [], Option, true, fals
 ghost use Rattle.std.specs.Prelude.{if◌then◌else◌, IfOk, IfSome, OnErr};
 ghost use Rattle.counted_io.specs.Count.{raised, raised_by_err};
 ghost use Rattle.operator_serving.specs.Doors.{counted_in, failed_of, given_of, is_closed};
-ghost use Rattle.timed_io.specs.Accepted.{listener_of};
 ghost use Rattle.timed_io.specs.Client.{from_of, to_of};
+ghost use Rattle.listening.specs.Accepted.{listener_of};
 
 use crate::attending::Attended;
+use listening::{AcceptedClient, CountedListener, Listener};
 use std::io::Result;
-use timed_io::{AcceptedClient, Connection, CountedListener, Inlet, Listener, Outlet};
+use timed_io::{Connection, Inlet, Outlet};
 
 /// One thread's own way to its clients, which counts them. Nobody else lets a client go: only
 /// [`close`](Door::close) takes one, with what became of its request.
@@ -95,7 +96,7 @@ where
     type To = L::To;
 
     ghost use Rattle.std.specs.Prelude.{false};
-    ghost use Rattle.timed_io.specs.Accepted.{listener_of};
+    ghost use Rattle.listening.specs.Accepted.{listener_of};
     ghost use Rattle.operator_serving.specs.Doors.{counted_in, failed_of, given_of, is_closed};
 
     ghost given = { given_of };

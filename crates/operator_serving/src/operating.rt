@@ -13,14 +13,15 @@ use crate::desk::Desk;
 use crate::door::Door;
 use crate::memory::AnswerMemory;
 use clocks::Clock;
+use listening::AcceptedClient;
 use operator_calls::Audience;
 use std::alloc::Global;
 use std::sync::Wait;
 use std::thread;
 use std::time::{Clock as SystemClock, Duration};
 use timed_io::{
-    AcceptedClient, Client, ClientBuffers, ClientEnds, ClientTime, Connection, Inlet, Outlet,
-    Patience, ServedClient,
+    Client, ClientBuffers, ClientEnds, ClientTime, Connection, Inlet, Outlet, Patience,
+    ServedClient,
 };
 
 /// How long to rest where no connection could be had, in milliseconds.

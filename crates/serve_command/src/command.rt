@@ -29,6 +29,7 @@ use gate_config::Settings;
 use gate_desk::LameDuck;
 use limit_laws::Limit;
 use limiter_core::Counters;
+use listening::{Binder, Listener};
 use log::Log;
 use operator_calls::host_name;
 use serve_reports::{LimitRange, Watcher, write_counters};
@@ -40,7 +41,6 @@ use std::sync::Wait;
 use std::thread::Threads;
 use std::time::Clock as SystemClock;
 use tasks::Spawner;
-use timed_io::{Binder, Listener};
 
 /// Serves clients by the configuration in the file that is opened at the path, and at the end of
 /// all workers writes the line of the gate's counters to `writer`; or the line of the first fault

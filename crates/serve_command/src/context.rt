@@ -20,6 +20,7 @@ use commands::ServeOptions;
 use gate_config::Settings;
 use gate_desk::LameDuck;
 use limiter_core::Counters;
+use listening::Listener;
 use log::Log;
 use serve_reports::Watcher;
 use serving::{ServeFault, WorkerSettings};
@@ -29,7 +30,6 @@ use std::sync::Wait;
 use std::thread::Threads;
 use std::time::Clock as SystemClock;
 use tasks::Spawner;
-use timed_io::Listener;
 
 /// How many clients that have sent nothing may wait beside those who are served.
 const CLIENT_PLACES: u32 = 1_000;

@@ -26,6 +26,7 @@ use gate_laws::{exchanges_are_one_threads, reports_balance};
 use gate_opening::open_gate;
 use limit_laws::Limit;
 use limiter_core::Counters;
+use listening::Listener;
 use log::Log;
 use ports::{Port, View};
 use serve_reports::Watcher;
@@ -38,7 +39,6 @@ use std::sync::Wait;
 use std::thread::Threads;
 use std::time::Clock as SystemClock;
 use tasks::Spawner;
-use timed_io::Listener;
 
 /// A gateway that is to serve.
 #[derive(Drop)]

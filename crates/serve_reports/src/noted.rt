@@ -6,7 +6,7 @@ use crate::refusals::RefusalTally;
 use crate::tally::AnswerTally;
 use crate::times::TimeTally;
 use crate::workers::Workers;
-use timed_io::ClientConnections;
+use listening::ClientConnections;
 
 /// How often each trouble came since the start. A count stays at `u64::MAX`.
 #[derive(Clone, Copy)]

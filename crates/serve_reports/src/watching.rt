@@ -15,6 +15,7 @@ use crate::times::TimeTally;
 use crate::workers::Workers;
 use clocks::{Clock, ProgramClock};
 use gate_port::Report;
+use listening::ClientConnections;
 use log::{Log, info, warn};
 use partitions::PartitionTable;
 use proxy::{ExchangeSummary, Watch};
@@ -24,7 +25,6 @@ use std::sync::atomic::{AtomicU32, AtomicU64, Ordering};
 use std::sync::{Mutex, Wait};
 use std::time::Clock as SystemClock;
 use tcp_backend::{BackendWatch, ConnectionEvent};
-use timed_io::ClientConnections;
 use wire::WireFault;
 
 /// The nanoseconds of a second.

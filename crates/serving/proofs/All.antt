@@ -20,7 +20,7 @@ use Rattle.serving.specs.declared.jobs.JobResult.{JobResult}
 use Rattle.serving.specs.declared.jobs.JobResult.TheVariants as left
 use Rattle.serving.specs.declared.jobs.Worker.{Worker}
 use Rattle.serving.specs.declared.working.WorkerSettings.{WorkerSettings}
-use Rattle.timed_io.specs.Accepted.{listener_of}
+use Rattle.listening.specs.Accepted.{listener_of}
 use Rattle.proxy.specs.Exchanges.{Bytes, Policy}
 use Rattle.serving.specs.Doors.{counted_in, failed_of, given_of, is_closed}
 use Rattle.serving.specs.Served.{policy_of}

@@ -1,7 +1,7 @@
 -- What a clause reads of a door.
 use Rattle.std.specs.Prelude.{ℕ, Bool}
-use Rattle.timed_io.specs.declared.counted_listener.CountedListener.{CountedListener}
-use Rattle.timed_io.specs.Accepted.{accepted_of, kept_of, missed_of}
+use Rattle.listening.specs.declared.counted_listener.CountedListener.{CountedListener}
+use Rattle.listening.specs.Accepted.{accepted_of, kept_of, missed_of}
 use Rattle.serving.specs.declared.doors.Door.{Door}
 
 -- where its clients come from, with the counts of the accepts

@@ -5,12 +5,13 @@ ghost use Rattle.counted_io.specs.Count.{raised, raised_by_err};
 ghost use Rattle.proxy.specs.Made.{is_kept};
 ghost use Rattle.serving.specs.Doors.{counted_in, failed_of, given_of, is_closed, left_at};
 ghost use Rattle.serving.specs.Visits.{Arrives, IsUnwritten, Leaves, Misses};
-ghost use Rattle.timed_io.specs.Accepted.{listener_of};
 ghost use Rattle.timed_io.specs.Client.{from_of, to_of};
+ghost use Rattle.listening.specs.Accepted.{listener_of};
 
+use listening::{AcceptedClient, CountedListener, Listener};
 use proxy::{Exchange, Watch};
 use std::io::Result;
-use timed_io::{AcceptedClient, Connection, CountedListener, Inlet, Listener, Outlet};
+use timed_io::{Connection, Inlet, Outlet};
 
 /// One worker's own way to its clients: it counts them, and may show what it did. Nobody else lets
 /// a client go: only [`leave`](Accepts::leave) takes one, with the exchange that served it.
@@ -127,7 +128,7 @@ where
     type To = L::To;
 
     ghost use Rattle.std.specs.Prelude.{None};
-    ghost use Rattle.timed_io.specs.Accepted.{listener_of};
+    ghost use Rattle.listening.specs.Accepted.{listener_of};
     ghost use Rattle.serving.specs.Doors.{counted_in, failed_of, given_of, is_closed, left_at};
 
     ghost given = { given_of };

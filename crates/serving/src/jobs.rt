@@ -7,11 +7,12 @@ use crate::reporting::ActiveWorkers;
 use crate::working::{Source, TurnCounts, WorkerSettings, work};
 use clocks::Clock;
 use gate_port::GatePort;
+use listening::Listener;
 use proxy::Watch;
 use std::sync::Wait;
 use std::time::{Clock as SystemClock, Duration};
 use tasks::Task;
-use timed_io::{ClientBuffers, Listener};
+use timed_io::ClientBuffers;
 use wire::Backend;
 
 /// What a worker owns.

@@ -14,7 +14,9 @@ use crate::working::{Source, WorkerSettings};
 use clocks::Clock;
 use gate_config::Settings;
 use gate_port::{GatePort, GateView};
+use listening::{CountedListener, Listener, spare_descriptors};
 use proxy::Watch;
+use seats::Places;
 use std::alloc::{AllocError, Global};
 use std::net::Net;
 use std::sync::{Arc, Wait};
@@ -22,7 +24,7 @@ use std::thread::Threads;
 use std::time::{Clock as SystemClock, Duration};
 use tasks::{Spawner, Task, run_tasks_beside};
 use tcp_backend::{BackendWatch, ConnectionPool, Dialer, TcpBackend};
-use timed_io::{ClientBuffers, CountedListener, Listener, Places, spare_descriptors};
+use timed_io::ClientBuffers;
 use wire::Backend;
 
 /// For how long a client takes nothing of its answer, in nanoseconds, before the system ends its

@@ -11,13 +11,14 @@ use crate::doors::Accepts;
 use clocks::{Clock, MonotonicClock};
 use gate_config::Settings;
 use gate_port::GatePort;
+use listening::AcceptedClient;
 use proxy::{Exchange, ExchangePolicy, Keeper, Watch, exchange};
 use std::alloc::{AllocError, Global};
 use std::thread;
 use std::time::{Clock as SystemClock, Duration};
 use timed_io::{
-    AcceptedClient, Client, ClientBuffers, ClientEnds, ClientTime, Connection, Inlet, Outlet,
-    Patience, ServedClient,
+    Client, ClientBuffers, ClientEnds, ClientTime, Connection, Inlet, Outlet, Patience,
+    ServedClient,
 };
 use wire::Backend;
 

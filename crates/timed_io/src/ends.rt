@@ -5,8 +5,7 @@ ghost use Rattle.std.specs.Io.{ReadsAtMost, WritesAtMost};
 ghost use Rattle.std.specs.Io.KnownBytes.{ReadConsumes, WriteAppends};
 
 use libc::net::{MSG_DONTWAIT, MSG_NOSIGNAL, recv, send};
-use std::io::{Error, Read, Result, Write};
-use std::net::TcpStream;
+use std::io::{Error, Result};
 use std::os::fd::AsRawFd;
 use std::time::Duration;
 
@@ -78,66 +77,6 @@ pub trait Outlet<S> {
         ensures allowed { allowed self.new ≡ 0 };
 }
 
-/// An end of a socket: it keeps nothing, takes no room, and tells no bytes. A listener alone makes
-/// one, and nobody can copy it.
-#[derive(Drop)]
-pub struct OpaqueEnd {
-    _made: (),
-}
-
-impl OpaqueEnd {
-    // An end of a new connection.
-    pub(crate) fn new() -> OpaqueEnd {
-        OpaqueEnd { _made: () }
-    }
-}
-
-impl Inlet<TcpStream> for OpaqueEnd {
-    ghost use Rattle.std.specs.Prelude.{⊤, None};
-
-    ghost remaining = { λ _. None };
-
-    ghost limited = { λ _ _. ⊤ };
-
-    ghost allowed = { λ _. 0 };
-
-    fn limit_reads(&self, stream: &TcpStream, most: Duration) -> Result<()> {
-        stream.set_read_timeout(Some(most))
-    }
-
-    fn receive(&mut self, stream: &TcpStream, _most: Duration, buf: &mut [u8]) -> Result<usize> {
-        let mut stream = stream;
-        Read::read(&mut stream, buf)
-    }
-
-    fn receive_ready(&mut self, stream: &TcpStream, buf: &mut [u8]) -> Result<usize> {
-        read_ready(stream, buf)
-    }
-}
-
-impl Outlet<TcpStream> for OpaqueEnd {
-    ghost use Rattle.std.specs.Prelude.{⊤, None};
-
-    ghost contents = { λ _. None };
-
-    ghost limited = { λ _ _. ⊤ };
-
-    ghost allowed = { λ _. 0 };
-
-    fn limit_writes(&self, stream: &TcpStream, most: Duration) -> Result<()> {
-        stream.set_write_timeout(Some(most))
-    }
-
-    fn send(&mut self, stream: &TcpStream, _most: Duration, buf: &[u8]) -> Result<usize> {
-        let mut stream = stream;
-        Write::write(&mut stream, buf)
-    }
-
-    fn send_ready(&mut self, stream: &TcpStream, buf: &[u8]) -> Result<usize> {
-        moved(unsafe { send(stream.as_raw_fd(), buf, MSG_DONTWAIT | MSG_NOSIGNAL) })
-    }
-}
-
 /// Reads what has come to a socket already. It waits for nothing, and fails with
 /// [`ErrorKind::WouldBlock`](std::io::ErrorKind) where nothing has come. std reads so only from a
 /// socket that never waits, and making it one is a call of the system more.
@@ -145,6 +84,14 @@ pub fn read_ready<S: AsRawFd>(socket: &S, buf: &mut [u8]) -> Result<usize>
     ensures { ReadsAtMost result buf.new }
 {
     moved(unsafe { recv(socket.as_raw_fd(), buf, MSG_DONTWAIT) })
+}
+
+/// Writes what a socket has room for already. It waits for nothing, and fails with
+/// [`ErrorKind::WouldBlock`](std::io::ErrorKind) where there is no room.
+pub fn write_ready<S: AsRawFd>(socket: &S, buf: &[u8]) -> Result<usize>
+    ensures { WritesAtMost result buf.now }
+{
+    moved(unsafe { send(socket.as_raw_fd(), buf, MSG_DONTWAIT | MSG_NOSIGNAL) })
 }
 
 // How many bytes a call of the system moved, or why it failed.

@@ -3,8 +3,8 @@ ghost use Rattle.std.specs.Prelude.{◌≡◌, ◌≢◌, ℕ, ◌<◌, ◌==◌
 ghost use Rattle.std.specs.Prelude.{option_map, IfErr, IfNone, IfOk, IfSome, IsSome, OnErr, OnOk, OnSome};
 ghost use Rattle.std.specs.Duration.{as_nanos};
 ghost use Rattle.std.specs.Map.{lookup, remove_entry};
-ghost use Rattle.timed_io.specs.Seats.{HasLeft, HasLeftRows, JoinedRows, LeavesFirst};
-ghost use Rattle.timed_io.specs.Seats.{MadeRoom, comes_first, is_full, joined, left_at, taken_in};
+ghost use Rattle.seats.specs.Seats.{HasLeft, HasLeftRows, JoinedRows, LeavesFirst};
+ghost use Rattle.seats.specs.Seats.{MadeRoom, comes_first, is_full, joined, left_at, taken_in};
 
 use crate::row::{Row, Seated};
 use std::alloc::Global;
@@ -22,17 +22,19 @@ pub struct Places {
     pub idle: Duration,
 }
 
-/// A seat that was taken: its number, and who had to leave for it.
+/// A seat that was taken.
 #[derive(Drop)]
-pub(crate) struct Seat<T> {
-    pub(crate) number: u64,
-    pub(crate) displaced: Option<(u64, Seated<T>)>,
+pub struct Seat<T> {
+    /// Its number.
+    pub number: u64,
+    /// Who had to leave, by the number of its seat.
+    pub displaced: Option<(u64, Seated<T>)>,
 }
 
 /// Those who wait, each by the number of its seat, which nobody else ever has: in one row who has
 /// sent nothing yet, in the other who is kept. They share the places.
 #[derive(Drop)]
-pub(crate) struct Seats<T> {
+pub struct Seats<T> {
     silent: Row<T>,
     kept: Row<T>,
     count: u32,
@@ -40,7 +42,7 @@ pub(crate) struct Seats<T> {
 }
 
 impl<T> Model for Seats<T> {
-    ghost use Rattle.timed_io.specs.Seats.{AreSeats, Seating};
+    ghost use Rattle.seats.specs.Seats.{AreSeats, Seating};
 
     ghost Value = { Seating T };
 
@@ -56,7 +58,7 @@ impl<T> Model for Seats<T> {
 
 impl<T: Drop> Seats<T> {
     /// So many places, which are free.
-    pub(crate) fn new(alloc: Global, places: Places) -> Seats<T>
+    pub fn new(alloc: Global, places: Places) -> Seats<T>
         ensures { result ≡ record {
           silent = record { taken = []; limit = as_nanos places.silent };
           kept = record { taken = []; limit = as_nanos places.idle };
@@ -73,7 +75,7 @@ impl<T: Drop> Seats<T> {
 
     /// Seats one at the end of its row; where all places are taken, who has waited longest of all
     /// leaves. It comes back where there are no places, or no memory for one more.
-    pub(crate) fn seat(&mut self, who: T, since: Duration, is_kept: bool) -> Result<Seat<T>, T>
+    pub fn seat(&mut self, who: T, since: Duration, is_kept: bool) -> Result<Seat<T>, T>
         ensures seated { IfOk result (λ seat. HasLeft seat.displaced
             (joined is_kept (seat.number, record { who = who; since = since }) self.old)
             self.new) }
@@ -105,7 +107,7 @@ impl<T: Drop> Seats<T> {
     }
 
     /// Takes the one of this seat who has sent nothing, where it still waits.
-    pub(crate) fn take_silent(&mut self, number: u64) -> Option<T>
+    pub fn take_silent(&mut self, number: u64) -> Option<T>
         ensures taken { result ≡ option_map (λ seated. seated.who)
             (lookup (λ one. one == number) self.old.silent.taken) }
         ensures others { self.new ≡ record self.old {
@@ -118,7 +120,7 @@ impl<T: Drop> Seats<T> {
     }
 
     /// Takes the one of this seat who is kept, where it still waits.
-    pub(crate) fn take_kept(&mut self, number: u64) -> Option<T>
+    pub fn take_kept(&mut self, number: u64) -> Option<T>
         ensures taken { result ≡ option_map (λ seated. seated.who)
             (lookup (λ one. one == number) self.old.kept.taken) }
         ensures others { self.new ≡ record self.old {
@@ -131,7 +133,7 @@ impl<T: Drop> Seats<T> {
     }
 
     /// Takes the first one of a row whose time is over.
-    pub(crate) fn take_late(&mut self, now: Duration) -> Option<T>
+    pub fn take_late(&mut self, now: Duration) -> Option<T>
         ensures first { IfSome result (LeavesFirst self.old self.new) }
         ensures late { OnSome result (left_at (as_nanos now) self.old ≡ Some 0) }
         ensures unchanged { IfNone result (self.new ≡ self.old) }
@@ -144,7 +146,7 @@ impl<T: Drop> Seats<T> {
     }
 
     /// How much time is left to the first one whose time is over.
-    pub(crate) fn left(&self, now: Duration) -> Option<Duration>
+    pub fn left(&self, now: Duration) -> Option<Duration>
         ensures { option_map as_nanos result ≡ left_at (as_nanos now) self.now }
     {
         match (self.silent.left(now), self.kept.left(now)) {
@@ -155,12 +157,12 @@ impl<T: Drop> Seats<T> {
     }
 
     /// For how long the last one has waited who has sent nothing.
-    pub(crate) fn last_waited(&self, now: Duration) -> Option<Duration> {
+    pub fn last_waited(&self, now: Duration) -> Option<Duration> {
         self.silent.last_waited(now)
     }
 
     /// Whether all places are taken.
-    pub(crate) fn is_full(&self) -> bool
+    pub fn is_full(&self) -> bool
         ensures { result ≡ is_full self.now }
     {
         let free = (self.count as usize).saturating_sub(self.silent.len());
@@ -168,7 +170,7 @@ impl<T: Drop> Seats<T> {
     }
 
     /// How many have sent nothing, and how many are kept.
-    pub(crate) fn lens(&self) -> (usize, usize)
+    pub fn lens(&self) -> (usize, usize)
         ensures silent { result.0 ≡ length self.now.silent.taken }
         ensures kept { result.1 ≡ length self.now.kept.taken }
     {

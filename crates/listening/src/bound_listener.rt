@@ -1,13 +1,11 @@
 // Clients over TCP.
 use crate::client_counts::ClientConnections;
-use crate::client_ends::ClientEnds;
-use crate::ends::OpaqueEnd;
-use crate::keeping::{ask_after, end_untaken, send_at_once};
 use crate::listener::{AcceptedClient, Listener};
+use crate::opaque_end::OpaqueEnd;
 use crate::room::{Came, Room};
-use crate::seats::Places;
 use libc::net::{POLLIN, SHUT_RD, listen, poll, shutdown};
 use libc::types::pollfd;
+use seats::Places;
 use std::alloc::Global;
 use std::io::{Error, ErrorKind, Result};
 use std::net::{Net, SocketAddr, TcpListener, TcpStream};
@@ -16,6 +14,7 @@ use std::sync::atomic::{AtomicBool, AtomicU64, Ordering};
 use std::sync::{Mutex, Wait};
 use std::thread;
 use std::time::{Clock, Duration};
+use timed_io::{ClientEnds, ask_after, end_untaken, send_at_once};
 
 /// From one look for connections that wait to the next, in milliseconds.
 const TURN_MS: u64 = 1;

@@ -3,13 +3,11 @@ ghost use Rattle.std.specs.Prelude.{◌≡◌, [], false, IfOk, IfSome};
 ghost use Rattle.timed_io.specs.Client.{from_of, to_of};
 
 use crate::client_counts::ClientConnections;
-use crate::client_ends::ClientEnds;
-use crate::connection::Connection;
-use crate::ends::{Inlet, Outlet};
-use crate::seats::Places;
+use seats::Places;
 use std::alloc::Global;
 use std::io::Result;
 use std::time::{Clock, Duration};
+use timed_io::{ClientEnds, Connection, Inlet, Outlet};
 
 /// A client who came. It can't be copied, and it is let go only by [`close`](Self::close), which
 /// needs a connection that may be dropped: generic code can't let one go.

@@ -1,4 +1,4 @@
-use Rattle.timed_io.proofs.row.Row.take_late.Goals as goal
+use Rattle.seats.proofs.row.Row.take_late.Goals as goal
 
 pub returns-clause-first : goal.returns-clause-first
 returns-clause-first g c = (

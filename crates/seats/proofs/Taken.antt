@@ -11,9 +11,9 @@ use Rattle.std.specs.Map.{remove_entry}
 use Rattle.std.specs.Ordering.{nat_cmp}
 use Rattle.std.specs.declared.cmp.Ordering.TheVariants.{Greater}
 use Rattle.std.specs.declared.time.Duration.{Duration}
-use Rattle.timed_io.specs.Seats.{AreSeats, HasLeft, JoinedRows, LeftEither, MadeRoom, Seating}
-use Rattle.timed_io.specs.Seats.{Waiting, behind, comes_first, joined, taken_in}
-use Rattle.timed_io.specs.declared.row.Seated.{Seated}
+use Rattle.seats.specs.Seats.{AreSeats, HasLeft, JoinedRows, LeftEither, MadeRoom, Seating}
+use Rattle.seats.specs.Seats.{Waiting, behind, comes_first, joined, taken_in}
+use Rattle.seats.specs.declared.row.Seated.{Seated}
 
 module _ {X : Type 0} where
   -- its number is below

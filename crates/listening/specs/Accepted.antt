@@ -1,6 +1,6 @@
 -- A listener whose accepts are counted.
 use Rattle.std.specs.Prelude.{ℕ}
-use Rattle.timed_io.specs.declared.counted_listener.CountedListener.{CountedListener}
+use Rattle.listening.specs.declared.counted_listener.CountedListener.{CountedListener}
 
 -- the listener itself
 abbrev pub listener_of : {L : Type 0} → CountedListener L → L

@@ -1,8 +1,8 @@
 // A listener whose accepts are counted.
 ghost use Rattle.std.specs.Prelude.{◌≡◌, [], false, is_ok, if◌then◌else◌, IfOk, IfSome};
 ghost use Rattle.counted_io.specs.Count.{raised, raised_by_err};
-ghost use Rattle.timed_io.specs.Accepted.{accepted_of, kept_of, listener_of, missed_of};
 ghost use Rattle.timed_io.specs.Client.{from_of, to_of};
+ghost use Rattle.listening.specs.Accepted.{accepted_of, kept_of, listener_of, missed_of};
 
 use crate::listener::{AcceptedClient, Listener};
 use std::io::Result;

@@ -3,7 +3,7 @@ use Rattle.std.specs.Prelude.{◌≡◌, ◌⊎◌, ℕ, ◌+◌, ◌-◌, ◌<�
 use Rattle.std.specs.Prelude.{List, [], ◌∷◌, ◌++◌, All, length, Option, Some, None}
 use Rattle.std.specs.Duration.{as_nanos}
 use Rattle.std.specs.declared.time.Duration.{Duration}
-use Rattle.timed_io.specs.declared.row.Seated.{Seated}
+use Rattle.seats.specs.declared.row.Seated.{Seated}
 
 -- a row: those who wait, the first who came first, each by its number with who it is and since
 -- when; and for how many nanoseconds one may wait

@@ -1,5 +1,5 @@
-use Rattle.timed_io.proofs.Seated.{all_seated, seating}
-use Rattle.timed_io.proofs.seats.Seats.seat.Goals as goal
+use Rattle.seats.proofs.Taken.{all_seated, seating}
+use Rattle.seats.proofs.seats.Seats.seat.Goals as goal
 
 pub invariant_of-self-2 : goal.invariant_of-self-2
 invariant_of-self-2 g c =

@@ -1,6 +1,6 @@
 use Rattle.std.proofs.Common.{◌∙◌, ◌<◌, All, subst, sym}
-use Rattle.timed_io.proofs.Seated.{behind_all}
-use Rattle.timed_io.proofs.row.Row.seat.Goals as goal
+use Rattle.seats.proofs.Taken.{behind_all}
+use Rattle.seats.proofs.row.Row.seat.Goals as goal
 
 pub returns-clause-seated : goal.returns-clause-seated
 returns-clause-seated g c = rw (← c.self.view_is) (

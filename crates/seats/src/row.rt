@@ -3,7 +3,7 @@ ghost use Rattle.std.specs.Prelude.{◌≡◌, ◌≢◌, ℕ, ◌<◌, ◌==◌
 ghost use Rattle.std.specs.Prelude.{option_map, IfErr, IfNone, IfSome, OnErr, OnOk, OnSome};
 ghost use Rattle.std.specs.Duration.{as_nanos};
 ghost use Rattle.std.specs.Map.{lookup, remove_entry};
-ghost use Rattle.timed_io.specs.Seats.{first_number, left_of_first};
+ghost use Rattle.seats.specs.Seats.{first_number, left_of_first};
 
 use std::alloc::Global;
 use std::collections::BTreeMap;
@@ -12,9 +12,11 @@ use std::time::Duration;
 
 /// One who waits, and since when.
 #[derive(Drop)]
-pub(crate) struct Seated<T> {
-    pub(crate) who: T,
-    pub(crate) since: Duration,
+pub struct Seated<T> {
+    /// Who it is.
+    pub who: T,
+    /// Since when, by the clock that tells the moments.
+    pub since: Duration,
 }
 
 /// Those who wait in a row, the first who came first, each by a number that rises.
@@ -26,7 +28,7 @@ pub(crate) struct Row<T> {
 
 impl<T> Model for Row<T> {
     ghost use Rattle.std.specs.Duration.{as_nanos};
-    ghost use Rattle.timed_io.specs.Seats.{Waiting};
+    ghost use Rattle.seats.specs.Seats.{Waiting};
 
     ghost Value = { Waiting T };
 

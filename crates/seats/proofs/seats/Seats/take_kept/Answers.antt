@@ -1,5 +1,5 @@
-use Rattle.timed_io.proofs.Seated.{kept_less}
-use Rattle.timed_io.proofs.seats.Seats.take_kept.Goals as goal
+use Rattle.seats.proofs.Taken.{kept_less}
+use Rattle.seats.proofs.seats.Seats.take_kept.Goals as goal
 
 pub invariant_of-self : goal.invariant_of-self
 invariant_of-self g c = rw c.take.ensures.others (kept_less _ _ _ _ _ c.self.invariant)

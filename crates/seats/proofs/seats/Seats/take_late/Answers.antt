@@ -1,5 +1,5 @@
-use Rattle.timed_io.proofs.Seated.{late_leaves, silent_leaves}
-use Rattle.timed_io.proofs.seats.Seats.take_late.Goals as goal
+use Rattle.seats.proofs.Taken.{late_leaves, silent_leaves}
+use Rattle.seats.proofs.seats.Seats.take_late.Goals as goal
 
 pub invariant_of-self : goal.invariant_of-self
 invariant_of-self g c = silent_leaves _ _ _ _ _ _ c.self.invariant c.in-Some.ensures.first.2

@@ -1,17 +1,17 @@
 // Where clients wait until they send something.
 use crate::client_counts::{ClientConnections, ClientCounts, ClientEvent};
-use crate::connection::Connection;
-use crate::seats::{Places, Seats};
 use libc::net::{
     EPOLL_CTL_ADD, EPOLL_CTL_MOD, EPOLLET, EPOLLHUP, EPOLLIN, EPOLLONESHOT, EPOLLRDHUP,
 };
 use os::{EpollEvent, epoll_ctl, epoll_wait};
+use seats::{Places, Seats};
 use std::alloc::Global;
 use std::io::{Error, Result};
 use std::net::{Net, TcpStream};
 use std::os::fd::{AsRawFd, RawFd};
 use std::sync::{Mutex, Wait};
 use std::time::{Clock, Duration};
+use timed_io::Connection;
 
 /// The number of the listener among the events: no seat has it.
 const LISTENER: u64 = u64::MAX;
