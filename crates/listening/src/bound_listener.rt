@@ -5,7 +5,7 @@ use crate::room::{Came, Room};
 use libc::net::{POLLIN, SHUT_RD, listen, poll, shutdown};
 use libc::types::pollfd;
 use seats::{ClientConnections, Places};
-use std::alloc::Global;
+use std::alloc::{AllocError, Global};
 use std::io::{Error, ErrorKind, Result};
 use std::net::{Net, SocketAddr, TcpListener, TcpStream};
 use std::os::fd::{AsFd, AsRawFd, RawFd};
@@ -219,9 +219,10 @@ impl<'r, R: Net + Wait + Clock> Listener for BoundListener<'r, R> {
         self.room.connections()
     }
 
-    fn offer_places(&self, alloc: Global, places: Places) {
+    fn offer_places(&self, alloc: Global, places: Places) -> std::result::Result<(), AllocError> {
+        self.room.offer(alloc, places)?;
         self.has_places.store(places.count > 0, Ordering::SeqCst);
-        self.room.offer(alloc, places);
+        Ok(())
     }
 
     fn end_untaken(&self, most: Duration) {

@@ -3,7 +3,7 @@ ghost use Rattle.std.specs.Prelude.{◌≡◌, [], false, IfOk, IfSome};
 ghost use Rattle.timed_io.specs.Client.{from_of, to_of};
 
 use seats::{ClientConnections, Places};
-use std::alloc::Global;
+use std::alloc::{AllocError, Global};
 use std::io::Result;
 use std::time::{Clock, Duration};
 use timed_io::{ClientEnds, Connection, Inlet, Outlet};
@@ -82,8 +82,9 @@ pub trait Listener {
 
     /// From now on so many may wait beside those who are served, who have sent nothing or are kept,
     /// each for so long; where all places are taken, who has waited longest goes. Without places
-    /// each client is given as it comes, and nobody is kept.
-    fn offer_places(&self, alloc: Global, places: Places);
+    /// each client is given as it comes, and nobody is kept. It fails only out of memory, and takes
+    /// all that the places need.
+    fn offer_places(&self, alloc: Global, places: Places) -> std::result::Result<(), AllocError>;
 
     /// From now on the system ends the connections of those who come, where for so long nothing is
     /// taken of what was sent to them.

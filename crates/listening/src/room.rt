@@ -4,7 +4,7 @@ use libc::net::{
 };
 use os::{EpollEvent, epoll_ctl, epoll_wait};
 use seats::{ClientConnections, ClientCounts, ClientEvent, Places, Seats};
-use std::alloc::Global;
+use std::alloc::{AllocError, Global};
 use std::io::{Error, Result};
 use std::net::{Net, TcpStream};
 use std::os::fd::{AsRawFd, RawFd};
@@ -65,9 +65,16 @@ impl<'r, R: Net + Wait + Clock> Room<'r, R> {
         Ok(room)
     }
 
-    /// From now on there are these places.
-    pub(crate) fn offer(&self, alloc: Global, places: Places) {
-        *self.seats.lock(self.rt) = Some(Seats::new(alloc, places));
+    /// From now on there are these places. It fails only out of memory, of which who comes later
+    /// takes none.
+    pub(crate) fn offer(
+        &self,
+        alloc: Global,
+        places: Places,
+    ) -> std::result::Result<(), AllocError> {
+        let seats = Seats::new(alloc, places)?;
+        *self.seats.lock(self.rt) = Some(seats);
+        Ok(())
     }
 
     /// Nobody waits any more: who does is let go, and there are no places.

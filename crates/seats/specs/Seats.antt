@@ -6,17 +6,23 @@ use Rattle.std.specs.declared.time.Duration.{Duration}
 use Rattle.seats.specs.declared.row.Seated.{Seated}
 
 -- a row: those who wait, the first who came first, each by its number with who it is and since
--- when; and for how many nanoseconds one may wait
+-- when; for how many nanoseconds one may wait; and how many it has room for, all of it reserved
 pub record Waiting (T : Type 0) : Type 0 where
   pub taken : List (ℕ × Seated T)
   pub limit : ℕ
+  pub room : ℕ
 
--- seats: the row of those who have sent nothing yet, that of those who are kept, and how many
--- places both have
+-- a row where nobody waits
+abbrev pub empty_row : {T : Type 0} → ℕ → ℕ → Waiting T
+empty_row limit room = record { taken = []; limit = limit; room = room }
+
+-- seats: the row of those who have sent nothing yet, that of those who are kept, how many places
+-- both have, and the number of the next seat
 pub record Seating (T : Type 0) : Type 0 where
   pub silent : Waiting T
   pub kept : Waiting T
   pub places : ℕ
+  pub next : ℕ
 
 -- all who wait
 abbrev pub taken_in : {T : Type 0} → Seating T → List (ℕ × Seated T)
@@ -26,12 +32,14 @@ taken_in seats = seats.silent.taken ++ seats.kept.taken
 abbrev pub is_full : {T : Type 0} → Seating T → Bool
 is_full seats = nat_le seats.places (length seats.silent.taken + length seats.kept.taken)
 
--- all numbers so far are below the next one, and no more seats are taken than there are
-pub record AreSeats {T : Type 0} (silent kept : List (ℕ × Seated T)) (next places : ℕ)
-    : Type 0 where
-  pub silent_rising : All (λ entry. entry.0 < next) silent
-  pub kept_rising : All (λ entry. entry.0 < next) kept
-  pub few : length silent + length kept ≤ places
+-- all numbers so far are below the next one, no more seats are taken than there are, and each row
+-- has room for all of them and one more
+pub record AreSeats {T : Type 0} (silent kept : Waiting T) (next places : ℕ) : Type 0 where
+  pub silent_below : All (λ entry. entry.0 < next) silent.taken
+  pub kept_below : All (λ entry. entry.0 < next) kept.taken
+  pub few : length silent.taken + length kept.taken ≤ places
+  pub silent_room : places < silent.room
+  pub kept_room : places < kept.room
 
 -- a row with one more at its end
 abbrev pub behind : {T : Type 0} → ℕ × Seated T → Waiting T → Waiting T
@@ -39,8 +47,10 @@ behind entry row = record row { taken = row.taken ++ entry ∷ [] }
 
 -- one more is kept, or has sent nothing yet
 abbrev pub joined : {T : Type 0} → Bool → ℕ × Seated T → Seating T → Seating T
-joined true entry seats = record seats { kept = behind entry seats.kept }
-joined false entry seats = record seats { silent = behind entry seats.silent }
+joined true entry seats =
+    record seats { kept = behind entry seats.kept; next = seats.next + 1 }
+joined false entry seats =
+    record seats { silent = behind entry seats.silent; next = seats.next + 1 }
 
 -- so it is of two rows
 abbrev pub JoinedRows : {T : Type 0} → Bool → ℕ × Seated T → Waiting T → Waiting T → Waiting T
@@ -62,7 +72,8 @@ comes_first (entry ∷ entries) (other ∷ others) = nat_lt entry.0 other.0
 -- this was the first one of a row, which left it; or there was none
 abbrev pub FirstLeft : {T : Type 0} → Option (ℕ × Seated T) → Waiting T → Waiting T → Type 0
 FirstLeft None old new = (old.taken ≡ []) × (new ≡ old)
-FirstLeft (Some entry) old new = (old.taken ≡ entry ∷ new.taken) × (new.limit ≡ old.limit)
+FirstLeft (Some entry) old new =
+    (old.taken ≡ entry ∷ new.taken) × (new.limit ≡ old.limit) × (new.room ≡ old.room)
 
 -- the first one left of the first row of two, or of the second one
 abbrev pub LeftEither : {T : Type 0} → Bool → Option (ℕ × Seated T) → Waiting T → Waiting T
@@ -89,13 +100,14 @@ MadeRoom most (Some entry) silent kept silent' kept' =
 abbrev pub HasLeft : {T : Type 0} → Option (ℕ × Seated T) → Seating T → Seating T → Type 0
 HasLeft None old new = new ≡ old
 HasLeft (Some entry) old new =
-    HasLeftRows (Some entry) old.silent old.kept new.silent new.kept × (new.places ≡ old.places)
+    HasLeftRows (Some entry) old.silent old.kept new.silent new.kept
+    × (new.places ≡ old.places) × (new.next ≡ old.next)
 
 -- the first one of a row left
 abbrev pub LeavesRow : {T : Type 0} → Waiting T → Waiting T → T → Type 0
 LeavesRow old new who = (number : ℕ) × (since : Duration)
     × (old.taken ≡ (number, record { who = who; since = since }) ∷ new.taken)
-    × (new.limit ≡ old.limit)
+    × (new.limit ≡ old.limit) × (new.room ≡ old.room)
 
 abbrev pub LeavesFirst : {T : Type 0} → Seating T → Seating T → T → Type 0
 LeavesFirst old new who =

@@ -1,13 +1,15 @@
 // Who waits, in two rows: those who have sent nothing yet, and those who are kept.
-ghost use Rattle.std.specs.Prelude.{◌≡◌, ◌≢◌, ℕ, ◌<◌, ◌==◌, [], All, Some, length, Bool};
-ghost use Rattle.std.specs.Prelude.{option_map, IfErr, IfNone, IfOk, IfSome, IsSome, OnErr, OnOk, OnSome};
+ghost use Rattle.std.specs.Prelude.{◌≡◌, ◌≢◌, ◌⊎◌, ℕ, ◌+◌, ◌-◌, ◌^◌, ◌<◌, ◌==◌, [], All, Some};
+ghost use Rattle.std.specs.Prelude.{length, Bool, option_map, IfErr, IfNone, IfOk, IfSome, IsErr};
+ghost use Rattle.std.specs.Prelude.{IsSome, OnErr, OnSome};
 ghost use Rattle.std.specs.Duration.{as_nanos};
 ghost use Rattle.std.specs.Map.{lookup, remove_entry};
 ghost use Rattle.seats.specs.Seats.{HasLeft, HasLeftRows, JoinedRows, LeavesFirst};
-ghost use Rattle.seats.specs.Seats.{MadeRoom, comes_first, is_full, joined, left_at, taken_in};
+ghost use Rattle.seats.specs.Seats.{MadeRoom, comes_first, empty_row, is_full, joined, left_at};
+ghost use Rattle.seats.specs.Seats.{taken_in};
 
 use crate::row::{Row, Seated};
-use std::alloc::Global;
+use std::alloc::{AllocError, Global};
 use std::marker::Model;
 use std::time::Duration;
 
@@ -50,47 +52,53 @@ impl<T> Model for Seats<T> {
       silent = seats.silent;
       kept = seats.kept;
       places = seats.count;
+      next = seats.next;
     } };
 
-    ghost invariant = { λ seats.
-        AreSeats seats.silent.taken seats.kept.taken seats.next seats.count };
+    ghost invariant = { λ seats. AreSeats seats.silent seats.kept seats.next seats.count };
 }
 
 impl<T: Drop> Seats<T> {
-    /// So many places, which are free.
-    pub fn new(alloc: Global, places: Places) -> Seats<T>
-        ensures { result ≡ record {
-          silent = record { taken = []; limit = as_nanos places.silent };
-          kept = record { taken = []; limit = as_nanos places.idle };
+    /// So many places, which are free. It fails only out of memory, of which no later call takes
+    /// any: each row has room for all, and for one who comes before another one leaves.
+    pub fn new(alloc: Global, places: Places) -> Result<Seats<T>, AllocError>
+        ensures { IfOk result (λ seats. seats ≡ record {
+          silent = empty_row (as_nanos places.silent) (places.count + 1);
+          kept = empty_row (as_nanos places.idle) (places.count + 1);
           places = places.count;
-        } }
+          next = 0;
+        }) }
     {
-        Seats {
-            silent: Row::new(alloc, places.silent),
-            kept: Row::new(alloc, places.idle),
+        let room = places.count as usize + 1;
+        Ok(Seats {
+            silent: Row::new(alloc, room, places.silent)?,
+            kept: Row::new(alloc, room, places.idle)?,
             count: places.count,
             next: 0,
-        }
+        })
     }
 
     /// Seats one at the end of its row; where all places are taken, who has waited longest of all
-    /// leaves. It comes back where there are no places, or no memory for one more.
+    /// leaves. It comes back where there are no places, or no number for one more.
     pub fn seat(&mut self, who: T, since: Duration, is_kept: bool) -> Result<Seat<T>, T>
         ensures seated { IfOk result (λ seat. HasLeft seat.displaced
-            (joined is_kept (seat.number, record { who = who; since = since }) self.old)
+            (joined is_kept (self.old.next, record { who = who; since = since }) self.old)
             self.new) }
+        ensures number { IfOk result (λ seat. seat.number ≡ self.old.next) }
         ensures own { IfOk result (λ seat. All (λ entry. entry.0 < seat.number)
             (taken_in self.old)) }
         ensures full { IfOk result (λ seat.
             IsSome seat.displaced → length (taken_in self.old) ≡ self.old.places) }
         ensures back { IfErr result (λ back. back ≡ who) }
+        ensures refused { IsErr result
+            → (self.old.places ≡ 0) ⊎ (self.old.next ≡ 2 ^ 64 - 1) }
         ensures unchanged { OnErr result (self.new ≡ self.old) }
     {
         let number = self.next;
         if self.count == 0 || number == u64::MAX {
             return Err(who);
         }
-        let seated = seat_in(
+        seat_in(
             &mut self.silent,
             &mut self.kept,
             number,
@@ -98,9 +106,6 @@ impl<T: Drop> Seats<T> {
             since,
             is_kept,
         );
-        if let Err(back) = seated {
-            return Err(back);
-        }
         self.next = number + 1;
         let displaced = make_room(&mut self.silent, &mut self.kept, self.count as usize);
         Ok(Seat { number, displaced })
@@ -178,8 +183,7 @@ impl<T: Drop> Seats<T> {
     }
 }
 
-/// Seats one at the end of one of two rows, by a number above all others. It comes back where there
-/// is no memory for one more.
+/// Seats one at the end of one of two rows, by a number above all others.
 fn seat_in<T: Drop>(
     silent: &mut Row<T>,
     kept: &mut Row<T>,
@@ -187,18 +191,18 @@ fn seat_in<T: Drop>(
     who: T,
     since: Duration,
     is_kept: bool,
-) -> Result<(), T>
+)
     requires above_silent { All (λ entry. entry.0 < number) silent.old.taken }
     requires above_kept { All (λ entry. entry.0 < number) kept.old.taken }
-    ensures joined { OnOk result (JoinedRows is_kept
-        (number, record { who = who; since = since }) silent.old kept.old silent.new kept.new) }
-    ensures back { IfErr result (λ back. back ≡ who) }
-    ensures unchanged { OnErr result ((silent.new ≡ silent.old) × (kept.new ≡ kept.old)) }
+    requires room_silent { length silent.old.taken < silent.old.room }
+    requires room_kept { length kept.old.taken < kept.old.room }
+    ensures { JoinedRows is_kept (number, record { who = who; since = since })
+        silent.old kept.old silent.new kept.new }
 {
     if is_kept {
-        kept.seat(number, who, since)
+        kept.seat(number, who, since);
     } else {
-        silent.seat(number, who, since)
+        silent.seat(number, who, since);
     }
 }
 

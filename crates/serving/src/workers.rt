@@ -92,7 +92,7 @@ where
         common,
         settings,
         wanted_descriptors(workers.len(), settings.backends),
-    );
+    )?;
     let active = ActiveWorkers::new(workers.len());
     let reporter = Reporter {
         rt,
@@ -119,12 +119,12 @@ fn wanted_descriptors(workers: usize, backends: u32) -> u64 {
 
 /// Has the listener keep clients who have sent nothing, and those who were served where the
 /// settings keep some, as far as there are descriptors for them beside so many that are wanted, and
-/// end those who take nothing.
+/// end those who take nothing. It fails only out of memory for their places.
 fn prepare<L: Listener, C, S, W>(
     common: &WorkerSettings<'_, L, C, S, W>,
     settings: &Settings,
     wanted: u64,
-) {
+) -> Result<(), AllocError> {
     let most_ns = common.client_timeout_ns;
     let asked = match settings.clients {
         0 => common.client_places,
@@ -137,9 +137,10 @@ fn prepare<L: Listener, C, S, W>(
         silent: Duration::from_nanos(most_ns),
         idle: Duration::from_nanos(settings.client_idle_ns),
     };
-    common.listener.offer_places(common.alloc, places);
+    common.listener.offer_places(common.alloc, places)?;
     let untaken = Duration::from_nanos(most_ns.max(UNTAKEN_NS));
     common.listener.end_untaken(untaken);
+    Ok(())
 }
 
 /// A worker for each port, with a door, and with a backend at the address of the settings.
