@@ -253,6 +253,7 @@ class Started:
 def kept_targets(it: Started, keys: str = BACKENDS) -> None:
     """Those that keep their connections on both sides."""
     it.nginx("nginx, kept", ANY_SIZE, is_kept=True)
+    it.nginx("nginx, kept, batch", ANY_SIZE, policy=BATCH, is_kept=True)
     it.haproxy("HAProxy, kept", is_kept=True)
     for count in it.given.workers:
         it.called(f"bare, {count} threads, kept", it.servers.built("bare_kept"), count, is_kept=True)
@@ -261,6 +262,7 @@ def kept_targets(it: Started, keys: str = BACKENDS) -> None:
                 f"{pathlib.Path(it.given.further).name}, {count} threads, kept", it.given.further, count, is_kept=True
             )
         it.admission(f"admission, {count} workers, kept", count, keys=keys, is_kept=True)
+        it.admission(f"admission, {count} workers, kept, batch", count, BATCH, keys=keys, is_kept=True)
 
 
 def targets_of(servers: Servers, program: str, port: int, given: argparse.Namespace) -> dict[str, Target]:

@@ -69,6 +69,7 @@ PEERS = {
     "nginx": "of nginx's",
     "nginx, batch": "of nginx's, batch",
     "nginx, kept": "of nginx's, kept",
+    "nginx, kept, batch": "of nginx's, kept, batch",
     "nginx, unbuffered": "of nginx's, unbuffered",
     "bare, 64 threads, batch": "of the bare one's",
     "admission before, 64 workers": "of the earlier one's",
