@@ -63,8 +63,8 @@ pub record World : Type 0 where
 
 -- READ: the request that the reader's bytes begin with, or the fault that comes first in them,
 -- with what was said to the client meanwhile, or a beginning of it, behind which its writer has
--- these bytes; a fault of the reader, of too many reads, or of the writer has its cause, at the end of all. Whatever it is,
--- a read was made, and for a request no read failed
+-- these bytes; a fault of the reader, of too many reads, or of the writer has its cause, at the end
+-- of all. Whatever it is, a read was made, and for a request no read failed
 pub record IsRead (reader reader' writer writer' : Counted Bytes) (asked : Bytes)
     (read : Result Request WireFault) : Type 0 where
   pub bytes : Reads known reader reader' (λ (request : Request). request) IsRequest read
