@@ -2,6 +2,7 @@
 use Rattle.std.specs.Prelude.{◌≡◌, Bool, false, ℕ, List, Option}
 use Rattle.limit_laws.specs.declared.limit.Limit.{Ghosts as LimitGhosts}
 use Rattle.shared_gate.specs.declared.naming.GateNaming.{Ghosts as NamingGhosts}
+use Rattle.shared_gate.specs.Calls.{Pass}
 use Rattle.operator_calls.specs.declared.audience.Audience.{Audience}
 use Rattle.operator_calls.specs.declared.audience.Audience.TheVariants.{Anyone}
 use Rattle.operator_serving.specs.declared.operating.Operating.{Operating}
@@ -26,6 +27,13 @@ pub record HasOperated {L : Type 0} (does : DeskState L → DeskState L → Deed
   pub served : AreServed (λ desk. desk.rows) IsSeen does came audience page (stand begin 0 0 0) end
   pub looks : audience ≡ Anyone → AreLooks does begin end.desk
   pub ended : found false
+
+-- LEFT: who came was served, and the pass that is left is the desk's as it stood then
+abbrev pub HasLeft : {L : Type 0} → (DeskState L → DeskState L → Deed → Type 0)
+    → (Option (List ℕ) → Type 0) → (Bool → Type 0) → Audience → List ℕ → DeskState L → Pass
+    → Type 0
+HasLeft {L} does came found audience page begin pass = (end : Stand (DeskState L))
+    × HasOperated does came found audience page begin end × (end.desk.pass ≡ pass)
 
 -- what stands at an operator's desk, and where and how those are served who come there
 abbrev pub desk_of : {G M R L C W : Type 0} {g : LimitGhosts G} {m : NamingGhosts M}

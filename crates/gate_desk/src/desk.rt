@@ -46,6 +46,16 @@ pub struct GateDesk<'a, G: Limit, M: GateNaming, R, L, C, W> {
     pub most: Duration,
 }
 
+impl<'a, G: Limit, M: GateNaming, R, L, C, W: Drop> GateDesk<'a, G, M, R, L, C, W> {
+    /// Its pass, once nothing more is done at the desk.
+    pub(crate) fn into_pass(self) -> Pass<M>
+        ensures { result ≡ self.entry.pass }
+    {
+        let GateDesk { pass, .. } = self;
+        pass
+    }
+}
+
 impl<'a, G, M, R, L, C, W> Desk for GateDesk<'a, G, M, R, L, C, W>
 where
     G: Limit,

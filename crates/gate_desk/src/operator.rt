@@ -10,7 +10,7 @@ use clocks::Clock;
 use limit_laws::Limit;
 use listening::Listener;
 use operator_serving::{AnswerMemory, ListenerDoor, Operating, operate};
-use shared_gate::GateNaming;
+use shared_gate::{GateNaming, Pass};
 use std::alloc::AllocError;
 use std::sync::Wait;
 use std::time::{Clock as SystemClock, Duration};
@@ -53,26 +53,25 @@ impl<'a, G: Limit, M: GateNaming, R, L, C, W: Drop> Operator<'a, G, M, R, L, C, 
 impl<'a, G, M, R, L, C, W> Task for Operator<'a, G, M, R, L, C, W>
 where
     G: Limit,
-    M: GateNaming,
+    M: GateNaming + Send + Sync,
     R: SystemClock + Wait,
     L: Listener,
     L::Stream: Drop,
     C: Clock,
     W: DeskWatch + Drop,
 {
-    type Done = ();
+    // The desk's pass, by which no more calls are made.
+    type Done = Pass<M>;
 
     ghost use Rattle.gate_desk.specs.Desk.{IsDone};
-    ghost use Rattle.gate_desk.specs.Operator.{HasOperated, desk_of, serves_at};
-    ghost use Rattle.gate_desk.specs.State.{DeskState};
-    ghost use Rattle.operator_serving.specs.Doors.{Stand};
+    ghost use Rattle.gate_desk.specs.Operator.{HasLeft, desk_of, serves_at};
 
-    ghost makes = { λ operator _. (end : Stand (DeskState L)) × HasOperated
+    ghost makes = { λ operator pass. HasLeft
         (IsDone G.rules M.making L.closed) (L.came (serves_at operator).listener.now)
         (L.found (serves_at operator).listener.now) (serves_at operator).audience
-        (serves_at operator).page.now (desk_of operator) end };
+        (serves_at operator).page.now (desk_of operator) pass };
 
-    fn run(self) {
+    fn run(self) -> Pass<M> {
         let Operator {
             common,
             mut desk,
@@ -83,6 +82,7 @@ where
         let mut memory = AnswerMemory::new(common.alloc);
         operate(desk.rt, common, &mut door, &mut desk, &mut memory, buffers);
         close_too(desk.rt, also);
+        desk.into_pass()
     }
 }
 

@@ -1,29 +1,25 @@
 -- Who was served beside the workers of a gateway.
-use Rattle.std.proofs.Common.{◌≡◌, ◌∙◌, refl, ap, sym, subst, Bool, ℕ, suc, List, [], ◌∷◌, ◌++◌, All}
-use Rattle.std.proofs.Common.{Option, None, Some, IfSome, OnOk, Result, Ok, Err, length}
+use Rattle.std.proofs.Common.{◌≡◌, ◌∙◌, refl, ap, subst, arith, Bool, ℕ, suc, List, [], ◌∷◌, ◌++◌}
+use Rattle.std.proofs.Common.{All, Option, None, Some, length}
 use Rattle.std.specs.Prelude.{string_bytes}
-use Rattle.std.proofs.lemmas.List.Elements.{All-cons, All-head, All-nil, All-same}
-use Rattle.std.proofs.lemmas.List.Elements.{All-tail}
+use Rattle.std.specs.List.{AllZip}
+use Rattle.std.proofs.lemmas.List.Elements.{All-cons, All-head, All-nil, All-tail}
 use Rattle.std.specs.declared.net.socket_addr.SocketAddrV4.{SocketAddrV4}
 use Rattle.limit_laws.specs.declared.limit.Limit.{Ghosts as LimitGhosts}
 use Rattle.shared_gate.specs.declared.naming.GateNaming.{Ghosts as NamingGhosts}
-use Rattle.operator_calls.specs.Host.{host_of}
+use Rattle.shared_gate.specs.Calls.{Pass}
 use Rattle.operator_serving.specs.declared.operating.Operating.{Operating}
 use Rattle.operator_serving.specs.Desk.{Deed}
-use Rattle.operator_serving.specs.Doors.{Stand}
 use Rattle.gate_desk.specs.declared.operator.Operator.{Operator}
-use Rattle.gate_desk.specs.Operator.{HasOperated, desk_of, serves_at}
+use Rattle.gate_desk.specs.Operator.{HasLeft, desk_of, serves_at}
 use Rattle.gate_desk.specs.State.{DeskState}
 use Rattle.serve_command.specs.declared.admin.AdminAddress.{AdminAddress}
 use Rattle.serve_command.specs.declared.admin.SideAddresses.{SideAddresses}
 use Rattle.serve_command.specs.Beside.{AreAt, AreBeside, AreOperatedAt, AreServedBeside}
 use Rattle.serve_command.specs.Beside.{IsAdminBound, IsAdminServed, IsLookingAt, IsOperatingAt}
-use Rattle.serve_command.specs.Beside.{IsServedThere, IsStatusBound, IsStatusServed, StandsAt}
+use Rattle.serve_command.specs.Beside.{IsServedThere, IsStatusBound, IsStatusServed, LeavesAt}
+use Rattle.serve_command.specs.Beside.{StandsAt}
 use Rattle.serve_command.specs.Command.{IsBoundToo}
-
-pub on_ok : {T E : Type 0} {P Q : Type 0} (r : Result T E) → (P → Q) → OnOk r P → OnOk r Q
-on_ok (Ok v) f p = f p
-on_ok (Err e) f p = tt
 
 -- an operator's address that is bound
 pub bound_too : {L : Type 0} (Bound : List ℕ → L → Type 0) (admin : Option SocketAddrV4)
@@ -35,9 +31,8 @@ bound_too Bound (Some address) (Some at) bound = (at.listener, bound.0)
 module _ {L C : Type 0} (does : DeskState L → DeskState L → Deed → Type 0)
     (came : L → Option (List ℕ) → Type 0) (found : L → Bool → Type 0) where
   -- what was served at an address
-  abbrev pub Served : Operating L C → DeskState L → Stand (DeskState L) → Type 0
-  Served at =
-      HasOperated does (came at.listener.now) (found at.listener.now) at.audience at.page.now
+  abbrev pub Served : Operating L C → DeskState L → Pass → Type 0
+  Served at = HasLeft does (came at.listener.now) (found at.listener.now) at.audience at.page.now
 
 module _ {L : Type 0} (G M R C W : Type 0) (g : LimitGhosts G) (m : NamingGhosts M)
     (does : DeskState L → DeskState L → Deed → Type 0) (came : L → Option (List ℕ) → Type 0)
@@ -46,110 +41,130 @@ module _ {L : Type 0} (G M R C W : Type 0) (g : LimitGhosts G) (m : NamingGhosts
   One = Operator G M R L C W g m
 
   -- what one of them made
-  abbrev Made : One → Type 0
-  Made operator = (end : Stand (DeskState L))
-      × Served does came found (serves_at operator) (desk_of operator) end
+  abbrev Made : One → Pass → Type 0
+  Made operator = Served does came found (serves_at operator) (desk_of operator)
 
   abbrev Begins : Operating L C → One → Type 0
   Begins = StandsAt begin
 
   -- whoever serves at an address, and at a desk that stands so at first
-  one : (at : Operating L C) (operator : One) (end : Stand (DeskState L)) → Begins at operator
-      → Served does came found (serves_at operator) (desk_of operator) end
-      → Served does came found at begin end
-  one at operator end begins served =
-      subst (λ (o : Operating L C). Served does came found o begin end) begins.1
-      (subst (λ (d : DeskState L). Served does came found (serves_at operator) d end) begins.0
+  one : (at : Operating L C) (operator : One) (pass : Pass) → Begins at operator
+      → Made operator pass → Served does came found at begin pass
+  one at operator pass begins served =
+      subst (λ (o : Operating L C). Served does came found o begin pass) begins.1
+      (subst (λ (d : DeskState L). Served does came found (serves_at operator) d pass) begins.0
       served)
 
-  all : (at : Operating L C) (operators : List One) → All (Begins at) operators
-      → All Made operators
-      → (ends : List (Stand (DeskState L))) × (length ends ≡ length operators)
-      × All (Served does came found at begin) ends
-  all at [] begins made = ([], refl, All-nil (Served does came found at begin))
-  all at (o ∷ os) begins made =
-      let first = All-head Made o os made in
-      let rest = all at os (All-tail (Begins at) o os begins) (All-tail Made o os made) in (
-        first.0 ∷ rest.0,
-        ap suc rest.1,
-        All-cons (Served does came found at begin) first.0 rest.0
-            (one at o first.0 (All-head (Begins at) o os begins) first.1) rest.2,
+  all : (at : Operating L C) (operators : List One) (passes : List Pass)
+      → All (Begins at) operators → AllZip Made operators passes
+      → (length passes ≡ length operators) × All (Served does came found at begin) passes
+  all at [] [] begins made = (refl, All-nil (Served does came found at begin))
+  all at [] (p ∷ ps) begins made = absurd made
+  all at (o ∷ os) [] begins made = absurd made
+  all at (o ∷ os) (p ∷ ps) begins made =
+      let rest = all at os ps (All-tail (Begins at) o os begins) made.1 in (
+        ap suc rest.0,
+        All-cons (Served does came found at begin) p ps
+            (one at o p (All-head (Begins at) o os begins) made.0) rest.1,
       )
 
-  all_at : (at : Option (Operating L C)) (operators : List One) → AreAt begin at operators
-      → All Made operators → AreOperatedAt does came found begin at
-  all_at None operators are made = tt
-  all_at (Some at) operators are made =
-      let served = all at operators are.1 made in
-      record { ends = served.0; four = served.1 ∙ are.0; operated = served.2 }
+  none : (operators : List One) (passes : List Pass) → operators ≡ []
+      → AllZip Made operators passes → passes ≡ []
+  none [] [] is made = refl
+  none [] (p ∷ ps) is made = absurd made
+  none (o ∷ os) passes is made = absurd (omega (arith, ap length is))
 
-  front : (xs ys : List One) → All Made (xs ++ ys) → All Made xs
-  front [] ys made = All-nil Made
-  front (x ∷ xs) ys made =
-      All-cons Made x xs (All-head Made x (xs ++ ys) made)
-      (front xs ys (All-tail Made x (xs ++ ys) made))
+  all_at : (at : Option (Operating L C)) (operators : List One) (passes : List Pass)
+      → AreAt begin at operators → AllZip Made operators passes
+      → AreOperatedAt does came found begin at passes
+  all_at None operators passes are made = none operators passes are made
+  all_at (Some at) operators passes are made =
+      let served = all at operators passes are.1 made in
+      record { four = served.0 ∙ are.0; operated = served.1 }
 
-  back : (xs ys : List One) → All Made (xs ++ ys) → All Made ys
-  back [] ys made = made
-  back (x ∷ xs) ys made = back xs ys (All-tail Made x (xs ++ ys) made)
+  -- those of joined lists come apart
+  apart : (xs ys : List One) (passes : List Pass) → AllZip Made (xs ++ ys) passes
+      → (front : List Pass) × (back : List Pass) × (passes ≡ front ++ back)
+      × AllZip Made xs front × AllZip Made ys back
+  apart [] ys passes made = ([], passes, refl, tt, made)
+  apart (x ∷ xs) ys [] made = absurd made
+  apart (x ∷ xs) ys (p ∷ ps) made =
+      let rest = apart xs ys ps made.1 in (
+        p ∷ rest.0,
+        rest.1,
+        ap (λ (qs : List Pass). p ∷ qs) rest.2,
+        (made.0, rest.3),
+        rest.4,
+      )
 
   -- those at both addresses
-  pub beside : (side : SideAddresses L C) (operators : List One)
-      → AreBeside begin side operators → All Made operators
-      → AreServedBeside does came found begin side
-  beside side operators are made =
-      let both = All-same Made _ _ (sym are.all) made in (
-        all_at side.admin are.admins are.admin (back are.lookers are.admins both),
-        all_at side.status are.lookers are.status (front are.lookers are.admins both),
-      )
+  pub beside : (side : SideAddresses L C) (operators : List One) (passes : List Pass)
+      → AreBeside begin side operators → AllZip Made operators passes
+      → AreServedBeside does came found begin side passes
+  beside side operators passes are made =
+      let both = apart are.lookers are.admins passes
+      (subst (λ (os : List One). AllZip Made os passes) are.all made) in
+      record {
+        lookers = both.0;
+        admins = both.1;
+        all = both.2;
+        status = all_at side.status are.lookers both.0 are.status both.3;
+        admin = all_at side.admin are.admins both.1 are.admin both.4;
+      }
 
 module _ {L : Type 0} (does : DeskState L → DeskState L → Deed → Type 0)
     (came : L → Option (List ℕ) → Type 0) (found : L → Bool → Type 0) (begin : DeskState L) where
-  abbrev There : Option (List ℕ) → L → Type 0
+  abbrev There : Option (List ℕ) → L → List Pass → Type 0
   There = IsServedThere does came found begin
 
   -- by what listens at an operator's address
   pub admin_there : {C : Type 0} (admin : Option (AdminAddress L)) (at : Option (Operating L C))
-      → IsOperatingAt admin at → AreOperatedAt does came found begin at
-      → IfSome admin (λ it. There (Some (string_bytes it.host)) it.listener)
-  admin_there None at is served = tt
-  admin_there (Some it) None is served = absurd is
-  admin_there (Some it) (Some at) is served =
-      subst (There (Some (string_bytes it.host))) is.0
+      (passes : List Pass)
+      → IsOperatingAt admin at → AreOperatedAt does came found begin at passes
+      → LeavesAt admin (λ it. There (Some (string_bytes it.host)) it.listener) passes
+  admin_there None None passes is served = served
+  admin_there None (Some at) passes is served = absurd is
+  admin_there (Some it) None passes is served = absurd is
+  admin_there (Some it) (Some at) passes is served =
+      subst (λ (l : L). There (Some (string_bytes it.host)) l passes) is.0
       (at.audience, at.page.now, is.1, served)
 
   -- and at that of whoever looks
   pub status_there : {C : Type 0} (status : Option L) (at : Option (Operating L C))
-      → IsLookingAt status at → AreOperatedAt does came found begin at
-      → IfSome status (There None)
-  status_there None at is served = tt
-  status_there (Some it) None is served = absurd is
-  status_there (Some it) (Some at) is served =
-      subst (There None) is.0 (at.audience, at.page.now, is.1, served)
+      (passes : List Pass)
+      → IsLookingAt status at → AreOperatedAt does came found begin at passes
+      → LeavesAt status (There None) passes
+  status_there None None passes is served = served
+  status_there None (Some at) passes is served = absurd is
+  status_there (Some it) None passes is served = absurd is
+  status_there (Some it) (Some at) passes is served =
+      subst (λ (l : L). There None l passes) is.0 (at.audience, at.page.now, is.1, served)
 
 module _ {L : Type 0} (does : DeskState L → DeskState L → Deed → Type 0)
     (came : L → Option (List ℕ) → Type 0) (found : L → Bool → Type 0) (begin : DeskState L)
     (Bound : List ℕ → L → Type 0) where
   -- what was bound for an operator is what served
   pub admin_served : (address : Option SocketAddrV4) (admin : Option (AdminAddress L))
-      → IsAdminBound Bound address admin
-      → IfSome admin (λ it. IsServedThere does came found begin (Some (string_bytes it.host))
-      it.listener)
-      → IsAdminServed does came found begin Bound address
-  admin_served None admin bound served = tt
-  admin_served (Some address) None bound served = absurd bound
-  admin_served (Some address) (Some it) bound served = (
+      (passes : List Pass) → IsAdminBound Bound address admin
+      → LeavesAt admin (λ it. IsServedThere does came found begin (Some (string_bytes it.host))
+      it.listener) passes
+      → IsAdminServed does came found begin Bound address passes
+  admin_served None None passes bound served = served
+  admin_served None (Some it) passes bound served = absurd bound
+  admin_served (Some address) None passes bound served = absurd bound
+  admin_served (Some address) (Some it) passes bound served = (
     it.listener,
     bound.0,
-    subst (λ (host : List ℕ). IsServedThere does came found begin (Some host) it.listener)
+    subst (λ (host : List ℕ). IsServedThere does came found begin (Some host) it.listener passes)
         bound.1 served,
   )
 
   -- and what was bound for whoever looks
-  pub status_served : (address : Option SocketAddrV4) (status : Option L)
+  pub status_served : (address : Option SocketAddrV4) (status : Option L) (passes : List Pass)
       → IsStatusBound Bound address status
-      → IfSome status (IsServedThere does came found begin None)
-      → IsStatusServed does came found begin Bound address
-  status_served None status bound served = tt
-  status_served (Some address) None bound served = absurd bound
-  status_served (Some address) (Some it) bound served = (it, bound, served)
+      → LeavesAt status (IsServedThere does came found begin None) passes
+      → IsStatusServed does came found begin Bound address passes
+  status_served None None passes bound served = served
+  status_served None (Some it) passes bound served = absurd bound
+  status_served (Some address) None passes bound served = absurd bound
+  status_served (Some address) (Some it) passes bound served = (it, bound, served)

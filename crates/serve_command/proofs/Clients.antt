@@ -1,9 +1,9 @@
 -- The clients of a worker, by what its pass knows of the gate's log.
-use Rattle.std.proofs.Common.{◌≡◌, ℕ, [], ◌∷◌, ◌++◌, List, Option, None, Some, All}
+use Rattle.std.proofs.Common.{◌≡◌, ℕ, [], ◌∷◌, ◌++◌, List, Option, Some, All}
 use Rattle.std.proofs.Common.{append_assoc, ap, sym, ◌∙◌, subst, refl}
 use Rattle.std.proofs.lemmas.List.{append-nil}
 use Rattle.std.proofs.lemmas.Option.{same_Some}
-use Rattle.std.specs.Prelude.{get_or}
+use Rattle.std.proofs.lemmas.List.Elements.{All-cons, All-head, All-nil, All-tail}
 use mathlib.Core.List.{IsPrefix}
 use Rattle.limit_laws.specs.Algorithm.{Algorithm}
 use Rattle.limiter_core.specs.declared.counters.Counters.{Counters}
@@ -15,7 +15,7 @@ use Rattle.gate_ledgers.specs.Making.{Making}
 use Rattle.clocks.specs.Looks.{unlooked}
 use Rattle.shared_gate.specs.Calls.{Pass}
 use Rattle.shared_gate.specs.Closing.{limiter_of}
-use Rattle.shared_gate.specs.Reported.{AreCountersBehind}
+use Rattle.shared_gate.specs.Reported.{AreCountersOfAll}
 use Rattle.proxy.specs.declared.told.Exchange.{Exchange}
 use Rattle.proxy.specs.Exchanges.{Bytes, Policy}
 use Rattle.proxy.specs.Made.{counted_with, reads_of, summary_of, writes_of}
@@ -90,9 +90,9 @@ module _ {S : Type 0} (g : Gate S) (one : ExchangesAreOneThreads g) (p : Policy)
       (decided_behind turns are.0 new first.0 are.3 first.1)
 
 module _ {S : Type 0} (rules : Algorithm S) (m : Making) (Gives : Policy → Type 0)
-    (Came : Option (List ℕ) → Type 0) (most : ℕ) (passes : List Pass) (counters : Counters)
+    (Came : Option (List ℕ) → Type 0) (most : ℕ) (passes beside : List Pass) (counters : Counters)
     (one : (g : Gate S) → ExchangesAreOneThreads g)
-    (behind : AreCountersBehind rules m passes counters) where
+    (behind : AreCountersOfAll rules m (passes ++ beside) counters) where
   abbrev pub RanIn : Pass → Type 0
   RanIn = HasRunIn (limiter_of rules m) (image_of behind.after.origin) behind.log Gives Came most
 
@@ -111,8 +111,16 @@ module _ {S : Type 0} (rules : Algorithm S) (m : Making) (Gives : Policy → Typ
             (same_Some pass.log all.0 all.1) begun);
       }
 
+  all_ran : (own : List Pass) → All (HasRunTo Gives Came most) own
+      → All (λ pass. IsPrefix pass.log behind.log) (own ++ beside) → All RanIn own
+  all_ran [] ran begun = All-nil RanIn
+  all_ran (p ∷ ps) ran begun =
+      let Begun : Pass → Type 0 = λ pass. IsPrefix pass.log behind.log in
+      let Ran = HasRunTo Gives Came most in
+      All-cons RanIn p ps
+      (ran_in p (All-head Ran p ps ran) (All-head Begun p (ps ++ beside) begun))
+      (all_ran ps (All-tail Ran p ps ran) (All-tail Begun p (ps ++ beside) begun))
+
   -- ALL OF THEM RAN IN THE LOG whose counters are told
   pub all_ran_in : All (HasRunTo Gives Came most) passes → All RanIn passes
-  all_ran_in all place other within =
-      ran_in (get_or passes place other) (all place other within)
-      (behind.begun place other within)
+  all_ran_in all = all_ran passes all behind.begun

@@ -1,4 +1,5 @@
 mod Beside
 mod Clients
 mod Runs
+mod Served
 mod Whys

@@ -1,18 +1,21 @@
 -- What the workers of a gateway did, by what their ports know in the end.
-use Rattle.std.proofs.Common.{◌≡◌, refl, ap, ℕ, suc, false, List, [], ◌∷◌, All, Option, None, Some}
+use Rattle.std.proofs.Common.{◌≡◌, ◌⊎◌, inl, inr, refl, ap, Bool, ℕ, suc, ◌+◌, false, List, [], ◌∷◌}
+use Rattle.std.proofs.Common.{All, Option, None, Some, Result, Ok, Err, IfOk, IfErr}
 use Rattle.std.specs.List.{AllZip}
 use Rattle.std.specs.Prelude.{IfNone, IfSome}
-use Rattle.std.proofs.Common.{◌++◌, ◌∙◌, arith, length, map, option_to_list, subst, sym}
-use mathlib.Core.List.{map-append}
-use Rattle.std.proofs.lemmas.List.Elements.{All-nil, All-cons, All-head, All-tail}
+use Rattle.std.proofs.Common.{◌++◌, ◌∙◌, arith, length, map, subst, sym}
+use mathlib.Core.List.{IsPrefix}
+use Rattle.std.proofs.lemmas.List.Elements.{All-append, All-nil, All-cons, All-head, All-tail}
+use Rattle.std.proofs.lemmas.List.Sums.{sum_by-append, sum_by-cons}
 use Rattle.limit_laws.specs.Algorithm.{Algorithm}
 use Rattle.limiter_core.specs.declared.counters.Counters.{Counters}
 use Rattle.limiter_core.specs.declared.event.Entry.{Entry}
 use Rattle.limiter_core.specs.History.{Gate}
+use Rattle.audit.specs.declared.judge.Calls.{Calls}
 use Rattle.gate_ledgers.specs.Making.{Making}
 use Rattle.shared_gate.specs.Calls.{Pass}
 use Rattle.shared_gate.specs.Closing.{calls_by}
-use Rattle.shared_gate.specs.Reported.{AreCountersBehind}
+use Rattle.shared_gate.specs.Reported.{AreCountersOfAll, ArePassesMissing}
 use Rattle.ports.specs.declared.asked.Receipts.TheVariants.{Nothing}
 use Rattle.ports.specs.Asked.{Shared, port_in}
 use Rattle.gateway_settings.specs.declared.settings.Settings.{Settings}
@@ -28,11 +31,17 @@ use Rattle.serving.specs.declared.working.WorkerSettings.{WorkerSettings}
 use Rattle.serving.specs.Doors.{failed_of, given_of, is_closed}
 use Rattle.serving.specs.Served.{policy_of}
 use Rattle.serving.specs.Turns.{IsRun}
-use Rattle.serving.specs.Workers.{HasRun, ended_in}
+use Rattle.serving.specs.Workers.{HasRun, made_in}
 use Rattle.gate_port.specs.declared.report.Report.{Report}
 use Rattle.gate_laws.specs.Balance.{IsBalanced, ReportsBalance}
 use Rattle.gate_laws.specs.Exchanges.{ExchangesAreOneThreads}
-use Rattle.serve_command.specs.Runs.{AreEnded, AreToldOfRuns, HasRunTo, IsBy, calls_told, stood_at}
+use Rattle.gate_desk.specs.Desk.{IsDone}
+use Rattle.gate_desk.specs.State.{DeskState}
+use Rattle.serve_command.specs.declared.admin.SideAddresses.{SideAddresses}
+use Rattle.serve_command.specs.Beside.{AreServedBeside}
+use Rattle.serve_command.specs.Runs.{AreCountersOfRuns, AreEnded, AreMiscounted, AreOff}
+use Rattle.serve_command.specs.Runs.{HasRunTo, HasServedAll, IsBy, calls_told}
+use Rattle.serve_command.specs.Runs.{passes_in, served_by, stood_at}
 use Rattle.serve_command.proofs.Clients.{all_ran_in}
 
 module _ {L C S W : Type 0} (R T V M : Type 0) (gives : S → Settings → Type 0)
@@ -92,28 +101,134 @@ module _ {L C S W : Type 0} (R T V M : Type 0) (gives : S → Settings → Type 
         ap suc rest.1,
       )
 
--- who served among some, and one more
-ended_more : {A P B : Type 0} (lefts : List (JobResult A P B)) (l : JobResult A P B)
-    → ended_in (lefts ++ l ∷ []) ≡ ended_in lefts ++ ended_in (l ∷ [])
-ended_more [] l = refl
-ended_more (left.Unbegun ∷ lefts) l = ended_more lefts l
-ended_more (left.SideTask ∷ lefts) l = ended_more lefts l
-ended_more {A} {P} {B} (left.Worked ended ∷ lefts) l =
-    ap (λ (es : List (WorkerExit A P B)). ended ∷ es) (ended_more lefts l)
+-- the passes of those who served, and of one more
+pub passes_more : {A B M : Type 0} (lefts : List (JobResult A (Shared M) B Pass))
+    (l : JobResult A (Shared M) B Pass)
+    → passes_in (lefts ++ l ∷ []) ≡ passes_in lefts ++ passes_in (l ∷ [])
+passes_more [] l = refl
+passes_more (left.Unbegun ∷ lefts) l = passes_more lefts l
+passes_more (left.SideTask pass ∷ lefts) l =
+    ap (λ (ps : List Pass). pass ∷ ps) (passes_more lefts l)
+passes_more (left.Worked ended ∷ lefts) l =
+    ap (λ (ps : List Pass). ended.port.pass ∷ ps) (passes_more lefts l)
 
--- their passes, and that of one more, which served, or didn't
-pub one_pass_more : {A B M : Type 0} (lefts : List (JobResult A (Shared M) B))
-    (l : JobResult A (Shared M) B) (pass : Option Pass) (passes more : List Pass)
-    → passes ≡ map (λ ended. ended.port.pass) (ended_in lefts)
-    → option_to_list pass ≡ map (λ ended. ended.port.pass) (ended_in (l ∷ []))
-    → more ≡ passes ++ option_to_list pass
-    → more ≡ map (λ ended. ended.port.pass) (ended_in (lefts ++ l ∷ []))
-one_pass_more {A} {B} {M} lefts l pass passes more same own is =
-    let pass_of : WorkerExit A (Shared M) B → Pass = λ ended. ended.port.pass in
-    is ∙ ap (λ (ps : List Pass). ps ++ option_to_list pass) same
-    ∙ ap (λ (ps : List Pass). map pass_of (ended_in lefts) ++ ps) own
-    ∙ sym (map-append pass_of (ended_in lefts) (ended_in (l ∷ [])))
-    ∙ ap (λ (es : List (WorkerExit A (Shared M) B)). map pass_of es) (sym (ended_more lefts l))
+none_before : (n : ℕ) → n ≡ 0 + n
+none_before n = omega arith
+
+-- the calls of those workers, and of one more
+pub calls_more : {A B M : Type 0} (lefts : List (JobResult A (Shared M) B Pass))
+    (l : JobResult A (Shared M) B Pass)
+    → calls_by (served_by (lefts ++ l ∷ []))
+    ≡ calls_by (served_by lefts) + calls_by (served_by (l ∷ []))
+calls_more [] l = none_before (calls_by (served_by (l ∷ [])))
+calls_more (left.Unbegun ∷ lefts) l = calls_more lefts l
+calls_more (left.SideTask pass ∷ lefts) l = calls_more lefts l
+calls_more (left.Worked ended ∷ lefts) l =
+    let count : Pass → ℕ = λ pass. pass.count in
+    omega (
+      arith,
+      calls_more lefts l,
+      sum_by-cons count ended.port.pass (served_by (lefts ++ l ∷ [])),
+      sum_by-cons count ended.port.pass (served_by lefts),
+    )
+
+-- a list of the passes so far, and of that of one more
+pub one_pass_more : {A B M : Type 0} (lefts : List (JobResult A (Shared M) B Pass))
+    (l : JobResult A (Shared M) B Pass) (old new own : List Pass) → old ≡ passes_in lefts
+    → passes_in (l ∷ []) ≡ own → new ≡ old ++ own → new ≡ passes_in (lefts ++ l ∷ [])
+one_pass_more lefts l old new own is one goes =
+    goes ∙ ap (λ (ps : List Pass). ps ++ own) is
+    ∙ ap (λ (ps : List Pass). passes_in lefts ++ ps) (sym one) ∙ sym (passes_more lefts l)
+
+-- and their calls
+pub one_call_more : {A B M : Type 0} (lefts : List (JobResult A (Shared M) B Pass))
+    (l : JobResult A (Shared M) B Pass) (old new own : ℕ) → old ≡ calls_by (served_by lefts)
+    → own ≡ calls_by (served_by (l ∷ [])) → new ≡ old + own
+    → new ≡ calls_by (served_by (lefts ++ l ∷ []))
+one_call_more lefts l old new own is one goes = omega (arith, is, one, goes, calls_more lefts l)
+
+-- they come apart into those of workers, and of those beside them: what holds of all holds of these
+pub all_apart : {A B M : Type 0} (P : Pass → Type 0)
+    (lefts : List (JobResult A (Shared M) B Pass)) → All P (passes_in lefts)
+    → All P (served_by lefts) × All P (made_in lefts)
+all_apart P [] all = (All-nil P, All-nil P)
+all_apart P (left.Unbegun ∷ lefts) all = all_apart P lefts all
+all_apart P (left.SideTask pass ∷ lefts) all =
+    let rest = all_apart P lefts (All-tail P pass (passes_in lefts) all) in (
+      rest.0,
+      All-cons P pass (made_in lefts) (All-head P pass (passes_in lefts) all) rest.1,
+    )
+all_apart P (left.Worked ended ∷ lefts) all =
+    let pass = ended.port.pass in
+    let rest = all_apart P lefts (All-tail P pass (passes_in lefts) all) in (
+      All-cons P pass (served_by lefts) (All-head P pass (passes_in lefts) all) rest.0,
+      rest.1,
+    )
+
+-- and together they made as many calls
+calls_apart : {A B M : Type 0} (lefts : List (JobResult A (Shared M) B Pass))
+    → calls_by (passes_in lefts) ≡ calls_by (served_by lefts) + calls_by (made_in lefts)
+calls_apart [] = refl
+calls_apart (left.Unbegun ∷ lefts) = calls_apart lefts
+calls_apart (left.SideTask pass ∷ lefts) =
+    let count : Pass → ℕ = λ pass. pass.count in
+    omega (
+      arith,
+      calls_apart lefts,
+      sum_by-cons count pass (passes_in lefts),
+      sum_by-cons count pass (made_in lefts),
+    )
+calls_apart (left.Worked ended ∷ lefts) =
+    let count : Pass → ℕ = λ pass. pass.count in
+    omega (
+      arith,
+      calls_apart lefts,
+      sum_by-cons count ended.port.pass (passes_in lefts),
+      sum_by-cons count ended.port.pass (served_by lefts),
+    )
+
+module _ {S A B M : Type 0} (rules : Algorithm S) (m : Making)
+    (lefts : List (JobResult A (Shared M) B Pass)) where
+  abbrev both : List Pass
+  both = served_by lefts ++ made_in lefts
+
+  made_by_both : calls_by both ≡ calls_by (passes_in lefts)
+  made_by_both = omega (
+    arith,
+    sum_by-append (λ (pass : Pass). pass.count) (served_by lefts) (made_in lefts),
+    calls_apart lefts,
+  )
+
+  begun_both : (log : List Entry) → All (λ pass. IsPrefix pass.log log) (passes_in lefts)
+      → All (λ pass. IsPrefix pass.log log) both
+  begun_both log begun =
+      let Begun : Pass → Type 0 = λ pass. IsPrefix pass.log log in
+      let apart = all_apart Begun lefts begun in
+      All-append Begun (served_by lefts) (made_in lefts) apart.0 apart.1
+
+  -- so what is told behind all of them is told behind these and those
+  of_both : (counters : Counters) → AreCountersOfAll rules m (passes_in lefts) counters
+      → AreCountersOfAll rules m both counters
+  of_both counters behind = record {
+    log = behind.log;
+    report = behind.report;
+    after = behind.after;
+    told = behind.told;
+    begun = begun_both behind.log behind.begun;
+    all = made_by_both ∙ behind.all;
+  }
+
+  missing_both : (calls : Calls) → ArePassesMissing rules m (passes_in lefts) calls
+      → ArePassesMissing rules m both calls
+  missing_both calls missing = record {
+    log = missing.log;
+    report = missing.report;
+    after = missing.after;
+    begun = begun_both missing.log missing.begun;
+    book = missing.book;
+    sum = missing.sum ∙ sym made_by_both;
+    fewer = missing.fewer;
+  }
 
 -- by a balanced report of counters that tell of no permit that is left, none is
 none_left : (report : Report) (counters : Counters) → report.counters ≡ counters
@@ -124,33 +239,74 @@ none_left report counters told balanced ended =
       omega (arith, balanced.waiters, own.waiters),
     )
 
--- what is told of runs, by whether their counters tell of just as many calls as were made
-pub told_of_runs : {S : Type 0} (rules : Algorithm S) (m : Making) (Gives : Policy → Type 0)
-    (Came : Option (List ℕ) → Type 0) (workers most : ℕ) (passes : List Pass)
-    (counters : Counters) (calls : ℕ) (told : Option Counters)
-    → ((g : Gate S) → ExchangesAreOneThreads g) → ReportsBalance rules → length passes ≡ workers
-    → All (HasRunTo Gives Came most) passes → AreCountersBehind rules m passes counters
-    → calls ≡ calls_by passes
-    → IfSome told (λ it. (it ≡ counters) × (calls_told counters ≡ calls) × AreEnded counters)
-    → IfNone told (¬ ((calls_told counters ≡ calls) × AreEnded counters))
-    → AreToldOfRuns rules m Gives Came workers most told
-told_of_runs rules m Gives Came workers most passes counters calls (Some it) one balances all ran
-    behind is some none =
-    let own = subst (λ (c : Counters). AreCountersBehind rules m passes c) (sym some.0) behind in
-    record {
-      passes = passes;
-      all = all;
-      behind = own;
-      ran = all_ran_in rules m Gives Came most passes it one own ran;
-      balance = ap calls_told some.0 ∙ some.1 ∙ is;
-      ended = none_left own.report counters (own.told ∙ some.0)
-          (balances m own.log own.report own.after) some.2;
-    }
-told_of_runs rules m Gives Came workers most passes counters calls None one balances all ran behind
-    is some none = record {
-      passes = passes;
-      all = all;
-      counters = counters;
-      behind = behind;
-      off = λ same. none (same.0 ∙ sym is, same.1);
-    }
+module _ {S A B M : Type 0} (rules : Algorithm S) (m : Making)
+    (lefts : List (JobResult A (Shared M) B Pass)) (workers : ℕ)
+    (all : length (served_by lefts) ≡ workers) (passes : List Pass)
+    (are : passes ≡ passes_in lefts) (counted : Result Counters Calls)
+    (behind : IfOk counted (AreCountersOfAll rules m passes))
+    (missing : IfErr counted (ArePassesMissing rules m passes)) (calls : ℕ)
+    (made : calls ≡ calls_by (served_by lefts)) where
+  of_all : (counters : Counters) → counted ≡ Ok counters
+      → AreCountersOfAll rules m (both rules m lefts) counters
+  of_all counters is =
+      of_both rules m lefts counters
+      (subst (λ (ps : List Pass). AreCountersOfAll rules m ps counters) are
+      (subst (λ (it : Result Counters Calls). IfOk it (AreCountersOfAll rules m passes)) is behind))
+
+  -- the counters of runs, where they tell of just as many calls as the workers made
+  pub counted_runs : (Gives : Policy → Type 0) (Came : Option (List ℕ) → Type 0) (most : ℕ)
+      (told : Option Counters) → ((g : Gate S) → ExchangesAreOneThreads g) → ReportsBalance rules
+      → All (HasRunTo Gives Came most) (served_by lefts)
+      → IfSome told (λ it. (counted ≡ Ok it) × (calls_told it ≡ calls) × AreEnded it)
+      → IfSome told (AreCountersOfRuns rules m Gives Came workers most (made_in lefts))
+  counted_runs Gives Came most None one balances ran some = tt
+  counted_runs Gives Came most (Some it) one balances ran some =
+      let own = of_all it some.0 in
+      record {
+        passes = served_by lefts;
+        all = all;
+        behind = own;
+        ran = all_ran_in rules m Gives Came most (served_by lefts) (made_in lefts) it one own ran;
+        balance = some.1 ∙ made;
+        ended = none_left own.report it own.told (balances m own.log own.report own.after) some.2;
+      }
+
+  is_off : (it : Result Counters Calls) → counted ≡ it
+      → IfOk it (λ counters. ¬ ((calls_told counters ≡ calls) × AreEnded counters))
+      → ((calls : Calls) × ArePassesMissing rules m (both rules m lefts) calls)
+      ⊎ ((counters : Counters) × AreCountersOfAll rules m (both rules m lefts) counters
+      × AreOff (served_by lefts) counters)
+  is_off (Ok counters) is none =
+      inr (counters, of_all counters is, λ same. none (same.0 ∙ sym made, same.1))
+  is_off (Err calls) is none = inl (
+    calls,
+    missing_both rules m lefts calls
+        (subst (λ (ps : List Pass). ArePassesMissing rules m ps calls) are
+        (subst (λ (it : Result Counters Calls). IfErr it (ArePassesMissing rules m passes)) is
+        missing)),
+  )
+
+  -- and else they are off, or some are missing
+  pub runs_miscounted : (told : Option Counters)
+      → IfNone told (IfOk counted (λ counters. ¬ ((calls_told counters ≡ calls)
+      × AreEnded counters)))
+      → IfNone told (AreMiscounted rules m workers)
+  runs_miscounted (Some it) none = tt
+  runs_miscounted None none = record {
+    passes = served_by lefts;
+    all = all;
+    beside = made_in lefts;
+    off = is_off counted refl none;
+  }
+
+-- with whoever was served beside the workers
+pub served_all : {S L C : Type 0} (rules : Algorithm S) (m : Making) (closed : L → Type 0)
+    (came : L → Option (List ℕ) → Type 0) (found : L → Bool → Type 0) (Gives : Policy → Type 0)
+    (begin : DeskState L) (side : SideAddresses L C) (workers most : ℕ) (beside : List Pass)
+    (told : Option Counters)
+    → AreServedBeside (IsDone rules m closed) came found begin side beside
+    → IfSome told (AreCountersOfRuns rules m Gives (came begin.front) workers most beside)
+    → IfSome told (HasServedAll rules m closed came found Gives begin side workers most)
+served_all rules m closed came found Gives begin side workers most beside None served counted = tt
+served_all rules m closed came found Gives begin side workers most beside (Some it) served counted =
+    record { beside = beside; served = served; counted = counted }

@@ -1,6 +1,6 @@
 -- Who serves at the addresses beside that of clients.
 use Rattle.std.specs.Prelude.{◌≡◌, Bool, ℕ, ◌+◌, List, [], ◌++◌, length, All}
-use Rattle.std.specs.Prelude.{Option, None, Some, IfSome, string_bytes}
+use Rattle.std.specs.Prelude.{Option, None, Some, string_bytes}
 use Rattle.std.specs.declared.net.socket_addr.SocketAddrV4.{SocketAddrV4}
 use Rattle.std.specs.Net.Text.{socket_v4_text}
 use Rattle.limit_laws.specs.declared.limit.Limit.{Ghosts as LimitGhosts}
@@ -11,9 +11,8 @@ use Rattle.operator_calls.specs.declared.audience.Audience.TheVariants as audien
 use Rattle.operator_calls.specs.Host.{host_of}
 use Rattle.operator_serving.specs.declared.operating.Operating.{Operating}
 use Rattle.operator_serving.specs.Desk.{Deed}
-use Rattle.operator_serving.specs.Doors.{Stand}
 use Rattle.gate_desk.specs.declared.operator.Operator.{Operator}
-use Rattle.gate_desk.specs.Operator.{HasOperated, desk_of, serves_at}
+use Rattle.gate_desk.specs.Operator.{HasLeft, desk_of, serves_at}
 use Rattle.gate_desk.specs.State.{DeskState}
 use Rattle.serve_command.specs.declared.admin.AdminAddress.{AdminAddress}
 use Rattle.serve_command.specs.declared.admin.SideAddresses.{SideAddresses}
@@ -77,43 +76,57 @@ IsLookingAt (Some listener) None = ⊥
 IsLookingAt (Some listener) (Some operating) =
     (operating.listener.now ≡ listener) × (name_for operating.audience ≡ None)
 
+-- where there is an address this holds of it and of the passes that are left there, and else none
+-- is left
+abbrev pub LeavesAt : {A : Type 0} → Option A → (A → List Pass → Type 0) → List Pass → Type 0
+LeavesAt None P passes = passes ≡ []
+LeavesAt (Some at) P passes = P at passes
+
 -- what is done at desks, who came to a listener, how that was found, and how each desk stood at
 -- first
 module _ {L : Type 0} (does : DeskState L → DeskState L → Deed → Type 0)
     (came : L → Option (List ℕ) → Type 0) (found : L → Bool → Type 0) (begin : DeskState L) where
   -- OPERATED: at each of four desks the clients whom this listener gave there were served one after
-  -- the other, until it was found closed
-  pub record AreOperated (listener : L) (audience : Audience) (page : List ℕ) : Type 0 where
-    pub ends : List (Stand (DeskState L))
-    pub four : length ends ≡ 4
-    pub operated : All (HasOperated does (came listener) (found listener) audience page begin) ends
+  -- the other, until it was found closed; and these are the passes of the desks as they stood then
+  pub record AreOperated (listener : L) (audience : Audience) (page : List ℕ) (passes : List Pass)
+      : Type 0 where
+    pub four : length passes ≡ 4
+    pub operated :
+        All (HasLeft does (came listener) (found listener) audience page begin) passes
 
   -- and so they were at an address, where there is one
-  abbrev pub AreOperatedAt : {C : Type 0} → Option (Operating L C) → Type 0
-  AreOperatedAt at = IfSome at (λ it. AreOperated it.listener.now it.audience it.page.now)
+  abbrev pub AreOperatedAt : {C : Type 0} → Option (Operating L C) → List Pass → Type 0
+  AreOperatedAt at = LeavesAt at (λ it. AreOperated it.listener.now it.audience it.page.now)
 
-  -- at both
-  abbrev pub AreServedBeside : {C : Type 0} → SideAddresses L C → Type 0
-  AreServedBeside side = AreOperatedAt side.admin × AreOperatedAt side.status
+  -- at both, those of whoever looks first
+  pub record AreServedBeside {C : Type 0} (side : SideAddresses L C) (passes : List Pass) : Type 0
+    where
+      pub lookers : List Pass
+      pub admins : List Pass
+      pub all : passes ≡ lookers ++ admins
+      pub status : AreOperatedAt side.status lookers
+      pub admin : AreOperatedAt side.admin admins
 
   -- for those who have to name the address so, or by any name
-  abbrev pub IsServedThere : Option (List ℕ) → L → Type 0
-  IsServedThere name listener =
+  abbrev pub IsServedThere : Option (List ℕ) → L → List Pass → Type 0
+  IsServedThere name listener passes =
       (audience : Audience) × (page : List ℕ) × (name_for audience ≡ name)
-      × AreOperated listener audience page
+      × AreOperated listener audience page passes
 
   -- OF AN ADDRESS THAT IS BOUND: a listener was bound there, and those were served who came to it
-  abbrev pub IsServedAt : (List ℕ → L → Type 0) → Option (List ℕ) → SocketAddrV4 → Type 0
-  IsServedAt Bound name address =
-      (listener : L) × Bound (socket_v4_text address) listener × IsServedThere name listener
+  abbrev pub IsServedAt : (List ℕ → L → Type 0) → Option (List ℕ) → SocketAddrV4 → List Pass
+      → Type 0
+  IsServedAt Bound name address passes =
+      (listener : L) × Bound (socket_v4_text address) listener
+      × IsServedThere name listener passes
 
   -- of that of an operator, who has to name it by its host, and of that of whoever looks
-  abbrev pub IsAdminServed : (List ℕ → L → Type 0) → Option SocketAddrV4 → Type 0
+  abbrev pub IsAdminServed : (List ℕ → L → Type 0) → Option SocketAddrV4 → List Pass → Type 0
   IsAdminServed Bound admin =
-      IfSome admin (λ address. IsServedAt Bound (Some (host_of address)) address)
+      LeavesAt admin (λ address. IsServedAt Bound (Some (host_of address)) address)
 
-  abbrev pub IsStatusServed : (List ℕ → L → Type 0) → Option SocketAddrV4 → Type 0
-  IsStatusServed Bound status = IfSome status (IsServedAt Bound None)
+  abbrev pub IsStatusServed : (List ℕ → L → Type 0) → Option SocketAddrV4 → List Pass → Type 0
+  IsStatusServed Bound status = LeavesAt status (IsServedAt Bound None)
 
 -- an operator's address, where there is one, with what listens there and how it has to be named
 abbrev pub IsAdminBound : {L : Type 0} → (List ℕ → L → Type 0) → Option SocketAddrV4

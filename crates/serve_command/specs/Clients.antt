@@ -1,7 +1,7 @@
 -- The headline of a gateway: what it gives whoever sends a request to it.
 --
 -- g: what the limiter is made with, o: what stood at first, log: all that was asked and answered
-use Rattle.std.specs.Prelude.{◌≡◌, ⊤, ℕ, List, [], ◌∷◌, All, Option, length}
+use Rattle.std.specs.Prelude.{◌≡◌, ⊤, ℕ, List, [], ◌∷◌, ◌++◌, All, Option, length}
 use Rattle.limit_laws.specs.Algorithm.{Algorithm}
 use Rattle.limiter_core.specs.declared.counters.Counters.{Counters}
 use Rattle.limiter_core.specs.declared.event.Entry.{Entry}
@@ -11,7 +11,7 @@ use Rattle.gate_ledgers.specs.Making.{Making}
 use Rattle.gateway_settings.specs.declared.settings.Settings.{Settings}
 use Rattle.shared_gate.specs.Calls.{Pass}
 use Rattle.shared_gate.specs.Closing.{calls_by, limiter_of}
-use Rattle.shared_gate.specs.Reported.{AreCountersBehind}
+use Rattle.shared_gate.specs.Reported.{AreCountersOfAll}
 use Rattle.proxy.specs.Exchanges.{Policy}
 use Rattle.proxy.specs.Made.{summary_of}
 use Rattle.gate_laws.specs.Decided.{IsDecided}
@@ -36,14 +36,15 @@ pub record HasRunIn {S : Type 0} (g : Gate S) (o : Image S) (log : List Entry)
 
 -- THE COUNTERS OF RUNS: there is one log of the gate, legal since nothing was asked, after which
 -- these are its counters. It begins with what the passes of so many workers know, each of which ran
--- in it; the counters tell of just as many calls as these made; and at its end nothing is in
--- flight, and nobody waits
+-- in it, and those of whoever was served beside them; each of its calls was made by one of these.
+-- The counters tell of just as many calls as the workers made; and at its end nothing is in flight,
+-- and nobody waits
 pub record AreCountersOfRuns {S : Type 0} (rules : Algorithm S) (m : Making)
     (Gives : Policy → Type 0) (Came : Option (List ℕ) → Type 0) (workers most : ℕ)
-    (counters : Counters) : Type 0 where
+    (beside : List Pass) (counters : Counters) : Type 0 where
   pub passes : List Pass
   pub all : length passes ≡ workers
-  pub behind : AreCountersBehind rules m passes counters
+  pub behind : AreCountersOfAll rules m (passes ++ beside) counters
   pub ran : All (HasRunIn (limiter_of rules m) (image_of behind.after.origin) behind.log Gives Came
       most) passes
   pub balance : calls_told counters ≡ calls_by passes

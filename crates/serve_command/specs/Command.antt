@@ -1,5 +1,5 @@
 -- What `serve` does.
-use Rattle.std.specs.Prelude.{◌≡◌, ◌⊎◌, ℕ, Bool, true, List, Option, None, Some, IfSome, Ok}
+use Rattle.std.specs.Prelude.{◌≡◌, ◌⊎◌, ℕ, Bool, true, List, ◌++◌, Option, None, Some, IfSome, Ok}
 use Rattle.std.specs.declared.net.socket_addr.SocketAddrV4.{SocketAddrV4}
 use Rattle.std.specs.Net.Text.{socket_v4_text}
 use Rattle.counted_io.specs.Count.{raised}
@@ -10,6 +10,7 @@ use Rattle.counted_io.specs.Effects.{Wrote}
 use Rattle.limit_kinds.specs.AnyKinds.{any_rules}
 use Rattle.limiter_core.specs.declared.counters.Counters.{Counters}
 use Rattle.gateway_settings.specs.declared.settings.Settings.{Settings}
+use Rattle.shared_gate.specs.Calls.{Pass}
 use Rattle.proxy.specs.Exchanges.{Policy}
 use Rattle.gate_opening.specs.Opening.{making_of}
 use Rattle.config_file.specs.Reading.{Held, IsUnset, Says}
@@ -42,20 +43,22 @@ IsUnboundToo Unbound (Some address) = Unbound (socket_v4_text address)
 
 -- SERVED BY SETTINGS, at their address, the operator's and that of whoever looks: a listener was
 -- bound at each. So many workers took their turns with clients who came to the first, and these are
--- the counters of their runs; at the others those were served who came there, at desks of a gate
--- that was made so, by whose passes nobody had called, and which close the listener of clients
+-- the counters of their runs; at the others those were served who came there, at desks of the same
+-- gate, by whose passes nobody had called, and which close the listener of clients
 pub record IsServedBy {L : Type 0} (Bound : List ℕ → L → Type 0)
     (came : L → Option (List ℕ) → Type 0) (found : L → Bool → Type 0) (closed : L → Type 0)
     (Gives : Policy → Type 0) (s : Settings) (admin status : Option SocketAddrV4)
     (workers most : ℕ) (counters : Counters) : Type 0 where
   pub listener : L
   pub bound : Bound s.listen listener
+  pub by_lookers : List Pass
+  pub by_admins : List Pass
   pub ran : AreCountersOfRuns any_rules (making_of workers s) Gives (came listener) workers most
-      counters
+      (by_lookers ++ by_admins) counters
   pub operator : IsAdminServed (IsDone any_rules (making_of workers s) closed) came found
-      (new_desk s.table listener) Bound admin
+      (new_desk s.table listener) Bound admin by_admins
   pub lookers : IsStatusServed (IsDone any_rules (making_of workers s) closed) came found
-      (new_desk s.table listener) Bound status
+      (new_desk s.table listener) Bound status by_lookers
 
 -- SERVED: by settings of the file, with marks or without, and the line of the counters of the
 -- workers' runs is written and flushed, and no write failed
@@ -80,7 +83,7 @@ pub record HasServed {F L W : Type 0} (Opened : F → Type 0) (remaining : F →
 -- A FAULT OF SERVING ITSELF, by the addresses, by how many threads were refused before and after,
 -- and by what is miscounted: an address couldn't be bound, of clients, of the operator or of
 -- whoever looks; or that of clients was, and memory was lacking, the system refused a thread, or
--- all have served, and the gate's counters tell of other calls than these made
+-- all have served, and the gate has other calls than these made, or counts others
 abbrev pub IsOfServing : {L : Type 0} → (List ℕ → L → Type 0) → (List ℕ → Type 0)
     → List ℕ → Option SocketAddrV4 → Option SocketAddrV4 → ℕ → ℕ → Type 0 → ServiceFault → Type 0
 IsOfServing Bound Unbound listen admin status before after Miscounts (Service.Config fault) = ⊥

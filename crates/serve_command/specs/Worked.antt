@@ -1,13 +1,17 @@
 -- What a worker of a gateway did.
-use Rattle.std.specs.Prelude.{◌≡◌, ◌≤◌, ◌+◌, ℕ, Bool, false, List, [], Option, Some, None}
-use Rattle.limiter_core.specs.declared.counters.Counters.{Counters}
+use Rattle.std.specs.Prelude.{◌≡◌, ◌≤◌, ◌+◌, ℕ, Bool, false, List, [], ◌∷◌, map, Option, Some, None}
 use Rattle.limiter_core.specs.declared.event.Entry.{Entry}
 use Rattle.shared_gate.specs.Calls.{Pass}
 use Rattle.gateway_settings.specs.declared.settings.Settings.{Settings}
 use Rattle.proxy.specs.Exchanges.{Policy}
 use Rattle.serving.specs.declared.working.TurnCounts.{TurnCounts}
 use Rattle.serving.specs.Served.{policy_of}
+use Rattle.ports.specs.Asked.{Shared}
 use Rattle.serving.specs.Turns.{IsRun, Place}
+use Rattle.serving.specs.declared.jobs.JobResult.{JobResult}
+use Rattle.serving.specs.declared.jobs.JobResult.TheVariants as left
+use Rattle.serving.specs.Workers.{ended_in}
+pub use Rattle.gate_opening.specs.Counting.{AreEnded, calls_told}
 
 -- where a worker stands: by the counts of its door and of its backend, of which sockets show
 -- nothing more, and by what its pass knows of the gate's log
@@ -45,15 +49,13 @@ pub record HasRunTo (Gives : Policy → Type 0) (Came : Option (List ℕ) → Ty
   pub turns : tally.accepted + tally.unaccepted ≤ most
   pub whole : closed ≡ false → tally.accepted + tally.unaccepted ≡ most
 
--- how many calls counters tell of: each asks for a permit, gives up a place in line, of one who was
--- promoted meanwhile or of one who wasn't, or ends a permit
-abbrev pub calls_told : Counters → ℕ
-calls_told c =
-    c.admitted + c.bypassed + c.full + c.backlog_full + c.waiting + c.promoted + c.timed_out
-    + c.success + c.ignored + c.dropped
+-- the passes of those workers who served
+abbrev pub served_by : {A B M : Type 0} → List (JobResult A (Shared M) B Pass) → List Pass
+served_by lefts = map (λ ended. ended.port.pass) (ended_in lefts)
 
--- what counters tell where no permit is left and nobody waits: each permit was ended, and whoever
--- began to wait was promoted or gave up
-pub record AreEnded (c : Counters) : Type 0 where
-  pub permits : c.admitted + c.promoted ≡ c.success + c.ignored + c.dropped
-  pub waiters : c.waiting ≡ c.promoted + c.timed_out
+-- and with them those of whoever was served beside them, each in its place
+abbrev pub passes_in : {A B M : Type 0} → List (JobResult A (Shared M) B Pass) → List Pass
+passes_in [] = []
+passes_in (left.Unbegun ∷ lefts) = passes_in lefts
+passes_in (left.SideTask pass ∷ lefts) = pass ∷ passes_in lefts
+passes_in (left.Worked ended ∷ lefts) = ended.port.pass ∷ passes_in lefts

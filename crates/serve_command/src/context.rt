@@ -1,16 +1,13 @@
 // What a gateway stands on while it serves.
-ghost use Rattle.std.specs.Prelude.{◌≡◌, ◌≤◌, IfOk, IfSome, IsErrOf, None, Ok, OnOk, Some};
-ghost use Rattle.std.specs.Prelude.{string_bytes};
+ghost use Rattle.std.specs.Prelude.{◌≡◌, ◌≤◌, IfNone, IfOk, IfSome, IsErrOf, Ok};
 ghost use Rattle.counted_io.specs.Count.{raised};
 ghost use Rattle.tasks.specs.Refused.{refused_of};
 ghost use Rattle.limit_kinds.specs.AnyKinds.{any_rules};
 ghost use Rattle.gateway_settings.specs.Settings.{AreSound};
 ghost use Rattle.config_file.specs.Reading.{Says};
 ghost use Rattle.gate_opening.specs.Opening.{making_of};
-ghost use Rattle.gate_desk.specs.Desk.{IsDone};
 ghost use Rattle.gate_desk.specs.State.{new_desk};
-ghost use Rattle.serve_command.specs.Beside.{IsServedThere};
-ghost use Rattle.serve_command.specs.Runs.{AreToldOfRuns, IsBy};
+ghost use Rattle.serve_command.specs.Runs.{AreMiscounted, HasServedAt, IsBy};
 
 use crate::admin::{AdminAddress, SideAddresses, listener_of};
 use crate::config_text::ConfigText;
@@ -58,7 +55,8 @@ pub(crate) struct ServeContext<'a, R: SystemClock, L> {
 }
 
 /// Serves by these settings, which are those of the text, and tells the gate's counters; or none,
-/// where these tell of calls that no worker made, or of permits that weren't ended.
+/// where it has calls that nobody made who served, or where these tell of others than the workers
+/// made, or of permits that weren't ended.
 pub(crate) fn serve_in<'c, R, L>(
     rt: &'c R,
     spawner: &mut Spawner<'_, R>,
@@ -77,17 +75,13 @@ where
     requires says { Says context.now.text.now.bytes.items (Ok settings.now) }
     requires sound { AreSound settings.now }
     requires few { service.now.workers ≤ 64 }
-    ensures counted { IfOk result (AreToldOfRuns any_rules
-        (making_of service.now.workers settings.now)
+    ensures served { IfOk result (λ told. IfSome told (HasServedAt any_rules
+        (making_of service.now.workers settings.now) L.closed L.came L.found
         (IsBy (λ own. Says context.now.text.now.bytes.items (Ok own)) service.now.marks)
-        (L.came context.now.front.now) service.now.workers service.now.per_worker) }
-    ensures admin { OnOk result (IfSome context.now.admin.now (λ at. IsServedThere
-        (IsDone any_rules (making_of service.now.workers settings.now) L.closed) L.came L.found
-        (new_desk settings.now.table context.now.front.now) (Some (string_bytes at.host))
-        at.listener)) }
-    ensures status { OnOk result (IfSome context.now.status.now (IsServedThere
-        (IsDone any_rules (making_of service.now.workers settings.now) L.closed) L.came L.found
-        (new_desk settings.now.table context.now.front.now) None)) }
+        (new_desk settings.now.table context.now.front.now) context.now.admin.now
+        context.now.status.now service.now.workers service.now.per_worker)) }
+    ensures miscounted { IfOk result (λ told. IfNone told (AreMiscounted any_rules
+        (making_of service.now.workers settings.now) service.now.workers)) }
     ensures thread { IsErrOf result ServeFault.Thread →
         refused_of spawner.new ≡ raised (refused_of spawner.old) }
 {

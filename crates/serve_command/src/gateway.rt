@@ -1,28 +1,28 @@
 // The gate of a configuration, and its workers.
-ghost use Rattle.std.specs.Prelude.{◌≡◌, ◌≤◌, ◌+◌, true, false, [], ◌∷◌, map, replicate, vec_len};
-ghost use Rattle.std.specs.Prelude.{All, IfNone, IfOk, IfSome, IsErrOf, OnOk, option_to_list};
+ghost use Rattle.std.specs.Prelude.{◌≡◌, ◌≤◌, ◌+◌, [], ◌∷◌, map, replicate, vec_len};
+ghost use Rattle.std.specs.Prelude.{All, IfNone, IfOk, IfSome, IsErrOf, OnOk};
 ghost use Rattle.counted_io.specs.Count.{raised};
 ghost use Rattle.tasks.specs.Refused.{refused_of};
 ghost use Rattle.limit_kinds.specs.AnyKinds.{any_rules};
 ghost use Rattle.gate_ledgers.specs.Names.{AreNamed, AreWhole};
 ghost use Rattle.gateway_settings.specs.Settings.{AreSound};
 ghost use Rattle.shared_gate.specs.Calls.{pass_of};
+ghost use Rattle.shared_gate.specs.Closing.{calls_by};
 ghost use Rattle.shared_gate.specs.Log.{CallsLegal};
 ghost use Rattle.gate_opening.specs.Opening.{journal_of, making_of};
 ghost use Rattle.ports.specs.declared.asked.Receipts.TheVariants.{Nothing};
 ghost use Rattle.ports.specs.Asked.{port_in};
-ghost use Rattle.serving.specs.Workers.{ended_in};
-ghost use Rattle.gate_desk.specs.Desk.{IsDone};
 ghost use Rattle.gate_desk.specs.State.{new_desk};
-ghost use Rattle.serve_command.specs.Beside.{AreServedBeside, IsUnused, count_beside};
-ghost use Rattle.serve_command.specs.Runs.{AreEnded, AreToldOfRuns, IsBy, calls_told};
+ghost use Rattle.serve_command.specs.Beside.{IsUnused, count_beside};
+ghost use Rattle.serve_command.specs.Runs.{AreMiscounted, HasServedAll, IsBy};
+ghost use Rattle.serve_command.specs.Runs.{passes_in, served_by};
 
 use crate::admin::SideAddresses;
 use crate::operators::make_operators;
 use clocks::Clock;
 use gate_history::Blanks;
 use gate_laws::{exchanges_are_one_threads, reports_balance};
-use gate_opening::open_gate;
+use gate_opening::{balanced, open_gate};
 use gateway_settings::Settings;
 use limit_laws::Limit;
 use limiter_core::Counters;
@@ -56,7 +56,8 @@ pub(crate) struct Gateway<'g, R: SystemClock, L, C, S> {
 }
 
 /// Serves clients through the gate of the gateway's settings, by its workers, and tells the gate's
-/// counters once all have ended; or none, where these tell of calls that no worker made.
+/// counters once all have ended; or none, where it has calls that nobody made who served, or where
+/// these tell of others than the workers made.
 pub(crate) fn serve_gateway<R, L, C, S>(
     spawner: &mut Spawner<'_, R>,
     gateway: &Gateway<'_, R, L, C, S>,
@@ -74,15 +75,13 @@ where
     requires given { S.gives gateway.now.common.now.source.now gateway.now.settings.now }
     requires sound { AreSound gateway.now.settings.now }
     requires few { gateway.now.workers ≤ 64 }
-    ensures counted { IfOk result (AreToldOfRuns any_rules
-        (making_of gateway.now.workers gateway.now.settings.now)
+    ensures served { IfOk result (λ told. IfSome told (HasServedAll any_rules
+        (making_of gateway.now.workers gateway.now.settings.now) L.closed L.came L.found
         (IsBy (S.gives gateway.now.common.now.source.now) gateway.now.common.now.marks)
-        (L.came gateway.now.common.now.listener.now) gateway.now.workers
-        gateway.now.common.now.per_worker) }
-    ensures beside { OnOk result (AreServedBeside (IsDone any_rules
-        (making_of gateway.now.workers gateway.now.settings.now) L.closed) L.came L.found
         (new_desk gateway.now.settings.now.table gateway.now.common.now.listener.now)
-        gateway.now.side.now) }
+        gateway.now.side.now gateway.now.workers gateway.now.common.now.per_worker)) }
+    ensures miscounted { IfOk result (λ told. IfNone told (AreMiscounted any_rules
+        (making_of gateway.now.workers gateway.now.settings.now) gateway.now.workers)) }
     ensures thread { IsErrOf result ServeFault.Thread →
         refused_of spawner.new ≡ raised (refused_of spawner.old) }
 {
@@ -123,15 +122,13 @@ where
     requires legal { CallsLegal any_rules
         (journal_of gateway.now.workers gateway.now.settings.now) M.legal }
     requires few { gateway.now.workers ≤ 64 }
-    ensures counted { IfOk result (AreToldOfRuns any_rules
-        (making_of gateway.now.workers gateway.now.settings.now)
+    ensures served { IfOk result (λ told. IfSome told (HasServedAll any_rules
+        (making_of gateway.now.workers gateway.now.settings.now) L.closed L.came L.found
         (IsBy (S.gives gateway.now.common.now.source.now) gateway.now.common.now.marks)
-        (L.came gateway.now.common.now.listener.now) gateway.now.workers
-        gateway.now.common.now.per_worker) }
-    ensures beside { OnOk result (AreServedBeside (IsDone any_rules
-        (making_of gateway.now.workers gateway.now.settings.now) L.closed) L.came L.found
         (new_desk gateway.now.settings.now.table gateway.now.common.now.listener.now)
-        gateway.now.side.now) }
+        gateway.now.side.now gateway.now.workers gateway.now.common.now.per_worker)) }
+    ensures miscounted { IfOk result (λ told. IfNone told (AreMiscounted any_rules
+        (making_of gateway.now.workers gateway.now.settings.now) gateway.now.workers)) }
     ensures thread { IsErrOf result ServeFault.Thread →
         refused_of spawner.new ≡ raised (refused_of spawner.old) }
 {
@@ -173,23 +170,23 @@ where
     requires unused { All (λ pass. pass.log ≡ []) passes.items }
     requires unused_beside { All IsUnused own.items }
     requires beside { vec_len own ≡ count_beside gateway.now.side.now + 1 }
-    ensures counted { IfOk result (AreToldOfRuns G.rules M.making
+    ensures served { IfOk result (λ told. IfSome told (HasServedAll G.rules M.making
+        L.closed L.came L.found
         (IsBy (S.gives gateway.now.common.now.source.now) gateway.now.common.now.marks)
-        (L.came gateway.now.common.now.listener.now) (vec_len passes)
-        gateway.now.common.now.per_worker) }
-    ensures beside { OnOk result (AreServedBeside (IsDone G.rules M.making L.closed) L.came L.found
         (new_desk gateway.now.settings.now.table gateway.now.common.now.listener.now)
-        gateway.now.side.now) }
+        gateway.now.side.now (vec_len passes) gateway.now.common.now.per_worker)) }
+    ensures miscounted { IfOk result (λ told. IfNone told
+        (AreMiscounted G.rules M.making (vec_len passes))) }
     ensures thread { IsErrOf result ServeFault.Thread →
         refused_of spawner.new ≡ raised (refused_of spawner.old) }
 {
     let (rt, common) = (gateway.rt, gateway.common);
+    let kept = Vec::with_capacity(common.alloc, passes.len().saturating_add(own.len()))?;
     let Some(last) = own.pop() else {
         unreachable!()
     };
     let view = View::new(rt, gate, last);
     let operators = make_operators(gateway, gate, own)?;
-    let kept = Vec::with_capacity(common.alloc, passes.len())?;
     let ports = make_ports(gateway, gate, passes)?;
     let lefts = serve(
         rt,
@@ -200,54 +197,10 @@ where
         ports,
         operators,
     )?;
-    let passes = passes_of(kept, lefts)?;
+    let back = passes_of(kept, lefts)?;
     exchanges_are_one_threads::<G>();
     reports_balance::<G>();
-    let (counters, calls) = gate.counters_behind(rt, passes);
-    Ok(balanced(counters, calls))
-}
-
-/// The counters, where they tell of just so many calls, and that each permit was ended and nobody
-/// waits.
-fn balanced(counters: Counters, calls: u64) -> Option<Counters>
-    ensures some { IfSome result (λ told.
-        (told ≡ counters) × (calls_told counters ≡ calls) × AreEnded counters) }
-    ensures none { IfNone result (¬ ((calls_told counters ≡ calls) × AreEnded counters)) }
-{
-    if calls_told(counters) == u128::from(calls) && are_ended(counters) {
-        Some(counters)
-    } else {
-        None
-    }
-}
-
-/// Whether counters tell that each permit was ended, and that nobody waits.
-fn are_ended(counters: Counters) -> bool
-    ensures ended { result ≡ true → AreEnded counters }
-    ensures left { result ≡ false → ¬ AreEnded counters }
-{
-    let got = u128::from(counters.admitted) + u128::from(counters.promoted);
-    let ended = u128::from(counters.success)
-        + u128::from(counters.ignored)
-        + u128::from(counters.dropped);
-    let served = u128::from(counters.promoted) + u128::from(counters.timed_out);
-    got == ended && u128::from(counters.waiting) == served
-}
-
-/// How many calls counters tell of. Settings and resets of the limit aren't among them.
-fn calls_told(counters: Counters) -> u128
-    ensures { result ≡ calls_told counters }
-{
-    let asked = u128::from(counters.admitted)
-        + u128::from(counters.bypassed)
-        + u128::from(counters.full)
-        + u128::from(counters.backlog_full)
-        + u128::from(counters.waiting);
-    let given_up = u128::from(counters.promoted) + u128::from(counters.timed_out);
-    let ended = u128::from(counters.success)
-        + u128::from(counters.ignored)
-        + u128::from(counters.dropped);
-    asked + given_up + ended
+    Ok(balanced(gate.counters_of_all(rt, back.passes), back.calls))
 }
 
 /// The passes behind the first ones, so many of them. It fails only out of memory.
@@ -297,31 +250,50 @@ fn noting<'a, M: GateNaming, R: SystemClock, G: Limit, C>(
     }
 }
 
-/// The passes of the workers that served, in their order, into a list that is empty.
-fn passes_of<M: GateNaming, R, G: Limit, C, A: Drop, B: Drop>(
-    mut passes: Vec<Pass<M>>,
-    lefts: Vec<JobResult<A, Port<'_, G, M, R, C>, B>>,
-) -> Result<Vec<Pass<M>>, AllocError>
-    requires { passes.items ≡ [] }
-    ensures { IfOk result (λ passes.
-        passes.items ≡ map (λ ended. ended.port.pass) (ended_in lefts.entry.items)) }
-{
-    for left in lefts {
-        if let Some(pass) = pass_in(left) {
-            passes.push(pass)?;
-        }
-    }
-    Ok(passes)
+/// What comes back once all have ended.
+#[derive(Drop)]
+struct PassesBack<M: GateNaming> {
+    /// The passes of all who served.
+    passes: Vec<Pass<M>>,
+    /// How many calls were made by those of workers.
+    calls: u128,
 }
 
-/// The pass of whoever left this, if it served.
+/// The passes of all who served, in their order, in a list that is empty at first.
+fn passes_of<M: GateNaming, R, G: Limit, C, A: Drop, B: Drop>(
+    mut passes: Vec<Pass<M>>,
+    lefts: Vec<JobResult<A, Port<'_, G, M, R, C>, B, Pass<M>>>,
+) -> Result<PassesBack<M>, AllocError>
+    requires { passes.items ≡ [] }
+    ensures passes { IfOk result (λ back. back.passes.items ≡ passes_in lefts.entry.items) }
+    ensures calls { IfOk result (λ back. back.calls ≡ calls_by (served_by lefts.entry.items)) }
+{
+    let mut calls = 0;
+    for left in lefts {
+        if let Some((pass, made)) = pass_in(left) {
+            passes.push(pass)?;
+            calls += u128::from(made);
+        }
+    }
+    Ok(PassesBack { passes, calls })
+}
+
+/// The pass of whoever left this, if it served; and how many calls a worker made by it.
 fn pass_in<M: GateNaming, R, G: Limit, C, A: Drop, B: Drop>(
-    left: JobResult<A, Port<'_, G, M, R, C>, B>,
-) -> Option<Pass<M>>
-    ensures { option_to_list result ≡ map (λ ended. ended.port.pass) (ended_in (left.entry ∷ [])) }
+    left: JobResult<A, Port<'_, G, M, R, C>, B, Pass<M>>,
+) -> Option<(Pass<M>, u64)>
+    ensures pass { IfSome result (λ own. passes_in (left.entry ∷ []) ≡ own.0 ∷ []) }
+    ensures calls { IfSome result (λ own. own.1 ≡ calls_by (served_by (left.entry ∷ []))) }
+    ensures none { IfNone result ((passes_in (left.entry ∷ []) ≡ [])
+        × (served_by (left.entry ∷ []) ≡ [])) }
 {
     match left {
-        JobResult::Worked(ended) => Some(ended.port.into_pass()),
-        JobResult::Unbegun | JobResult::SideTask => None,
+        JobResult::Worked(ended) => {
+            let pass = ended.port.into_pass();
+            let calls = pass.count();
+            Some((pass, calls))
+        }
+        JobResult::SideTask(pass) => Some((pass, 0)),
+        JobResult::Unbegun => None,
     }
 }

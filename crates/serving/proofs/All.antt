@@ -1,9 +1,8 @@
 -- Many workers.
 use Rattle.std.proofs.Common.{◌≡◌, ℕ, Bool, true, false, List, [], ◌∷◌, ◌++◌}
-use Rattle.std.proofs.Common.{All, Option, None, Result, Ok, Err, IfOk, ap, sym, subst, arith}
+use Rattle.std.proofs.Common.{Option, None, Result, Ok, Err, IfOk, ap, sym, subst, arith}
 use Rattle.std.proofs.Common.{length, true≢false}
 use Rattle.std.specs.List.{AllZip, list_all}
-use Rattle.std.proofs.lemmas.List.Elements.{All-cons, All-nil}
 use Rattle.gateway_settings.specs.declared.settings.Settings.{Settings}
 use Rattle.limiter_core.specs.declared.event.Entry.{Entry}
 use Rattle.gate_port.specs.Shown.{Shown}
@@ -27,7 +26,7 @@ use Rattle.serving.specs.Served.{policy_of}
 use Rattle.serving.specs.Turns.{IsRun, Place}
 use Rattle.serving.specs.Visits.{Visits}
 use Rattle.serving.specs.Workers.{AreWithin, Begins, HasRun, HasWorked, Makes}
-use Rattle.serving.specs.Workers.{ended_in, has_begun, tasks_in, workers_in}
+use Rattle.serving.specs.Workers.{ended_in, has_begun, made_in, tasks_in, workers_in}
 
 -- one more at the end of two lists
 pub one_more : {X Y : Type 0} (R : X → Y → Type 0) (xs : List X) (ys : List Y) (x : X) (y : Y)
@@ -90,57 +89,62 @@ pub on_ok : {T E : Type 0} (r : Result T E) (P Q : T → Type 0) → IfOk r P
 on_ok (Ok v) P Q p f = f v p
 on_ok (Err e) P Q p f = tt
 
-module _ {A P B T S R L C W : Type 0} (given failed : A → ℕ) (closed : A → Bool)
+module _ {A P B T D S R L C W : Type 0} (given failed : A → ℕ) (closed : A → Bool)
     (visits : A → Option Visits) (came : A → Bytes → Type 0) (shown : P → Option Shown)
     (known : P → Option (List Entry)) (forwarded : B → ℕ) (log : B → Option (List Forwarded))
-    (gives : S → Settings → Type 0) (lacks : S → Type 0) (made : T → Type 0) where
-  abbrev Made : Job A P B T (Context R L C S W) → JobResult A P B → Type 0
-  Made = Makes given failed closed visits came shown known forwarded log gives lacks made
+    (gives : S → Settings → Type 0) (lacks : S → Type 0) (makes : T → D → Type 0) where
+  abbrev Made : Job A P B T (Context R L C S W) → JobResult A P B D → Type 0
+  Made = Makes given failed closed visits came shown known forwarded log gives lacks makes
 
-  made_in : (jobs : List (Job A P B T (Context R L C S W))) (lefts : List (JobResult A P B))
-      → AllZip Made jobs lefts → All made (tasks_in jobs)
-  made_in [] [] all = All-nil made
-  made_in [] (l ∷ ls) all = absurd all
-  made_in (h ∷ hs) [] all = absurd all
-  made_in (job.SideTask task ∷ hs) (left.Unbegun ∷ ls) all = absurd all.0
-  made_in (job.SideTask task ∷ hs) (left.SideTask ∷ ls) all =
-      All-cons made task (tasks_in hs) all.0 (made_in hs ls all.1)
-  made_in (job.SideTask task ∷ hs) (left.Worked ended ∷ ls) all = absurd all.0
-  made_in (job.Worker context worker ∷ hs) (l ∷ ls) all = made_in hs ls all.1
+  made_by : (jobs : List (Job A P B T (Context R L C S W))) (lefts : List (JobResult A P B D))
+      → AllZip Made jobs lefts → list_all has_begun lefts ≡ true
+      → AllZip makes (tasks_in jobs) (made_in lefts)
+  made_by [] [] all begun = tt
+  made_by [] (l ∷ ls) all begun = absurd all
+  made_by (h ∷ hs) [] all begun = absurd all
+  made_by (job.SideTask task ∷ hs) (left.Unbegun ∷ ls) all begun = absurd all.0
+  made_by (job.SideTask task ∷ hs) (left.SideTask made ∷ ls) all begun =
+      (all.0, made_by hs ls all.1 begun)
+  made_by (job.SideTask task ∷ hs) (left.Worked ended ∷ ls) all begun = absurd all.0
+  made_by (job.Worker context worker ∷ hs) (left.Unbegun ∷ ls) all begun =
+      absurd (true≢false (sym begun))
+  made_by (job.Worker context worker ∷ hs) (left.SideTask made ∷ ls) all begun = absurd all.0
+  made_by (job.Worker context worker ∷ hs) (left.Worked ended ∷ ls) all begun =
+      made_by hs ls all.1 begun
 
   -- what the tasks beside them made
   pub all_made : (tasks : List T) (jobs : List (Job A P B T (Context R L C S W)))
-      (lefts : List (JobResult A P B)) → tasks_in jobs ≡ tasks → AllZip Made jobs lefts
-      → All made tasks
-  all_made tasks jobs lefts same all =
-      subst (λ (ts : List T). All made ts) same (made_in jobs lefts all)
+      (lefts : List (JobResult A P B D)) → tasks_in jobs ≡ tasks → AllZip Made jobs lefts
+      → list_all has_begun lefts ≡ true → AllZip makes tasks (made_in lefts)
+  all_made tasks jobs lefts same all begun =
+      subst (λ (ts : List T). AllZip makes ts (made_in lefts)) same (made_by jobs lefts all begun)
 
-module _ {A P B T S R L C W : Type 0} (given failed : A → ℕ) (closed : A → Bool)
+module _ {A P B T D S R L C W : Type 0} (given failed : A → ℕ) (closed : A → Bool)
     (visits : A → Option Visits) (came : A → Bytes → Type 0) (shown : P → Option Shown)
     (known : P → Option (List Entry)) (forwarded : B → ℕ) (log : B → Option (List Forwarded))
-    (gives : S → Settings → Type 0) (lacks : S → Type 0) (made : T → Type 0)
+    (gives : S → Settings → Type 0) (lacks : S → Type 0) (makes : T → D → Type 0)
     (x : Context R L C S W) where
   abbrev Worked : Worker A P B → WorkerExit A P B → Type 0
   Worked = HasWorked given failed closed visits came shown known forwarded log gives lacks
       x.common.now.source.now x.common.now.marks x.common.now.per_worker
 
-  abbrev AllDone : List (Job A P B T (Context R L C S W)) → List (JobResult A P B) → Type 0
+  abbrev AllDone : List (Job A P B T (Context R L C S W)) → List (JobResult A P B D) → Type 0
   AllDone = AllZip
-      (Made given failed closed visits came shown known forwarded log gives lacks made)
+      (Made given failed closed visits came shown known forwarded log gives lacks makes)
 
-  worked_in : (jobs : List (Job A P B T (Context R L C S W))) (lefts : List (JobResult A P B))
+  worked_in : (jobs : List (Job A P B T (Context R L C S W))) (lefts : List (JobResult A P B D))
       → AllDone jobs lefts → AreWithin x jobs → list_all has_begun lefts ≡ true
       → AllZip Worked (workers_in jobs) (ended_in lefts)
   worked_in [] [] all within begun = tt
   worked_in [] (l ∷ ls) all within begun = absurd all
   worked_in (h ∷ hs) [] all within begun = absurd all
   worked_in (job.SideTask task ∷ hs) (left.Unbegun ∷ ls) all within begun = absurd all.0
-  worked_in (job.SideTask task ∷ hs) (left.SideTask ∷ ls) all within begun =
+  worked_in (job.SideTask task ∷ hs) (left.SideTask made ∷ ls) all within begun =
       worked_in hs ls all.1 within begun
   worked_in (job.SideTask task ∷ hs) (left.Worked ended ∷ ls) all within begun = absurd all.0
   worked_in (job.Worker context worker ∷ hs) (left.Unbegun ∷ ls) all within begun =
       absurd (true≢false (sym begun))
-  worked_in (job.Worker context worker ∷ hs) (left.SideTask ∷ ls) all within begun =
+  worked_in (job.Worker context worker ∷ hs) (left.SideTask made ∷ ls) all within begun =
       absurd all.0
   worked_in (job.Worker context worker ∷ hs) (left.Worked ended ∷ ls) all within begun = (
     subst (λ (c : Context R L C S W). HasWorked given failed closed visits came shown known
@@ -152,7 +156,7 @@ module _ {A P B T S R L C W : Type 0} (given failed : A → ℕ) (closed : A →
 
   -- what the workers leave, where all jobs began in the same context
   pub all_worked : (workers : List (Worker A P B))
-      (jobs : List (Job A P B T (Context R L C S W))) (lefts : List (JobResult A P B))
+      (jobs : List (Job A P B T (Context R L C S W))) (lefts : List (JobResult A P B D))
       → workers_in jobs ≡ workers → AllDone jobs lefts → AreWithin x jobs
       → list_all has_begun lefts ≡ true → AllZip Worked workers (ended_in lefts)
   all_worked workers jobs lefts same all within begun =

@@ -43,16 +43,23 @@ AreWithin x (job.SideTask task ∷ jobs) = AreWithin x jobs
 AreWithin x (job.Worker context worker ∷ jobs) = (context.now ≡ x) × AreWithin x jobs
 
 -- what the workers among them left
-abbrev pub ended_in : {A P B : Type 0} → List (JobResult A P B) → List (WorkerExit A P B)
+abbrev pub ended_in : {A P B D : Type 0} → List (JobResult A P B D) → List (WorkerExit A P B)
 ended_in [] = []
 ended_in (left.Unbegun ∷ lefts) = ended_in lefts
-ended_in (left.SideTask ∷ lefts) = ended_in lefts
+ended_in (left.SideTask made ∷ lefts) = ended_in lefts
 ended_in (left.Worked ended ∷ lefts) = ended ∷ ended_in lefts
 
+-- what the tasks beside them made
+abbrev pub made_in : {A P B D : Type 0} → List (JobResult A P B D) → List D
+made_in [] = []
+made_in (left.Unbegun ∷ lefts) = made_in lefts
+made_in (left.SideTask made ∷ lefts) = made ∷ made_in lefts
+made_in (left.Worked ended ∷ lefts) = made_in lefts
+
 -- whether it had the memory to begin
-abbrev pub has_begun : {A P B : Type 0} → JobResult A P B → Bool
+abbrev pub has_begun : {A P B D : Type 0} → JobResult A P B D → Bool
 has_begun left.Unbegun = false
-has_begun left.SideTask = true
+has_begun (left.SideTask made) = true
 has_begun (left.Worked ended) = true
 
 -- what is known of doors, ports and backends, and which settings a source gives or lacks
@@ -95,22 +102,22 @@ module _ {A P B S : Type 0} (given failed : A → ℕ) (closed : A → Bool)
         → failed ended.door ≡ failed worker.door + ended.tally.unaccepted
 
   -- what a worker leaves; who didn't begin had no settings
-  abbrev pub Leaves : S → Bool → ℕ → Worker A P B → JobResult A P B → Type 0
+  abbrev pub Leaves : {D : Type 0} → S → Bool → ℕ → Worker A P B → JobResult A P B D → Type 0
   Leaves source marks most worker left.Unbegun = lacks source
-  Leaves source marks most worker left.SideTask = ⊥
+  Leaves source marks most worker (left.SideTask made) = ⊥
   Leaves source marks most worker (left.Worked ended) = HasWorked source marks most worker ended
 
-  -- what a task beside the workers leaves, which is to make this
-  abbrev pub IsMade : Type 0 → JobResult A P B → Type 0
-  IsMade made left.Unbegun = ⊥
-  IsMade made left.SideTask = made
-  IsMade made (left.Worked ended) = ⊥
+  -- what a task beside the workers leaves, which may make this
+  abbrev pub IsMade : {D : Type 0} → (D → Type 0) → JobResult A P B D → Type 0
+  IsMade makes left.Unbegun = ⊥
+  IsMade makes (left.SideTask made) = makes made
+  IsMade makes (left.Worked ended) = ⊥
 
   -- what each job leaves
-  abbrev pub Makes : {T R L C W : Type 0} → (T → Type 0)
-      → Job A P B T (Context R L C S W) → JobResult A P B → Type 0
-  Makes made (job.SideTask task) left = IsMade (made task) left
-  Makes made (job.Worker context worker) left =
+  abbrev pub Makes : {T D R L C W : Type 0} → (T → D → Type 0)
+      → Job A P B T (Context R L C S W) → JobResult A P B D → Type 0
+  Makes makes (job.SideTask task) left = IsMade (makes task) left
+  Makes makes (job.Worker context worker) left =
       Leaves context.now.common.now.source.now context.now.common.now.marks
       context.now.common.now.per_worker worker left
 

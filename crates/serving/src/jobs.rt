@@ -54,11 +54,11 @@ pub(crate) enum Job<'a, A, P, B, T, X> {
 
 /// What is left of a job.
 #[derive(Drop)]
-pub enum JobResult<A, P, B> {
+pub enum JobResult<A, P, B, D> {
     /// It had no memory to begin.
     Unbegun,
-    /// It was the task beside the workers.
-    SideTask,
+    /// It was a task beside the workers, which made this.
+    SideTask(D),
     /// It served.
     Worked(WorkerExit<A, P, B>),
 }
@@ -69,25 +69,22 @@ where
     A: Accepts + Send + Drop,
     P: GatePort + Send + Drop,
     B: Backend + Send + Drop,
-    T: Task<Done = ()> + Send + Drop,
+    T: Task + Send + Drop,
     L: Listener + Sync,
     C: Clock + Sync,
     S: Source + Sync,
     W: Watch + Sync,
 {
-    type Done = JobResult<A, P, B>;
+    type Done = JobResult<A, P, B, T::Done>;
 
     ghost use Rattle.serving.specs.Workers.{Makes};
 
     ghost makes = { Makes A.given A.failed A.closed A.visits A.came P.shown P.known B.forwarded
-        B.shown S.gives S.lacks (λ task. T.makes task tt) };
+        B.shown S.gives S.lacks T.makes };
 
-    fn run(self) -> JobResult<A, P, B> {
+    fn run(self) -> JobResult<A, P, B, T::Done> {
         match self {
-            Job::SideTask(task) => {
-                task.run();
-                JobResult::SideTask
-            }
+            Job::SideTask(task) => JobResult::SideTask(task.run()),
             Job::Worker(context, worker) => {
                 let left = run_one(context, worker);
                 leave(context);
@@ -111,10 +108,10 @@ where
 }
 
 /// One worker's whole run, over settings of its own.
-fn run_one<R, A, P, B, L, C, S, W>(
+fn run_one<R, A, P, B, D, L, C, S, W>(
     context: &Context<'_, R, L, C, S, W>,
     worker: Worker<A, P, B>,
-) -> JobResult<A, P, B>
+) -> JobResult<A, P, B, D>
 where
     R: SystemClock,
     A: Accepts + Drop,

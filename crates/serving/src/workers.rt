@@ -1,10 +1,10 @@
 // Workers that serve through one gate.
-ghost use Rattle.std.specs.Prelude.{◌≡◌, [], All, IfOk, IsErrOf, OnErr};
+ghost use Rattle.std.specs.Prelude.{◌≡◌, [], IfOk, IsErrOf, OnErr};
 ghost use Rattle.std.specs.List.{AllZip, list_all};
 ghost use Rattle.counted_io.specs.Count.{raised};
 ghost use Rattle.tasks.specs.Refused.{refused_of};
 ghost use Rattle.serving.specs.Workers.{AreWithin, Begins, HasRun, HasWorked};
-ghost use Rattle.serving.specs.Workers.{ended_in, has_begun, tasks_in, workers_in};
+ghost use Rattle.serving.specs.Workers.{ended_in, has_begun, made_in, tasks_in, workers_in};
 
 use crate::doors::{Accepts, Door};
 use crate::fault::ServeFault;
@@ -39,7 +39,7 @@ const OTHER_DESCRIPTORS: u64 = 24;
 /// Serves clients by one worker for each port, each on a thread of its own with a door, and with a
 /// connection of its own to the backend of the settings, until all have ended; and tells what they
 /// left, in the order of the ports. Each task beside them has one more thread: these are started
-/// last, once all workers were, the last task first, and tell what they left first. They are to
+/// last, once all workers were, the last task first, and tell what they made first. They are to
 /// end once the last worker has closed their listener. Where reports are wanted, the thread of the
 /// caller makes them once all others were started.
 ///
@@ -56,7 +56,12 @@ pub fn serve<'l, R, G, P, T, L, C, S, W>(
     side_tasks: Vec<T>,
 ) -> Result<
     Vec<
-        JobResult<Door<'l, L, W>, P, TcpBackend<'l, Dialer<&'l R, R::Stream>, R::Stream, &'l W, C>>,
+        JobResult<
+            Door<'l, L, W>,
+            P,
+            TcpBackend<'l, Dialer<&'l R, R::Stream>, R::Stream, &'l W, C>,
+            T::Done,
+        >,
     >,
     ServeFault,
 >
@@ -64,7 +69,7 @@ where
     R: Net + Threads + Wait + SystemClock + Sync,
     G: GateView + Drop,
     P: GatePort + Send + Drop,
-    T: Task<Done = ()> + Send + Drop,
+    T: Task + Send + Drop,
     L: Listener + Sync,
     C: Clock + Sync,
     S: Source + Sync,
@@ -79,7 +84,8 @@ where
     ensures ran { IfOk result (λ lefts.
         AllZip (HasRun S.gives L.came P.shown P.known common.now) ports.items
         (ended_in lefts.items)) }
-    ensures side_tasks { IfOk result (λ _. All (λ task. T.makes task tt) side_tasks.items) }
+    ensures side_tasks { IfOk result (λ lefts.
+        AllZip T.makes side_tasks.items (made_in lefts.items)) }
 
     // A thread is lacking only where the system refused one.
     ensures thread { IsErrOf result ServeFault.Thread →
@@ -209,14 +215,14 @@ fn serve_by<R, O, A, P, B, T, L, C, S, W>(
     reporter: O,
     workers: Vec<Worker<A, P, B>>,
     side_tasks: Vec<T>,
-) -> Result<Vec<JobResult<A, P, B>>, ServeFault>
+) -> Result<Vec<JobResult<A, P, B, T::Done>>, ServeFault>
 where
     R: Threads + Wait + SystemClock + Sync,
     O: Task<Done = ()> + Drop,
     A: Accepts + Send + Drop,
     P: GatePort + Send + Drop,
     B: Backend + Send + Drop,
-    T: Task<Done = ()> + Send + Drop,
+    T: Task + Send + Drop,
     L: Listener + Sync,
     C: Clock + Sync,
     S: Source + Sync,
@@ -233,7 +239,8 @@ where
         A.came P.shown P.known B.forwarded B.shown S.gives S.lacks
         common.now.source.now common.now.marks common.now.per_worker)
         workers.items (ended_in lefts.items)) }
-    ensures side_tasks { IfOk result (λ _. All (λ task. T.makes task tt) side_tasks.items) }
+    ensures side_tasks { IfOk result (λ lefts.
+        AllZip T.makes side_tasks.items (made_in lefts.items)) }
     ensures thread { IsErrOf result ServeFault.Thread →
         refused_of spawner.new ≡ raised (refused_of spawner.old) }
     ensures started { ¬ IsErrOf result ServeFault.Thread →
@@ -283,18 +290,18 @@ fn make_others<'a, A: Drop, P: Drop, B: Drop, T: Drop, X>(
 }
 
 /// Whether all who had a thread had the memory to begin.
-fn have_begun<A, P, B>(lefts: &[JobResult<A, P, B>]) -> bool
+fn have_begun<A, P, B, D>(lefts: &[JobResult<A, P, B, D>]) -> bool
     ensures { result ≡ list_all has_begun lefts.now }
 {
     lefts.iter().all(|left| has_begun(left))
 }
 
 /// Whether one had.
-fn has_begun<A, P, B>(left: &JobResult<A, P, B>) -> bool
+fn has_begun<A, P, B, D>(left: &JobResult<A, P, B, D>) -> bool
     ensures { result ≡ has_begun left.now }
 {
     match left {
         JobResult::Unbegun => false,
-        JobResult::SideTask | JobResult::Worked(_) => true,
+        JobResult::SideTask(_) | JobResult::Worked(_) => true,
     }
 }

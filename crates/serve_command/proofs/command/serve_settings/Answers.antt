@@ -1,11 +1,15 @@
-use Rattle.std.proofs.Common.{rules, ◌≡◌, ℕ, List, Err, subst}
+use Rattle.std.proofs.Common.{rules, ◌≡◌, ℕ, List, Option, Some, subst}
+use Rattle.std.proofs.Common.{Result, Ok, Err, IfOk, IfSome}
 use Rattle.std.specs.Net.Text.{socket_v4_text}
 use Rattle.tasks.specs.Refused.{refused_of}
 use Rattle.limit_kinds.specs.AnyKinds.{any_rules}
 use Rattle.gate_opening.specs.Opening.{making_of}
 use Rattle.gate_desk.specs.Desk.{IsDone}
 use Rattle.gate_desk.specs.State.{new_desk}
-use Rattle.serve_command.specs.Runs.{AreMiscounted}
+use Rattle.limiter_core.specs.declared.counters.Counters.{Counters}
+use Rattle.config_file.specs.Reading.{Says}
+use Rattle.serving.specs.declared.fault.ServeFault.{ServeFault}
+use Rattle.serve_command.specs.Runs.{AreMiscounted, HasServedAt, IsBy}
 use Rattle.serve_command.specs.ServiceFault.{of_workers}
 use Rattle.serve_command.proofs.Beside.{admin_served, bound_too, status_served}
 use Rattle.serve_command.proofs.Whys.{bound_at, lacks_admin, lacks_front, lacks_status}
@@ -94,15 +98,30 @@ returns-in-Some-clause-served g c =
     let does = IsDone any_rules (making_of c.args.service.now.workers c.args.settings.now)
     g.B.Bound.Listener.closed in
     let begin = new_desk c.args.settings.now.table c.in_ok-front.front in
+    let made = making_of c.args.service.now.workers c.args.settings.now in
+    let was : c.serve_in.result ≡ Ok (Some c.in-Some.counters) = search rules in
+    let served : HasServedAt any_rules made g.B.Bound.Listener.closed g.B.Bound.Listener.came
+    g.B.Bound.Listener.found
+    (IsBy (λ own. Says c.args.text.now.bytes.items (Ok own)) c.args.service.now.marks) begin
+    c.in_ok-admin.admin c.in_ok-status.status c.args.service.now.workers
+    c.args.service.now.per_worker c.in-Some.counters =
+    subst (λ (it : Result (Option Counters) ServeFault). IfOk it (λ told. IfSome told
+    (HasServedAt any_rules made g.B.Bound.Listener.closed g.B.Bound.Listener.came
+    g.B.Bound.Listener.found
+    (IsBy (λ own. Says c.args.text.now.bytes.items (Ok own)) c.args.service.now.marks) begin
+    c.in_ok-admin.admin c.in_ok-status.status c.args.service.now.workers
+    c.args.service.now.per_worker))) was c.serve_in.ensures.served in
     record {
       listener = c.in_ok-front.front;
       bound = subst (λ (address : List ℕ). g.B.Binder.bound address c.in_ok-front.front) same
           c.in_ok-front.ensures.bound;
-      ran = search rules;
+      by_lookers = served.by_lookers;
+      by_admins = served.by_admins;
+      ran = served.counted;
       operator = admin_served does g.B.Bound.Listener.came g.B.Bound.Listener.found begin
-          g.B.Binder.bound c.args.service.now.admin c.in_ok-admin.admin c.in_ok-admin.ensures.bound
-          c.in_ok-counters.ensures.admin;
+          g.B.Binder.bound c.args.service.now.admin c.in_ok-admin.admin served.by_admins
+          c.in_ok-admin.ensures.bound served.admins;
       lookers = status_served does g.B.Bound.Listener.came g.B.Bound.Listener.found begin
-          g.B.Binder.bound c.args.service.now.status c.in_ok-status.status
-          c.in_ok-status.ensures.bound c.in_ok-counters.ensures.status;
+          g.B.Binder.bound c.args.service.now.status c.in_ok-status.status served.by_lookers
+          c.in_ok-status.ensures.bound served.lookers;
     }

@@ -1,35 +1,60 @@
-use Rattle.std.proofs.Common.{rules, ◌≡◌, ◌++◌, ◌∙◌, append-nil, map}
-use Rattle.std.proofs.Common.{option_to_list, subst, sym}
+use Rattle.std.proofs.Common.{rules, ◌≡◌, ◌++◌, ◌∷◌, ◌∙◌, ◌+◌, [], append-nil, ap, subst, sym}
 use Rattle.std.proofs.lemmas.Iterator.Adapters.{YieldsList-from_vec}
 use Rattle.std.proofs.lemmas.Iterator.Consumers.{YieldsList-end}
 use Rattle.std.proofs.lemmas.List.{map-id}
-use Rattle.serving.specs.Workers.{ended_in}
-use Rattle.serve_command.proofs.Runs.{one_pass_more}
+use Rattle.shared_gate.specs.Closing.{calls_by}
+use Rattle.serve_command.specs.Runs.{passes_in, served_by}
+use Rattle.serve_command.proofs.Runs.{one_call_more, one_pass_more}
 use Rattle.serve_command.proofs.gateway.passes_of.Goals as goal
 
-pub loop-left-preserved-in-Continue-1 : goal.loop-left-preserved-in-Continue-1
-loop-left-preserved-in-Continue-1 g c =
+pub loop-left-preserved-in-Some-pass_in : goal.loop-left-preserved-in-Some-pass_in
+loop-left-preserved-in-Some-pass_in g c =
     let old = c.loop-left.passes.items in
-    let own : c.push.new.self.items ≡ old ++ option_to_list c.pass_in.result = search rules in
-    one_pass_more c.loop-left.yielded c.in-Some.left c.pass_in.result old c.push.new.self.items
-    c.loop-left.invariant c.pass_in.ensures own
+    let pass = c.in-Some-pass_in.pass in
+    let made = c.in-Some-pass_in.made in
+    let own : c.push.new.self.items ≡ old ++ pass ∷ [] = search rules in
+    let calls : c.loop-left.calls + c.from-calls.result ≡ c.loop-left.calls + made = search rules in
+    record {
+      passes = one_pass_more c.loop-left.yielded c.in-Some.left old c.push.new.self.items
+          (pass ∷ []) c.loop-left.invariant.passes c.in-Some-pass_in.ensures.pass own;
+      calls = one_call_more c.loop-left.yielded c.in-Some.left c.loop-left.calls
+          (c.loop-left.calls + c.from-calls.result) made c.loop-left.invariant.calls
+          c.in-Some-pass_in.ensures.calls calls;
+      few = search rules;
+    }
 
 pub loop-left-preserved : goal.loop-left-preserved
 loop-left-preserved g c =
     let old = c.loop-left.passes.items in
-    let own : old ≡ old ++ option_to_list c.pass_in.result = search (rules, append-nil) in
-    one_pass_more c.loop-left.yielded c.in-Some.left c.pass_in.result old old
-    c.loop-left.invariant c.pass_in.ensures own
+    let calls = c.loop-left.calls in
+    let none = c.in_default.ensures.none in
+    let same : calls ≡ calls + 0 = search rules in
+    record {
+      passes = one_pass_more c.loop-left.yielded c.in-Some.left old old []
+          c.loop-left.invariant.passes none.0 (sym (append-nil old));
+      calls = one_call_more c.loop-left.yielded c.in-Some.left calls calls 0
+          c.loop-left.invariant.calls (sym (ap calls_by none.1)) same;
+      few = search rules;
+    }
 
 -- all were yielded
-pub returns : goal.returns
-returns g c =
+pub returns-clause-passes : goal.returns-clause-passes
+returns-clause-passes g c =
     let end =
     YieldsList-end (YieldsList-from_vec c.args.lefts.items (search rules) (search rules))
     c.loop-left.yielded c.loop-left.left-iterator c.loop-left.yielded_by c.next.result
     c.next.new.self c.in-None.is c.next.ensures.steps in
     let all : c.loop-left.yielded ≡ c.args.lefts.items =
     sym (map-id c.loop-left.yielded) ∙ end.0 in
-    subst (λ lefts.
-    c.loop-left.passes.items ≡ map (λ ended. ended.port.pass) (ended_in lefts))
-    all c.loop-left.invariant
+    subst (λ lefts. c.loop-left.passes.items ≡ passes_in lefts) all c.loop-left.invariant.passes
+
+pub returns-clause-calls : goal.returns-clause-calls
+returns-clause-calls g c =
+    let end =
+    YieldsList-end (YieldsList-from_vec c.args.lefts.items (search rules) (search rules))
+    c.loop-left.yielded c.loop-left.left-iterator c.loop-left.yielded_by c.next.result
+    c.next.new.self c.in-None.is c.next.ensures.steps in
+    let all : c.loop-left.yielded ≡ c.args.lefts.items =
+    sym (map-id c.loop-left.yielded) ∙ end.0 in
+    subst (λ lefts. c.loop-left.calls ≡ calls_by (served_by lefts)) all
+    c.loop-left.invariant.calls

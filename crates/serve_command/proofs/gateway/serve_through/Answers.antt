@@ -1,43 +1,55 @@
-use Rattle.std.proofs.Common.{rules, ◌≡◌, ◌∙◌, ap, subst, List, None, Some, length}
+use Rattle.std.proofs.Common.{rules, ◌≡◌, ◌∙◌, subst, None, Some, length}
 use Rattle.std.specs.Prelude.{vec_len}
 use Rattle.std.specs.List.{AllZip}
-use Rattle.std.proofs.lemmas.List.Elements.{All-same}
-use Rattle.shared_gate.specs.Calls.{Pass}
-use Rattle.serving.specs.Workers.{HasRun, ended_in}
-use Rattle.serve_command.specs.Runs.{HasRunTo, IsBy}
+use Rattle.serving.specs.Workers.{HasRun, ended_in, made_in}
+use Rattle.serve_command.specs.Runs.{IsBy}
 use Rattle.gate_desk.specs.Desk.{IsDone}
 use Rattle.gate_desk.specs.State.{new_desk}
 use Rattle.serve_command.proofs.Beside.{beside}
-use Rattle.serve_command.proofs.Runs.{all_ran_to, told_of_runs}
+use Rattle.serve_command.proofs.Runs.{all_ran_to, counted_runs, runs_miscounted, served_all}
 use Rattle.serve_command.proofs.gateway.serve_through.Goals as goal
 
--- the passes that were handed back are those of the workers, who began with passes of no call
-pub returns-clause-counted : goal.returns-clause-counted
-returns-clause-counted g c =
+-- the passes that were handed back are those of the workers, who began with passes of no call, and
+-- of whoever was served beside them
+pub returns-clause-served : goal.returns-clause-served
+returns-clause-served g c =
+    let gateway = c.args.gateway.now in
+    let common = gateway.common.now in
+    let gives = g.S.Source.gives in
+    let came = g.L.Listener.came in
+    let lefts = c.in_ok-lefts.lefts.items in
+    let both = all_ran_to _ _ _ _ gives came common c.args.passes.items (ended_in lefts)
+    c.requires.unused
+    (subst (λ ports. AllZip
+    (HasRun gives came (λ port. None) (λ port. Some port.pass.log) common) ports (ended_in lefts))
+    c.in_ok-ports.ensures c.in_ok-lefts.ensures.ran) in
+    let long : length c.args.passes.items ≡ vec_len c.args.passes = search rules in
+    let begin = new_desk gateway.settings.now.table common.listener.now in
+    served_all _ _ _ _ _ _ begin gateway.side.now _ _ (made_in lefts) c.balanced.result
+    (beside _ _ _ _ _ _ _ (IsDone g.G.Limit.rules g.M.Naming.making g.L.Listener.closed)
+    came g.L.Listener.found begin gateway.side.now c.in_ok-operators.operators.items (made_in lefts)
+    c.in_ok-operators.ensures c.in_ok-lefts.ensures.side_tasks)
+    (counted_runs g.G.Limit.rules g.M.Naming.making lefts (vec_len c.args.passes) (both.1 ∙ long)
+    c.in_ok-back.back.passes.items c.in_ok-back.ensures.passes c.counters_of_all.result
+    c.counters_of_all.ensures.all c.counters_of_all.ensures.missing c.in_ok-back.back.calls
+    c.in_ok-back.ensures.calls (IsBy (gives common.source.now) common.marks)
+    (came common.listener.now) common.per_worker c.balanced.result
+    c.exchanges_are_one_threads.ensures (c.reports_balance.ensures _) both.0
+    c.balanced.ensures.some)
+
+pub returns-clause-miscounted : goal.returns-clause-miscounted
+returns-clause-miscounted g c =
     let common = c.args.gateway.now.common.now in
     let gives = g.S.Source.gives in
     let came = g.L.Listener.came in
-    let ends = ended_in c.in_ok-lefts.lefts.items in
-    let both = all_ran_to _ _ _ _ gives came common c.args.passes.items ends
+    let lefts = c.in_ok-lefts.lefts.items in
+    let both = all_ran_to _ _ _ _ gives came common c.args.passes.items (ended_in lefts)
     c.requires.unused
     (subst (λ ports. AllZip
-    (HasRun gives came (λ port. None) (λ port. Some port.pass.log) common) ports ends)
+    (HasRun gives came (λ port. None) (λ port. Some port.pass.log) common) ports (ended_in lefts))
     c.in_ok-ports.ensures c.in_ok-lefts.ensures.ran) in
-    let same = c.in_ok-passes.ensures in
     let long : length c.args.passes.items ≡ vec_len c.args.passes = search rules in
-    told_of_runs _ _ _ _ _ _ _ _ _ _ c.exchanges_are_one_threads.ensures
-    (c.reports_balance.ensures _) (ap (λ (ps : List Pass). length ps) same ∙ both.1 ∙ long)
-    (All-same (HasRunTo (IsBy (gives common.source.now) common.marks) (came common.listener.now)
-    common.per_worker) _ _ same both.0)
-    c.counters_behind-calls.ensures.counters c.counters_behind-calls.ensures.calls
-    c.balanced.ensures.some c.balanced.ensures.none
-
--- whoever served beside them
-pub returns-clause-beside : goal.returns-clause-beside
-returns-clause-beside g c =
-    let gateway = c.args.gateway.now in
-    beside _ _ _ _ _ _ _ (IsDone g.G.Limit.rules g.M.Naming.making g.L.Listener.closed)
-    g.L.Listener.came g.L.Listener.found
-    (new_desk gateway.settings.now.table gateway.common.now.listener.now)
-    gateway.side.now c.in_ok-operators.operators.items c.in_ok-operators.ensures
-    c.in_ok-lefts.ensures.side_tasks
+    runs_miscounted g.G.Limit.rules g.M.Naming.making lefts (vec_len c.args.passes) (both.1 ∙ long)
+    c.in_ok-back.back.passes.items c.in_ok-back.ensures.passes c.counters_of_all.result
+    c.counters_of_all.ensures.all c.counters_of_all.ensures.missing c.in_ok-back.back.calls
+    c.in_ok-back.ensures.calls c.balanced.result c.balanced.ensures.none

@@ -6,7 +6,7 @@ pub returns-clause-worked : goal.returns-clause-worked
 returns-clause-worked g c =
     all_worked g.A.Accepts.given g.A.Accepts.failed g.A.Accepts.closed g.A.Accepts.visits
     g.A.Accepts.came g.P.GatePort.shown g.P.GatePort.known g.B.Backend.forwarded g.B.Backend.shown
-    g.S.Source.gives g.S.Source.lacks (λ task. g.T.Task.makes task tt) _
+    g.S.Source.gives g.S.Source.lacks g.T.Task.makes _
     c.args.workers.items c.in_ok-jobs.jobs.items c.in_ok-lefts.lefts.items
     c.in_ok-jobs.ensures.all c.in_ok-lefts.ensures.made c.in_ok-jobs.ensures.within (search rules)
 
@@ -14,6 +14,6 @@ pub returns-clause-side_tasks : goal.returns-clause-side_tasks
 returns-clause-side_tasks g c =
     all_made g.A.Accepts.given g.A.Accepts.failed g.A.Accepts.closed g.A.Accepts.visits
     g.A.Accepts.came g.P.GatePort.shown g.P.GatePort.known g.B.Backend.forwarded g.B.Backend.shown
-    g.S.Source.gives g.S.Source.lacks (λ task. g.T.Task.makes task tt)
+    g.S.Source.gives g.S.Source.lacks g.T.Task.makes
     c.args.side_tasks.items c.in_ok-jobs.jobs.items c.in_ok-lefts.lefts.items
-    c.in_ok-jobs.ensures.side_tasks c.in_ok-lefts.ensures.made
+    c.in_ok-jobs.ensures.side_tasks c.in_ok-lefts.ensures.made (search rules)

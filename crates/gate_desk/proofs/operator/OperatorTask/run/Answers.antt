@@ -1,4 +1,4 @@
-use Rattle.std.proofs.Common.{false, subst}
+use Rattle.std.proofs.Common.{rules, false, subst}
 use Rattle.operator_serving.specs.Doors.{failed_of, given_of, stand}
 use Rattle.operator_serving.specs.Memory.{refused_of}
 use Rattle.gate_desk.specs.State.{state_of}
@@ -20,4 +20,5 @@ returns g c =
         ended = subst (λ listener. g.L.Listener.found listener false) door.listener
             c.operate.ensures.shut;
       },
+      search rules,
     )
