@@ -19,7 +19,7 @@ use windowed::learns_from_windows_with_enough;
 ///
 /// `proxy::exchange` promises the premise over a port that knows a log, as those of a shared gate
 /// do; that the log is legal is promised by what is told of the gate, as by
-/// [`SharedGate::counters_behind`](shared_gate::SharedGate::counters_behind).
+/// [`SharedGate::counters_of_all`](shared_gate::SharedGate::counters_of_all).
 pub fn exchanges_are_one_threads<S>()
     ensures { (g : Gate S) → ExchangesAreOneThreads g }
 {

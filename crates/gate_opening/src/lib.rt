@@ -2,7 +2,8 @@
 //!
 //! [`open_gate`] makes the book of a configuration's settings, of which nothing was asked yet and
 //! which rolls, gives the passes of its workers, and puts it behind a lock. Once all have ended,
-//! [`balanced`] looks whether its counters tell of their calls alone, and of no permit that is left.
+//! [`balanced`] looks whether its counters tell of their calls alone, and of no permit that is
+//! left.
 #![tactic(auto)]
 
 mod counting;

@@ -13,7 +13,7 @@ use Rattle.gate_port.specs.declared.report.Report.{Report}
 use Rattle.gateway_settings.specs.declared.settings.Settings.{Settings}
 use Rattle.shared_gate.specs.Calls.{Pass}
 use Rattle.shared_gate.specs.Closing.{limiter_of}
-use Rattle.shared_gate.specs.Reported.{AreCountersBehind}
+use Rattle.shared_gate.specs.Reported.{AreCountersOfAll}
 use Rattle.proxy.specs.declared.told.ExchangeSummary.{ExchangeSummary}
 use Rattle.proxy.specs.Exchanges.{Policy}
 use Rattle.gate_laws.specs.Decided.{IsDecided}
@@ -22,7 +22,7 @@ use Rattle.gateway_tests.specs.Deciding.{AreBothDecided, IsServed}
 
 module _ {S : Type 0} (rules : Algorithm S) (m : Making) (passes : List Pass) (counters : Counters)
     (law : (g : Gate S) → ExchangesAreOneThreads g)
-    (behind : AreCountersBehind rules m passes counters) where
+    (behind : AreCountersOfAll rules m passes counters) where
   decided : (x : ExchangeSummary) (known : List Entry)
       → ((p : Policy) × IsServed p x known) → IsPrefix known behind.log
       → (s : Settings)

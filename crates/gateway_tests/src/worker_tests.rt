@@ -209,7 +209,9 @@ where
     let mut passes = Vec::with_capacity(alloc, 2).expect(rt, "memory for passes");
     passes.push_reserved(first.pass);
     passes.push_reserved(second.pass);
-    let (counters, _calls) = gate.counters_behind(rt, passes);
+    let Ok(counters) = gate.counters_of_all(rt, passes) else {
+        rt.abort()
+    };
     Both {
         counters,
         first: first.told,

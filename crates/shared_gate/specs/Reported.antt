@@ -46,18 +46,8 @@ abbrev pub AreCountersOf : {S : Type 0} → Algorithm S → Making → Counters 
 AreCountersOf rules m counters =
     (report : Report) × IsReportOf rules m report × (report.counters ≡ counters)
 
--- THE COUNTERS BEHIND PASSES that call no more: those of a report after a log that begins with what
--- each of them knows, and has no fewer calls than were made by them
-pub record AreCountersBehind {S : Type 0} (rules : Algorithm S) (m : Making) (passes : List Pass)
-    (counters : Counters) : Type 0 where
-  pub log : List Entry
-  pub report : Report
-  pub after : IsReportAfter rules m log report
-  pub told : report.counters ≡ counters
-  pub begun : All (λ pass. IsPrefix pass.log log) passes
-  pub enough : calls_by passes ≤ calls_of log
-
--- THE COUNTERS OF ALL PASSES that call: each call of the log was made by one of these
+-- THE COUNTERS OF ALL PASSES that call: those of a report after a log that begins with what each of
+-- them knows, and each of whose calls was made by one of these
 pub record AreCountersOfAll {S : Type 0} (rules : Algorithm S) (m : Making) (passes : List Pass)
     (counters : Counters) : Type 0 where
   pub log : List Entry

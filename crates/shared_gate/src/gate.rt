@@ -11,7 +11,7 @@ ghost use Rattle.shared_gate.specs.Calls.{Tells, Gets, Waits, Claims, GivesUp, E
 ghost use Rattle.shared_gate.specs.Calls.{pass_of};
 ghost use Rattle.shared_gate.specs.Closing.{FailsBy, IsKept, calls_by, is_missing};
 ghost use Rattle.shared_gate.specs.Log.{CallsLegal};
-ghost use Rattle.shared_gate.specs.Reported.{AreCountersBehind, AreCountersOf, AreCountersOfAll};
+ghost use Rattle.shared_gate.specs.Reported.{AreCountersOf, AreCountersOfAll};
 ghost use Rattle.shared_gate.specs.Reported.{ArePassesMissing, IsReportOf, IsReportTo};
 
 use crate::answers::Waited;
@@ -86,17 +86,6 @@ impl<L: Limit, M: GateNaming> SharedGate<L, M> {
         ensures { AreCountersOf L.rules M.making result }
     {
         self.report(rt).counters
-    }
-
-    /// What was counted so far, once these passes call no more: all their calls are in it. And how
-    /// many these are.
-    pub fn counters_behind(&self, rt: &impl Wait, passes: Vec<Pass<M>>) -> (Counters, u64)
-        ensures counters { AreCountersBehind L.rules M.making passes.items result.0 }
-        ensures calls { result.1 ≡ calls_by passes.items }
-    {
-        let mut sealed = self.book.lock(rt);
-        let calls = sealed.take_back(&self.word, passes);
-        (sealed.report().counters, calls.sum)
     }
 
     /// The same where nobody else has called: these are counters of their calls alone, as they are
