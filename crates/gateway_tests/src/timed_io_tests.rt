@@ -1,11 +1,8 @@
 // Connections whose limits can't be set, which are ready, whose calls are interrupted, and how long
-// each call may take; and a flush through a buffer.
+// each call may take.
 
 use crate::checks::check;
-use crate::counted_io_tests::valve_of;
 use clocks::Clock;
-use lent_io::{BufferedWrite, WriteBuffer};
-use std::alloc::Global;
 use std::cell::Cell;
 use std::io::{Error, ErrorKind, Read, Result, Write};
 use std::time::Duration;
@@ -236,24 +233,4 @@ fn an_interrupted_call_begins_anew_within_its_time(rt: HostRuntime) {
     check(&rt, written_through(9) == (Some(1), 6));
     check(&rt, read_through(2) == (None, 2));
     check(&rt, written_through(2) == (None, 2));
-}
-
-/// How many bytes and flushes come through a buffer, by a write and a flush.
-fn through_a_buffer(alloc: Global) -> (usize, u64) {
-    let Ok(buffer) = WriteBuffer::new(alloc, 8) else {
-        return (0, 0);
-    };
-    let mut writer = BufferedWrite::new(valve_of(None), buffer);
-    let is_well = writer.write(b"four").is_ok() && writer.flush().is_ok();
-    let (valve, _buffer) = writer.into_parts();
-    if is_well {
-        (valve.taken, valve.flushed)
-    } else {
-        (0, 0)
-    }
-}
-
-#[test]
-fn a_flush_goes_through_a_buffer(rt: HostRuntime) {
-    check(&rt, through_a_buffer(rt.alloc()) == (4, 1));
 }
