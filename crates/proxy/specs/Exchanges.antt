@@ -1,6 +1,6 @@
 -- What an exchange is.
 use Rattle.std.specs.Prelude.{◌≡◌, ℕ, Bool, false, nat_eq, List, Option, None, Some, Result, Ok, Err}
-use Rattle.std.specs.Prelude.{IsErrOf, OnOk}
+use Rattle.std.specs.Prelude.{IfSome, IsErrOf, OnOk, take}
 use Rattle.std.specs.Io.KnownBytes.{Appends}
 use Rattle.clocks.specs.Looks.{Looked}
 use Rattle.counted_io.specs.declared.counted.Counted.{Counted}
@@ -99,10 +99,10 @@ abbrev pub is_unsent : Result Request WireFault → ℕ → ℕ → Bool
 is_unsent (Err f) before reads = is_empty f before reads
 is_unsent (Ok request) before reads = false
 
--- AN EXCHANGE: something is read, and dealt with; what is told of it, and without a fault of
--- writing what is written to the client, is by the table of answers, its own answers with marks or
--- without; and whether the client is kept was decided by then. A fault of writing as something was
--- read is reported as such
+-- AN EXCHANGE: something is read, and dealt with; what is told of it, and what is written to the
+-- client, or with a fault of writing a beginning of that, is by the table of answers, its own
+-- answers with marks or without; and whether the client is kept was decided by then. A fault of
+-- writing as something was read is reported as such
 pub record IsExchange (p : Policy) (old new : World) (x : ExchangeSummary) : Type 0 where
   pub read : Result Request WireFault
   pub asked : Bytes
@@ -116,4 +116,6 @@ pub record IsExchange (p : Policy) (old new : World) (x : ExchangeSummary) : Typ
   pub persists : Persists p.keeps x.is_drained p.later read answer x.persistence
   pub text : x.written_fault ≡ None → Appends asked (inner_of new.writer)
       (sent_text p.later x.persistence p.marks read x.admission answer)
+  pub begun : IfSome x.written_fault (λ f. (count : ℕ) × Appends asked (inner_of new.writer)
+      (take count (sent_text p.later x.persistence p.marks read x.admission answer)))
   pub unasked : IsErrOf read fault.Write → x.written_fault ≡ Some fault.Write

@@ -3,6 +3,7 @@ ghost use Rattle.std.specs.Prelude.{◌≡◌, ◌==◌, ◌⊎◌, None, Some, 
 ghost use Rattle.counted_io.specs.Causes.{IsWriteCause};
 ghost use Rattle.counted_io.specs.Counted.{failures_of, inner_of, is_flushed};
 ghost use Rattle.counted_io.specs.Effects.{Wrote};
+ghost use Rattle.message_text.specs.Fronts.{WroteFront};
 ghost use Rattle.message_text.specs.declared.persistence.Persistence.TheVariants.{Close};
 ghost use Rattle.proxy.specs.Table.{fault_mark, fault_status, if_marked, own_or_nothing};
 ghost use Rattle.proxy.specs.Exchanges.{IsExchange, is_empty, told_by};
@@ -173,19 +174,16 @@ fn unread<W: Write>(
         → is_flushed writer.new ≡ true }
     ensures unfailing { result.written_fault ≡ None →
         failures_of writer.new ≡ failures_of writer.old }
+    ensures begun { IfSome result.written_fault (λ written. WroteFront W.contents
+        writer.old writer.new (own_or_nothing result.persistence
+        (if_marked marks (Some (fault_mark fault))) (fault_status fault))) }
     ensures written { IfSome result.written_fault (λ written. (written ≡ WireFault.Write)
         × ((fault ≡ WireFault.Write) ⊎ IsWriteCause writer.old writer.new)) }
     ensures untouched { fault ≡ WireFault.Write → writer.new ≡ writer.old }
     ensures told { fault ≡ WireFault.Write → result.written_fault ≡ Some WireFault.Write }
 {
     let answer = fault_status(fault);
-    let written_fault = match answer {
-        Some(status) => write_own(writer, status, fault_mark(marks, fault), Persistence::Close)
-            .err()
-            .map(WireFault::from),
-        None if fault == WireFault::Write => Some(fault),
-        None => None,
-    };
+    let written_fault = write_unread(fault, marks, writer);
     ExchangeSummary {
         class: None,
         admission: Verdict::NotAsked,
@@ -197,5 +195,34 @@ fn unread<W: Write>(
         is_drained,
         persistence: Persistence::Close,
         written_fault,
+    }
+}
+
+/// Writes the answer to a request that was not read, where it has one, and tells a fault of
+/// writing: this one, where it is why.
+#[tactic(auto, using(crate::proofs::Begun::nothing_begun))]
+fn write_unread<W: Write>(
+    fault: WireFault,
+    marks: bool,
+    writer: &mut Counted<W>,
+) -> Option<WireFault>
+    ensures text { result ≡ None → Wrote W.contents writer.old writer.new
+        (own_or_nothing Close (if_marked marks (Some (fault_mark fault))) (fault_status fault)) }
+    ensures begun { IfSome result (λ written. WroteFront W.contents writer.old writer.new
+        (own_or_nothing Close (if_marked marks (Some (fault_mark fault))) (fault_status fault))) }
+    ensures flushed { result ≡ None → is_some (fault_status fault) ≡ true
+        → is_flushed writer.new ≡ true }
+    ensures unfailing { result ≡ None → failures_of writer.new ≡ failures_of writer.old }
+    ensures written { IfSome result (λ written. (written ≡ WireFault.Write)
+        × ((fault ≡ WireFault.Write) ⊎ IsWriteCause writer.old writer.new)) }
+    ensures untouched { fault ≡ WireFault.Write → writer.new ≡ writer.old }
+    ensures told { fault ≡ WireFault.Write → result ≡ Some WireFault.Write }
+{
+    let Some(status) = fault_status(fault) else {
+        return (fault == WireFault::Write).then_some(fault);
+    };
+    match write_own(writer, status, fault_mark(marks, fault), Persistence::Close) {
+        Ok(()) => None,
+        Err(_) => Some(WireFault::Write),
     }
 }

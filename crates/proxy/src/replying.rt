@@ -4,6 +4,7 @@ ghost use Rattle.std.specs.Prelude.{is_some};
 ghost use Rattle.counted_io.specs.Causes.{IsWriteCause};
 ghost use Rattle.counted_io.specs.Counted.{failures_of, is_flushed};
 ghost use Rattle.counted_io.specs.Effects.{Wrote};
+ghost use Rattle.message_text.specs.Fronts.{WroteFront};
 ghost use Rattle.proxy.specs.Table.{backend_mark, fault_mark, fault_status, if_marked, is_own, mark_of};
 ghost use Rattle.proxy.specs.Table.{is_stale, is_unanswered, own_text, refusal_mark, reply_of};
 ghost use Rattle.proxy.specs.Table.{reply_status, reply_text, text_of};
@@ -149,6 +150,8 @@ pub(crate) fn write_own<W: Write>(
         (own_text persistence (option_map (λ mark. mark.now) mark.entry) status)) }
     ensures flushed { OnOk result (is_flushed writer.new ≡ true) }
     ensures unfailing { OnOk result (failures_of writer.new ≡ failures_of writer.old) }
+    ensures front { OnErr result (WroteFront W.contents writer.old writer.new
+        (own_text persistence (option_map (λ mark. mark.now) mark.entry) status)) }
     ensures failed { OnErr result (IsWriteCause writer.old writer.new) }
 {
     match mark {
@@ -173,6 +176,9 @@ pub(crate) fn reply<W: Write>(
     ensures flushed { result ≡ None → is_some (reply_status is_later answer.now) ≡ true
         → is_flushed writer.new ≡ true }
     ensures unfailing { result ≡ None → failures_of writer.new ≡ failures_of writer.old }
+    ensures begun { IfSome result (λ fault. WroteFront W.contents writer.old writer.new
+        (reply_text is_later persistence (option_map (λ mark. mark.now) mark.entry) method.now
+        answer.now)) }
     ensures failed { IfSome result (λ fault.
         (fault ≡ WireFault.Write) × IsWriteCause writer.old writer.new) }
 {
@@ -199,6 +205,9 @@ fn write_reply<W: Write>(
         (reply_of answer.now))) }
     ensures flushed { OnOk result (is_flushed writer.new ≡ true) }
     ensures unfailing { OnOk result (failures_of writer.new ≡ failures_of writer.old) }
+    ensures front { OnErr result (WroteFront W.contents writer.old writer.new
+        (text_of persistence (option_map (λ mark. mark.now) mark.entry) method.now
+        (reply_of answer.now))) }
     ensures failed { OnErr result (IsWriteCause writer.old writer.new) }
 {
     match reply_of(answer) {

@@ -1,4 +1,4 @@
-use Rattle.std.proofs.Common.{rules, ◌≡◌, ◌∙◌, ℕ, ◌<◌, ◌⊎◌, IfSome, List, Option, None, Some, Result, Ok, Err, ap, is_ok}
+use Rattle.std.proofs.Common.{rules, ◌≡◌, ◌∙◌, ℕ, ◌<◌, ◌⊎◌, IfSome, List, Option, None, Some, Result, Ok, Err, ap, is_ok, take}
 use Rattle.std.proofs.Common.{is_some, refl, subst, sym, true≢false}
 use Rattle.std.specs.Io.KnownBytes.{Appends}
 use Rattle.counted_io.specs.Count.{count_end}
@@ -47,6 +47,7 @@ returns-in-Err-clause-exchanged g c = record {
   outcome = c.unread-told.ensures.outcome;
   persists = c.unread-told.ensures.persistence;
   text = c.unread-told.ensures.text;
+  begun = c.unread-told.ensures.begun;
   unasked = λ same. c.unread-told.ensures.told (ap fault_in same);
 }
 
@@ -98,6 +99,13 @@ returns-clause-exchanged g c = record {
       c.in-Ok.request.method
       c.settle-settled.result.answer))
       c.reply_mark-mark.ensures c.reply-written_fault.ensures.all;
+  begun =
+      subst (λ (mark : Option (List ℕ)). IfSome c.reply-written_fault.result (λ f. (count : ℕ)
+      × Appends (g.W.Write.contents (inner_of c.read_request.new.writer))
+      (g.W.Write.contents (inner_of c.reply-written_fault.new.writer))
+      (take count (reply_text c.args.policy.now.is_later c.persistence_behind-persistence.result
+      mark c.in-Ok.request.method c.settle-settled.result.answer))))
+      c.reply_mark-mark.ensures c.reply-written_fault.ensures.begun;
   unasked = λ same. absurd (true≢false (ap is_ok same));
 }
 

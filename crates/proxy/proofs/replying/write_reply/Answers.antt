@@ -24,3 +24,9 @@ returns-in-Err-clause-unfailing g c = search rules
 
 pub returns-in-Err-clause-failed : goal.returns-in-Err-clause-failed
 returns-in-Err-clause-failed g c = search rules
+
+pub returns-in-Ok-clause-front : goal.returns-in-Ok-clause-front
+returns-in-Ok-clause-front g c = rw c.in-Ok.ensures.passed c.write_response.ensures.front
+
+pub returns-in-Err-clause-front : goal.returns-in-Err-clause-front
+returns-in-Err-clause-front g c = rw c.in-Err.ensures.own c.write_own.ensures.front
