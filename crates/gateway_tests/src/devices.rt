@@ -203,11 +203,15 @@ impl Told {
 }
 
 impl Backend for Told {
-    ghost use Rattle.std.specs.Prelude.{None};
+    ghost use Rattle.std.specs.Prelude.{[], None};
 
     ghost forwarded = { λ b. b.count };
 
     ghost shown = { λ b. None };
+
+    ghost written = { λ b. None };
+
+    ghost host = { λ b. [] };
 
     fn forward(&mut self, _request: &Request) -> BackendAnswer
         ensures { self.new.count ≡ raised self.old.count }

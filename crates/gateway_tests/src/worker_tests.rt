@@ -57,11 +57,15 @@ struct Patient<'a, L: Limit, M: GateNaming, R> {
 }
 
 impl<'a, L: Limit, M: GateNaming, R: Wait> Backend for Patient<'a, L, M, R> {
-    ghost use Rattle.std.specs.Prelude.{None};
+    ghost use Rattle.std.specs.Prelude.{[], None};
 
     ghost forwarded = { λ b. b.count };
 
     ghost shown = { λ b. None };
+
+    ghost written = { λ b. None };
+
+    ghost host = { λ b. [] };
 
     fn forward(&mut self, _request: &Request) -> BackendAnswer
         ensures { self.new.count ≡ raised self.old.count }

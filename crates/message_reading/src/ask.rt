@@ -1,5 +1,5 @@
 // The text that asks for a body.
-ghost use Rattle.std.specs.Prelude.{◌≡◌, OnOk, OnErr};
+ghost use Rattle.std.specs.Prelude.{◌≡◌, ℕ, take, OnOk, OnErr};
 ghost use Rattle.counted_io.specs.Causes.{IsWriteCause};
 ghost use Rattle.counted_io.specs.Counted.{failures_of};
 ghost use Rattle.counted_io.specs.Effects.{Wrote};
@@ -31,7 +31,7 @@ fn is_awaited(head: &RequestHead, framing: Framing) -> bool
 
 /// Asks for the body where the client waits for that: in HTTP/1.1, with a line
 /// `Expect: 100-continue`, and with a body that isn't empty. The text is flushed, so that a client
-/// which waits for it gets it.
+/// which waits for it gets it. Where the writer fails, a beginning of it was written.
 pub fn say_continue<W: Write>(
     writer: &mut Counted<W>,
     head: &RequestHead,
@@ -41,6 +41,8 @@ pub fn say_continue<W: Write>(
         (Wrote W.contents writer.old writer.new (continue_of head.now framing)) }
     ensures seen { OnOk result (IsSeen writer.old writer.new) }
     ensures unfailing { OnOk result (failures_of writer.new ≡ failures_of writer.old) }
+    ensures front { OnErr result ((count : ℕ) ×
+        Wrote W.contents writer.old writer.new (take count (continue_of head.now framing))) }
     ensures failed { OnErr result (IsWriteCause writer.old writer.new) }
 {
     if is_awaited(head, framing) {

@@ -8,7 +8,7 @@ ghost use Rattle.metrics.specs.Metrics.{metrics_text};
 ghost use Rattle.operator_serving.specs.Memory.{refused_by, refused_of};
 ghost use Rattle.operator_serving.specs.Telling.{lines_of};
 ghost use Rattle.wire.specs.Fault.{IsUsedUp, Reads};
-ghost use Rattle.wire.specs.Messages.{IsRequest, Said};
+ghost use Rattle.wire.specs.Messages.{IsRequest, Said, SaidFront};
 
 use crate::lines::make_lines;
 use counted_io::Counted;
@@ -54,6 +54,9 @@ impl AnswerMemory {
             failures_of writer.new ≡ failures_of writer.old }
         ensures read { IsErrOf result WireFault.Read → HasFailed reader.old reader.new }
         ensures write { IsErrOf result WireFault.Write → IsWriteCause writer.old writer.new }
+        ensures front { IsErrOf result WireFault.Write → SaidFront
+            (R.remaining (inner_of reader.old)) (W.contents (inner_of writer.old))
+            (W.contents (inner_of writer.new)) }
         ensures turns { IsErrOf result WireFault.TurnLimit → IsUsedUp reader.old reader.new }
         ensures reads { HasRead reader.old reader.new }
         ensures refused { IfErr result (λ fault.

@@ -13,7 +13,7 @@ use Rattle.wire.specs.declared.fault.WireFault.{WireFault}
 use Rattle.wire.specs.declared.fault.WireFault.TheVariants as fault
 use Rattle.message_parts.specs.declared.request.Request.{Request}
 use Rattle.wire.specs.Fault.{IsUsedUp, Reads}
-use Rattle.wire.specs.Messages.{IsRequest, Said}
+use Rattle.wire.specs.Messages.{IsRequest, Said, SaidFront}
 use Rattle.gateway_settings.specs.declared.settings.Settings.{Settings}
 use Rattle.gate_port.specs.Shown.{Shown}
 use Rattle.wire.specs.declared.answer.BackendAnswer.{BackendAnswer}
@@ -62,8 +62,8 @@ pub record World : Type 0 where
   pub log : Option (List Forwarded)
 
 -- READ: the request that the reader's bytes begin with, or the fault that comes first in them,
--- with what was said to the client meanwhile, behind which its writer has these bytes; a fault of
--- the reader, of too many reads, or of the writer has its cause, at the end of all. Whatever it is,
+-- with what was said to the client meanwhile, or a beginning of it, behind which its writer has
+-- these bytes; a fault of the reader, of too many reads, or of the writer has its cause, at the end of all. Whatever it is,
 -- a read was made, and for a request no read failed
 pub record IsRead (reader reader' writer writer' : Counted Bytes) (asked : Bytes)
     (read : Result Request WireFault) : Type 0 where
@@ -72,6 +72,7 @@ pub record IsRead (reader reader' writer writer' : Counted Bytes) (asked : Bytes
       → Said (inner_of reader) (inner_of writer) asked read
   pub failed : IsErrOf read fault.Read → HasFailed reader reader'
   pub used_up : IsErrOf read fault.TurnLimit → IsUsedUp reader reader'
+  pub front : IsErrOf read fault.Write → SaidFront (inner_of reader) (inner_of writer) asked
   pub unsaid : IsErrOf read fault.Write → IsWriteCause writer writer'
   pub reads : HasRead reader reader'
   pub unfailing : OnOk read (failures_of reader' ≡ failures_of reader)

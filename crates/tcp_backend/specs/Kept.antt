@@ -47,5 +47,11 @@ carries_on Keep attempt = is_drained attempt
 -- what is left of an attempt is its connection, to carry another request
 abbrev pub is_kept : {S E : Type 0} → Leftover S E → Bool
 is_kept (left.Ready connection) = true
-is_kept (left.Ending stream) = false
-is_kept left.Closed = false
+is_kept (left.Ending stream end) = false
+is_kept (left.Closed end) = false
+
+-- the end that it was written to
+abbrev pub end_left : {S E : Type 0} → Leftover S E → E
+end_left (left.Ready connection) = connection.end
+end_left (left.Ending stream end) = end
+end_left (left.Closed end) = end

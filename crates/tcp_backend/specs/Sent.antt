@@ -1,9 +1,7 @@
 -- What was written of a request.
-use Rattle.std.specs.Prelude.{◌≡◌, ◌⊎◌, Option}
+use Rattle.std.specs.Prelude.{Option}
 use Rattle.timed_io.specs.declared.countdown.Countdown.{Countdown}
 use Rattle.tcp_backend.specs.declared.unanswered.UnansweredWrite.{UnansweredWrite}
-use Rattle.wire.specs.declared.fault.WireFault.{WireFault}
-use Rattle.wire.specs.declared.fault.WireFault.TheVariants.{Memory, Write}
 
 -- the end that is written to
 abbrev pub end_of : {S E C : Type 0} → UnansweredWrite S E C → E
@@ -12,8 +10,3 @@ end_of writer = writer.end
 -- the countdown of its call, where that is limited
 abbrev pub writer_time : {S E C : Type 0} → UnansweredWrite S E C → Option (Countdown C)
 writer_time writer = writer.time
-
--- the fault where a request wasn't written whole: that of the write, or out of memory for an early
--- answer
-abbrev pub IsCut : WireFault → Type 0
-IsCut fault = (fault ≡ Write) ⊎ (fault ≡ Memory)

@@ -1,9 +1,10 @@
 // One request over a connection, and its answer.
 ghost use Rattle.std.specs.Prelude.{◌≡◌, true, false, IfErr};
 ghost use Rattle.std.specs.Io.KnownBytes.{Appends};
+ghost use Rattle.wire.specs.Forwards.{IsCut};
 ghost use Rattle.wire.specs.Written.{request_text};
 ghost use Rattle.tcp_backend.specs.Answers.{answer_of};
-ghost use Rattle.tcp_backend.specs.Sent.{IsCut};
+ghost use Rattle.tcp_backend.specs.Ends.{HoldsFront};
 
 use crate::answer_read::AnswerRead;
 use crate::attempt::Attempt;
@@ -41,7 +42,6 @@ pub(crate) struct Sending<'a> {
 }
 
 /// What writing a request leaves, and whether it was written whole.
-#[derive(Drop)]
 struct SentRequest<S, E> {
     is_sent: bool,
     stream: S,
@@ -104,6 +104,8 @@ where
     C: Clock,
     ensures sent { result.is_sent ≡ true → Appends (E.contents end) (E.contents result.end)
         (request_text sending.now.persistence sending.now.host.now sending.now.request.now) }
+    ensures front { HoldsFront (E.contents end) (E.contents result.end)
+        (request_text sending.now.persistence sending.now.host.now sending.now.request.now) }
     ensures cut { result.is_sent ≡ false → IfErr result.answer IsCut }
 {
     let CallBuffers { ahead, behind } = buffers;
@@ -130,7 +132,9 @@ fn send<S: OpenStream, E: RequestOutlet<S>, C: Clock>(
     behind: WriteBuffer,
     sending: &Sending<'_>,
 ) -> SentRequest<S, E>
-    ensures { result.is_sent ≡ true → Appends (E.contents end) (E.contents result.end)
+    ensures sent { result.is_sent ≡ true → Appends (E.contents end) (E.contents result.end)
+        (request_text sending.now.persistence sending.now.host.now sending.now.request.now) }
+    ensures front { HoldsFront (E.contents end) (E.contents result.end)
         (request_text sending.now.persistence sending.now.host.now sending.now.request.now) }
 {
     let Sending {

@@ -1,6 +1,6 @@
 // What came of a request over a connection.
 ghost use Rattle.std.specs.Prelude.{◌≡◌};
-ghost use Rattle.tcp_backend.specs.Kept.{carries_on, is_drained, is_kept, leaves_ready};
+ghost use Rattle.tcp_backend.specs.Kept.{carries_on, end_left, is_drained, is_kept, leaves_ready};
 
 use crate::call_buffers::CallBuffers;
 use crate::pool::ReadyConnection;
@@ -9,7 +9,6 @@ use wire::{Persistence, Response, Reuse, WireFault};
 /// What came of a request over a connection, whether it was written whole, whether a byte of an
 /// answer came, and what the clock told when the answer was last read for; and the connection, with
 /// its end and the buffers, as the call leaves them.
-#[derive(Drop)]
 pub(crate) struct Attempt<S, E> {
     pub(crate) answer: Result<Response, WireFault>,
     pub(crate) is_sent: bool,
@@ -20,19 +19,17 @@ pub(crate) struct Attempt<S, E> {
     pub(crate) buffers: CallBuffers,
 }
 
-/// What is left of a connection behind an attempt.
-#[derive(Drop)]
+/// What is left of a connection behind an attempt, with the end that was written to.
 pub(crate) enum Leftover<S, E> {
     /// It may carry another request.
     Ready(ReadyConnection<S, E>),
     /// The backend is to close it.
-    Ending(S),
+    Ending(S, E),
     /// It was closed.
-    Closed,
+    Closed(E),
 }
 
 /// An attempt whose connection was looked after.
-#[derive(Drop)]
 pub(crate) struct Settled<S, E> {
     pub(crate) answer: Result<Response, WireFault>,
     pub(crate) is_heard: bool,
@@ -41,7 +38,7 @@ pub(crate) struct Settled<S, E> {
     pub(crate) buffers: CallBuffers,
 }
 
-impl<S: Drop, E: Drop> Attempt<S, E> {
+impl<S: Drop, E> Attempt<S, E> {
     // What becomes of the connection, whose request said so of it: it carries on only where it is
     // drained.
     pub(crate) fn settle(self, persistence: Persistence) -> Settled<S, E>
@@ -49,6 +46,7 @@ impl<S: Drop, E: Drop> Attempt<S, E> {
         ensures heard { result.is_heard ≡ self.is_heard }
         ensures looked { result.looked ≡ self.looked }
         ensures kept { is_kept result.left ≡ carries_on persistence self }
+        ensures end { end_left result.left ≡ self.end }
     {
         let carries_on = self.carries_on(persistence);
         let is_ended = self.is_ended_there(persistence);
@@ -64,9 +62,9 @@ impl<S: Drop, E: Drop> Attempt<S, E> {
         let left = if carries_on {
             Leftover::Ready(ReadyConnection { stream, end })
         } else if is_ended {
-            Leftover::Ending(stream)
+            Leftover::Ending(stream, end)
         } else {
-            Leftover::Closed
+            Leftover::Closed(end)
         };
         Settled {
             answer,

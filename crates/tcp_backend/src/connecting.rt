@@ -4,11 +4,13 @@ ghost use Rattle.std.specs.Net.Text.{socket_v4_text};
 ghost use Rattle.counted_io.specs.Count.{raised};
 ghost use Rattle.wire.specs.declared.answer.BackendAnswer.TheVariants.{Late, NotConnected, Stale};
 ghost use Rattle.wire.specs.declared.fault.WireFault.{WireFault};
+ghost use Rattle.wire.specs.Forwards.{Sends};
 ghost use Rattle.tcp_backend.specs.Answers.{answer_of, is_stale};
 ghost use Rattle.tcp_backend.specs.CallTime.{call_deadline, is_over};
 ghost use Rattle.message_text.specs.declared.persistence.Persistence.TheVariants.{Close};
 ghost use Rattle.tcp_backend.specs.Connecting.{connector_of, host_of, limit_of};
-ghost use Rattle.tcp_backend.specs.Kept.{carries_on, is_kept};
+ghost use Rattle.tcp_backend.specs.Ends.{Gathers};
+ghost use Rattle.tcp_backend.specs.Kept.{carries_on, end_left, is_kept};
 
 use crate::asking::{Sending, answer_of, ask, read_on};
 use crate::attempt::{Attempt, Leftover, Settled};
@@ -60,7 +62,9 @@ struct Line<S> {
 
 impl<S: Drop> Line<S> {
     // The buffers, by value; new ones where a call kept them, which none does.
-    fn take_buffers(&mut self) -> Result<CallBuffers, AllocError> {
+    fn take_buffers(&mut self) -> Result<CallBuffers, AllocError>
+        ensures host { self.new.host ≡ self.old.host }
+    {
         match self.buffers.take() {
             Some(buffers) => Ok(buffers),
             None => CallBuffers::new(self.alloc),
@@ -68,9 +72,8 @@ impl<S: Drop> Line<S> {
     }
 
     // Puts the buffers of a call back; what became of its request, which said so of its connection,
-    // that had been kept or was new; and what is left of that. The end of it that was written is of
-    // no more use where it ends.
-    fn put_back<E: Drop, C: Clock>(
+    // that had been kept or was new; and what is left of that.
+    fn put_back<E, C: Clock>(
         &mut self,
         call: &CallTime<'_, C>,
         attempt: Attempt<S, E>,
@@ -82,6 +85,8 @@ impl<S: Drop> Line<S> {
         ensures unlimited { call_deadline call.now ≡ None → ¬ (result.0 ≡ Late) }
         ensures fresh { is_reused ≡ false → (fault : WireFault) → ¬ (result.0 ≡ Stale fault) }
         ensures kept { is_kept result.1 ≡ carries_on persistence attempt }
+        ensures end { end_left result.1 ≡ attempt.end }
+        ensures host { self.new.host ≡ self.old.host }
     {
         let Settled {
             answer,
@@ -136,11 +141,15 @@ impl<'c, K: Connector + Drop, W: Drop, C> TcpBackend<'c, K, K::Stream, W, C> {
 
 impl<'c, K: Connector, W: BackendWatch, C: Clock> Backend for TcpBackend<'c, K, K::Stream, &W, C> {
     ghost use Rattle.std.specs.Prelude.{None};
-    ghost use Rattle.tcp_backend.specs.Connecting.{connector_of};
+    ghost use Rattle.tcp_backend.specs.Connecting.{connector_of, host_of};
 
     ghost forwarded = { λ backend. K.connects (connector_of backend) };
 
     ghost shown = { λ _. None };
+
+    ghost written = { λ backend. K.written (connector_of backend) };
+
+    ghost host = { host_of };
 
     /// Asks for a connection once, writes the request and reads one response. Where there is no
     /// connection, that is `NotConnected`; each later fault is `Broken`, but out of memory is
@@ -187,7 +196,7 @@ impl<'c, K: Connector, W: BackendWatch, C: Clock> Backend for TcpBackend<'c, K, 
 }
 
 // Forwards a request over one connection, which was kept or is new: whatever fails, there is no
-// second one. It is put back only where it carries on.
+// second one.
 fn forward_over<K: Connector, W: BackendWatch, C: Clock>(
     connector: &mut K,
     line: &mut Line<K::Stream>,
@@ -197,6 +206,9 @@ fn forward_over<K: Connector, W: BackendWatch, C: Clock>(
 ) -> BackendAnswer
     ensures once { K.connects connector.new ≡ raised (K.connects connector.old) }
     ensures reaches { K.reaches connector.new ≡ K.reaches connector.old }
+    ensures written { Sends line.old.host.bytes (K.written connector.old) (K.written connector.new)
+        request.now result }
+    ensures host { line.new.host ≡ line.old.host }
     ensures unlimited { limit.now.most_ns ≡ None → ¬ (result ≡ Late) }
     ensures fresh { K.keeps connector.old ≡ false
         → (fault : WireFault) → ¬ (result ≡ Stale fault) }
@@ -213,26 +225,50 @@ fn forward_over<K: Connector, W: BackendWatch, C: Clock>(
         Err(error) => return unconnected(&call, watch, &error),
     };
     let Ok(buffers) = line.take_buffers() else {
+        connector.release(end);
         return BackendAnswer::Memory;
     };
-    let persistence = persistence_for(connector.keeps(), &request.method);
     let sending = Sending {
         request,
         host: line.host.as_str(),
-        persistence,
+        persistence: persistence_for(connector.keeps(), &request.method),
     };
     let attempt = ask(line.alloc, &call, stream, end, buffers, &sending);
-    let (answer, left) = line.put_back(&call, attempt, persistence, is_reused);
+    let (answer, left) = line.put_back(&call, attempt, sending.persistence, is_reused);
     tell(watch, &answer);
-    match left {
-        Leftover::Ready(connection) => connector.keep(limit.clock, watch, connection),
-        Leftover::Ending(stream) => {
-            line.answered = Some(stream);
-            watch.connection(ConnectionEvent::Closed);
-        }
-        Leftover::Closed => watch.connection(ConnectionEvent::Closed),
-    }
+    line.answered = give_back(connector, limit.clock, watch, left);
     answer
+}
+
+// Gives back what is left of a connection, which is kept only where it carries on; one that the
+// backend is to close is the result.
+fn give_back<K: Connector, W: BackendWatch, C: Clock>(
+    connector: &mut K,
+    clock: &C,
+    watch: &W,
+    left: Leftover<K::Stream, K::End>,
+) -> Option<K::Stream>
+    ensures connects { K.connects connector.new ≡ K.connects connector.old }
+    ensures reaches { K.reaches connector.new ≡ K.reaches connector.old }
+    ensures written { Gathers (K.written connector.old) (K.End.contents (end_left left))
+        (K.written connector.new) }
+{
+    match left {
+        Leftover::Ready(connection) => {
+            connector.keep(clock, watch, connection);
+            None
+        }
+        Leftover::Ending(stream, end) => {
+            connector.release(end);
+            watch.connection(ConnectionEvent::Closed);
+            Some(stream)
+        }
+        Leftover::Closed(end) => {
+            connector.release(end);
+            watch.connection(ConnectionEvent::Closed);
+            None
+        }
+    }
 }
 
 // Tells of an answer that is none.

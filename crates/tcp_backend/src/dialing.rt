@@ -10,7 +10,7 @@ use crate::pool::{ConnectionPool, ReadyConnection};
 use crate::watch::{BackendWatch, ConnectionEvent};
 use clocks::Clock;
 use std::alloc::Global;
-use std::io::{Read, Result, Write};
+use std::io::{Read, Result};
 use std::net::{Net, OpenStream, SocketAddr, SocketAddrV4, TcpStream};
 use std::os::fd::AsRawFd;
 use std::sync::{Arc, Wait};
@@ -33,13 +33,14 @@ pub struct Connected<S, E> {
 /// What has connections to one address, new ones and those that were put back, and counts how often
 /// it was asked for one. A backend has no other way to one.
 pub trait Connector {
-    /// A connection, which is closed where its value ends.
-    type Stream: Read + Write + OpenStream + AsRawFd + Drop;
+    /// A connection, which is closed where its value ends. It is written to by its end alone.
+    type Stream: Read + OpenStream + AsRawFd + Drop;
 
-    /// Where it is written to.
-    type End: RequestOutlet<Self::Stream> + Drop;
+    /// Where it is written to. Each comes back, since nobody else can drop it.
+    type End: RequestOutlet<Self::Stream>;
 
-    ghost use Rattle.std.specs.Prelude.{ℕ, Bool, List};
+    ghost use Rattle.std.specs.Prelude.{ℕ, Bool, List, Option};
+    ghost use Rattle.tcp_backend.specs.Ends.{Gathers, IsFresh, end_kept};
 
     // How often it was asked to connect.
     ghost connects: { Self → ℕ };
@@ -49,6 +50,9 @@ pub trait Connector {
 
     // Whether connections are kept behind their requests.
     ghost keeps: { Self → Bool };
+
+    // All bytes that were written to the ends which came back, where they are shown.
+    ghost written: { Self → Option (List ℕ) };
 
     /// A connection for one request: one that was put back here and waits in silence, or else a new
     /// one; or why none can be had within this time.
@@ -62,7 +66,10 @@ pub trait Connector {
         ensures reaches { reaches self.new ≡ reaches self.old }
         ensures keeps { keeps self.new ≡ keeps self.old }
         ensures dialed { IfOk result (λ made. Self.End.dialed made.end ≡ reaches self.old) }
-        ensures fresh { IfOk result (λ made. keeps self.old ≡ false → made.is_reused ≡ false) };
+        ensures fresh { IfOk result (λ made. keeps self.old ≡ false → made.is_reused ≡ false) }
+        ensures unwritten { IfOk result (λ made.
+            IsFresh (written self.old) (Self.End.contents made.end)) }
+        ensures written { written self.new ≡ written self.old };
 
     /// Whether connections are kept behind their requests, which then don't say that these end.
     fn keeps(&self) -> bool
@@ -77,7 +84,16 @@ pub trait Connector {
     )
         ensures connects { connects self.new ≡ connects self.old }
         ensures reaches { reaches self.new ≡ reaches self.old }
-        ensures keeps { keeps self.new ≡ keeps self.old };
+        ensures keeps { keeps self.new ≡ keeps self.old }
+        ensures written { Gathers (written self.old)
+            (Self.End.contents (end_kept connection)) (written self.new) };
+
+    /// Takes the end of a connection back that carries no further request.
+    fn release(&mut self, end: Self::End)
+        ensures connects { connects self.new ≡ connects self.old }
+        ensures reaches { reaches self.new ≡ reaches self.old }
+        ensures keeps { keeps self.new ≡ keeps self.old }
+        ensures written { Gathers (written self.old) (Self.End.contents end) (written self.new) };
 
     /// The address that it connects to.
     fn address(&self) -> SocketAddrV4
@@ -148,6 +164,7 @@ impl<R: Net + Wait> Connector for Dialer<R, R::Stream> {
 
     type End = OpaqueEnd;
 
+    ghost use Rattle.std.specs.Prelude.{None};
     ghost use Rattle.tcp_backend.specs.Connecting.{address_of, dialed_of, has_pool};
 
     ghost connects = { dialed_of };
@@ -155,6 +172,8 @@ impl<R: Net + Wait> Connector for Dialer<R, R::Stream> {
     ghost reaches = { address_of };
 
     ghost keeps = { has_pool };
+
+    ghost written = { λ _. None };
 
     fn connect<C: Clock, W: BackendWatch>(
         &mut self,
@@ -201,6 +220,8 @@ impl<R: Net + Wait> Connector for Dialer<R, R::Stream> {
             None => watch.connection(ConnectionEvent::Closed),
         }
     }
+
+    fn release(&mut self, _end: OpaqueEnd) {}
 
     fn address(&self) -> SocketAddrV4 {
         self.address

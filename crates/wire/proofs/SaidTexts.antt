@@ -1,5 +1,5 @@
 -- What is said to a client.
-use Rattle.std.proofs.Common.{rules, inl, inr, ◌≡◌, ℕ, List, []}
+use Rattle.std.proofs.Common.{rules, inl, inr, ◌≡◌, ℕ, List, [], take}
 use Rattle.std.specs.Prelude.{Option, Some, None, Result, Ok, Err, IfSome}
 use Rattle.std.specs.Io.KnownBytes.{Appends}
 use Rattle.std.proofs.KnownBytes.{Appends-nil}
@@ -12,7 +12,7 @@ use Rattle.message_reading.specs.Continue.{Says, continue_of}
 use Rattle.wire.specs.declared.fault.WireFault.{WireFault}
 use Rattle.wire.specs.declared.fault.WireFault.TheVariants as fault
 use Rattle.wire.specs.Fault.{bytes_fault, of_read}
-use Rattle.wire.specs.Messages.{Said, SaidRight}
+use Rattle.wire.specs.Messages.{Said, SaidFront, SaidRight}
 use Rattle.wire.proofs.Told.{GivesChecked, request_no_memory, request_not_asked}
 
 if_any : {P : Type 0} (o : Option Fault) → P → IfSome o (λ own. P)
@@ -51,5 +51,14 @@ module _ (X : Type 0) where
       (continue_of head framing, Says.asks xs ys head framing given, written) in
       (if_any (bytes_fault w) right, inr right)
 
+pub said_front : (old mid held new : Option (List ℕ)) (head : RequestHead) (framing : Framing)
+    → GivesChecked old mid (Ok (head, framing))
+    → (count : ℕ) × Appends held new (take count (continue_of head framing))
+    → SaidFront old held new
+said_front None mid held new head framing given written = tt
+said_front (Some xs) None held new head framing given written = absurd given
+said_front (Some xs) (Some ys) held new head framing given written =
+    (continue_of head framing, Says.asks xs ys head framing given, written.0, written.1)
+
 -- What the reader of a request can cite, by the name of the set.
-pub ruleset request_told = (request_no_memory, request_not_asked, silent_memory, said)
+pub ruleset request_told = (request_no_memory, request_not_asked, silent_memory, said, said_front)

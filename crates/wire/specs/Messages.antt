@@ -1,5 +1,6 @@
 -- Messages: what the bytes of a reader are read as.
 use Rattle.std.specs.Prelude.{ℕ, ◌==◌, ⊤, ◌⊎◌, List, [], Option, Some, None, Result, Ok, Err, IfSome, if◌then◌else◌}
+use Rattle.std.specs.Prelude.{take}
 use Rattle.std.specs.Io.KnownBytes.{Appends}
 use Rattle.message_fields.specs.Target.{path_of}
 use Rattle.message_reading.specs.Reading.{By, Reading, Then, checked}
@@ -68,3 +69,9 @@ Said (Some bytes) old new (Ok x) = SaidRight bytes old new
 Said (Some bytes) old new (Err f) =
     IfSome (bytes_fault f) (λ own. SaidRight bytes old new)
     × (Appends old new [] ⊎ SaidRight bytes old new)
+
+-- where its writer failed, it got a beginning of that
+abbrev pub SaidFront : Option (List ℕ) → Option (List ℕ) → Option (List ℕ) → Type 0
+SaidFront None old new = ⊤
+SaidFront (Some bytes) old new =
+    (text : List ℕ) × Says bytes text × (count : ℕ) × Appends old new (take count text)

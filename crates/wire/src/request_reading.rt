@@ -6,7 +6,7 @@ ghost use Rattle.message_fields.specs.Target.{path_of};
 ghost use Rattle.message_reading.specs.Reading.{HasFailed};
 ghost use Rattle.message_reading.specs.Continue.{IsSeen};
 ghost use Rattle.wire.specs.Fault.{IsUsedUp, Reads, most_reads};
-ghost use Rattle.wire.specs.Messages.{IsRequest, Said, request_of, version_of};
+ghost use Rattle.wire.specs.Messages.{IsRequest, Said, SaidFront, request_of, version_of};
 
 use crate::fault::WireFault;
 use crate::path::path_of;
@@ -74,6 +74,8 @@ pub fn read_request<R: BufRead, W: Write>(
         failures_of writer.new ≡ failures_of writer.old }
     ensures read { IsErrOf result WireFault.Read → HasFailed reader.old reader.new }
     ensures write { IsErrOf result WireFault.Write → IsWriteCause writer.old writer.new }
+    ensures front { IsErrOf result WireFault.Write → SaidFront (R.remaining (inner_of reader.old))
+        (W.contents (inner_of writer.old)) (W.contents (inner_of writer.new)) }
     ensures turns { IsErrOf result WireFault.TurnLimit → IsUsedUp reader.old reader.new }
     ensures few { calls_of reader.new ≤ calls_of reader.old + most_reads }
     ensures reads { HasRead reader.old reader.new }

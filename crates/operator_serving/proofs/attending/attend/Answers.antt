@@ -27,6 +27,7 @@ returns-in-Err-clause-attended g c = record {
     said = c.in-Err.ensures.said;
     failed = c.in-Err.ensures.read;
     used_up = c.in-Err.ensures.turns;
+    front = c.in-Err.ensures.front;
     unsaid = λ same. subst (λ (n : ℕ). (failures_of c.args.writer.now < n) ⊎ (n ≡ count_end))
         (sym (ap failures_of (c.unread-answer.ensures.untouched (ap fault_in same))))
         (c.in-Err.ensures.write same);
@@ -51,6 +52,7 @@ returns-clause-attended g c = record {
     said = c.in-Ok.ensures.said;
     failed = c.in-Ok.ensures.read;
     used_up = c.in-Ok.ensures.turns;
+    front = λ same. absurd (true≢false (ap is_ok same));
     unsaid = λ same. absurd (true≢false (ap is_ok same));
     reads = c.in-Ok.ensures.reads;
     unfailing = c.in-Ok.ensures.reads_well;

@@ -3,7 +3,7 @@ use Rattle.counted_io.specs.Counted.{inner_of}
 use Rattle.message_parts.specs.declared.request.Request.{Request}
 use Rattle.wire.specs.Fault.{of_read}
 use Rattle.wire.proofs.Told.{request_body_cut, request_cut, request_whole}
-use Rattle.wire.proofs.SaidTexts.{request_told, silent_head}
+use Rattle.wire.proofs.SaidTexts.{request_told, said_front, silent_head}
 use Rattle.wire.proofs.request_reading.read_request.Goals as goal
 
 pub returns-in_err-head-clause-request : goal.returns-in_err-head-clause-request
@@ -164,3 +164,24 @@ returns-clause-unfailing g c = search rules
 
 pub returns-clause-write : goal.returns-clause-write
 returns-clause-write g c = search rules
+
+pub returns-in_err-head-clause-front : goal.returns-in_err-head-clause-front
+returns-in_err-head-clause-front g c = search rules
+
+pub returns-in_err-path-clause-front : goal.returns-in_err-path-clause-front
+returns-in_err-path-clause-front g c = search rules
+
+pub returns-in_err-body-clause-front : goal.returns-in_err-body-clause-front
+returns-in_err-body-clause-front g c = search rules
+
+pub returns-clause-front : goal.returns-clause-front
+returns-clause-front g c = search rules
+
+pub returns-in_err-say_continue-clause-front : goal.returns-in_err-say_continue-clause-front
+returns-in_err-say_continue-clause-front g c = λ same.
+    let left = g.R.Read.remaining in
+    said_front (left (inner_of c.args.reader.now))
+    (left (inner_of c.read_checked_head.new.reader))
+    (g.W.Write.contents (inner_of c.args.writer.now))
+    (g.W.Write.contents (inner_of c.say_continue.new.writer)) c.in_ok-head.head
+    c.in_ok-head.framing c.in_ok-head.ensures.head c.in_err-say_continue.ensures.front
