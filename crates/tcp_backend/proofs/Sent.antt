@@ -97,9 +97,9 @@ gathered_whole old None new text whole gathered = absurd whole
 gathered_whole old (Some ys) new text whole gathered = subst (Appends old new) whole gathered
 
 -- no fault is told
-told_none : {P : WireFault → Type 0} (found : Option WireFault) → found ≡ None → IfSome found P
-told_none None none = tt
-told_none (Some f) none = absurd (cc)
+told_none : (P : WireFault → Type 0) (found : Option WireFault) → found ≡ None → IfSome found P
+told_none P None none = tt
+told_none P (Some f) none = absurd (cc)
 
 -- nothing was written
 pub sends_nothing : (host : List ℕ) (old new : Option (List ℕ)) (request : Request)
@@ -114,7 +114,7 @@ sends_nothing host (Some xs) new request answer same untold =
       count = 0;
       front = nothing;
       none = λ is. nothing;
-      whole = told_none (fault_told answer) untold;
+      whole = told_none _ (fault_told answer) untold;
     }
 
 -- there was no connection
@@ -141,7 +141,7 @@ sends_unused host (Some xs) between new contents request answer same fresh gathe
       count = 0;
       front = nothing;
       none = λ is. nothing;
-      whole = told_none (fault_told answer) untold;
+      whole = told_none _ (fault_told answer) untold;
     }
 
 -- an end came back with what was written of the request

@@ -163,6 +163,9 @@ impl<'c, K: Connector, W: BackendWatch, C: Clock> Backend for TcpBackend<'c, K, 
         ensures count { K.connects (connector_of self.new)
             ≡ raised (K.connects (connector_of self.old)) }
         ensures reaches { K.reaches (connector_of self.new) ≡ K.reaches (connector_of self.old) }
+        ensures written { Sends (host_of self.old) (K.written (connector_of self.old))
+            (K.written (connector_of self.new)) request.now result }
+        ensures host { host_of self.new ≡ host_of self.old }
         ensures limit { limit_of self.new ≡ limit_of self.old }
         ensures unlimited { limit_of self.old ≡ None → ¬ (result ≡ Late) }
         ensures fresh { K.keeps (connector_of self.old) ≡ false
@@ -183,6 +186,8 @@ impl<'c, K: Connector, W: BackendWatch, C: Clock> Backend for TcpBackend<'c, K, 
         ensures count { K.connects (connector_of self.new)
             ≡ K.connects (connector_of self.old) }
         ensures reaches { K.reaches (connector_of self.new) ≡ K.reaches (connector_of self.old) }
+        ensures written { K.written (connector_of self.new) ≡ K.written (connector_of self.old) }
+        ensures host { host_of self.new ≡ host_of self.old }
         ensures limit { limit_of self.new ≡ limit_of self.old }
     {
         if let Some(mut stream) = self.line.answered.take() {
@@ -228,13 +233,14 @@ fn forward_over<K: Connector, W: BackendWatch, C: Clock>(
         connector.release(end);
         return BackendAnswer::Memory;
     };
+    let persistence = persistence_for(connector.keeps(), &request.method);
     let sending = Sending {
         request,
         host: line.host.as_str(),
-        persistence: persistence_for(connector.keeps(), &request.method),
+        persistence,
     };
     let attempt = ask(line.alloc, &call, stream, end, buffers, &sending);
-    let (answer, left) = line.put_back(&call, attempt, sending.persistence, is_reused);
+    let (answer, left) = line.put_back(&call, attempt, persistence, is_reused);
     tell(watch, &answer);
     line.answered = give_back(connector, limit.clock, watch, left);
     answer

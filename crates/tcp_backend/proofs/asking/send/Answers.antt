@@ -10,7 +10,7 @@ returns-clause-front g c =
     let below = inner_of c.write_request-written.new.writer in
     let first : held_by (λ writer. g.E.RequestOutlet.contents (end_of writer))
     (inner_of c.new-writer.result) ≡ g.E.RequestOutlet.contents c.args.end = search rules in
-    let last : c.into_parts-2.result.1 ≡ end_of (writer_below below) = search rules in
+    let last : c.into_parts-stream.result.1 ≡ end_of (writer_below below) = search rules in
     rw last
     (front_held c.write_request-written.result _ _ (pending_of below) _
     (rw first at c.write_request-written.ensures.all)

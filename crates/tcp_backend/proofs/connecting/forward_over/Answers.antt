@@ -18,5 +18,5 @@ returns-clause-written g c =
     sends_gathered _ _ _ _ _ _ _ _ _ _ _ c.ask-attempt.result.is_sent _
     c.connect.ensures.written c.in-Ok.ensures.unwritten
     (rw host at c.ask-attempt.ensures.front) (rw host at c.ask-attempt.ensures.sent)
-    c.ask-attempt.ensures.cut c.put_back.ensures.answer
-    (rw c.put_back.ensures.end at c.give_back.ensures.written)
+    c.ask-attempt.ensures.cut c.put_back-answer.ensures.answer
+    (rw c.put_back-answer.ensures.end at c.give_back.ensures.written)
