@@ -26,7 +26,7 @@ use gate_opening::open_gate;
 use gateway_settings::Settings;
 use limit_laws::Limit;
 use limiter_core::Counters;
-use listening::Listener;
+use listening::Closable;
 use log::Log;
 use ports::{Port, View};
 use serve_reports::Watcher;
@@ -63,7 +63,7 @@ pub(crate) fn serve_gateway<R, L, C, S>(
 ) -> Result<Option<Counters>, ServeFault>
 where
     R: Net + Threads + Wait + SystemClock + Log + Sync,
-    L: Listener + Sync,
+    L: Closable + Sync,
     C: Clock + Sync,
     S: Source + Sync,
     L::Stream: Send + Sync + Drop,
@@ -104,7 +104,7 @@ fn serve_named<M, R, L, C, S>(
 where
     M: GateNaming + Send + Sync,
     R: Net + Threads + Wait + SystemClock + Log + Sync,
-    L: Listener + Sync,
+    L: Closable + Sync,
     C: Clock + Sync,
     S: Source + Sync,
     L::Stream: Send + Sync + Drop,
@@ -162,7 +162,7 @@ where
     M: GateNaming + Send + Sync,
     R: Net + Threads + Wait + SystemClock + Log + Sync,
     G: Limit + Send,
-    L: Listener + Sync,
+    L: Closable + Sync,
     C: Clock + Sync,
     S: Source + Sync,
     L::Stream: Send + Sync + Drop,
@@ -199,6 +199,7 @@ where
         view,
         ports,
         operators,
+        gateway.side.side_listener(),
     )?;
     let passes = passes_of(kept, lefts)?;
     exchanges_are_one_threads::<G>();

@@ -90,14 +90,14 @@ pub on_ok : {T E : Type 0} (r : Result T E) (P Q : T → Type 0) → IfOk r P
 on_ok (Ok v) P Q p f = f v p
 on_ok (Err e) P Q p f = tt
 
-module _ {A P B T S R L C W : Type 0} (given failed : A → ℕ) (closed : A → Bool)
+module _ {A P B T S R L E C W : Type 0} (given failed : A → ℕ) (closed : A → Bool)
     (visits : A → Option Visits) (came : A → Bytes → Type 0) (shown : P → Option Shown)
     (known : P → Option (List Entry)) (forwarded : B → ℕ) (log : B → Option (List Forwarded))
     (gives : S → Settings → Type 0) (lacks : S → Type 0) (made : T → Type 0) where
-  abbrev Made : Job A P B T (Context R L C S W) → JobResult A P B → Type 0
+  abbrev Made : Job A P B T (Context R L E C S W) → JobResult A P B → Type 0
   Made = Makes given failed closed visits came shown known forwarded log gives lacks made
 
-  made_in : (jobs : List (Job A P B T (Context R L C S W))) (lefts : List (JobResult A P B))
+  made_in : (jobs : List (Job A P B T (Context R L E C S W))) (lefts : List (JobResult A P B))
       → AllZip Made jobs lefts → All made (tasks_in jobs)
   made_in [] [] all = All-nil made
   made_in [] (l ∷ ls) all = absurd all
@@ -109,26 +109,26 @@ module _ {A P B T S R L C W : Type 0} (given failed : A → ℕ) (closed : A →
   made_in (job.Worker context worker ∷ hs) (l ∷ ls) all = made_in hs ls all.1
 
   -- what the tasks beside them made
-  pub all_made : (tasks : List T) (jobs : List (Job A P B T (Context R L C S W)))
+  pub all_made : (tasks : List T) (jobs : List (Job A P B T (Context R L E C S W)))
       (lefts : List (JobResult A P B)) → tasks_in jobs ≡ tasks → AllZip Made jobs lefts
       → All made tasks
   all_made tasks jobs lefts same all =
       subst (λ (ts : List T). All made ts) same (made_in jobs lefts all)
 
-module _ {A P B T S R L C W : Type 0} (given failed : A → ℕ) (closed : A → Bool)
+module _ {A P B T S R L E C W : Type 0} (given failed : A → ℕ) (closed : A → Bool)
     (visits : A → Option Visits) (came : A → Bytes → Type 0) (shown : P → Option Shown)
     (known : P → Option (List Entry)) (forwarded : B → ℕ) (log : B → Option (List Forwarded))
     (gives : S → Settings → Type 0) (lacks : S → Type 0) (made : T → Type 0)
-    (x : Context R L C S W) where
+    (x : Context R L E C S W) where
   abbrev Worked : Worker A P B → WorkerExit A P B → Type 0
   Worked = HasWorked given failed closed visits came shown known forwarded log gives lacks
       x.common.now.source.now x.common.now.marks x.common.now.per_worker
 
-  abbrev AllDone : List (Job A P B T (Context R L C S W)) → List (JobResult A P B) → Type 0
+  abbrev AllDone : List (Job A P B T (Context R L E C S W)) → List (JobResult A P B) → Type 0
   AllDone = AllZip
       (Made given failed closed visits came shown known forwarded log gives lacks made)
 
-  worked_in : (jobs : List (Job A P B T (Context R L C S W))) (lefts : List (JobResult A P B))
+  worked_in : (jobs : List (Job A P B T (Context R L E C S W))) (lefts : List (JobResult A P B))
       → AllDone jobs lefts → AreWithin x jobs → list_all has_begun lefts ≡ true
       → AllZip Worked (workers_in jobs) (ended_in lefts)
   worked_in [] [] all within begun = tt
@@ -143,7 +143,7 @@ module _ {A P B T S R L C W : Type 0} (given failed : A → ℕ) (closed : A →
   worked_in (job.Worker context worker ∷ hs) (left.SideTask ∷ ls) all within begun =
       absurd all.0
   worked_in (job.Worker context worker ∷ hs) (left.Worked ended ∷ ls) all within begun = (
-    subst (λ (c : Context R L C S W). HasWorked given failed closed visits came shown known
+    subst (λ (c : Context R L E C S W). HasWorked given failed closed visits came shown known
         forwarded log gives lacks c.common.now.source.now c.common.now.marks
         c.common.now.per_worker worker ended)
         within.0 all.0,
@@ -152,7 +152,7 @@ module _ {A P B T S R L C W : Type 0} (given failed : A → ℕ) (closed : A →
 
   -- what the workers leave, where all jobs began in the same context
   pub all_worked : (workers : List (Worker A P B))
-      (jobs : List (Job A P B T (Context R L C S W))) (lefts : List (JobResult A P B))
+      (jobs : List (Job A P B T (Context R L E C S W))) (lefts : List (JobResult A P B))
       → workers_in jobs ≡ workers → AllDone jobs lefts → AreWithin x jobs
       → list_all has_begun lefts ≡ true → AllZip Worked workers (ended_in lefts)
   all_worked workers jobs lefts same all within begun =

@@ -107,8 +107,8 @@ module _ {A P B S : Type 0} (given failed : A → ℕ) (closed : A → Bool)
   IsMade made (left.Worked ended) = ⊥
 
   -- what each job leaves
-  abbrev pub Makes : {T R L C W : Type 0} → (T → Type 0)
-      → Job A P B T (Context R L C S W) → JobResult A P B → Type 0
+  abbrev pub Makes : {T R L E C W : Type 0} → (T → Type 0)
+      → Job A P B T (Context R L E C S W) → JobResult A P B → Type 0
   Makes made (job.SideTask task) left = IsMade (made task) left
   Makes made (job.Worker context worker) left =
       Leaves context.now.common.now.source.now context.now.common.now.marks

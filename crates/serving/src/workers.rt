@@ -14,7 +14,7 @@ use crate::working::{Source, WorkerSettings};
 use clocks::Clock;
 use gate_port::{GatePort, GateView};
 use gateway_settings::Settings;
-use listening::{CountedListener, Listener, spare_descriptors};
+use listening::{Closable, CountedListener, Listener, spare_descriptors};
 use proxy::Watch;
 use seats::Places;
 use std::alloc::{AllocError, Global};
@@ -40,13 +40,13 @@ const OTHER_DESCRIPTORS: u64 = 24;
 /// connection of its own to the backend of the settings, until all have ended; and tells what they
 /// left, in the order of the ports. Each task beside them has one more thread: these are started
 /// last, once all workers were, the last task first, and tell what they left first. They are to
-/// end once the last worker has closed their listener. Where reports are wanted, the thread of the
+/// end once the last worker has closed their listener, which alone it can close. Where reports are wanted, the thread of the
 /// caller makes them once all others were started.
 ///
 /// The settings are those that the workers' source gives. `Memory` comes before any worker is
 /// started, or where one had none for its settings, once all have ended; `Thread` once those that
 /// were started have.
-pub fn serve<'l, R, G, P, T, L, C, S, W>(
+pub fn serve<'l, R, G, P, T, L, E, C, S, W>(
     rt: &'l R,
     spawner: &mut Spawner<'_, R>,
     common: &WorkerSettings<'l, L, C, S, W>,
@@ -54,6 +54,7 @@ pub fn serve<'l, R, G, P, T, L, C, S, W>(
     gate: G,
     ports: Vec<P>,
     side_tasks: Vec<T>,
+    side_listener: Option<&E>,
 ) -> Result<
     Vec<
         JobResult<Door<'l, L, W>, P, TcpBackend<'l, Dialer<&'l R, R::Stream>, R::Stream, &'l W, C>>,
@@ -66,6 +67,7 @@ where
     P: GatePort + Send + Drop,
     T: Task<Done = ()> + Send + Drop,
     L: Listener + Sync,
+    E: Closable + Sync,
     C: Clock + Sync,
     S: Source + Sync,
     W: Watch + BackendWatch + Sync,
@@ -104,7 +106,16 @@ where
         listener: common.listener,
         every_ns: common.report_every_ns,
     };
-    serve_by(rt, spawner, common, &active, reporter, workers, side_tasks)
+    serve_by(
+        rt,
+        spawner,
+        common,
+        &active,
+        reporter,
+        workers,
+        side_tasks,
+        side_listener,
+    )
 }
 
 /// How many descriptors are wanted, two for each worker, for its client and its backend, and one
@@ -200,7 +211,7 @@ fn share<S: Drop>(
 
 /// Serves clients by these workers, with tasks beside them and a reporter on this thread. Which
 /// doors and backends they have isn't told apart here.
-fn serve_by<R, O, A, P, B, T, L, C, S, W>(
+fn serve_by<R, O, A, P, B, T, L, E, C, S, W>(
     rt: &R,
     spawner: &mut Spawner<'_, R>,
     common: &WorkerSettings<'_, L, C, S, W>,
@@ -208,6 +219,7 @@ fn serve_by<R, O, A, P, B, T, L, C, S, W>(
     reporter: O,
     workers: Vec<Worker<A, P, B>>,
     side_tasks: Vec<T>,
+    side_listener: Option<&E>,
 ) -> Result<Vec<JobResult<A, P, B>>, ServeFault>
 where
     R: Threads + Wait + SystemClock + Sync,
@@ -217,6 +229,7 @@ where
     B: Backend + Send + Drop,
     T: Task<Done = ()> + Send + Drop,
     L: Listener + Sync,
+    E: Closable + Sync,
     C: Clock + Sync,
     S: Source + Sync,
     W: Watch + Sync,
@@ -238,7 +251,12 @@ where
     ensures started { ¬ IsErrOf result ServeFault.Thread →
         refused_of spawner.new ≡ refused_of spawner.old }
 {
-    let context = Context { rt, common, active };
+    let context = Context {
+        rt,
+        common,
+        active,
+        side_listener,
+    };
     let jobs = make_jobs(common.alloc, &context, side_tasks, workers)?;
     let lefts = run_tasks_beside(spawner, common.alloc, reporter, jobs)?;
     if !have_begun(&lefts) {

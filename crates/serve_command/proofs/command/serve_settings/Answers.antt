@@ -92,7 +92,7 @@ pub returns-in-Some-clause-served : goal.returns-in-Some-clause-served
 returns-in-Some-clause-served g c =
     let same : socket_v4_text c.socket.result ≡ c.args.settings.now.listen = search rules in
     let does = IsDone any_rules (making_of c.args.service.now.workers c.args.settings.now)
-    g.B.Bound.Listener.closed in
+    g.B.Bound.Closable.closed in
     let begin = new_desk c.args.settings.now.table c.in_ok-front.front in
     record {
       listener = c.in_ok-front.front;

@@ -22,7 +22,7 @@ returns-clause-admin g c =
     let context = c.args.context.now in
     on_ok c.serve_gateway.result (λ beside. admin_there
     (IsDone any_rules (making_of c.args.service.now.workers c.args.settings.now)
-    g.L.Listener.closed) g.L.Listener.came g.L.Listener.found
+    g.L.Closable.closed) g.L.Listener.came g.L.Listener.found
     (new_desk c.args.settings.now.table context.front.now) context.admin.now
     c.new-side.result.admin c.new-side.ensures.admin beside.0) c.serve_gateway.ensures.beside
 
@@ -31,6 +31,6 @@ returns-clause-status g c =
     let context = c.args.context.now in
     on_ok c.serve_gateway.result (λ beside. status_there
     (IsDone any_rules (making_of c.args.service.now.workers c.args.settings.now)
-    g.L.Listener.closed) g.L.Listener.came g.L.Listener.found
+    g.L.Closable.closed) g.L.Listener.came g.L.Listener.found
     (new_desk c.args.settings.now.table context.front.now) context.status.now
     c.new-side.result.status c.new-side.ensures.status beside.1) c.serve_gateway.ensures.beside

@@ -29,6 +29,6 @@ pub returns-clause-beside : goal.returns-clause-beside
 returns-clause-beside g c =
     let gateway = c.args.gateway.now in
     subst (λ (m : Making). OnOk c.serve_through.result (AreServedBeside
-    (IsDone any_rules m g.L.Listener.closed) g.L.Listener.came g.L.Listener.found
+    (IsDone any_rules m g.L.Closable.closed) g.L.Listener.came g.L.Listener.found
     (new_desk gateway.settings.now.table gateway.common.now.listener.now) gateway.side.now))
     c.requires.making c.serve_through.ensures.beside

@@ -36,7 +36,7 @@ returns-clause-counted g c =
 pub returns-clause-beside : goal.returns-clause-beside
 returns-clause-beside g c =
     let gateway = c.args.gateway.now in
-    beside _ _ _ _ _ _ _ (IsDone g.G.Limit.rules g.M.Naming.making g.L.Listener.closed)
+    beside _ _ _ _ _ _ _ (IsDone g.G.Limit.rules g.M.Naming.making g.L.Closable.closed)
     g.L.Listener.came g.L.Listener.found
     (new_desk gateway.settings.now.table gateway.common.now.listener.now)
     gateway.side.now c.in_ok-operators.operators.items c.in_ok-operators.ensures
