@@ -1,5 +1,6 @@
 -- What is known of the log of a gate that others ask too, and where calls stand in it.
-use Rattle.std.specs.Prelude.{◌≡◌, ℕ, List, ◌∷◌, ◌++◌, length, Bool, Option, None, Some, ⊤, All}
+use Rattle.std.specs.Prelude.{◌≡◌, ◌≤◌, ℕ, List, ◌∷◌, ◌++◌, length, Bool, Option, None, Some, ⊤, All}
+use Rattle.std.specs.Prelude.{IfSome}
 use mathlib.Core.List.{IsPrefix}
 use Rattle.partitions.specs.declared.part.Part.{Part}
 use Rattle.limiter_core.specs.declared.event.Event.{Event}
@@ -43,6 +44,18 @@ pub data IsAskedIn (ask : Ask) (old : List Entry) (now : ℕ) : List Entry → A
   missed : (mid new : List Entry) (number : ℕ)
       → IsLogged old mid number (acquire ask now) reply.Waiting → IsPrefix mid new
       → IsAskedIn ask old now new (Refused why.Lost)
+
+-- EXHAUSTED: who is told that the history is exhausted is told so behind no fewer entries of the log
+-- than these, where a log is known
+abbrev pub IsExhaustedBehind : {P : Type 0} → ℕ → Option (List Entry) → Admission P → Type 0
+IsExhaustedBehind entries (Some log) (Refused why.Exhausted) = entries ≤ length log
+IsExhaustedBehind entries log _ = ⊤
+
+-- LATE: who is told that the time is over is told so once the clock has reached the deadline, where
+-- there is a clock
+abbrev pub IsLate : {P : Type 0} → Option ℕ → Option ℕ → Admission P → Type 0
+IsLate deadline (Some reached) (Refused why.TimedOut) = IfSome deadline (λ until. until ≤ reached)
+IsLate deadline reached _ = ⊤
 
 -- AN ENDING IN A LOG: its call, answered with how many were promoted
 abbrev pub IsEndedIn : PermitFacts → Outcome → ℕ → List Entry → List Entry → Type 0

@@ -136,6 +136,10 @@ impl GatePort for Watched {
 
     ghost known = { λ _. None };
 
+    ghost last = { 0 };
+
+    ghost reached = { λ _. None };
+
     ghost facts = { λ permit. permit };
 
     fn admit(

@@ -1,11 +1,12 @@
 // A port over a gate that threads share.
 ghost use Rattle.std.specs.Prelude.{◌≡◌, ◌+◌, ◌≤◌, Some, true, false, is_some, if◌then◌else◌};
+ghost use Rattle.gate_history.specs.Refusal.{exhausted_from};
 ghost use Rattle.shared_gate.specs.Calls.{Ends};
 ghost use Rattle.gate_port.specs.Asking.{ask_of};
-ghost use Rattle.gate_port.specs.Log.{AdmitsIn, EndsIn};
+ghost use Rattle.gate_port.specs.Log.{AdmitsIn, EndsIn, IsExhaustedBehind, IsLate};
 ghost use Rattle.ports.specs.declared.asked.Receipts.TheVariants.{Nothing};
 ghost use Rattle.ports.specs.Asked.{IsAnswered, port_in};
-ghost use Rattle.ports.specs.Told.{IsLate, IsTold};
+ghost use Rattle.ports.specs.Told.{IsTold};
 
 use crate::asked::Receipts;
 use crate::reached::Reached;
@@ -125,6 +126,8 @@ impl<'a, L: Limit, M: GateNaming, R: Wait + SystemClock, C: Clock> Port<'a, L, M
             (record { part = part; bypass = bypass; wait = false }) now result }
         ensures answered { IsAnswered self.old.pass self.new.pass
             (record { part = part; bypass = bypass; wait = false }) now self.new.asked result }
+        ensures exhausted { IsExhaustedBehind (exhausted_from M.making)
+            (Some self.new.pass.log) result }
     {
         let pass = &mut self.pass;
         let (asked, answer) = match self.gate.acquire(self.rt, pass, part, bypass, false, now) {
@@ -140,10 +143,13 @@ impl<'a, L: Limit, M: GateNaming, R: Wait + SystemClock, C: Clock> Port<'a, L, M
                 )
             }
             Got::Waiting(_receipt, _ticket) => unreachable!(),
-            Got::Exhausted(spent) => (
-                Receipts::Exhausted(spent),
-                Admission::Refused(Why::Exhausted),
-            ),
+            Got::Exhausted(spent) => {
+                spent.invariant();
+                (
+                    Receipts::Exhausted(spent),
+                    Admission::Refused(Why::Exhausted),
+                )
+            }
         };
         self.asked = asked;
         answer
@@ -155,7 +161,9 @@ impl<'a, L: Limit, M: GateNaming, R: Wait + SystemClock, C: Clock> Port<'a, L, M
             (record { part = part; bypass = false; wait = true }) now result }
         ensures answered { IsAnswered self.old.pass self.new.pass
             (record { part = part; bypass = false; wait = true }) now self.new.asked result }
-        ensures late { IsLate (Some deadline) self.new.reached result }
+        ensures exhausted { IsExhaustedBehind (exhausted_from M.making)
+            (Some self.new.pass.log) result }
+        ensures late { IsLate (Some deadline) (Some self.new.reached) result }
     {
         let mut looks = MonotonicClock::new(self.clock);
         self.ask_until(part, now, &mut looks, deadline)
@@ -173,7 +181,9 @@ impl<'a, L: Limit, M: GateNaming, R: Wait + SystemClock, C: Clock> Port<'a, L, M
             (record { part = part; bypass = false; wait = true }) now result }
         ensures answered { IsAnswered self.old.pass self.new.pass
             (record { part = part; bypass = false; wait = true }) now self.new.asked result }
-        ensures late { IsLate (Some deadline) self.new.reached result }
+        ensures exhausted { IsExhaustedBehind (exhausted_from M.making)
+            (Some self.new.pass.log) result }
+        ensures late { IsLate (Some deadline) (Some self.new.reached) result }
     {
         let (rt, pass) = (self.rt, &mut self.pass);
         let (asked, answer) = match self.gate.acquire_wait(rt, pass, part, now, looks, deadline) {
@@ -203,6 +213,7 @@ impl<'a, L: Limit, M: GateNaming, R: Wait + SystemClock, C: Clock> Port<'a, L, M
                 )
             }
             Waited::Exhausted(spent) => {
+                spent.invariant();
                 (
                     Receipts::Exhausted(spent),
                     Admission::Refused(Why::Exhausted),
@@ -226,7 +237,9 @@ impl<'a, L: Limit, M: GateNaming, R: Wait + SystemClock, C: Clock> Port<'a, L, M
             result }
         ensures answered { IsAnswered self.old.pass self.new.pass
             (ask_of part bypass deadline) now self.new.asked result }
-        ensures late { IsLate deadline self.new.reached result }
+        ensures exhausted { IsExhaustedBehind (exhausted_from M.making)
+            (Some self.new.pass.log) result }
+        ensures late { IsLate deadline (Some self.new.reached) result }
         ensures log { AdmitsIn part bypass deadline now (Some self.old.pass.log)
             (Some self.new.pass.log) (λ permit. permit) result }
         ensures few { self.new.pass.count
@@ -269,6 +282,10 @@ impl<'a, L: Limit, M: GateNaming, R: Wait + SystemClock, C: Clock> GatePort
 
     ghost known = { λ p. Some p.pass.log };
 
+    ghost last = { exhausted_from M.making };
+
+    ghost reached = { λ p. Some p.reached };
+
     ghost facts = { λ p. p };
 
     /// Asks the gate once, and where that waits gives up once: a call by the pass each, unless
@@ -285,7 +302,9 @@ impl<'a, L: Limit, M: GateNaming, R: Wait + SystemClock, C: Clock> GatePort
             result }
         ensures answered { IsAnswered self.old.pass self.new.pass
             (ask_of part bypass deadline) now self.new.asked result }
-        ensures late { IsLate deadline self.new.reached result }
+        ensures exhausted { IsExhaustedBehind (exhausted_from M.making)
+            (Some self.new.pass.log) result }
+        ensures late { IsLate deadline (Some self.new.reached) result }
         ensures log { AdmitsIn part bypass deadline now (Some self.old.pass.log)
             (Some self.new.pass.log) (λ permit. permit) result }
         ensures few { self.new.pass.count

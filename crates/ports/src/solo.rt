@@ -1,5 +1,6 @@
 // A port over a book of its own.
 ghost use Rattle.std.specs.Prelude.{◌≡◌};
+ghost use Rattle.gate_history.specs.Refusal.{exhausted_from};
 ghost use Rattle.gate_history.specs.Steps.{event_of};
 ghost use Rattle.gate_port.specs.Asking.{would_wait};
 ghost use Rattle.ports.specs.Solo.{Gets, GivesUp, IsOfPort, Makes};
@@ -102,6 +103,10 @@ impl<L: Limit, N: Naming> GatePort for SoloPort<L, N> {
     ghost shown = { λ p. Some (shown_of p.book.journal) };
 
     ghost known = { λ p. None };
+
+    ghost last = { exhausted_from N.making };
+
+    ghost reached = { λ p. None };
 
     ghost facts = { λ p. p };
 
