@@ -1,10 +1,18 @@
 -- What drops leave of a limit.
 use Rattle.std.proofs.Common.{◌≡◌, ℕ, zero, suc, ◌+◌, ◌*◌, ◌/◌, ◌≤◌, Bool, true, false, [], ◌∷◌, length, arith, if◌then◌else◌, nat_le, nat_lt, ◌||◌, mul-le-mul_right, mul-le-mul_left}
+use Rattle.std.proofs.lemmas.Bool.{le-leb, lt-leb}
+use Rattle.lemmas.specs.Extremes.{greatest}
+use Rattle.lemmas.proofs.Extremes.{greatest-is}
 use Rattle.limit_laws.specs.Facts.{SampleFacts}
 use Rattle.aimd.specs.AimdRules.{AimdState, aimd_step, aimd_next, decreased}
 use Rattle.aimd.specs.Falls.{DecreasesToTheGreatest, after_drops, FallsByTheRatioAtMost, FallsNoFasterThanDrops}
 use Rattle.aimd.specs.AimdLaws.{bounded_within}
-use Rattle.aimd.proofs.Greatest.{greatest-quotient}
+
+-- the greatest m with 1000 * m ≤ n is the quotient
+greatest-quotient : (n : ℕ) → greatest (λ m. nat_le (1000 * m) n) n ≡ n / 1000
+greatest-quotient n =
+    greatest-is _ n (n / 1000) (omega arith) (λ _. le-leb _ _ (omega arith))
+    (λ k a b. lt-leb _ _ (omega arith))
 
 pub decreased-quotient : (limit ratio : ℕ) → decreased limit ratio ≡ limit * ratio / 1000
 unfolding decreased

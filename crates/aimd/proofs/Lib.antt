@@ -1,3 +1,2 @@
-pub mod Greatest
 pub mod Decrease
 pub mod Increase

@@ -1,5 +1,6 @@
 -- Additive increase, multiplicative decrease, and the limit that numbers make.
 use Rattle.std.specs.Prelude.{ℕ, false, zero, suc, ◌+◌, ◌*◌, ◌<◌, ◌≤◌, Bool, Result, Ok, Err, min, max, nat_lt, nat_le, ◌&&◌, ◌||◌, if◌then◌else◌}
+use Rattle.lemmas.specs.Extremes.{greatest}
 use Rattle.limit_laws.specs.declared.limit.MakeFault.{MakeFault}
 use Rattle.limit_laws.specs.declared.limit.MakeFault.TheVariants.{Range, Ratio}
 use Rattle.limit_laws.specs.declared.limit.SetFault.TheVariants.{NotSettable}
@@ -75,11 +76,6 @@ aimd_of n = aimd_from n.lo n.first n.hi n.ratio_thousandths n.timeout_ns
 abbrev pub aimd_made : AimdNumbers → Result AimdState MakeFault
 aimd_made n =
     if is_in_range n then (if is_ratio n then Ok (aimd_of n) else Err Ratio) else Err Range
-
--- the greatest number up to n that passes a test, 0 where none does
-unfoldable pub greatest : (ℕ → Bool) → ℕ → ℕ
-greatest test zero = 0
-greatest test (suc n) = if test (suc n) then suc n else greatest test n
 
 -- what a drop leaves of a limit: the greatest m with 1000 * m ≤ limit * ratio
 unfoldable pub decreased : ℕ → ℕ → ℕ

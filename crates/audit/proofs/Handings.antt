@@ -4,6 +4,7 @@ use Rattle.std.specs.Prelude.{slice_get, count_by, find, is_some}
 use Rattle.std.proofs.lemmas.Bool.{cases_Bool, cases_lt, false≢true}
 use Rattle.std.proofs.lemmas.Option.{same_Some, none-some}
 use Rattle.std.proofs.lemmas.List.Sums.{sum_by-cons}
+use Rattle.lemmas.proofs.Lists.{slice_get-append}
 use Rattle.limit_laws.specs.Algorithm.{IsLawful}
 use Rattle.partitions.specs.declared.part.Part.{Part}
 use Rattle.lifo_backlog.specs.declared.waiter.Waiter.{Waiter}
@@ -25,16 +26,6 @@ use Rattle.audit.specs.Permits.{HandsOutNamed}
 use Rattle.audit.specs.Histories.{WholeHandsOutNamed, WholeIsMatchedPlainly}
 use Rattle.audit.proofs.Accepting.{IsMatchedHistory-each}
 use Rattle.audit.proofs.Plainly.{IsMatched-plain}
-
--- where an item of joined lists stands
-joined : {X : Type 0} (xs ys : List X) (n : ℕ) (x : X) → slice_get (xs ++ ys) n ≡ Some x
-    → (slice_get xs n ≡ Some x) ⊎ ((k : ℕ) × (n ≡ length xs + k) × (slice_get ys k ≡ Some x))
-joined [] ys n x here = inr (n, omega arith, here)
-joined (y ∷ xs) ys zero x here = inl here
-joined (y ∷ xs) ys (suc n) x here = elim (joined xs ys n x here) [
-  | inl there ↦ inl there
-  | inr after ↦ inr (after.0, omega (arith, after.1), after.2)
-]
 
 abbrev number_of : Option PermitFacts → ℕ
 number_of (Some permit) = permit.number
@@ -189,7 +180,7 @@ module _ {S : Type 0} (g : Gate S) where
     legal : (h : List Entry) → IsLegal g o h → HandsOutNamed h
     legal [] nothing number entry permit here hands = absurd (none-some entry here)
     legal _ (more h e before may) number entry permit here hands =
-        elim (joined h (answer g o h e) number entry here) [
+        elim (slice_get-append h (answer g o h e) number entry here) [
           | inl earlier ↦ legal h before number entry permit earlier hands
           | inr after ↦
               let there : handed_out (length h + after.0) entry ≡ Some permit =

@@ -2,22 +2,9 @@
 use Rattle.std.proofs.Common.{◌≡◌, sym, ℕ, zero, suc, ◌+◌, ◌*◌, ◌≤◌, ◌<◌, Bool, true, false, inl, inr, arith, if◌then◌else◌, nat_le, mul-le-mul_right, mul-le-mul_left}
 use Rattle.std.proofs.lemmas.Bool.{le-leb, lt-leb}
 use Rattle.std.proofs.lemmas.Bool.{cases_lt}
-use Rattle.auto.specs.AutoRules.{greatest, root}
-
--- it is m, where m passes or is 0 and no greater number up to n passes
-pub greatest-is : (test : ℕ → Bool) (n m : ℕ) → m ≤ n → (0 < m → test m ≡ true) →
-    ((k : ℕ) → m < k → k ≤ n → test k ≡ false) → greatest test n ≡ m
-unfolding greatest
-greatest-is test zero m below passes above = omega arith
-greatest-is test (suc n) m below passes above = elim (cases_lt m (suc n)) [
-  | inl less ↦
-      let e : test (suc n) ≡ false = above (suc n) less (omega arith) in
-      rw e (greatest-is test n m (omega arith) passes (λ k a b. above k a (omega arith)))
-  | inr more ↦
-      let same : m ≡ suc n = omega arith in
-      let e : test (suc n) ≡ true = rw same at (passes (omega arith)) in
-      rw (e, same)
-]
+use Rattle.lemmas.specs.Extremes.{greatest}
+use Rattle.lemmas.proofs.Extremes.{greatest-is}
+use Rattle.auto.specs.AutoRules.{root}
 
 square_least : (r : ℕ) → r ≤ r * r
 square_least zero = omega arith

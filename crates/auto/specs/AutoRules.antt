@@ -1,5 +1,6 @@
 -- The rules of a limit that needs no numbers. All divisions round down.
 use Rattle.std.specs.Prelude.{ℕ, zero, suc, ◌+◌, ◌-◌, ◌*◌, ◌/◌, ◌^◌, Bool, true, false, Option, None, Some, Err, min, max, nat_eq, nat_le, nat_lt, not, ◌&&◌, ◌||◌, if◌then◌else◌}
+use Rattle.lemmas.specs.Extremes.{greatest}
 use Rattle.limit_laws.specs.declared.limit.SetFault.TheVariants.{NotSettable}
 use Rattle.limit_laws.specs.declared.view.LimitView.{LimitView}
 use Rattle.limit_laws.specs.declared.view.WindowView.{WindowView}
@@ -14,11 +15,6 @@ use Rattle.auto.specs.Window.{apart, empty, with_answer, with_drop}
 -- half of a number, rounded up
 abbrev pub half_up : ℕ → ℕ
 half_up n = (n + 1) / 2
-
--- the greatest number up to n that passes a test, 0 where none does
-unfoldable pub greatest : (ℕ → Bool) → ℕ → ℕ
-greatest test zero = 0
-greatest test (suc n) = if test (suc n) then suc n else greatest test n
 
 -- the root of a number, rounded down: the greatest whose square is at most the number
 unfoldable pub root : ℕ → ℕ

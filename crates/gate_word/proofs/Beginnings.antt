@@ -2,16 +2,10 @@
 use Rattle.std.proofs.Common.{◌≡◌, List, [], ◌∷◌, ◌++◌, ◌⊎◌, refl, ap, sym, ◌∙◌, inl, inr, ⊎_elim, append_assoc}
 use Rattle.std.proofs.lemmas.List.{append-nil}
 use mathlib.Core.List.{IsPrefix}
+use Rattle.lemmas.proofs.Lists.{prefix_self}
 use Rattle.gate_word.specs.Rule.{longer}
 
 module _ {A : Type 0} where
-  pub prefix_self : (xs : List A) → IsPrefix xs xs
-  prefix_self xs = ([], append-nil xs)
-
-  pub prefix_trans : (xs ys zs : List A) → IsPrefix xs ys → IsPrefix ys zs → IsPrefix xs zs
-  prefix_trans xs ys zs p q =
-      (p.0 ++ q.0, sym (append_assoc xs p.0 q.0) ∙ (ap (λ w. w ++ q.0) p.1 ∙ q.1))
-
   -- of two beginnings of one list, the longer is one of them ..
   pub longer_one : (xs ys zs : List A) → IsPrefix xs zs → IsPrefix ys zs
       → (longer xs ys ≡ xs) ⊎ (longer xs ys ≡ ys)

@@ -14,7 +14,8 @@ use Rattle.gate_word.specs.declared.rule.View.{View}
 use Rattle.gate_word.specs.Rule.{keeper_view, reader_view, Compared, Fits, KeptAt, Kept, Raised}
 use Rattle.gate_word.specs.Rule.{Took}
 use Rattle.gate_word.specs.Rule.{note_of, noted, longer}
-use Rattle.gate_word.proofs.Beginnings.{prefix_self, prefix_trans, longer_left, longer_right}
+use Rattle.lemmas.proofs.Lists.{prefix_self, prefix_trans}
+use Rattle.gate_word.proofs.Beginnings.{longer_left, longer_right}
 use Rattle.gate_word.proofs.Beginnings.{longer_within}
 
 at_within : {A : Type 0} (l : List A) (i : ℕ) (a : A) → get_elem? l i ≡ some a → i < length l

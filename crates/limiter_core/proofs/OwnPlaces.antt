@@ -11,7 +11,7 @@ use Rattle.limiter_core.specs.History.{Gate, Image, image_after, total}
 use Rattle.limiter_core.specs.Answer.{reply_to, has_room, queued}
 use Rattle.limiter_core.specs.Bound.{IsSound}
 use Rattle.limiter_core.specs.Laws.{WaitsByPlaces, KeepsOwnPlaces}
-use Rattle.limiter_core.proofs.BoundSteps.{ones}
+use Rattle.lemmas.proofs.Bits.{ones}
 use Rattle.limiter_core.proofs.LegalStaysSound.{small-place, stays_sound}
 
 -- everybody who waits does so at one of the five places

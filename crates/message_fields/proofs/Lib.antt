@@ -1,5 +1,4 @@
 pub mod SameName
-pub mod Places
 pub mod Digits
 pub mod Lists
 pub mod First

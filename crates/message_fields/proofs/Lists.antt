@@ -10,12 +10,6 @@ pub list_all-map : {X Y : Type 0} (p : Y → Bool) (f : X → Y) (xs : List X)
 list_all-map p f [] = refl
 list_all-map p f (x ∷ xs) = ap (λ b. p (f x) && b) (list_all-map p f xs)
 
--- some item of a map
-pub list_any-map : {X Y : Type 0} (p : Y → Bool) (f : X → Y) (xs : List X)
-    → list_any (λ x. p (f x)) xs ≡ list_any p (map f xs)
-list_any-map p f [] = refl
-list_any-map p f (x ∷ xs) = ap (λ b. p (f x) || b) (list_any-map p f xs)
-
 -- each item of two lists
 list_all-append : {X : Type 0} (p : X → Bool) (xs ys : List X)
     → list_all p (xs ++ ys) ≡ (list_all p xs && list_all p ys)

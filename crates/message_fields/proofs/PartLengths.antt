@@ -7,7 +7,7 @@ use Rattle.std.proofs.lemmas.List.Folds.{list_any_none}
 use Rattle.message_parts.specs.Names.{same_name}
 use Rattle.message_fields.specs.Parts.{is_blank, trimmed, trimmed_start, parts}
 use Rattle.message_fields.proofs.SameName.{other_length}
-use Rattle.message_fields.proofs.Lists.{list_any-map}
+use Rattle.lemmas.proofs.Tests.{list_any-map}
 
 -- of so many bytes at most
 abbrev Short : ℕ → List ℕ → Type 0

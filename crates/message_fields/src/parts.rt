@@ -67,7 +67,7 @@ fn first_comma(value: &[u8]) -> Option<usize>
 }
 
 /// Where the first part of the value ends.
-#[tactic(auto, using(crate::proofs::Places::place_is))]
+#[tactic(auto, using(lemmas::proofs::Tests::place_is))]
 fn first_end(value: &[u8]) -> usize
     ensures value { result ≡ position_or_len (λ byte. byte == 44) value.now }
     ensures inside { result ≤ length value.now }

@@ -28,7 +28,7 @@ fn first_end(text: &[u8]) -> Option<usize>
 }
 
 /// Where an authority in front ends.
-#[tactic(auto, using(crate::proofs::Places::place_is))]
+#[tactic(auto, using(lemmas::proofs::Tests::place_is))]
 fn authority_end(text: &[u8]) -> usize
     ensures value { result ≡ position_or_len ends_authority text.now }
     ensures inside { result ≤ length text.now }

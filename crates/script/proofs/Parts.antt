@@ -11,11 +11,6 @@ use Rattle.std.specs.List.{position}
 use Rattle.std.proofs.lemmas.Bool.Decides.{nat_tests, Decides-eqb}
 use Rattle.script.specs.Words.{words}
 
--- the first place as an index
-pub place_is : (p : ℕ → Bool) (xs : List ℕ)
-    → unwrap_or (position p xs) (length xs) ≡ position_or_len p xs
-place_is p xs = grind (arith, nat_tests, prefix_len-le-length (λ x. not (p x)) xs)
-
 -- where no element passes the list is the one part
 split_whole : (p : ℕ → Bool) (xs : List ℕ) → position_or_len p xs ≡ length xs
     → slice_split p xs ≡ xs ∷ []

@@ -3,6 +3,7 @@ use Rattle.std.proofs.Common.{◌≡◌, ℕ, zero, suc, ◌+◌, ◌-◌, ◌�
 use Rattle.std.proofs.Common.{refl, ap, sym, ◌∙◌, subst, arith, append_assoc, length-append}
 use Rattle.std.proofs.lemmas.List.{append-nil}
 use Rattle.std.proofs.lemmas.List.Sums.{sum_by-append}
+use Rattle.lemmas.proofs.Lists.{drop-append_at}
 use Rattle.limit_laws.specs.Algorithm.{Algorithm}
 use Rattle.limiter_core.specs.declared.counters.Counters.{Counters}
 use Rattle.limiter_core.specs.declared.event.Event.{Event}
@@ -22,12 +23,6 @@ use Rattle.gate_history.specs.Handing.{Given}
 use Rattle.gate_history.specs.Steps.{IsDone}
 use Rattle.shared_gate.specs.Log.{IsBehind, MeansAtLeast}
 use Rattle.shared_gate.proofs.Promoted.{one, one_call}
-
-drop_seam : {A : Type 0} (xs ys : List A) (k : ℕ) → k ≡ length xs → drop k (xs ++ ys) ≡ ys
-drop_seam [] ys zero e = refl
-drop_seam [] ys (suc k) e = absurd (omega arith)
-drop_seam (x ∷ xs) ys zero e = absurd (omega arith)
-drop_seam (x ∷ xs) ys (suc k) e = drop_seam xs ys k (omega arith)
 
 none_of : {A : Type 0} (xs : List A) → length xs ≡ 0 → xs ≡ []
 none_of [] e = refl
@@ -103,7 +98,7 @@ module _ {S : Type 0} (rules : Algorithm S) (j : Journal S) (e : Event)
       omega (arith, next_is, number) in
       subst (λ (v : Journal S).
       drop (length log - v.opening.next) v.entries ≡ answered rules j e) (sym is)
-      (drop_seam fresh.entries (answered rules fresh e) (length log - fresh.opening.next) at ∙ same)
+      (drop-append_at fresh.entries (answered rules fresh e) (length log - fresh.opening.next) at ∙ same)
 
   -- and the next number is behind that
   pub number_then : (log : List Entry) → next_number j ≡ length log

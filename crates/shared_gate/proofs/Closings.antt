@@ -3,6 +3,7 @@ use Rattle.std.proofs.Common.{◌≡◌, ℕ, zero, suc, List, [], ◌∷◌, �
 use Rattle.std.proofs.Common.{refl, sym, ap, ◌∙◌, subst, arith, length-append}
 use Rattle.std.specs.Prelude.{IfErr, IfOk, Result, Ok, Err, Vec, false}
 use Rattle.std.specs.declared.alloc.Global.{Global}
+use Rattle.lemmas.proofs.Lists.{drop-append_at}
 use Rattle.limit_laws.specs.Algorithm.{Algorithm}
 use Rattle.limiter_core.specs.declared.event.Entry.{Entry}
 use Rattle.limiter_core.specs.History.{Gate}
@@ -32,12 +33,6 @@ is_history_in {S} b j base entries same first all = record {
   first = first ∙ ap (λ (k : Journal S). k.opening.next) same;
   all = all ∙ ap (λ (k : Journal S). k.entries) same;
 }
-
-drop_seam : {A : Type 0} (xs ys : List A) (k : ℕ) → k ≡ length xs → drop k (xs ++ ys) ≡ ys
-drop_seam [] ys zero e = refl
-drop_seam [] ys (suc k) e = absurd (omega arith)
-drop_seam (x ∷ xs) ys zero e = absurd (omega arith)
-drop_seam (x ∷ xs) ys (suc k) e = drop_seam xs ys k (omega arith)
 
 -- the gate of a journal that is made so
 pub same_gate : {S : Type 0} (rules : Algorithm S) (m : Making) (j : Journal S) → IsMadeAs m j
@@ -73,7 +68,7 @@ is_end_of {S} rules m legal log b base entries behind made is =
         length-append behind.earlier entries,
       );
       ends =
-          ap (λ (h : List Entry). drop base h) parts ∙ drop_seam behind.earlier entries base at;
+          ap (λ (h : List Entry). drop base h) parts ∙ drop-append_at behind.earlier entries base at;
     }
 
 -- where that begins with number 0 it is the log

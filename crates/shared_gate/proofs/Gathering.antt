@@ -5,9 +5,10 @@ use Rattle.std.proofs.lemmas.List.Elements.{All-nil}
 use mathlib.Core.List.{IsPrefix}
 use mathlib.Core.Logic.{dite}
 use native.Mathlib.Decide.{ℕ_discrete}
+use Rattle.lemmas.proofs.Lists.{length-one_more}
 use Rattle.limiter_core.specs.declared.event.Entry.{Entry}
 use Rattle.shared_gate.specs.Calls.{Pass}
-use Rattle.shared_gate.proofs.Beginnings.{prefix_trans}
+use Rattle.lemmas.proofs.Lists.{prefix_trans}
 
 pub set_same : {A : Type 0} (l : List A) (i : ℕ) (a : A) → i < length l → a ≡ get_or l i a
     → set l i a ≡ l
@@ -19,11 +20,6 @@ get_any : {A : Type 0} (l : List A) (i : ℕ) (d e : A) → i < length l → get
 get_any [] i d e h = absurd (omega arith)
 get_any (x ∷ xs) zero d e h = refl
 get_any (x ∷ xs) (suc i) d e h = get_any xs i d e (omega arith)
-
--- one more is one more
-pub one_longer : {A : Type 0} (xs : List A) (y : A) → length (xs ++ y ∷ []) ≡ suc (length xs)
-one_longer [] y = refl
-one_longer (x ∷ xs) y = ap suc (one_longer xs y)
 
 -- a fact of each of a list that has one more in front, or behind
 module _ {A : Type 0} (P : A → Type 0) where

@@ -14,7 +14,8 @@ use Rattle.gate_ledgers.specs.Told.{Told}
 use Rattle.audit.specs.Accepted.{IsRising}
 use Rattle.shared_gate.specs.Calls.{IsTold}
 use Rattle.shared_gate.specs.Running.{AreCallsOf, Call, RunningIsOneThreads, StandsIn}
-use Rattle.shared_gate.proofs.Beginnings.{at_seam, prefix_get, prefix_length, prefix_trans}
+use Rattle.lemmas.proofs.Lists.{prefix_length, prefix_trans}
+use Rattle.shared_gate.proofs.Beginnings.{at_seam, prefix_get}
 use Rattle.shared_gate.proofs.Sequential.{cut, is_sequential}
 
 abbrev receipts : List Call → List Told

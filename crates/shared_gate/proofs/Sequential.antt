@@ -5,6 +5,7 @@ use Rattle.std.proofs.Math.Seq.{take-append_seam}
 use Rattle.std.proofs.lemmas.Bool.{false≢true}
 use Rattle.std.proofs.lemmas.List.{take-append-le}
 use Rattle.std.proofs.lemmas.Option.{same_Some, none-some, slice_get_within}
+use Rattle.lemmas.proofs.Lists.{slice_get-append}
 use Rattle.lifo_backlog.specs.declared.waiter.Waiter.{Waiter}
 use Rattle.limiter_core.specs.declared.event.Event.{Event}
 use Rattle.limiter_core.specs.declared.event.Reply.{Reply}
@@ -17,16 +18,6 @@ use Rattle.limiter_core.specs.Legal.IsLegal.{nothing, more}
 use Rattle.limiter_core.specs.Laws.{TurnsAwayRightly}
 use Rattle.audit.specs.Receipts.{is_call}
 use Rattle.shared_gate.specs.Headline.{AcceptedIsOneThreads}
-
--- where an item of joined lists stands
-joined : {X : Type 0} (xs ys : List X) (n : ℕ) (x : X) → slice_get (xs ++ ys) n ≡ Some x
-    → (slice_get xs n ≡ Some x) ⊎ ((k : ℕ) × (n ≡ length xs + k) × (slice_get ys k ≡ Some x))
-joined [] ys n x here = inr (n, omega arith, here)
-joined (y ∷ xs) ys zero x here = inl here
-joined (y ∷ xs) ys (suc n) x here = elim (joined xs ys n x here) [
-  | inl there ↦ inl there
-  | inr after ↦ inr (after.0, omega (arith, after.1), after.2)
-]
 
 -- a list, cut at one of its items
 pub cut : {X : Type 0} (xs : List X) (n : ℕ) (x : X) → slice_get xs n ≡ Some x
@@ -87,7 +78,7 @@ module _ {S : Type 0} (g : Gate S) (o : Image S) where
       → slice_get (answer g o (take n h) event) 0 ≡ Some (Call event reply)
   is_sequential [] nothing n event reply here = absurd (none-some (Call event reply) here)
   is_sequential _ (more h e before may) n event reply here =
-      elim (joined h (answer g o h e) n (Call event reply) here) [
+      elim (slice_get-append h (answer g o h e) n (Call event reply) here) [
         | inl earlier ↦
             let within = slice_get_within h n (Call event reply) earlier in
             subst (λ (it : List Entry). slice_get (answer g o it event) 0 ≡ Some (Call event reply))

@@ -15,7 +15,7 @@ use Rattle.gate_history.specs.Handing.{Given}
 use Rattle.gate_history.specs.Steps.{IsDone, IsExhausted, Steps}
 use Rattle.gate_history.specs.Refusal.{Refusal}
 use Rattle.shared_gate.specs.Calls.{Pass, TellsOf}
-use Rattle.shared_gate.proofs.Beginnings.{prefix_length}
+use Rattle.lemmas.proofs.Lists.{prefix_length}
 use Rattle.shared_gate.proofs.Promoted.{follow, follow_none, own}
 
 -- what is known of a step, of the answer that it gave

@@ -2,7 +2,7 @@ use Rattle.std.proofs.Common.{List, length}
 use Rattle.gate_ledgers.specs.Told.{Told}
 use Rattle.audit.specs.Receipts.{IsCovered}
 use Rattle.audit.specs.Marks.{AreNamed}
-use Rattle.audit.proofs.Places.{EachBefore}
+use Rattle.lemmas.proofs.Walks.{EachBefore}
 use Rattle.audit.proofs.cover.first_uncovered.Given as goal
 
 -- the entries so far are covered

@@ -5,7 +5,8 @@ use Rattle.std.proofs.lemmas.Option.{slice_get-get_or, same_Some}
 use Rattle.gate_ledgers.specs.Told.{Told}
 use Rattle.audit.specs.Receipts.{StandsAfter}
 use Rattle.audit.specs.Marks.{AreNamed}
-use Rattle.audit.proofs.Places.{EachBefore-there, EachBefore-all, stops_there}
+use Rattle.lemmas.proofs.Walks.{EachBefore-there, EachBefore-all}
+use Rattle.audit.proofs.Places.{stops_there}
 use Rattle.audit.proofs.Naming.{AreNamed-more}
 use Rattle.audit.proofs.strange.first_strange_in.Goals as goal
 

@@ -4,7 +4,7 @@ use Rattle.std.proofs.lemmas.Iterator.Search.{any_from_yields_List}
 use Rattle.std.proofs.lemmas.Iterator.Splits.{YieldsList-from_slice_split}
 use Rattle.message_parts.specs.Names.{same_name}
 use Rattle.message_fields.specs.Parts.{trimmed}
-use Rattle.message_fields.proofs.Lists.{list_any-map}
+use Rattle.lemmas.proofs.Tests.{list_any-map}
 use Rattle.message_fields.proofs.parts.has_part.Goals as goal
 
 pub returns : goal.returns

@@ -1,7 +1,7 @@
 use Rattle.std.proofs.Common.{◌≡◌, true, rules}
 use Rattle.std.specs.Char.{is_ascii_digit}
 use Rattle.std.specs.List.{list_all}
-use Rattle.operator_calls.proofs.Digits.{digits_are_text}
+use Rattle.lemmas.proofs.Digits.{digits_are_text}
 use Rattle.operator_calls.proofs.number.number_in.Goals as goal
 
 pub returns-in_default : goal.returns-in_default

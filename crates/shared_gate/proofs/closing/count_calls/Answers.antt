@@ -7,8 +7,9 @@ use Rattle.std.proofs.lemmas.List.{map-id}
 use Rattle.std.proofs.lemmas.List.Sums.{sum_by-append, sum_by-cons}
 use Rattle.std.proofs.lemmas.List.Elements.{All-nil}
 use mathlib.Core.List.{IsPrefix}
+use Rattle.lemmas.proofs.Lists.{length-one_more}
 use Rattle.shared_gate.specs.Calls.{Pass}
-use Rattle.shared_gate.proofs.Gathering.{all_behind, one_longer}
+use Rattle.shared_gate.proofs.Gathering.{all_behind}
 use Rattle.shared_gate.proofs.closing.count_calls.Goals as goal
 
 abbrev count : Pass → ℕ
@@ -54,7 +55,7 @@ loop-pass-preserved g c = record {
     arith,
     c.loop-pass.invariant.many,
     c.take_back-in-loop-pass.ensures.passes,
-    one_longer c.loop-pass.yielded c.in-Some.pass,
+    length-one_more c.loop-pass.yielded c.in-Some.pass,
   );
   all =
       λ whole.

@@ -1,6 +1,7 @@
 use Rattle.std.proofs.Common.{ap, ◌∙◌, sym, refl, subst, ◌≡◌, ◌++◌}
 use mathlib.Core.List.{IsPrefix}
-use Rattle.gate_word.proofs.Beginnings.{longer_whole, prefix_trans}
+use Rattle.lemmas.proofs.Lists.{prefix_trans}
+use Rattle.gate_word.proofs.Beginnings.{longer_whole}
 use Rattle.gate_word.proofs.word.SharedLogLength.raise.Goals as goal
 
 pub returns-clause-reader : goal.returns-clause-reader

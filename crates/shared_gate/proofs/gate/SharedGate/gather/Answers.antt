@@ -1,7 +1,7 @@
 use Rattle.std.proofs.Common.{◌≡◌, ◌+◌, ◌<◌, ℕ, List, ap, arith, sym, subst, ◌∙◌, get_or, set, length}
 use mathlib.Core.List.{IsPrefix}
 use Rattle.shared_gate.specs.Calls.{Pass}
-use Rattle.shared_gate.proofs.Beginnings.{prefix_trans}
+use Rattle.lemmas.proofs.Lists.{prefix_trans}
 use Rattle.shared_gate.proofs.Gathering.{gathers, set_same}
 use Rattle.shared_gate.proofs.gate.SharedGate.gather.Goals as goal
 

@@ -1,5 +1,6 @@
 -- Texts of decimal digits.
-use Rattle.std.proofs.Common.{◌≡◌, ℕ, ◌<◌, ◌^◌, true, ◌&&◌, List, rules, length, nat_lt, Some, None, Result, Ok, Err, if◌then◌else◌, arith}
+use Rattle.std.proofs.Common.{◌≡◌, ℕ, ◌<◌, ◌^◌, true, ◌&&◌, List, rules, length, nat_lt}
+use Rattle.std.proofs.Common.{Some, None, Result, Ok, Err, if◌then◌else◌, arith}
 use Rattle.std.specs.Char.{is_ascii_digit}
 use Rattle.std.specs.List.{list_all}
 use Rattle.std.specs.Str.{IsUtf8}
@@ -19,15 +20,16 @@ pub digits_are_text : (bs : List ℕ) → list_all is_ascii_digit bs ≡ true �
 digits_are_text bs h = IsUtf8-from_ascii bs (IsAscii-from_digits bs (own.to bs h))
 
 -- an `Ok` exactly where a fact holds, as an option
-from_ok_iff : {E : Type 0} (n v : ℕ) (r : Result ℕ E) → OkIff r ((0 < n) × (v < 2 ^ 32)) v
-    → result_ok r ≡ (if nat_lt 0 n && nat_lt v (2 ^ 32) then Some v else None)
-from_ok_iff n v (Ok x) h = grind (arith, nat_tests)
-from_ok_iff n v (Err e) h = grind (arith, nat_tests)
+from_ok_iff : {E : Type 0} (n v m : ℕ) (r : Result ℕ E) → OkIff r ((0 < n) × (v < m)) v
+    → result_ok r ≡ (if nat_lt 0 n && nat_lt v m then Some v else None)
+from_ok_iff n v m (Ok x) h = grind (arith, nat_tests)
+from_ok_iff n v m (Err e) h = grind (arith, nat_tests)
 
--- what `parse` gives of digits
-pub parsed : {E : Type 0} (bs : List ℕ) (r : Result ℕ E) → ParsesUnsigned 32 10 bs r
-    → list_all is_ascii_digit bs ≡ true
+-- what `parse` gives of digits, as a number of so many bits
+pub parsed : {E : Type 0} (width : ℕ) (bs : List ℕ) (r : Result ℕ E)
+    → ParsesUnsigned width 10 bs r → list_all is_ascii_digit bs ≡ true
     → result_ok r
-    ≡ (if nat_lt 0 (length bs) && nat_lt (digits_value 10 bs) (2 ^ 32)
+    ≡ (if nat_lt 0 (length bs) && nat_lt (digits_value 10 bs) (2 ^ width)
     then Some (digits_value 10 bs) else None)
-parsed bs r h p = from_ok_iff (length bs) (digits_value 10 bs) r (parse_digits own 32 bs r h p)
+parsed width bs r h p =
+    from_ok_iff (length bs) (digits_value 10 bs) (2 ^ width) r (parse_digits own width bs r h p)
