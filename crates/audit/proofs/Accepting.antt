@@ -11,7 +11,7 @@ use Rattle.gate_ledgers.specs.Told.{Told}
 use Rattle.audit.specs.Firsts.{EachHas}
 use Rattle.audit.specs.Receipts.{IsInOrder, IsOfCall, all_kept}
 use Rattle.audit.specs.Permits.{ends, ended, IsMatched}
-use Rattle.audit.specs.Accepted.{IsRising, IsMatchedHistory, IsHistoryOf}
+use Rattle.audit.specs.Accepted.{NumbersRise, IsMatchedHistory, IsHistoryOf}
 use Rattle.audit.specs.declared.cause.Cause.{Cause}
 use Rattle.audit.specs.Verdict.{Audit, NoneApplies, IsFirstCause}
 use Rattle.audit.proofs.Places.{item_at}
@@ -19,17 +19,17 @@ use Rattle.audit.proofs.Counted.{times, times-named, times-lists}
 use Rattle.audit.proofs.Endings.{list_any-false, ends-own}
 
 -- numbers that rise from each to the next rise from each to each later one
-pub IsRising-each : (receipts : List Told) → EachHas (IsInOrder receipts) receipts
-    → IsRising receipts
-IsRising-each receipts ordered place zero one other before here there = absurd (omega arith)
-IsRising-each receipts ordered place (suc n) one other before here there =
+pub NumbersRise-each : (receipts : List Told) → EachHas (IsInOrder receipts) receipts
+    → NumbersRise receipts
+NumbersRise-each receipts ordered place zero one other before here there = absurd (omega arith)
+NumbersRise-each receipts ordered place (suc n) one other before here there =
     let within : suc n < length receipts = slice_get_within receipts (suc n) other there in
     let last = item_at receipts n (omega arith) in
     let step : last.0.number < other.number =
     ordered (suc n) other there n last.0 (omega arith) last.1 in
     elim (cases_lt place n) [
       | inl earlier ↦
-          omega (arith, step, IsRising-each receipts ordered place n one last.0 earlier here last.1)
+          omega (arith, step, NumbersRise-each receipts ordered place n one last.0 earlier here last.1)
       | inr late ↦
           let equal : place ≡ n = omega (arith, late, before) in
           let same : one ≡ last.0 =
@@ -105,7 +105,7 @@ IsHistoryOf-accepted a none = record {
       times-lists number [] a.kept (omega arith)
       (λ n list there place receipt at. (none.stand n list there place receipt at).anew) in
       omega (arith, some, few);
-  rising = λ n list here. IsRising-each list.items (none.ordered n list here);
+  rising = λ n list here. NumbersRise-each list.items (none.ordered n list here);
   matched = IsMatchedHistory-each a.entries none.matched;
 }
 

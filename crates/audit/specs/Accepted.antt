@@ -5,12 +5,13 @@ use Rattle.limiter_core.specs.declared.event.PermitFacts.{PermitFacts}
 use Rattle.limiter_core.specs.declared.event.Entry.{Entry}
 use Rattle.gate_ledgers.specs.Told.{Told}
 use Rattle.audit.specs.Firsts.{EachHas}
-use Rattle.audit.specs.Receipts.{IsOfCall, all_kept, is_call}
+use Rattle.limiter_core.specs.History.{is_call}
+use Rattle.audit.specs.Receipts.{IsOfCall, all_kept}
 use Rattle.audit.specs.Permits.{ended, is_lost, IsHandedBefore}
 
 -- the numbers of these receipts rise, from each to each later one
-abbrev pub IsRising : List Told → Type 0
-IsRising receipts =
+abbrev pub NumbersRise : List Told → Type 0
+NumbersRise receipts =
     (place later : ℕ) (one other : Told) → place < later → slice_get receipts place ≡ Some one
     → slice_get receipts later ≡ Some other → one.number < other.number
 
@@ -36,5 +37,5 @@ pub record IsHistoryOf (entries : List Entry) (kept : List (Vec Told Global)) : 
   pub receipts : EachHas (λ place receipt. IsOfCall entries receipt) (all_kept kept)
   pub calls : (number : ℕ) (entry : Entry) → slice_get entries number ≡ Some entry
       → is_call entry ≡ true → IsNamedOnce (all_kept kept) number
-  pub rising : EachHas (λ list receipts. IsRising receipts.items) kept
+  pub rising : EachHas (λ list receipts. NumbersRise receipts.items) kept
   pub matched : IsMatchedHistory entries

@@ -4,6 +4,7 @@ use Rattle.std.specs.List.{list_any, flat_map}
 use Rattle.std.specs.declared.alloc.Global.{Global}
 use Rattle.limiter_core.specs.declared.event.Entry.{Entry}
 use Rattle.limiter_core.specs.declared.event.Entry.TheVariants.{Call, Promotion}
+use Rattle.limiter_core.specs.History.{is_call}
 use Rattle.gate_ledgers.specs.Told.{Told}
 
 -- all receipts, list by list
@@ -43,11 +44,6 @@ IsInOrder receipts place receipt =
 -- the same in one of the lists
 abbrev pub IsInOrderIn : ℕ → List Told → ℕ → Told → Type 0
 IsInOrderIn list receipts place receipt = IsInOrder receipts place receipt
-
--- an entry that is a call, and no promotion
-abbrev pub is_call : Entry → Bool
-is_call (Call event reply) = true
-is_call (Promotion waiter part start inflight) = false
 
 -- an entry is covered: where it is a call, a receipt is of its number
 abbrev pub IsCovered : List Told → ℕ → Entry → Type 0

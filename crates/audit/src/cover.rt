@@ -2,7 +2,8 @@
 ghost use Rattle.std.specs.Prelude.{◌≡◌, List, length, MatchOption};
 ghost use Rattle.gate_ledgers.specs.Told.{Told};
 ghost use Rattle.audit.specs.Firsts.{EachHas, IsFirstWithout};
-ghost use Rattle.audit.specs.Receipts.{IsCovered, is_call};
+ghost use Rattle.limiter_core.specs.History.{is_call};
+ghost use Rattle.audit.specs.Receipts.{IsCovered};
 ghost use Rattle.audit.specs.Marks.{AreNamed};
 
 use limiter_core::Entry;

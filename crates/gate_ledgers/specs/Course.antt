@@ -1,8 +1,8 @@
 -- The course of a limit: what it is after any changes, whichever algorithm finds it.
-use Rattle.std.specs.Prelude.{ℕ, List, Result, Ok, Err, fold}
-use Rattle.limit_laws.specs.declared.limit.SetFault.{SetFault}
+use Rattle.std.specs.Prelude.{ℕ, List, fold}
 use Rattle.limit_laws.specs.Algorithm.{Algorithm}
 use Rattle.limit_laws.specs.Facts.{SampleFacts}
+use Rattle.limiter_core.specs.History.{accepted_or}
 
 -- what changes the state of an algorithm: a sample, a setting by hand, and a reset
 pub data Change : Type 0 where
@@ -10,15 +10,10 @@ pub data Change : Type 0 where
   put : ℕ → Change
   reset : Change
 
--- a setting that is refused changes nothing
-abbrev pub state_put : {S : Type 0} → S → Result S SetFault → S
-state_put s (Ok t) = t
-state_put s (Err fault) = s
-
 -- the state after a change
 abbrev pub changed : {S : Type 0} → Algorithm S → S → Change → S
 changed rules s (sampled x) = rules.next s x
-changed rules s (put n) = state_put s (rules.put s n)
+changed rules s (put n) = accepted_or s (rules.put s n)
 changed rules s reset = rules.first s
 
 -- THE COURSE of a limit from a state on: what it is after each list of changes. Limits that find

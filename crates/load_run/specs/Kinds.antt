@@ -6,7 +6,7 @@ use Rattle.limiter_core.specs.declared.event.Outcome.{Outcome}
 use Rattle.limiter_core.specs.declared.event.Outcome.TheVariants as outcome
 use Rattle.limiter_core.specs.declared.event.Entry.{Entry}
 use Rattle.limiter_core.specs.Counting.{is_admitted, is_bypassed, is_full, is_backlog_full, is_waiting, is_promoted, is_timed_out, is_success, is_ignored, is_dropped}
-use Rattle.gate_history.specs.Book.{is_call}
+use Rattle.limiter_core.specs.History.{is_call}
 use Rattle.load_run.specs.declared.counting.Kind.{Kind}
 use Rattle.load_run.specs.declared.counting.Kind.TheVariants.{Called, Admitted, Bypassed, Full, BacklogFull, Waiting, Promoted, TimedOut, Success, Ignored, Dropped}
 

@@ -11,7 +11,8 @@ use Rattle.limiter_core.specs.declared.event.Entry.{Entry}
 use Rattle.limiter_core.specs.declared.event.Entry.TheVariants.{Call, Promotion}
 use Rattle.limiter_core.specs.declared.event.PermitFacts.{PermitFacts}
 use Rattle.gate_ledgers.specs.Told.{Told}
-use Rattle.gate_history.specs.Book.{calls_of, is_call}
+use Rattle.limiter_core.specs.History.{is_call}
+use Rattle.gate_history.specs.Book.{calls_of}
 use Rattle.gate_history.specs.Replies.{IsOf}
 use Rattle.shared_gate.specs.Calls.{IsTold, Pass}
 use Rattle.gate_port.specs.declared.port.Admission.{Admission}

@@ -12,7 +12,8 @@ use Rattle.limiter_core.specs.History.{Gate, Image, image_after}
 use Rattle.limiter_core.specs.Answer.{counting, next_waiter, promoted, promotion, promotion_then}
 use Rattle.limiter_core.specs.Answer.{promotions, promotions_at, reply_to}
 use Rattle.gate_journal.specs.Journal.{Journal, answered, gate, image, opening}
-use Rattle.gate_history.specs.Book.{calls_of, is_call}
+use Rattle.limiter_core.specs.History.{is_call}
+use Rattle.gate_history.specs.Book.{calls_of}
 
 abbrev pub one : Entry → ℕ
 one entry = cond (is_call entry) 1 0

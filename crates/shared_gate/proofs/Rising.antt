@@ -3,12 +3,12 @@ use Rattle.std.proofs.Common.{◌≡◌, ℕ, zero, suc, ◌≤◌, List, [], �
 use Rattle.std.specs.Prelude.{slice_get}
 use Rattle.std.proofs.lemmas.Option.{none-some, same_Some}
 use Rattle.gate_ledgers.specs.Told.{Told}
-use Rattle.audit.specs.Accepted.{IsRising}
-use Rattle.shared_gate.specs.Seen.{AreOfOnePass, Call, OrderIsNeverTheCause, ReceiptsOfAPassRise}
+use Rattle.audit.specs.Accepted.{NumbersRise}
+use Rattle.shared_gate.specs.Seen.{AreOfOnePass, SeenCall, OrderIsNeverTheCause, ReceiptsOfAPassRise}
 use Rattle.shared_gate.specs.Seen.{receipts_of}
 
 -- no receipt has a number that was seen before
-above : (seen : ℕ) (calls : List Call) → AreOfOnePass seen calls → (place : ℕ) (receipt : Told)
+above : (seen : ℕ) (calls : List SeenCall) → AreOfOnePass seen calls → (place : ℕ) (receipt : Told)
     → slice_get (receipts_of calls) place ≡ Some receipt → seen ≤ receipt.number
 above seen [] are place receipt here = absurd (none-some receipt here)
 above seen (call ∷ calls) are zero receipt here =
@@ -33,8 +33,8 @@ pub never : OrderIsNeverTheCause
 never a kept list place is =
     let first = is.3 in
     let own = kept list first.list first.here in
-    let rises : IsRising first.list.items =
-    subst IsRising (sym own.2) (rise 0 own.0 own.1) in
+    let rises : NumbersRise first.list.items =
+    subst NumbersRise (sym own.2) (rise 0 own.0 own.1) in
     first.item.lacks
     (λ before earlier next at.
     rises before place earlier first.item.item (omega (arith, next)) at first.item.here)

@@ -11,9 +11,10 @@ use Rattle.limiter_core.specs.History.{Gate}
 use Rattle.limiter_core.specs.Legal.{IsLegal}
 use Rattle.limiter_core.specs.Laws.{TurnsAwayRightly}
 use Rattle.gate_ledgers.specs.Told.{Told}
-use Rattle.audit.specs.Accepted.{IsRising}
+use Rattle.audit.specs.Accepted.{NumbersRise}
+use Rattle.audit.specs.Receipts.{IsOfCall}
 use Rattle.shared_gate.specs.Calls.{IsTold}
-use Rattle.shared_gate.specs.Running.{AreCallsOf, Call, RunningIsOneThreads, StandsIn}
+use Rattle.shared_gate.specs.Running.{AreCallsOf, Call, RunningIsOneThreads}
 use Rattle.lemmas.proofs.Lists.{prefix_length, prefix_trans}
 use Rattle.shared_gate.proofs.Beginnings.{at_seam, prefix_get}
 use Rattle.shared_gate.proofs.Sequential.{cut, is_sequential}
@@ -38,7 +39,7 @@ begins known (call ∷ calls) log are =
     (begins call.after.log calls log are.2))
 
 stands : (known : List Entry) (calls : List Call) (log : List Entry) → AreCallsOf known calls log
-    → (place : ℕ) (call : Call) → slice_get calls place ≡ Some call → StandsIn log call.receipt
+    → (place : ℕ) (call : Call) → slice_get calls place ≡ Some call → IsOfCall log call.receipt
 stands known [] log are place call here = absurd (none-some call here)
 stands known (first ∷ calls) log are zero call here =
     let told = are.1 in
@@ -47,7 +48,7 @@ stands known (first ∷ calls) log are zero call here =
     subst (λ (h : List Entry). slice_get h r.number ≡ Some (entry.Call r.event r.reply))
     (sym told.stands)
     (at_seam told.found (entry.Call r.event r.reply) told.promoted r.number told.number) in
-    subst (λ (it : Call). StandsIn log it.receipt) (same_Some first call here)
+    subst (λ (it : Call). IsOfCall log it.receipt) (same_Some first call here)
     (prefix_get first.after.log log r.number (entry.Call r.event r.reply)
     (begins first.after.log calls log are.2) own)
 stands known (first ∷ calls) log are (suc place) call here =
@@ -75,7 +76,7 @@ above known (call ∷ calls) log are (suc place) receipt here =
     )
 
 rises : (known : List Entry) (calls : List Call) (log : List Entry) → AreCallsOf known calls log
-    → IsRising (receipts calls)
+    → NumbersRise (receipts calls)
 rises known [] log are place later one other less here there = absurd (none-some one here)
 rises known (call ∷ calls) log are place zero one other less here there =
     absurd (omega (arith, less))

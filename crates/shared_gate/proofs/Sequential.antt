@@ -16,7 +16,7 @@ use Rattle.limiter_core.specs.Answer.{answer, reply_to, promotion, promotion_the
 use Rattle.limiter_core.specs.Legal.{IsLegal}
 use Rattle.limiter_core.specs.Legal.IsLegal.{nothing, more}
 use Rattle.limiter_core.specs.Laws.{TurnsAwayRightly}
-use Rattle.audit.specs.Receipts.{is_call}
+use Rattle.limiter_core.specs.History.{is_call}
 use Rattle.shared_gate.specs.Headline.{AcceptedIsOneThreads}
 
 -- a list, cut at one of its items

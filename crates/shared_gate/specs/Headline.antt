@@ -16,8 +16,9 @@ use Rattle.limiter_core.specs.Legal.{IsLegal}
 use Rattle.limiter_core.specs.Laws.{is_turned_away}
 use Rattle.gate_ledgers.specs.Told.{Told}
 use Rattle.audit.specs.Firsts.{EachHas}
-use Rattle.audit.specs.Receipts.{all_kept, is_call}
-use Rattle.audit.specs.Accepted.{IsHistoryOf, IsNamedOnce, IsRising}
+use Rattle.limiter_core.specs.History.{is_call}
+use Rattle.audit.specs.Receipts.{all_kept}
+use Rattle.audit.specs.Accepted.{IsHistoryOf, IsNamedOnce, NumbersRise}
 
 -- what stood before the call of a receipt
 abbrev pub found_by : {S : Type 0} → Gate S → Image S → List Entry → Told → Image S
@@ -48,7 +49,7 @@ pub record IsOneThreads {S : Type 0}
   pub shares : EachHas (λ place receipt. IsTurnedAwayRightly g o h receipt) (all_kept kept)
   pub once : (number : ℕ) (entry : Entry) → slice_get h number ≡ Some entry
       → is_call entry ≡ true → IsNamedOnce (all_kept kept) number
-  pub in_order : EachHas (λ list receipts. IsRising receipts.items) kept
+  pub in_order : EachHas (λ list receipts. NumbersRise receipts.items) kept
 
 -- so it is of every history that a gate kept and all lists of receipts that are accepted
 abbrev pub AcceptedIsOneThreads : {S : Type 0} → Gate S → Type 0

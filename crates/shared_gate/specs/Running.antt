@@ -10,8 +10,9 @@ use Rattle.limiter_core.specs.declared.event.Entry.TheVariants as entry
 use Rattle.limiter_core.specs.History.{Gate, Image}
 use Rattle.limiter_core.specs.Legal.{IsLegal}
 use Rattle.gate_ledgers.specs.Told.{Told}
-use Rattle.audit.specs.Accepted.{IsRising}
+use Rattle.audit.specs.Accepted.{NumbersRise}
 use Rattle.audit.specs.Firsts.{EachHas}
+use Rattle.audit.specs.Receipts.{IsOfCall}
 use Rattle.shared_gate.specs.Calls.{IsTold, Pass}
 use Rattle.shared_gate.specs.Headline.{IsSequential, IsTurnedAwayRightly}
 
@@ -30,11 +31,6 @@ AreCallsOf known (call ∷ calls) log =
     × IsTold call.before call.after call.receipt.event call.receipt
     × AreCallsOf call.after.log calls log
 
--- the receipt's event and reply stand in a log at its number
-abbrev pub StandsIn : List Entry → Told → Type 0
-StandsIn log receipt =
-    slice_get log receipt.number ≡ Some (entry.Call receipt.event receipt.reply)
-
 -- a fact of each receipt of each list
 abbrev pub AllHave : (Told → Type 0) → List (List Call) → Type 0
 AllHave P lists = EachHas (λ pass calls. EachHas (λ place call. P call.receipt) calls) lists
@@ -45,10 +41,10 @@ AllHave P lists = EachHas (λ pass calls. EachHas (λ place call. P call.receipt
 pub record IsServedAsOne {S : Type 0}
     (g : Gate S) (o : Image S) (log : List Entry) (lists : List (List Call)) : Type 0 where
   pub one_threaded : IsLegal g o log
-  pub stand : AllHave (StandsIn log) lists
+  pub stand : AllHave (IsOfCall log) lists
   pub replies : AllHave (IsSequential g o log) lists
   pub shares : AllHave (IsTurnedAwayRightly g o log) lists
-  pub in_order : EachHas (λ pass calls. IsRising (map (λ call. call.receipt) calls)) lists
+  pub in_order : EachHas (λ pass calls. NumbersRise (map (λ call. call.receipt) calls)) lists
 
 -- so it is of every legal log that begins with what each of the passes knows
 abbrev pub RunningIsOneThreads : {S : Type 0} → Gate S → Type 0
