@@ -14,7 +14,7 @@ use Rattle.audit.specs.Permits.{ends, ended, IsMatched}
 use Rattle.audit.specs.Accepted.{NumbersRise, IsMatchedHistory, IsHistoryOf}
 use Rattle.audit.specs.declared.cause.Cause.{Cause}
 use Rattle.audit.specs.Verdict.{Audit, NoneApplies, IsFirstCause}
-use Rattle.audit.proofs.Places.{item_at}
+use Rattle.audit.proofs.FirstPlaces.{item_at}
 use Rattle.audit.proofs.Counted.{times, times-named, times-lists}
 use Rattle.audit.proofs.Endings.{list_any-false, ends-own}
 

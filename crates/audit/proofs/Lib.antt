@@ -1,4 +1,4 @@
-pub mod Places
+pub mod FirstPlaces
 pub mod Naming
 pub mod Endings
 pub mod Counted

@@ -6,7 +6,7 @@ use Rattle.std.proofs.lemmas.List.{take_more, flat_map_more}
 use Rattle.gate_ledgers.specs.Told.{Told}
 use Rattle.audit.specs.Receipts.{all_kept}
 use Rattle.audit.specs.Marks.{AreNamed}
-use Rattle.audit.proofs.Places.{IsRead}
+use Rattle.audit.proofs.FirstPlaces.{IsRead}
 
 -- one receipt more of a list
 pub AreNamed-more : (size : ℕ) (earlier receipts : List Told) (place : ℕ) (d : Told)

@@ -11,7 +11,7 @@ use Rattle.limiter_core.specs.declared.event.Entry.{Entry}
 use Rattle.audit.specs.Firsts.{EachHas}
 use Rattle.audit.specs.Permits.{ends, ended, is_of, HandsOutNamed, IsMatched}
 use Rattle.audit.specs.Accepted.{IsMatchedHistory}
-use Rattle.audit.proofs.Places.{item_at}
+use Rattle.audit.proofs.FirstPlaces.{item_at}
 
 -- what is of a number is a permit of it
 is_of-some : (number : ℕ) (one : Option PermitFacts) → is_of number one ≡ true

@@ -1,8 +1,9 @@
 //! What `check --explain` says of a configuration to a person.
 //!
 //! [`explanation`] says where the first fault stands and what is wanted there, or what is worth
-//! knowing of a configuration without fault. What the words are no contract says, but for the line
-//! of bytes that aren't UTF-8 (`place.rt`).
+//! knowing of a configuration without fault. Which key a contract says, with its table, its path
+//! and the numbers that it was judged by, and of bytes that aren't UTF-8 the line; of other words
+//! none says anything.
 #![tactic(auto)]
 
 mod about;

@@ -1,4 +1,3 @@
-
 pub mod Extremes
 pub mod Lists
 pub mod Walks

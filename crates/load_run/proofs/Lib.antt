@@ -1,5 +1,5 @@
 pub mod Calling
 mod Gathering
 pub mod Ordering
-pub mod Runs
+pub mod WrittenRun
 pub mod Working

@@ -148,7 +148,7 @@ impl<'s, S: Connection, E: Inlet<S>> LimitedRead for Lent<'s, S, E> {
     ghost allowed = { λ lent. E.allowed (end_of lent) };
 
     // What has come is had by one call of the system; a limit on waiting would take another.
-    #[tactic(auto, using(crate::proofs::Known::anew))]
+    #[tactic(auto, using(crate::proofs::KnownBytes::anew))]
     fn read_within(&mut self, most: Duration, buf: &mut [u8]) -> Result<usize> {
         match self.end.receive_ready(self.connection, buf) {
             Ok(count) => return Ok(count),
@@ -167,7 +167,7 @@ impl<'s, S: Connection, E: Outlet<S>> LimitedWrite for Lent<'s, S, E> {
 
     ghost allowed = { λ lent. E.allowed (end_of lent) };
 
-    #[tactic(auto, using(crate::proofs::Known::anew))]
+    #[tactic(auto, using(crate::proofs::KnownBytes::anew))]
     fn write_within(&mut self, most: Duration, buf: &[u8]) -> Result<usize> {
         let count = match self.end.send_ready(self.connection, buf) {
             Ok(count) => count,

@@ -106,7 +106,7 @@ impl<'p, R: LimitedRead, P: Patience> LimitedRead for PatientRead<'p, R, P> {
 
     ghost allowed = { λ reader. R.allowed (patient_in reader) };
 
-    #[tactic(auto, using(crate::proofs::Known::anew))]
+    #[tactic(auto, using(crate::proofs::KnownBytes::anew))]
     fn read_within(&mut self, most: Duration, buf: &mut [u8]) -> Result<usize> {
         if self.head.is_whole() {
             return self.inner.read_within(most, buf);

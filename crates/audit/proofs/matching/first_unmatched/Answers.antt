@@ -2,7 +2,7 @@ use Rattle.std.proofs.Common.{arith, refl}
 use Rattle.std.proofs.lemmas.Bool.{false≢true}
 use Rattle.audit.specs.Permits.{IsMatched}
 use Rattle.lemmas.proofs.Walks.{EachBefore-there, EachBefore-all}
-use Rattle.audit.proofs.Places.{stops_there}
+use Rattle.audit.proofs.FirstPlaces.{stops_there}
 use Rattle.audit.proofs.matching.first_unmatched.Goals as goal
 
 pub returns-then-not-is_matched : goal.returns-then-not-is_matched

@@ -2,7 +2,7 @@ use Rattle.std.proofs.Common.{arith}
 use Rattle.audit.specs.Firsts.{EachHas}
 use Rattle.audit.specs.Receipts.{IsInOrderIn}
 use Rattle.lemmas.proofs.Walks.{EachBefore-all}
-use Rattle.audit.proofs.Places.{IsRead, ListsBefore-more, stops_in}
+use Rattle.audit.proofs.FirstPlaces.{IsRead, ListsBefore-more, stops_in}
 use Rattle.audit.proofs.order.first_unordered.Goals as goal
 
 pub returns-in-Some : goal.returns-in-Some

@@ -2,7 +2,7 @@ use Rattle.std.proofs.Common.{arith, length, take}
 use Rattle.audit.specs.Firsts.{EachHas}
 use Rattle.audit.specs.Receipts.{StandsIn, all_kept}
 use Rattle.lemmas.proofs.Walks.{EachBefore-all}
-use Rattle.audit.proofs.Places.{IsRead, ListsBefore-more, stops_in}
+use Rattle.audit.proofs.FirstPlaces.{IsRead, ListsBefore-more, stops_in}
 use Rattle.audit.proofs.Naming.{AreNamed-list}
 use Rattle.audit.proofs.strange.first_strange.Goals as goal
 

@@ -6,7 +6,7 @@ use Rattle.gate_ledgers.specs.Told.{Told}
 use Rattle.audit.specs.Receipts.{StandsAfter}
 use Rattle.audit.specs.Marks.{AreNamed}
 use Rattle.lemmas.proofs.Walks.{EachBefore-there, EachBefore-all}
-use Rattle.audit.proofs.Places.{stops_there}
+use Rattle.audit.proofs.FirstPlaces.{stops_there}
 use Rattle.audit.proofs.Naming.{AreNamed-more}
 use Rattle.audit.proofs.strange.first_strange_in.Goals as goal
 
