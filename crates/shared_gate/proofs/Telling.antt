@@ -2,6 +2,7 @@
 use Rattle.std.proofs.Common.{◌≡◌, ℕ, List, ◌∷◌, ◌++◌, length, Option, None, Some}
 use Rattle.std.proofs.Common.{Ok, Err, sym, ap, ◌∙◌, subst, arith, length-append}
 use mathlib.Core.List.{IsPrefix}
+use Rattle.std.proofs.lemmas.Option.{same_Some}
 use Rattle.limit_laws.specs.Algorithm.{Algorithm}
 use Rattle.limiter_core.specs.declared.event.Event.{Event}
 use Rattle.limiter_core.specs.declared.event.Reply.{Reply}
@@ -25,14 +26,6 @@ pub steps_as : {S : Type 0} {N : Type 0} (rules : Algorithm S) (old new : Book S
 steps_as {S} {N} rules old new before after e is =
     subst (λ (step : Step N). Steps rules old new before after e step) is
 
-abbrev entry_or : Entry → Option Entry → Entry
-entry_or other None = other
-entry_or other (Some entry) = entry
-
-abbrev reply_of : Reply → Entry → Reply
-reply_of other (Call e r) = r
-reply_of other (Promotion waiter part start inflight) = other
-
 -- WHAT A STEP TELLS that is done, where the pass knew a beginning of the log before it, and knows
 -- the log after it
 pub tells : {S : Type 0} (rules : Algorithm S) (old new : Book S) (before after : Pass)
@@ -44,8 +37,9 @@ tells {S} rules old new before after e told got log did number begins longer =
     let j : Journal S = old.journal in
     let behind : List Entry = follow rules j e in
     let replied : Reply = own rules j e in
-    let same : replied ≡ told.reply =
-    ap (λ (o : Option Entry). reply_of told.reply (entry_or (Call e replied) o)) (sym did.reply) in
+    let call : Call e replied ≡ Call e told.reply =
+    same_Some (Call e replied) (Call e told.reply) (sym did.reply) in
+    let same : replied ≡ told.reply = cc (call) in
     let stands : after.log ≡ log ++ Call e told.reply ∷ behind =
     longer ∙ ap (λ (r : Reply). log ++ Call e r ∷ behind) same in (
       record {
