@@ -1,4 +1,5 @@
 pub mod Roots
+pub mod Branches
 pub mod Steps
 pub mod Drops
 pub mod Rises

@@ -10,6 +10,7 @@ use Rattle.auto.specs.AutoState.{AutoState}
 use Rattle.auto.specs.AutoRules.{added, closed, dip_over, fallen, half_way, is_base, is_calm, is_met, is_shed, learn, looked, low, mean, moved, needed, queue, raised, room, root, served, shed, shown, under_roof, wanted, window_over, with_base, with_counted, with_dip}
 use Rattle.auto.specs.Rises.{DipsEnd, EndsWindow, RisesAtTheBase, RoofsEnd}
 use Rattle.auto.proofs.Roots.{root_some}
+use Rattle.auto.proofs.Branches.{dip_by, ends_by}
 
 -- answers that took no more than the base show no queue
 no_queue : (held m base : ℕ) → m ≤ base → held * (m - base) / m ≡ 0
@@ -41,14 +42,6 @@ moved_by true true lo hi l w a b none less some more =
     raise_by (nat_eq l.roof_left 0) hi l.limit l.roof (added l w) none less some more
 moved_by true false lo hi l w a b none less some more = absurd (false≢true b)
 moved_by false met lo hi l w a b none less some more = absurd (false≢true a)
-
--- a dip that begins leaves the limit outside it
-dip_by : (calm enough : Bool) (l : Learned) (skip : ℕ) →
-    (if calm then (if enough then record l { calm = 0; in_dip = true; skip = skip }
-    else record l { calm = l.calm + 1 }) else l).limit ≡ l.limit
-dip_by true true l skip = refl
-dip_by true false l skip = refl
-dip_by false enough l skip = refl
 
 looked_by : (sheds : Bool) (lo hi : ℕ) (l : Learned) (w : Window) → sheds ≡ false →
     l.limit < (moved lo hi l w).limit →
@@ -125,14 +118,6 @@ window_raises : (lo hi : ℕ) (l : Learned) → l.in_dip ≡ false → l.window.
 unfolding window_over
 window_raises lo hi l out dry full at met few less some =
     over_by l.in_dip lo hi l out dry full at met few less some
-
-ends_by : (dropped skips goes_on : Bool) (a b c d : Learned) → dropped ≡ false →
-    skips ≡ false → goes_on ≡ false →
-    (if dropped then a else (if skips then b else (if goes_on then c else d))) ≡ d
-ends_by true skips goes_on a b c d e f g = absurd (false≢true (sym e))
-ends_by false true goes_on a b c d e f g = absurd (false≢true (sym f))
-ends_by false false true a b c d e f g = absurd (false≢true (sym g))
-ends_by false false false a b c d e f g = refl
 
 -- such an answer ends the window
 ends : (s : AutoState) (x : SampleFacts) → EndsWindow s x →

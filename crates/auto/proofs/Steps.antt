@@ -9,6 +9,7 @@ use Rattle.auto.specs.Window.{with_drop}
 use Rattle.auto.specs.AutoRules.{added, after_answer, after_drop, auto_rules, closed, dip_over, ends_early, fallen, half_way, is_base, is_calm, is_met, is_quick, is_shed, looked, mean, moved, needed, queue, raised, room, root, served, shed, shown, under_roof, wanted, window_over, with_base, with_counted, with_dip}
 use Rattle.auto.proofs.Roots.{root_some}
 use Rattle.auto.specs.Moves.{MovesByTwiceAtMost, RisesOnlyWhereMet}
+use Rattle.auto.proofs.Branches.{dip_by}
 
 -- from one limit to the next, by a window of which an answer found so many in flight
 record Moves (most limit next : ℕ) : Type 0 where
@@ -68,14 +69,6 @@ moved_by true false lo hi l w some least small wants met = stays w.most l.limit 
 moved_by false met lo hi l w some least small wants at =
     fall_by (nat_lt (max lo (half_way l.limit (wanted l w))) l.limit) lo w.most l.limit
     (wanted l w) l w.most some least wants refl
-
--- a dip that begins leaves the limit outside it
-dip_by : (calm enough : Bool) (l : Learned) (skip : ℕ) →
-    (if calm then (if enough then record l { calm = 0; in_dip = true; skip = skip }
-    else record l { calm = l.calm + 1 }) else l).limit ≡ l.limit
-dip_by true true l skip = refl
-dip_by true false l skip = refl
-dip_by false enough l skip = refl
 
 base_by : (base : Bool) (l : Learned) (mean least : ℕ) →
     (if base then record l { base = mean; base_limit = least; every = 1; calm = 0 } else l).limit

@@ -6,6 +6,7 @@ use Rattle.auto.specs.declared.window.Window.{Window}
 use Rattle.auto.specs.Window.{empty}
 use Rattle.auto.specs.AutoRules.{closed, dip_over, half_way, is_base, is_calm, is_met, is_shed, looked, mean, moved, needed, queue, raised, room, served, shed, shown, under_roof, wanted, window_over, with_base, with_counted, with_dip}
 use Rattle.auto.specs.Moves.{WindowsEnd}
+use Rattle.auto.proofs.Branches.{ends_by}
 
 needed_by : (weight limit rough : ℕ) → weight ≤ 16 → limit ≤ 10000 → rough ≤ 2048 →
     max 2 (limit * max (2 ^ 20) (weight * (rough * rough)) / 2 ^ 20) ≤ 640000
@@ -81,14 +82,6 @@ over_window : (lo hi : ℕ) (early : Bool) (l : Learned) →
     (window_over lo hi early l).window ≡ empty
 unfolding window_over
 over_window lo hi early l = over_by l.in_dip early lo hi l
-
-ends_by : (dropped skips goes_on : Bool) (a b c d : Learned) → dropped ≡ false →
-    skips ≡ false → goes_on ≡ false →
-    (if dropped then a else (if skips then b else (if goes_on then c else d))) ≡ d
-ends_by true skips goes_on a b c d e f g = absurd (false≢true (sym e))
-ends_by false true goes_on a b c d e f g = absurd (false≢true (sym f))
-ends_by false false true a b c d e f g = absurd (false≢true (sym g))
-ends_by false false false a b c d e f g = refl
 
 pub windows_end : WindowsEnd
 windows_end s x is answered none full =
