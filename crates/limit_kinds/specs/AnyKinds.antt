@@ -10,8 +10,7 @@ use Rattle.limit_kinds.specs.declared.kinds.LimitKind.{LimitKind}
 use Rattle.limit_kinds.specs.declared.kinds.BaseLimit.{BaseLimit}
 use Rattle.limit_kinds.specs.declared.kinds.AnyLimit.{AnyLimit}
 use Rattle.limit_kinds.specs.declared.kinds.AnyLimit.TheVariants.{Plain, Windowed}
-use Rattle.limit_kinds.specs.Wrapped.{set_in}
-use Rattle.limit_kinds.specs.Kinds.{base_kind, base_rules}
+use Rattle.limit_kinds.specs.Kinds.{set_in, base_kind, base_rules}
 
 -- the rule over windows
 abbrev pub window_rules : Algorithm (WindowedState BaseLimit)

@@ -5,9 +5,10 @@ use Rattle.limit_laws.specs.Algorithm.{IsLawful, IsWithin, Follows}
 use Rattle.windowed.specs.WindowedLaws.{IsLawful-windowed}
 use Rattle.limit_kinds.specs.declared.kinds.AnyLimit.{AnyLimit}
 use Rattle.limit_kinds.specs.declared.kinds.AnyLimit.TheVariants.{Plain, Windowed}
-use Rattle.limit_kinds.specs.Kinds.{IsLawful-base, base_rules}
+use Rattle.limit_kinds.specs.Kinds.{base_rules}
+use Rattle.limit_kinds.specs.KindsLaws.{IsLawful-base}
 use Rattle.limit_kinds.specs.AnyKinds.{window_rules, any_rules}
-use Rattle.limit_kinds.specs.Wrapped.{PassesOn, wrapped_sample, wrapped_setting, wrapped_reset}
+use Rattle.limit_kinds.specs.WrappedLaws.{PassesOn, wrapped_sample, wrapped_setting, wrapped_reset}
 
 IsLawful-windows : IsLawful window_rules
 IsLawful-windows = IsLawful-windowed base_rules IsLawful-base

@@ -1,23 +1,17 @@
 -- The kinds of limit: their list, and what each is called; the limits of all kinds as one, each by
--- its own rule; the limits that plain numbers make; and that each is lawful.
-use Rattle.std.proofs.Common.{refl}
-use Rattle.std.specs.Prelude.{ℕ, Bool, List, [], ◌∷◌, Option, Result, Ok, Err, IfOk, bytes_eq, codes, find, map, nat_le, ◌&&◌, if◌then◌else◌}
+-- its own rule; and the limits that plain numbers make.
+use Rattle.std.specs.Prelude.{ℕ, Bool, List, [], ◌∷◌, Option, Result, Ok, Err, bytes_eq, codes, find, map, nat_le, ◌&&◌, if◌then◌else◌}
 use Rattle.limit_laws.specs.declared.limit.MakeFault.{MakeFault}
 use Rattle.limit_laws.specs.declared.limit.MakeFault.TheVariants.{Range}
 use Rattle.limit_laws.specs.declared.limit.SetFault.{SetFault}
 use Rattle.limit_laws.specs.declared.view.LimitView.{LimitView}
-use Rattle.limit_laws.specs.Facts.{SampleFacts, IsSample}
-use Rattle.limit_laws.specs.Algorithm.{Algorithm, Follows, IsLawful, IsWithin, greatest_limit}
+use Rattle.limit_laws.specs.Facts.{SampleFacts}
+use Rattle.limit_laws.specs.Algorithm.{Algorithm, greatest_limit}
 use Rattle.limit_laws.specs.FixedRules.{fixed_rules}
-use Rattle.limit_laws.specs.FixedLaws.{IsLawful-fixed}
 use Rattle.limit_laws.specs.SettableRules.{settable_from, settable_rules}
-use Rattle.limit_laws.specs.SettableLaws.{IsLawful-settable}
 use Rattle.aimd.specs.AimdRules.{aimd_made, aimd_of, aimd_rules}
-use Rattle.aimd.specs.AimdLaws.{IsLawful-aimd}
 use Rattle.vegas.specs.VegasRules.{vegas_made, vegas_of, vegas_rules}
-use Rattle.vegas.specs.VegasLaws.{IsLawful-vegas}
 use Rattle.auto.specs.AutoRules.{auto_from, auto_rules}
-use Rattle.auto.specs.AutoLaws.{IsLawful-auto}
 use Rattle.limit_kinds.specs.declared.kinds.LimitKind.{LimitKind}
 use Rattle.limit_kinds.specs.declared.kinds.LimitKind.TheVariants as kind
 use Rattle.limit_kinds.specs.declared.kinds.BaseLimit.{BaseLimit}
@@ -25,7 +19,6 @@ use Rattle.limit_kinds.specs.declared.kinds.BaseLimit.TheVariants.{Fixed, Settab
 use Rattle.limit_kinds.specs.declared.kinds.Limits.{Limits}
 use Rattle.limit_kinds.specs.declared.kinds.LimitSpec.{LimitSpec}
 use Rattle.limit_kinds.specs.declared.kinds.LimitSpec.TheVariants as spec
-use Rattle.limit_kinds.specs.Wrapped.{PassesOn, set_in, wrapped_sample, wrapped_setting, wrapped_reset}
 
 -- all kinds
 abbrev pub kinds : List LimitKind
@@ -46,6 +39,11 @@ kind_words = map kind_word kinds
 -- the kind that is called so
 abbrev pub kind_named : List ℕ → Option LimitKind
 kind_named word = find (λ it. bytes_eq word (kind_word it)) kinds
+
+-- a setting that is taken, in a state of another type
+abbrev pub set_in : {S T : Type 0} → (S → T) → Result S SetFault → Result T SetFault
+set_in wrap (Ok s) = Ok (wrap s)
+set_in wrap (Err fault) = Err fault
 
 abbrev pub base_lo : BaseLimit → ℕ
 base_lo (Fixed s) = fixed_rules.lo s
@@ -145,87 +143,3 @@ limit_made (spec.Settable n) =
 limit_made (spec.Aimd n) = of_kind Aimd (aimd_made n)
 limit_made (spec.Vegas n) = of_kind Vegas (vegas_made n)
 limit_made (spec.Auto n) = if are_limits n then Ok (first_limit (spec.Auto n)) else Err Range
-
--- each kind is passed on to as it stands
-fixed_in : PassesOn fixed_rules base_rules Fixed
-fixed_in = record {
-  lo = λ s. refl;
-  limit = λ s. refl;
-  hi = λ s. refl;
-  next = λ s x. refl;
-  put = λ s n. refl;
-  first = λ s. refl;
-}
-
-settable_in : PassesOn settable_rules base_rules Settable
-settable_in = record {
-  lo = λ s. refl;
-  limit = λ s. refl;
-  hi = λ s. refl;
-  next = λ s x. refl;
-  put = λ s n. refl;
-  first = λ s. refl;
-}
-
-aimd_in : PassesOn aimd_rules base_rules Aimd
-aimd_in = record {
-  lo = λ s. refl;
-  limit = λ s. refl;
-  hi = λ s. refl;
-  next = λ s x. refl;
-  put = λ s n. refl;
-  first = λ s. refl;
-}
-
-vegas_in : PassesOn vegas_rules base_rules Vegas
-vegas_in = record {
-  lo = λ s. refl;
-  limit = λ s. refl;
-  hi = λ s. refl;
-  next = λ s x. refl;
-  put = λ s n. refl;
-  first = λ s. refl;
-}
-
-auto_in : PassesOn auto_rules base_rules Auto
-auto_in = record {
-  lo = λ s. refl;
-  limit = λ s. refl;
-  hi = λ s. refl;
-  next = λ s x. refl;
-  put = λ s n. refl;
-  first = λ s. refl;
-}
-
-base_sample : (s : BaseLimit) (x : SampleFacts) → IsWithin base_rules s → IsSample x →
-    Follows base_rules s (base_rules.next s x)
-base_sample (Fixed s) = wrapped_sample fixed_rules base_rules Fixed fixed_in IsLawful-fixed s
-base_sample (Settable s) =
-    wrapped_sample settable_rules base_rules Settable settable_in IsLawful-settable s
-base_sample (Aimd s) = wrapped_sample aimd_rules base_rules Aimd aimd_in IsLawful-aimd s
-base_sample (Vegas s) = wrapped_sample vegas_rules base_rules Vegas vegas_in IsLawful-vegas s
-base_sample (Auto s) = wrapped_sample auto_rules base_rules Auto auto_in IsLawful-auto s
-
-base_setting : (s : BaseLimit) (n : ℕ) → IsWithin base_rules s →
-    IfOk (base_rules.put s n) (Follows base_rules s)
-base_setting (Fixed s) = wrapped_setting fixed_rules base_rules Fixed fixed_in IsLawful-fixed s
-base_setting (Settable s) =
-    wrapped_setting settable_rules base_rules Settable settable_in IsLawful-settable s
-base_setting (Aimd s) = wrapped_setting aimd_rules base_rules Aimd aimd_in IsLawful-aimd s
-base_setting (Vegas s) = wrapped_setting vegas_rules base_rules Vegas vegas_in IsLawful-vegas s
-base_setting (Auto s) = wrapped_setting auto_rules base_rules Auto auto_in IsLawful-auto s
-
-base_reset : (s : BaseLimit) → IsWithin base_rules s → Follows base_rules s (base_rules.first s)
-base_reset (Fixed s) = wrapped_reset fixed_rules base_rules Fixed fixed_in IsLawful-fixed s
-base_reset (Settable s) =
-    wrapped_reset settable_rules base_rules Settable settable_in IsLawful-settable s
-base_reset (Aimd s) = wrapped_reset aimd_rules base_rules Aimd aimd_in IsLawful-aimd s
-base_reset (Vegas s) = wrapped_reset vegas_rules base_rules Vegas vegas_in IsLawful-vegas s
-base_reset (Auto s) = wrapped_reset auto_rules base_rules Auto auto_in IsLawful-auto s
-
-pub IsLawful-base : IsLawful base_rules
-IsLawful-base = record {
-  after_sample = base_sample;
-  after_setting = base_setting;
-  after_reset = base_reset;
-}

@@ -1,4 +1,5 @@
-pub mod Wrapped
 pub mod Kinds
+pub mod WrappedLaws
+pub mod KindsLaws
 pub mod AnyKinds
 pub mod AnyKindsLaws

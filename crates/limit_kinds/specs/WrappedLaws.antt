@@ -3,11 +3,7 @@ use Rattle.std.proofs.Common.{◌≡◌, ℕ, Result, Ok, Err, IfOk, ap, ◌∙�
 use Rattle.limit_laws.specs.declared.limit.SetFault.{SetFault}
 use Rattle.limit_laws.specs.Facts.{SampleFacts, IsSample}
 use Rattle.limit_laws.specs.Algorithm.{Algorithm, IsLawful, IsWithin, Follows}
-
--- a setting that is taken, in a state of another type
-abbrev pub set_in : {S T : Type 0} → (S → T) → Result S SetFault → Result T SetFault
-set_in wrap (Ok s) = Ok (wrap s)
-set_in wrap (Err fault) = Err fault
+use Rattle.limit_kinds.specs.Kinds.{set_in}
 
 -- an algorithm that passes each call on to what it wraps
 pub record PassesOn {S T : Type 0} (inner : Algorithm S) (outer : Algorithm T) (wrap : S → T) :

@@ -93,7 +93,8 @@ impl BaseLimit {
 }
 
 impl Limit for BaseLimit {
-    ghost use Rattle.limit_kinds.specs.Kinds.{IsLawful-base, base_rules};
+    ghost use Rattle.limit_kinds.specs.Kinds.{base_rules};
+    ghost use Rattle.limit_kinds.specs.KindsLaws.{IsLawful-base};
 
     ghost rules = { base_rules };
 

@@ -4,8 +4,8 @@
 //! A [`LimitSpec`] is a kind with its numbers, whichever they are. Its `make` gives the limit, or
 //! says which number is out of its range.
 //!
-//! A limit passes each call on to what it holds. That each is a lawful limit again is
-//! proved in `specs/Kinds.antt` and `specs/AnyKindsLaws.antt`.
+//! A limit passes each call on to what it holds. That each is a lawful limit again is proved in
+//! `specs/KindsLaws.antt` and `specs/AnyKindsLaws.antt`.
 #![tactic(auto)]
 
 mod kinds;
