@@ -1,5 +1,5 @@
 -- Additive increase, multiplicative decrease, and the limit that numbers make.
-use Rattle.std.specs.Prelude.{ℕ, false, zero, suc, ◌+◌, ◌*◌, ◌<◌, ◌≤◌, Bool, Result, Ok, Err, min, max, nat_lt, nat_le, ◌&&◌, ◌||◌, if◌then◌else◌}
+use Rattle.std.specs.Prelude.{ℕ, false, ◌+◌, ◌*◌, ◌<◌, ◌≤◌, Bool, Result, Ok, Err, min, max, nat_lt, nat_le, ◌&&◌, ◌||◌, if◌then◌else◌}
 use Rattle.lemmas.specs.Extremes.{greatest}
 use Rattle.limit_laws.specs.declared.limit.MakeFault.{MakeFault}
 use Rattle.limit_laws.specs.declared.limit.MakeFault.TheVariants.{Range, Ratio}

@@ -1,9 +1,9 @@
 -- A walk over a list, item by item, until one lacks a property.
-use Rattle.std.proofs.Common.{◌≡◌, ℕ, zero, suc, [], ◌∷◌, ◌+◌, ◌<◌, ◌≤◌, List, Some, length, get_or, sym, ap, ◌∙◌, subst, below_more, arith, refl}
+use Rattle.std.proofs.Common.{◌≡◌, ℕ, zero, suc, [], ◌∷◌, ◌+◌, ◌<◌, List, Some, length, get_or, sym, ap, ◌∙◌, subst, arith, refl}
 use Rattle.std.specs.Prelude.{slice_get, Vec}
 use Rattle.std.specs.declared.alloc.Global.{Global}
-use Rattle.std.proofs.lemmas.Option.{slice_get-get_or, slice_get_within, same_Some}
-use Rattle.lemmas.proofs.Walks.{EachBefore, EachBefore-there, EachBefore-more, EachBefore-all}
+use Rattle.std.proofs.lemmas.Option.{slice_get-get_or}
+use Rattle.lemmas.proofs.Walks.{EachBefore, EachBefore-more}
 use Rattle.audit.specs.Firsts.{EachHas, IsFirstWithout, IsFirstPlaceWithout}
 
 -- or to the first item that lacks it

@@ -3,7 +3,7 @@ use Rattle.std.specs.Prelude.{◌≡◌, ℕ, ◌+◌, ◌<◌, ◌==◌, Bool, 
 use Rattle.std.specs.List.{list_any, flat_map}
 use Rattle.std.specs.declared.alloc.Global.{Global}
 use Rattle.limiter_core.specs.declared.event.Entry.{Entry}
-use Rattle.limiter_core.specs.declared.event.Entry.TheVariants.{Call, Promotion}
+use Rattle.limiter_core.specs.declared.event.Entry.TheVariants.{Call}
 use Rattle.limiter_core.specs.History.{is_call}
 use Rattle.gate_ledgers.specs.Told.{Told}
 

@@ -1,6 +1,6 @@
 -- A window ends within so many answers.
-use Rattle.std.proofs.Common.{◌≡◌, refl, sym, ◌∙◌, ap, ℕ, ◌+◌, ◌*◌, ◌/◌, ◌^◌, ◌≤◌, Bool, true, false, ◌&&◌, arith, if◌then◌else◌, min, max, nat_eq, nat_le, nat_lt, mul-le-mul_right, mul-le-mul_left}
-use Rattle.std.proofs.lemmas.Bool.{false≢true, le-ltb}
+use Rattle.std.proofs.Common.{◌≡◌, refl, ◌∙◌, ap, ℕ, ◌+◌, ◌*◌, ◌/◌, ◌^◌, ◌≤◌, Bool, true, false, ◌&&◌, arith, if◌then◌else◌, min, max, nat_eq, nat_le, nat_lt, mul-le-mul_right, mul-le-mul_left}
+use Rattle.std.proofs.lemmas.Bool.{le-ltb}
 use Rattle.auto.specs.declared.learned.Learned.{Learned}
 use Rattle.auto.specs.declared.window.Window.{Window}
 use Rattle.auto.specs.Window.{empty}

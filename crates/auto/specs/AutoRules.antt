@@ -1,5 +1,5 @@
 -- The rules of a limit that needs no numbers. All divisions round down.
-use Rattle.std.specs.Prelude.{ℕ, zero, suc, ◌+◌, ◌-◌, ◌*◌, ◌/◌, ◌^◌, Bool, true, false, Option, None, Some, Err, min, max, nat_eq, nat_le, nat_lt, not, ◌&&◌, ◌||◌, if◌then◌else◌}
+use Rattle.std.specs.Prelude.{ℕ, ◌+◌, ◌-◌, ◌*◌, ◌/◌, ◌^◌, Bool, true, false, Option, None, Some, Err, min, max, nat_eq, nat_le, nat_lt, not, ◌&&◌, ◌||◌, if◌then◌else◌}
 use Rattle.lemmas.specs.Extremes.{greatest}
 use Rattle.limit_laws.specs.declared.limit.SetFault.TheVariants.{NotSettable}
 use Rattle.limit_laws.specs.declared.view.LimitView.{LimitView}

@@ -1,6 +1,5 @@
 -- Beginnings of one list, and the longer of two.
-use Rattle.std.proofs.Common.{◌≡◌, List, [], ◌∷◌, ◌++◌, ◌⊎◌, refl, ap, sym, ◌∙◌, inl, inr, ⊎_elim, append_assoc}
-use Rattle.std.proofs.lemmas.List.{append-nil}
+use Rattle.std.proofs.Common.{◌≡◌, List, [], ◌∷◌, ◌⊎◌, refl, ap, inl, inr, ⊎_elim}
 use mathlib.Core.List.{IsPrefix}
 use Rattle.lemmas.proofs.Lists.{prefix_self}
 use Rattle.gate_word.specs.Rule.{longer}

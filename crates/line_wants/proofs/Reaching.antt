@@ -1,6 +1,6 @@
 -- How far the words of a line stand where a form wants them.
-use Rattle.std.proofs.Common.{◌≡◌, ◌∙◌, ◌+◌, ◌||◌, refl, ap, Bool, true, false, cond, List, [], ◌∷◌, length, map, find, take_while, zip, Some, option_map}
-use Rattle.std.specs.List.{common_prefix_len, list_any, prefix_len}
+use Rattle.std.proofs.Common.{◌≡◌, ◌∙◌, ◌+◌, refl, ap, Bool, true, false, cond, List, [], ◌∷◌, length, map, find, take_while, zip, Some, option_map}
+use Rattle.std.specs.List.{common_prefix_len, prefix_len}
 use Rattle.std.proofs.lemmas.List.Folds.{length-prefix_len}
 
 -- how many pairs from the front on pass, by the two lists

@@ -1,5 +1,5 @@
 -- Why a closed gate's audit fails, by its book and its history.
-use Rattle.std.proofs.Common.{◌≡◌, ℕ, zero, suc, List, [], ◌∷◌, ◌++◌, length, drop}
+use Rattle.std.proofs.Common.{◌≡◌, ℕ, List, [], ◌++◌, length, drop}
 use Rattle.std.proofs.Common.{refl, sym, ap, ◌∙◌, subst, arith, length-append}
 use Rattle.std.specs.Prelude.{IfErr, IfOk, Result, Ok, Err, Vec, false}
 use Rattle.std.specs.declared.alloc.Global.{Global}

@@ -5,7 +5,6 @@ use Rattle.std.proofs.lemmas.List.Elements.{All-nil}
 use mathlib.Core.List.{IsPrefix}
 use mathlib.Core.Logic.{dite}
 use native.Mathlib.Decide.{ℕ_discrete}
-use Rattle.lemmas.proofs.Lists.{length-one_more}
 use Rattle.limiter_core.specs.declared.event.Entry.{Entry}
 use Rattle.shared_gate.specs.Calls.{Pass}
 use Rattle.lemmas.proofs.Lists.{prefix_trans}

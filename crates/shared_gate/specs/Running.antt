@@ -3,7 +3,7 @@
 --
 -- g: what the limiter was made with, o: what stood at first, log: the entries that a pass knows,
 -- lists: the calls by passes, one list for each pass
-use Rattle.std.specs.Prelude.{◌≡◌, List, [], ◌∷◌, Some, slice_get, map}
+use Rattle.std.specs.Prelude.{List, [], ◌∷◌, map}
 use mathlib.Core.List.{IsPrefix}
 use Rattle.limiter_core.specs.declared.event.Entry.{Entry}
 use Rattle.limiter_core.specs.declared.event.Entry.TheVariants as entry
