@@ -1,5 +1,6 @@
 pub mod Calling
 mod Gathering
 pub mod Ordering
-pub mod WrittenRun
+pub mod Runs
+pub mod Walks
 pub mod Working
