@@ -31,7 +31,8 @@ use Rattle.proxy.specs.Table.{outcome_at, outcome_of}
 use Rattle.shared_gate.specs.Running.{RunningIsOneThreads}
 use Rattle.gate_laws.specs.Decided.{IsDecided, IsVerdict}
 use Rattle.gate_laws.specs.Exchanges.{ExchangesAreOneThreads}
-use Rattle.gate_laws.proofs.Logged.{begins, prefix_trans}
+use Rattle.lemmas.proofs.Lists.{prefix_trans}
+use Rattle.gate_laws.proofs.Logged.{begins}
 use Rattle.gate_laws.proofs.Verdicts.{Decides, IsBelow, asked_behind, asked_below, decides, ends}
 
 same_prefix : (old new : List Entry) → new ≡ old → IsPrefix old new
@@ -56,12 +57,11 @@ module _ {S : Type 0} (g : Gate S) (served : RunningIsOneThreads g)
       → IsVerdict g o log ask now (verdict_of answer) (outcome_at said)
   closes o log idle legal ask now (Admitted permit) None end mid new begun below got closed =
       absurd closed
-  closes o log idle legal ask now (Admitted permit) (Some said) end mid new begun below got closed = (
-    permit.number,
-    got,
-    ends g served leaves o log idle legal permit (outcome_of said) end mid new closed below begun,
-    refl,
-  )
+  closes o log idle legal ask now (Admitted permit) (Some said) end mid new begun below got
+      closed =
+      let held =
+      ends g served leaves o log idle legal permit (outcome_of said) end mid new closed below begun
+      in (permit.number, got, held, refl)
   closes o log idle legal ask now Bypassed said end mid new begun below passed closed = passed
   closes o log idle legal ask now (Refused cause) said end mid new begun below refused closed =
       refused
@@ -76,7 +76,8 @@ module _ {S : Type 0} (g : Gate S) (served : RunningIsOneThreads g)
       let behind = closed_behind is.admission answer end is.mid new is.ending in (
         prefix_trans old is.mid new (asked_behind ask old now is.mid is.admission is.asking) behind,
         λ o log idle legal begun.
-            subst (λ (v : Verdict). IsVerdict g o log ask now v (outcome_at answer)) (sym is.verdict)
+            subst (λ (v : Verdict). IsVerdict g o log ask now v (outcome_at answer))
+            (sym is.verdict)
             (closes o log idle legal ask now is.admission answer end is.mid new begun
             (asked_below ask old now is.mid is.admission is.asking)
             (decides g served leaves o log idle legal ask old now is.mid is.admission is.asking

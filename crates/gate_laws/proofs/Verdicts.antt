@@ -28,7 +28,8 @@ use Rattle.shared_gate.specs.Running.{RunningIsOneThreads}
 use Rattle.gate_laws.specs.Decided.{HasWaited, IsAnsweredAt, IsEnded, IsGot, IsRefused}
 use Rattle.gate_laws.specs.Decided.{IsTurnedAway, found_at}
 use Rattle.gate_laws.proofs.Before.{legal_before}
-use Rattle.gate_laws.proofs.Logged.{answered_at, begins, prefix_trans, seen, turned_away, unseen}
+use Rattle.lemmas.proofs.Lists.{prefix_trans}
+use Rattle.gate_laws.proofs.Logged.{answered_at, begins, seen, turned_away, unseen}
 use Rattle.gate_laws.proofs.Replies.{IsOfAcquire, IsOfGivingUp, of_acquire, of_giving_up}
 
 -- what was known before an asking begins what is known behind it

@@ -5,6 +5,7 @@ use Rattle.std.proofs.lemmas.List.{append-nil}
 use Rattle.std.proofs.lemmas.Option.{same_Some}
 use Rattle.std.specs.Prelude.{get_or}
 use mathlib.Core.List.{IsPrefix}
+use Rattle.lemmas.proofs.Lists.{prefix_trans}
 use Rattle.limit_laws.specs.Algorithm.{Algorithm}
 use Rattle.limiter_core.specs.declared.counters.Counters.{Counters}
 use Rattle.limiter_core.specs.declared.event.Entry.{Entry}
@@ -26,10 +27,6 @@ use Rattle.serving.specs.Turns.{AreServed, Ending, IsTurn, Keeping, Missing, Tur
 use Rattle.serving.specs.Visits.{Client}
 use Rattle.serve_command.specs.Clients.{AreDecided, HasRunIn}
 use Rattle.serve_command.specs.Worked.{HasRunTo}
-
-prefix_trans : (xs ys zs : List Entry) → IsPrefix xs ys → IsPrefix ys zs → IsPrefix xs zs
-prefix_trans xs ys zs p q =
-    (p.0 ++ q.0, sym (append_assoc xs p.0 q.0) ∙ (ap (λ w. w ++ q.0) p.1 ∙ q.1))
 
 module _ {S : Type 0} (g : Gate S) (one : ExchangesAreOneThreads g) (p : Policy)
     (came : Bytes → Type 0) where

@@ -119,10 +119,6 @@ local_path_range t q =
     let same : start + q - start ≡ q = omega arith in
     ap (λ n. take n (drop start t)) same ∙ ap (take q) ((local_part_is_rest t).1)
 
-pub before_query : (p : ℕ → Bool) (xs : List ℕ)
-    → unwrap_or (position p xs) (length xs) ≡ position_or_len p xs
-before_query p xs = grind (arith, nat_tests, prefix_len-le-length (λ x. not (p x)) xs)
-
 -- with a `/` in front it is text, too
 pub slash_path_is_text : (t : List ℕ) → IsUtf8 t
     → IsUtf8 (47 ∷ before_first is_query (local_part t))

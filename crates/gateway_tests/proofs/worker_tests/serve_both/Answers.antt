@@ -12,6 +12,6 @@ returns g c =
     c.push_reserved-2.ensures.items
     ∙ ap (λ (ps : List Pass). ps ++ two ∷ []) (c.push_reserved.ensures.items
     ∙ ap (λ (ps : List Pass). ps ++ one ∷ []) empty) in
-    both_decided _ _ _ _ c.exchanges_are_one_threads.ensures c.counters_behind-calls.ensures.counters
-    one two c.join-first.result.0.told c.join-first.result.1.told same
-    c.join-first.ensures.first c.join-first.ensures.second
+    both_decided _ _ _ _ c.exchanges_are_one_threads.ensures
+    c.counters_behind-calls.ensures.counters one two c.join-first.result.0.told
+    c.join-first.result.1.told same c.join-first.ensures.first c.join-first.ensures.second
