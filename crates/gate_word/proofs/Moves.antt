@@ -1,5 +1,5 @@
 -- Each step keeps the rule of the log.
-use Rattle.std.proofs.Common.{◌≡◌, ◌≢◌, ℕ, zero, suc, ◌+◌, ◌<◌, List, [], ◌∷◌, ◌++◌, length, set}
+use Rattle.std.proofs.Common.{◌≡◌, ◌≢◌, ℕ, zero, suc, List, [], ◌∷◌, ◌++◌, length, set}
 use Rattle.std.proofs.Common.{Bool, true, false, true≢false, refl, sym, ap, ◌∙◌, subst, ⊎_elim}
 use Rattle.std.proofs.Common.{arith}
 use Rattle.std.specs.Prelude.{slice_index, slice_set}
@@ -12,16 +12,12 @@ use Rattle.atomic_table.specs.Table.{State, Me, step, keeps, Allows, Splits, Joi
 use Rattle.atomic_table.proofs.Lists.{at_set, at_snoc, at_longer, set_here, set_else}
 use Rattle.gate_word.specs.declared.rule.View.{View}
 use Rattle.gate_word.specs.Rule.{keeper_view, reader_view, Compared, Fits, KeptAt, Kept, Raised}
-use Rattle.gate_word.specs.Rule.{Took}
-use Rattle.gate_word.specs.Rule.{note_of, noted, longer}
+use Rattle.gate_word.specs.Rule.{Took, handed_by, left_by, longer, note_of, noted, raised}
 use Rattle.lemmas.proofs.Lists.{prefix_self, prefix_trans}
 use Rattle.gate_word.proofs.Beginnings.{longer_left, longer_right}
 use Rattle.gate_word.proofs.Beginnings.{longer_within}
-
-at_within : {A : Type 0} (l : List A) (i : ℕ) (a : A) → get_elem? l i ≡ some a → i < length l
-at_within [] i a e = absurd (some-ne-none a (sym e))
-at_within (x ∷ xs) zero a e = omega arith
-at_within (x ∷ xs) (suc i) a e = let h = at_within xs i a e in omega arith
+use Rattle.gate_word.proofs.Numbers.{at_within}
+use Rattle.gate_word.proofs.Numbers as numbers
 
 off : false ≡ true → ⊥
 off e = true≢false (sym e)
@@ -36,8 +32,12 @@ module _ {E : Type 0} where
 
   -- the first seat is the keeper's
   pub begins : Kept {E = E} (0 ∷ []) (keeper_view [] [] ∷ [])
-  begins =
-      ([], refl, record { seat = 0; keeper = (keeper_view [] [], refl, refl); all = one })
+  begins = (
+    [],
+    refl,
+    record { seat = 0; keeper = (keeper_view [] [], refl, refl); all = one },
+    record { once = λ n. omega arith; made = λ n beyond. omega arith },
+  )
     where
       one : (by : ℕ) (v : View E) → get_elem? (keeper_view [] [] ∷ []) by ≡ some v → Fits [] 0 by v
       one zero v e =
@@ -110,7 +110,7 @@ module _ {E : Type 0} where
       let m = kept.0 in
       let mine = kept.2.all id me.0 at in
       let both = longer me.0.log me.0.note in
-      let w : View E = reader_view both [] in (
+      let w : View E = reader_view both me.0.own in (
         w,
         keeps,
         tt,
@@ -120,6 +120,7 @@ module _ {E : Type 0} where
           turned m m s.views id me.0 w kept.2 at (sym plain) (prefix_self m) (λ _. refl)
               (longer_within me.0.log me.0.note m mine.0 mine.1) (nothing m)
               (λ k. absurd (off (sym plain ∙ k))),
+          numbers.fewer m m s.views id me.0 w kept.3 at (prefix_self m) (λ k. omega arith),
         ),
         (
           refl,
@@ -136,7 +137,7 @@ module _ {E : Type 0} where
       let m = kept.0 in
       let mine = kept.2.all id me.0 at in
       let here : me.0.log ≡ m = (mine.2 keeper).1 in
-      let w : View E = keeper_view me.0.log [] in (
+      let w : View E = keeper_view me.0.log (me.0.came ++ me.0.own) in (
         w,
         keeps,
         tt,
@@ -145,8 +146,14 @@ module _ {E : Type 0} where
           ap (λ (ws : List ℕ). slice_set ws 0 (slice_index ws 0)) kept.1,
           turned m m s.views id me.0 w kept.2 at (sym keeper) (prefix_self m) (λ _. refl) mine.0
               (nothing m) (λ _. here),
+          numbers.fewer m m s.views id me.0 w kept.3 at (prefix_self m)
+              (λ k. numbers.took_back k me.0.log me.0),
         ),
-        (refl, subst (λ (l : List E). IsPrefix me.0.note l) (sym here) mine.1),
+        (
+          refl,
+          subst (λ (l : List E). IsPrefix me.0.note l) (sym here) mine.1,
+          numbers.apart m s.views id me.0 kept.3 at,
+        ),
       )
 
   -- the keeper adds entries
@@ -159,7 +166,7 @@ module _ {E : Type 0} where
       let mine = kept.2.all id me.0 at in
       let here : me.0.log ≡ m = (mine.2 keeper).1 in
       let n : List E = me.0.log ++ more in
-      let w : View E = keeper_view n [] in (
+      let w : View E = raised more me.0 in (
         w,
         keeps,
         tt,
@@ -169,6 +176,7 @@ module _ {E : Type 0} where
           turned m n s.views id me.0 w kept.2 at (sym keeper)
               (more, ap (λ (l : List E). l ++ more) (sym here))
               (λ k. absurd (off (sym k ∙ keeper))) (prefix_self n) (nothing n) (λ _. refl),
+          numbers.raises m more s.views id me.0 kept.3 at here,
         ),
         (refl, subst (λ (l : List E). IsPrefix me.0.note l) (sym here) mine.1),
       )
@@ -179,8 +187,25 @@ module _ {E : Type 0} where
       let m = kept.0 in
       let mine = kept.2.all id v at in
       let same = turned m m s.views id v v kept.2 at refl (prefix_self m) (λ _. refl) mine.0 mine.1
-      (λ k. (mine.2 k).1) in
-      (m, kept.1, added m (set s.views id v) (note_of v) same refl mine.0 (nothing m))
+      (λ k. (mine.2 k).1) in (
+        m,
+        kept.1,
+        added m (set s.views id v) (note_of v) same refl mine.0 (nothing m),
+        numbers.shared m s.views id v v (note_of v) kept.3 at (λ k. omega arith),
+      )
+
+  -- a new seat that gets the numbers that another noted
+  pub hands : (id : ℕ) (v : View E) → Splits KeepsRule id v (left_by v) (handed_by v)
+  hands id v s kept at =
+      let m = kept.0 in
+      let mine = kept.2.all id v at in
+      let left = turned m m s.views id v (left_by v) kept.2 at refl (prefix_self m) (λ _. refl)
+      mine.0 mine.1 (λ k. (mine.2 k).1) in (
+        m,
+        kept.1,
+        added m (set s.views id (left_by v)) (handed_by v) left refl mine.0 (nothing m),
+        numbers.shared m s.views id v (left_by v) (handed_by v) kept.3 at (λ k. omega arith),
+      )
 
   -- a seat notes what another knows, and the other is spent
   pub notes : (id : ℕ) (v : View E) (other : ℕ) (w : View E) → w.keeps ≡ false
@@ -200,4 +225,6 @@ module _ {E : Type 0} where
         turned m m (set s.views id (noted v w)) other w (reader_view [] []) once there
             (sym plain) (prefix_self m) (λ _. refl) (nothing m) (nothing m)
             (λ k. absurd (off (sym plain ∙ k))),
+        numbers.joined m s.views id v (noted v w) other w (reader_view [] []) kept.3 at there
+            (λ k. omega arith),
       )

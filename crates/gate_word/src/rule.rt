@@ -11,10 +11,14 @@ pub struct View<E> {
     pub log: LinkedList<E>,
     /// A beginning that was taken in from another seat, to compare it with the log.
     pub note: LinkedList<E>,
+    /// The numbers of the raises by a reader; for the keeper, by those that it took back.
+    pub own: LinkedList<u64>,
+    /// The numbers that were taken in from another seat.
+    pub came: LinkedList<u64>,
 }
 
-/// One view is the keeper's and has the whole log, each other has a beginning of it, and the word
-/// is the log's length: the number of the next entry.
+/// One view is the keeper's and has the whole log, each other has a beginning of it, a number of
+/// the log is in one view at most, and the word is the log's length: the number of the next entry.
 pub struct Rises;
 
 impl<E> TableRule<u64, View<E>, ()> for Rises {
@@ -39,7 +43,7 @@ impl<E> Added<E> for Brand {
     ghost added = { [] };
 }
 
-/// The keeper raises the log by these entries.
+/// The keeper raises the log by these entries, for whom it noted.
 pub struct Raises<G> {
     of: PhantomData<G>,
 }
@@ -50,7 +54,7 @@ impl<E, G: Added<E>> Play<u64, View<E>> for Raises<G> {
     ghost then = { Raised G.added };
 }
 
-/// The keeper compares what it noted with the log.
+/// The keeper compares what it noted with the log, and takes back whom it noted.
 pub struct Compares;
 
 impl<E> Play<u64, View<E>> for Compares {
@@ -77,6 +81,17 @@ impl<E> Split<View<E>> for Tells {
     ghost left = { λ v. v };
 
     ghost right = { note_of };
+}
+
+/// A new seat that knows what the keeper does, and has the numbers that it noted.
+pub struct Hands;
+
+impl<E> Split<View<E>> for Hands {
+    ghost use Rattle.gate_word.specs.Rule.{handed_by, left_by};
+
+    ghost left = { left_by };
+
+    ghost right = { handed_by };
 }
 
 /// A seat notes what another knows, which is spent.

@@ -1,12 +1,14 @@
 // A log, and the calls of those who share it.
 ghost use Rattle.std.specs.Prelude.{◌≡◌, ◌⊎◌, ◌++◌, [], length};
 ghost use mathlib.Core.List.{IsPrefix};
+ghost use Rattle.gate_word.specs.Rule.{AreApart, numbered};
 
 use crate::rule::Added;
 use crate::seats::{Keeper, Reader};
-use crate::steps::{Seat, WordTable, compare, learn, lift, note, told_by};
+use crate::steps::{Seat, WordTable, compare, hand, learn, lift, note, told_by};
 use std::alloc::{AllocError, Global};
 use std::marker::Model;
+use std::mem;
 
 /// An empty log that nobody shares yet. Contracts see the name of its table.
 #[derive(Drop)]
@@ -39,7 +41,7 @@ impl<E> LogLength<E> {
     /// The log that threads share, and its keeper.
     pub fn share(self) -> (SharedLogLength<E>, Keeper<E>)
         ensures shared { result.0 ≡ self }
-        ensures keeper { result.1 ≡ record { table = self; log = [] } }
+        ensures keeper { result.1 ≡ record { table = self; log = []; own = [] } }
     {
         let LogLength { table, seat } = self;
         (SharedLogLength { table }, Keeper { seat })
@@ -64,10 +66,10 @@ impl<E> Model for SharedLogLength<E> {
 }
 
 impl<E> SharedLogLength<E> {
-    /// A new reader, who knows the log as it stands.
+    /// A new reader, who knows the log as it stands and has raised nothing.
     pub fn reader(&self, keeper: &mut Keeper<E>) -> Reader<E>
         requires table { keeper.old.table ≡ self.now }
-        ensures reader { result ≡ keeper.old }
+        ensures reader { result ≡ record keeper.old { own = [] } }
         ensures same { keeper.new ≡ keeper.old }
     {
         let seat = told_by(&self.table.shared, &mut keeper.seat);
@@ -75,7 +77,7 @@ impl<E> SharedLogLength<E> {
     }
 
     /// Adds the picked entries, of which `about` tells. What the reader knew was a beginning of the
-    /// log before, and now it knows the log.
+    /// log before, and now it knows the log; the first of the entries is its own.
     pub fn raise<X, G: Added<E>>(
         &self,
         keeper: &mut Keeper<E>,
@@ -86,16 +88,33 @@ impl<E> SharedLogLength<E> {
         requires table { keeper.old.table ≡ self.now }
         requires reader_table { reader.old.table ≡ self.now }
         requires next { next ≡ length (keeper.old.log ++ G.added) }
-        ensures keeper { keeper.new
-            ≡ record { table = keeper.old.table; log = keeper.old.log ++ G.added } }
+        ensures keeper { keeper.new ≡ record keeper.old { log = keeper.old.log ++ G.added } }
         ensures table { reader.new.table ≡ reader.old.table }
         ensures reader { reader.new.log ≡ keeper.new.log }
+        ensures own { reader.new.own ≡ numbered keeper.old.log G.added reader.old.own }
+        ensures before { IsPrefix reader.old.log keeper.old.log }
+    {
+        let shared = &self.table.shared;
+        let blank = told_by(shared, &mut keeper.seat);
+        let seat = mem::replace(&mut reader.seat, blank);
+        note(shared, &mut keeper.seat, seat);
+        lift::<E, G>(shared, &mut keeper.seat, next);
+        reader.seat = hand(shared, &mut keeper.seat);
+    }
+
+    /// Shows the log to a reader, who knew a beginning of it.
+    pub fn show(&self, keeper: &mut Keeper<E>, reader: &mut Reader<E>)
+        requires table { keeper.old.table ≡ self.now }
+        requires reader_table { reader.old.table ≡ self.now }
+        ensures keeper { keeper.new ≡ keeper.old }
+        ensures table { reader.new.table ≡ reader.old.table }
+        ensures reader { reader.new.log ≡ keeper.old.log }
+        ensures own { reader.new.own ≡ reader.old.own }
         ensures before { IsPrefix reader.old.log keeper.old.log }
     {
         let shared = &self.table.shared;
         let told = told_by(shared, &mut reader.seat);
-        note(shared, &mut keeper.seat, told);
-        lift::<E, G>(shared, &mut keeper.seat, next);
+        compare(shared, &mut keeper.seat, told);
         let told = told_by(shared, &mut keeper.seat);
         learn(shared, &mut reader.seat, told);
     }
@@ -109,18 +128,22 @@ impl<E> SharedLogLength<E> {
         ensures told { IsPrefix other.old.log reader.new.log }
         ensures kept { IsPrefix reader.old.log reader.new.log }
         ensures one { (reader.new.log ≡ reader.old.log) ⊎ (reader.new.log ≡ other.old.log) }
+        ensures own { reader.new.own ≡ reader.old.own }
         ensures other { other.new ≡ other.old }
     {
         let told = told_by(&self.table.shared, &mut other.seat);
         learn(&self.table.shared, &mut reader.seat, told);
     }
 
-    /// Takes a reader back, which knew a beginning of the log.
+    /// Takes a reader back, which knew a beginning of the log. Its numbers are apart from those of
+    /// the readers that came back before.
     pub fn take_back(&self, keeper: &mut Keeper<E>, reader: Reader<E>)
         requires table { keeper.old.table ≡ self.now }
         requires reader_table { reader.table ≡ self.now }
         ensures begins { IsPrefix reader.log keeper.old.log }
-        ensures same { keeper.new ≡ keeper.old }
+        ensures keeper { keeper.new
+            ≡ record keeper.old { own = reader.own ++ keeper.old.own } }
+        ensures apart { AreApart (reader.own ++ keeper.old.own) }
     {
         let Reader { seat } = reader;
         compare(&self.table.shared, &mut keeper.seat, seat);

@@ -16,6 +16,7 @@ use Rattle.gate_history.specs.Book.{Book}
 use Rattle.gate_history.specs.Handing.{Given}
 use Rattle.gate_history.specs.Refusal.{Refusal}
 use Rattle.gate_history.specs.Steps.{StepsTo}
+use Rattle.gate_word.specs.Rule.{numbered}
 use Rattle.shared_gate.specs.Calls.{Pass, TellsOf}
 use Rattle.shared_gate.specs.Log.{IsBehind}
 use Rattle.shared_gate.proofs.Behind.{behind_then, longer_is, next_then, number_is}
@@ -90,17 +91,21 @@ module _ {S : Type 0} (rules : Algorithm S) (old new : Book S) (before after : �
 
     -- WHAT IT TELLS, where the pass knew a beginning of the log before it, and knows the log then
     pub tells_of : (known now : Pass) → known.count ≡ before → now.count ≡ after
-        → IsPrefix known.log log → now.log ≡ longer → (told : Result Told Refusal) (got : Given)
+        → IsPrefix known.log log → now.log ≡ longer
+        → now.own ≡ numbered log (picked log next) known.own
+        → (told : Result Told Refusal) (got : Given)
         → StepsTo rules old new before after e told got → TellsOf known now e told got
-    tells_of known now first second begins knows (Ok told) got d =
-        tells rules old new known now e told got log
+    tells_of known now first second begins knows owns (Ok told) got d =
+        let longer_by = longer_is rules old new before after e told got d same limit legal log behind
+        next is longer raised in
+        tells rules old new known now e told got log (picked log next)
         (rw (first, second) d)
-        (number_is rules limit legal old log behind) begins
-        (knows
-        ∙ longer_is rules old new before after e told got d same limit legal log behind next is
-        longer raised)
-    tells_of known now first second begins knows (Err refusal) got d =
+        (number_is rules limit legal old log behind) begins (knows ∙ longer_by)
+        (sym raised ∙ longer_by) owns
+    tells_of known now first second begins knows owns (Err refusal) got d =
         tells_spent rules old new known now e refusal got log
         (rw (first, second) d)
         (number_is rules limit legal old log behind) begins
         (knows ∙ raised ∙ none_added rules old new limit legal log behind next is d.same)
+        (owns ∙ ap (λ (more : List Entry). numbered log more known.own)
+        (none_picked rules old new limit legal log behind next is d.same))

@@ -25,10 +25,12 @@ use Rattle.gate_history.specs.declared.answers.Claimed.TheVariants as claimed
 use Rattle.gate_history.specs.declared.answers.GaveUp.{GaveUp}
 use Rattle.gate_history.specs.declared.answers.GaveUp.TheVariants as gave_up
 
--- a pass: how many calls were made by it, and the beginning of the gate's log that it knows
+-- a pass: how many calls were made by it, the beginning of the gate's log that it knows, and the
+-- numbers of its calls there, the last one first
 pub record Pass : Type 0 where
   pub count : ℕ
   pub log : List Entry
+  pub own : List ℕ
 
 -- a number that all entries that it knows of are below
 abbrev pub seen_by : Pass → ℕ
@@ -36,14 +38,16 @@ seen_by pass = length pass.log
 
 -- a pass that made so many calls, and knows of no entry
 abbrev pub pass_of : ℕ → Pass
-pass_of count = record { count = count; log = [] }
+pass_of count = record { count = count; log = []; own = [] }
 
--- TOLD: the receipt is of this event; the call is counted on the pass, and its number is no less
--- than the pass's calls before it. Its entry stands at that number, behind all that the pass knew
--- before; only those whom it promoted come behind it, and the pass knows all that now
+-- TOLD: the receipt is of this event; the call is counted on the pass, its number is the pass's
+-- own, and no less than the pass's calls before it. Its entry stands at that number, behind all
+-- that the pass knew before; only those whom it promoted come behind it, and the pass knows all
+-- that now
 pub record IsTold (before after : Pass) (e : Event) (receipt : Told) : Type 0 where
   pub event : receipt.event ≡ e
   pub counted : after.count ≡ before.count + 1
+  pub own : after.own ≡ receipt.number ∷ before.own
   pub ahead : before.count ≤ receipt.number
   pub found : List Entry
   pub promoted : List Entry
@@ -59,6 +63,7 @@ pub record IsTold (before after : Pass) (e : Event) (receipt : Told) : Type 0 wh
 pub record IsUntold (before after : Pass) (e : Event) (refusal : Refusal) : Type 0 where
   pub event : refusal.event ≡ e
   pub uncounted : after.count ≡ before.count
+  pub own : after.own ≡ before.own
   pub begins : IsPrefix before.log after.log
   pub next : refusal.next ≡ seen_by after
   pub unseen : seen_by before ≤ refusal.next

@@ -15,6 +15,7 @@ use Rattle.gate_history.specs.Book.{IsUnasked, calls_of}
 use Rattle.audit.specs.declared.cause.Cause.{Cause}
 use Rattle.audit.specs.declared.cause.Cause.TheVariants.{PassesMissing}
 use Rattle.audit.specs.Verdict.{audited, IsFirstCause}
+use Rattle.gate_word.specs.Rule.{times}
 use Rattle.shared_gate.specs.Calls.{Pass}
 
 -- the limiter of a gate that is made so
@@ -25,6 +26,14 @@ limiter_of rules m =
 -- the calls that were made by these passes
 abbrev pub calls_by : List Pass → ℕ
 calls_by passes = sum_by (λ pass. pass.count) passes
+
+-- how many of them have this number
+abbrev pub times_by : ℕ → List Pass → ℕ
+times_by number passes = sum_by (λ pass. times number pass.own) passes
+
+-- EACH CALL IS ONE PASS'S: no two calls by these passes have the same number
+abbrev pub HaveOwnCalls : List Pass → Type 0
+HaveOwnCalls passes = (number : ℕ) → times_by number passes ≤ 1
 
 -- a history that a gate kept which was made so: its first entry has the opening's next number, and
 -- the entries are legal, from an opening that is sound. It begins with number 0 where the gate

@@ -15,7 +15,7 @@ use Rattle.audit.specs.declared.judge.Calls.{Calls}
 use Rattle.gate_port.specs.declared.report.Report.{Report}
 use Rattle.gate_port.specs.Report.{report_in}
 use Rattle.shared_gate.specs.Calls.{Pass}
-use Rattle.shared_gate.specs.Closing.{calls_by, limiter_of}
+use Rattle.shared_gate.specs.Closing.{HaveOwnCalls, calls_by, limiter_of}
 
 -- A REPORT AFTER A LOG of a gate that was made so: the log is legal, since nothing was asked; the
 -- report tells the state then, which is sound, and the counters of that log
@@ -40,14 +40,16 @@ pub record IsReportTo {S : Type 0} (rules : Algorithm S) (m : Making) (before af
   pub begins : IsPrefix before.log after.log
   pub stands : IsReportAfter rules m after.log report
   pub uncounted : after.count ≡ before.count
+  pub own : after.own ≡ before.own
 
 -- THE COUNTERS of a gate that was made so: those of such a report
 abbrev pub AreCountersOf : {S : Type 0} → Algorithm S → Making → Counters → Type 0
 AreCountersOf rules m counters =
     (report : Report) × IsReportOf rules m report × (report.counters ≡ counters)
 
--- THE COUNTERS OF ALL PASSES that call: those of a report after a log that begins with what each of
--- them knows, and each of whose calls was made by one of these
+-- THE COUNTERS OF ALL PASSES that call: those of a report after a log that begins with what each
+-- of them knows, and each of whose calls was made by one of these, no two of which have the same
+-- number
 pub record AreCountersOfAll {S : Type 0} (rules : Algorithm S) (m : Making) (passes : List Pass)
     (counters : Counters) : Type 0 where
   pub log : List Entry
@@ -56,6 +58,7 @@ pub record AreCountersOfAll {S : Type 0} (rules : Algorithm S) (m : Making) (pas
   pub told : report.counters ≡ counters
   pub begun : All (λ pass. IsPrefix pass.log log) passes
   pub all : calls_by passes ≡ calls_of log
+  pub once : HaveOwnCalls passes
 
 -- PASSES ARE MISSING: the log after which a report is told begins with what each of these knows,
 -- and has calls that none of them made

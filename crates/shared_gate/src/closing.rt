@@ -4,7 +4,7 @@ ghost use mathlib.Core.List.{IsPrefix};
 ghost use Rattle.audit.specs.Accepted.{IsHistoryOf};
 ghost use Rattle.audit.specs.Verdict.{audited, IsFirstCause};
 ghost use Rattle.gate_history.specs.Book.{calls_of};
-ghost use Rattle.shared_gate.specs.Closing.{IsEndOf, IsKept, calls_by};
+ghost use Rattle.shared_gate.specs.Closing.{HaveOwnCalls, IsEndOf, IsKept, calls_by};
 
 use crate::naming::GateNaming;
 use crate::pass::Pass;
@@ -40,8 +40,10 @@ pub(crate) fn count_calls<L: Limit, M: GateNaming>(
     ensures enough { result.sum ≤ result.book }
     ensures all { vec_len passes ≡ book.old.tally.passes → result.sum ≡ result.book }
     ensures begun { All (λ pass. IsPrefix pass.log keeper.old.log) passes.items }
+    ensures once { HaveOwnCalls passes.items }
     ensures same { book.new ≡ book.old }
-    ensures keeper { keeper.new ≡ keeper.old }
+    ensures table { keeper.new.table ≡ keeper.old.table }
+    ensures log { keeper.new.log ≡ keeper.old.log }
 {
     let mut returned = book.none_returned();
     for pass in passes {

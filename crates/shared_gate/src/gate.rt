@@ -88,9 +88,9 @@ impl<L: Limit, M: GateNaming> SharedGate<L, M> {
         self.report(rt).counters
     }
 
-    /// The same where nobody else has called: these are counters of their calls alone, as they are
-    /// where these are all passes of the gate. Else how many calls there were, and how many of them
-    /// by these passes.
+    /// The same where nobody else has called: these are counters of their calls alone, each of
+    /// which has a number of its own, as they are where these are all passes of the gate. Else how
+    /// many calls there were, and how many of them by these passes.
     pub fn counters_of_all(&self, rt: &impl Wait, passes: Vec<Pass<M>>) -> Result<Counters, Calls>
         ensures all { IfOk result (AreCountersOfAll L.rules M.making passes.items) }
         ensures whole { vec_len passes ≡ M.passes → is_ok result ≡ true }

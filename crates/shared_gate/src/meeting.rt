@@ -19,6 +19,7 @@ impl<L: Limit, M: GateNaming> SharedGate<L, M> {
         ensures seen { seen_by other.old ≤ seen_by pass.new }
         ensures unseen { seen_by pass.old ≤ seen_by pass.new }
         ensures count { pass.new.count ≡ pass.old.count }
+        ensures calls { pass.new.own ≡ pass.old.own }
         ensures other { other.new ≡ other.old }
     {
         self.word.tell(&mut pass.reader, &mut other.reader);
@@ -32,6 +33,7 @@ impl<L: Limit, M: GateNaming> SharedGate<L, M> {
         ensures all { All (λ other. IsPrefix other.log pass.new.log) others.old.items }
         ensures legal { M.legal pass.new.log }
         ensures count { pass.new.count ≡ pass.old.count }
+        ensures calls { pass.new.own ≡ pass.old.own }
         ensures same { others.new.items ≡ others.old.items }
     {
         for other in others.iter_mut() {

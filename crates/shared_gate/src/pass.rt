@@ -8,8 +8,8 @@ use gate_word::{Keeper, Reader, SharedLogLength};
 use std::alloc::{AllocError, Global};
 use std::marker::Model;
 
-/// The right to call a shared gate. Contracts see how many calls were made by it, and the beginning
-/// of the gate's log that it knows, which is legal.
+/// The right to call a shared gate. Contracts see how many calls were made by it, their numbers,
+/// and the beginning of the gate's log that it knows, which is legal.
 #[derive(Drop)]
 pub struct Pass<M: GateNaming> {
     pub(crate) pass: gate_history::BookPass<M>,
@@ -23,7 +23,11 @@ impl<M: GateNaming> Model for Pass<M> {
 
     ghost Value = { Pass };
 
-    ghost view = { λ p. record { count = p.pass; log = p.reader.log } };
+    ghost view = { λ p. record {
+      count = p.pass;
+      log = p.reader.log;
+      own = p.reader.own;
+    } };
 
     ghost invariant = { λ p. (p.reader.table ≡ M.word) × (p.seen ≡ length p.reader.log)
         × M.legal p.reader.log };

@@ -4,7 +4,7 @@ ghost use mathlib.Core.List.{IsPrefix};
 ghost use Rattle.gate_history.specs.Book.{calls_of};
 ghost use Rattle.gate_history.specs.Steps.{event_of};
 ghost use Rattle.shared_gate.specs.Calls.{Tells};
-ghost use Rattle.shared_gate.specs.Closing.{calls_by};
+ghost use Rattle.shared_gate.specs.Closing.{HaveOwnCalls, calls_by};
 ghost use Rattle.shared_gate.specs.Reported.{IsReportAfter, IsReportTo};
 
 use crate::closing::count_calls;
@@ -18,7 +18,6 @@ use gate_word::{Keeper, SharedLogLength};
 use limit_laws::Limit;
 use limiter_core::counters_add_up;
 use std::marker::{Brand, Model};
-use std::mem;
 
 /// A book that gave as many passes as its gate has, and gives no more, and the keeper of the log of
 /// all its entries. Contracts see the log.
@@ -67,8 +66,8 @@ impl<L: Limit, M: GateNaming> Sealed<L, M> {
     }
 
     /// Takes passes back, by which no more calls are made, and tells how many calls there were and
-    /// how many were made by these: they are in the log, and are all calls where these are all
-    /// passes.
+    /// how many were made by these: they are in the log, each at a number of its own, and are all
+    /// calls where these are all passes.
     pub(crate) fn take_back(&mut self, word: &SharedLogLength<Entry>, passes: Vec<Pass<M>>) -> Calls
         requires { word.now ≡ M.word }
         ensures book { result.book ≡ calls_of self.old }
@@ -76,6 +75,7 @@ impl<L: Limit, M: GateNaming> Sealed<L, M> {
         ensures begun { All (λ pass. IsPrefix pass.log self.old) passes.items }
         ensures enough { result.sum ≤ result.book }
         ensures all { vec_len passes ≡ M.passes → result.sum ≡ result.book }
+        ensures once { HaveOwnCalls passes.items }
         ensures same { self.new ≡ self.old }
     {
         count_calls(&mut self.book, word, &mut self.keeper, passes)
@@ -96,9 +96,7 @@ impl<L: Limit, M: GateNaming> Sealed<L, M> {
         requires { word.now ≡ M.word }
         ensures { IsReportTo L.rules M.making pass.old pass.new result }
     {
-        let reader = word.reader(&mut self.keeper);
-        let known = mem::replace(&mut pass.reader, reader);
-        word.take_back(&mut self.keeper, known);
+        word.show(&mut self.keeper, &mut pass.reader);
         pass.seen = self.book.journal().number();
         self.report()
     }

@@ -1,4 +1,5 @@
-use Rattle.std.proofs.Common.{arith, ap, ◌∙◌}
+use Rattle.std.proofs.Common.{arith, ap, ◌∙◌, subst, ◌++◌}
+use Rattle.gate_word.specs.Rule.{AreApart}
 use Rattle.gate_word.proofs.Moves.{compares}
 use Rattle.gate_word.proofs.steps.compare.Goals as goal
 
@@ -10,3 +11,7 @@ load-requires g c =
       omega (arith, r.word),
       compares _ _ _ (ap (λ m. m.0.keeps) e.seat ∙ ap (λ m. m.0.keeps) r.keeper),
     )
+
+pub returns-clause-apart : goal.returns-clause-apart
+returns-clause-apart g c =
+    subst (λ m. AreApart (m.0.came ++ m.0.own)) c.note.ensures.seat c.load.ensures.2.2

@@ -1,5 +1,5 @@
 use Rattle.std.proofs.Common.{rules, ◌≡◌, ℕ, List, [], ◌∷◌, All, ap, arith, sym, ◌∙◌, subst}
-use Rattle.std.proofs.Common.{length}
+use Rattle.std.proofs.Common.{length, ◌+◌, ◌++◌, ◌==◌, cond}
 use Rattle.std.specs.Prelude.{vec_len}
 use Rattle.std.proofs.lemmas.Iterator.Adapters.{YieldsList-from_vec}
 use Rattle.std.proofs.lemmas.Iterator.Consumers.{YieldsList-end}
@@ -8,12 +8,20 @@ use Rattle.std.proofs.lemmas.List.Sums.{sum_by-append, sum_by-cons}
 use Rattle.std.proofs.lemmas.List.Elements.{All-nil}
 use mathlib.Core.List.{IsPrefix}
 use Rattle.lemmas.proofs.Lists.{length-one_more}
+use Rattle.gate_word.specs.Rule.{times}
 use Rattle.shared_gate.specs.Calls.{Pass}
+use Rattle.shared_gate.specs.Closing.{HaveOwnCalls}
 use Rattle.shared_gate.proofs.Gathering.{all_behind}
 use Rattle.shared_gate.proofs.closing.count_calls.Goals as goal
 
 abbrev count : Pass → ℕ
 count pass = pass.count
+
+abbrev own_times : ℕ → Pass → ℕ
+own_times n pass = times n pass.own
+
+times_append : (n : ℕ) (xs ys : List ℕ) → times n (xs ++ ys) ≡ times n xs + times n ys
+times_append n xs ys = sum_by-append (λ m. cond (m == n) 1 0) xs ys
 
 pub loop-pass-init : goal.loop-pass-init
 loop-pass-init g c = record {
@@ -36,7 +44,10 @@ loop-pass-init g c = record {
         ap (λ b. b.tally.calls) none.same,
       );
   book = search rules;
-  keeper = search rules;
+  table = search rules;
+  log = search rules;
+  numbers = λ n. omega arith;
+  once = λ n. omega arith;
   begun = All-nil (λ (pass : Pass). IsPrefix pass.log c.args.keeper.now.log);
 }
 
@@ -66,12 +77,26 @@ loop-pass-preserved g c = record {
         ap (λ b. b.tally.calls) took.same,
       );
   book = search rules;
-  keeper = search rules;
+  table = search rules;
+  log = search rules;
+  numbers =
+      λ n.
+      let own = ap (λ r. times n r.own) c.pass.view_is in
+      let more = times_append n c.pass.inside.reader.own c.loop-pass.keeper.own in
+      let took = ap (λ k. times n k.own) c.take_back.ensures.keeper in
+      let by = sum_by-append (own_times n) c.loop-pass.yielded (c.in-Some.pass ∷ []) in
+      omega (arith, own, more, took, by, c.loop-pass.invariant.numbers n);
+  once =
+      λ n.
+      let own = ap (λ r. times n r.own) c.pass.view_is in
+      let more = times_append n c.pass.inside.reader.own c.loop-pass.keeper.own in
+      let by = sum_by-append (own_times n) c.loop-pass.yielded (c.in-Some.pass ∷ []) in
+      omega (arith, own, more, by, c.loop-pass.invariant.numbers n, c.take_back.ensures.apart n);
   begun =
       all_behind (λ (pass : Pass). IsPrefix pass.log c.args.keeper.now.log)
       c.loop-pass.yielded c.in-Some.pass c.loop-pass.invariant.begun
       (subst (λ (pass : Pass). IsPrefix pass.log c.args.keeper.now.log) c.pass.view_is
-      (subst (λ k. IsPrefix c.pass.inside.reader.log k.log) c.loop-pass.invariant.keeper
+      (subst (λ l. IsPrefix c.pass.inside.reader.log l) c.loop-pass.invariant.log
       c.take_back.ensures.begins));
 }
 
@@ -117,5 +142,18 @@ returns-clause-all g c whole =
 pub returns-clause-same : goal.returns-clause-same
 returns-clause-same g c = search rules
 
-pub returns-clause-keeper : goal.returns-clause-keeper
-returns-clause-keeper g c = search rules
+pub returns-clause-table : goal.returns-clause-table
+returns-clause-table g c = search rules
+
+pub returns-clause-log : goal.returns-clause-log
+returns-clause-log g c = search rules
+
+pub returns-clause-once : goal.returns-clause-once
+returns-clause-once g c =
+    let end =
+    YieldsList-end (YieldsList-from_vec c.args.passes.items (search rules) (search rules))
+    c.loop-pass.yielded c.loop-pass.pass-iterator c.loop-pass.yielded_by c.next.result
+    c.next.new.self c.in-None.is c.next.ensures.steps in
+    let all : c.loop-pass.yielded ≡ c.args.passes.items =
+    sym (map-id c.loop-pass.yielded) ∙ end.0 in
+    subst HaveOwnCalls all c.loop-pass.invariant.once

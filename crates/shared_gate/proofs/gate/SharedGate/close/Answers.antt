@@ -26,8 +26,8 @@ returns-clause-begun g c =
     let counted = c.count_calls-calls.ensures in
     let log : List Entry = c.count_calls-calls.new.keeper.log in
     let begun : All (λ (pass : Pass). IsPrefix pass.log log) c.args.passes.items =
-    subst (λ k. All (λ (pass : Pass). IsPrefix pass.log k.log) c.args.passes.items)
-    (sym counted.keeper) counted.begun in
+    subst (λ l. All (λ (pass : Pass). IsPrefix pass.log l) c.args.passes.items)
+    (sym counted.log) counted.begun in
     on_ok _ _
     (λ history is.
     subst (λ (l : List Entry). All (λ (pass : Pass). IsPrefix pass.log l) c.args.passes.items)
@@ -39,8 +39,8 @@ returns-clause-first g c =
     let counted = c.count_calls-calls.ensures in
     let log : List Entry = c.count_calls-calls.new.keeper.log in
     let begun : All (λ (pass : Pass). IsPrefix pass.log log) c.args.passes.items =
-    subst (λ k. All (λ (pass : Pass). IsPrefix pass.log k.log) c.args.passes.items)
-    (sym counted.keeper) counted.begun in
+    subst (λ l. All (λ (pass : Pass). IsPrefix pass.log l) c.args.passes.items)
+    (sym counted.log) counted.begun in
     let behind = c.book.invariant.2 in
     on_err _ _ _
     (λ fault end first. record {
@@ -53,7 +53,7 @@ returns-clause-first g c =
         counted.sum,
         counted.book,
         behind.calls,
-        ap (λ k. calls_of k.log) counted.keeper,
+        ap (λ l. calls_of l) counted.log,
       );
       first =
           subst (λ (sum : ℕ).
@@ -75,7 +75,7 @@ returns-clause-none_missing g c =
       counted.all (whole ∙ sym c.book.invariant.3),
       counted.book,
       behind.calls,
-      ap (λ k. calls_of k.log) counted.keeper,
+      ap (λ l. calls_of l) counted.log,
     ) in
     none_is_missing
     (audited (record { book = calls_of log; sum = c.count_calls-calls.result.sum })

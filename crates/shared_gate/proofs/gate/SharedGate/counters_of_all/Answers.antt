@@ -54,4 +54,5 @@ returns-clause-all g c =
             c.if-calls,
             ap (λ (log : List Entry). calls_of log) same,
           );
+      once = told.once;
     }

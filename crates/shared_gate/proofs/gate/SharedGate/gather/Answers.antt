@@ -27,6 +27,7 @@ loop-other-preserved g c =
           (subst (λ (p : Pass). IsPrefix p.log c.told.new.pass.log) (sym c.other-item.is)
           told.told)),
       told.count ∙ inv.3,
+      told.calls ∙ inv.4,
     )
 
 pub returns-clause-all : goal.returns-clause-all

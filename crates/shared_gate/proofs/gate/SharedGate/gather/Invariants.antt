@@ -10,4 +10,4 @@ invariant-loop-other g l =
     (l.other-items ≡ l.initial.other-items) × IsPrefix l.initial.pass.log l.pass.log
     × ((k : ℕ) (d : Pass) → k < l.other-index
     → IsPrefix (slice_index_or l.other-items k d).log l.pass.log)
-    × (l.pass.count ≡ l.initial.pass.count)
+    × (l.pass.count ≡ l.initial.pass.count) × (l.pass.own ≡ l.initial.pass.own)

@@ -85,12 +85,21 @@ returns g c =
     answered rules (ready rules v) e ≡ answered rules v e) c.journal.ensures
     (c.invariant.ensures.same e) in
     let longer : List Entry = c.raise.new.reader.log in
-    let before : Pass = record { count = c.pass.inside.pass; log = c.pass.inside.reader.log } in
-    let after : Pass = record { count = c.step-step.new.pass; log = longer } in
+    let before : Pass = record {
+      count = c.pass.inside.pass;
+      log = c.pass.inside.reader.log;
+      own = c.pass.inside.reader.own;
+    } in
+    let after : Pass = record {
+      count = c.step-step.new.pass;
+      log = longer;
+      own = c.raise.new.reader.own;
+    } in
     subst (λ (pass : Pass). Tells pass after e c.step-step.result) c.pass.view_is
     (tells_of rules old new c.pass.inside.pass c.step-step.new.pass e same
     g.M.Naming.making.limit g.M.GateNaming.legal log c.self.invariant.2
     c.journal-journal.result.now c.journal-journal.ensures longer
     (c.raise.ensures.reader ∙ ap (λ k. k.log) c.raise.ensures.keeper)
-    before after refl refl c.raise.ensures.before refl (told_of c.step-step.result)
+    before after refl refl c.raise.ensures.before refl c.raise.ensures.own
+    (told_of c.step-step.result)
     (given_by c.step-step.result) c.step-step.ensures)
