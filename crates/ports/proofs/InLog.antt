@@ -10,9 +10,11 @@ use Rattle.limiter_core.specs.declared.event.Reply.TheVariants as reply
 use Rattle.limiter_core.specs.declared.event.Entry.{Entry}
 use Rattle.limiter_core.specs.declared.event.Entry.TheVariants.{Call, Promotion}
 use Rattle.limiter_core.specs.declared.event.PermitFacts.{PermitFacts}
+use Rattle.gate_ledgers.specs.Making.{Making}
 use Rattle.gate_ledgers.specs.Told.{Told}
 use Rattle.limiter_core.specs.History.{is_call}
 use Rattle.gate_history.specs.Book.{calls_of}
+use Rattle.gate_history.specs.Refusal.{exhausted_from}
 use Rattle.gate_history.specs.Replies.{IsOf}
 use Rattle.shared_gate.specs.Calls.{IsTold, Pass}
 use Rattle.gate_port.specs.declared.port.Admission.{Admission}
@@ -22,7 +24,7 @@ use Rattle.gate_port.specs.Ending.{IsPromotion}
 use Rattle.gate_port.specs.Log.{IsAskedIn, IsEndedIn, IsLogged, answered, gave_up, missed, spent}
 use Rattle.ports.specs.declared.asked.Receipts.{Receipts}
 use Rattle.ports.specs.declared.asked.Receipts.TheVariants as asked
-use Rattle.ports.specs.Asked.{IsAnswered, IsQueued}
+use Rattle.ports.specs.Asked.{IsAnswered, IsOver, IsQueued, known_at}
 
 abbrev one : Entry → ℕ
 one entry = cond (is_call entry) 1 0
@@ -36,41 +38,49 @@ promotions (Promotion waiter part start inflight ∷ h) none =
     (omega (arith, none, sum_by-cons one (Promotion waiter part start inflight) h)))
 
 -- a receipt's entry stands in what its pass knows
-logged : (before after : Pass) (e : Event) (receipt : Told) → IsTold before after e receipt
-    → IsLogged before.log after.log receipt.number e receipt.reply
-logged before after e receipt is = record {
-  found = is.found;
-  promoted = is.promoted;
-  begins = is.begins;
-  number_is = is.number;
-  stands = is.stands;
-  alone = promotions is.promoted is.alone;
-}
+module _ (m : Making) where
+  logged : (before after : Pass) (r r' : ℕ) (e : Event) (receipt : Told)
+      → IsTold before after e receipt
+      → IsLogged (known_at m before r) (known_at m after r') receipt.number e receipt.reply
+  logged before after r r' e receipt is = record {
+    found = is.found;
+    promoted = is.promoted;
+    begins = is.begins;
+    number_is = is.number;
+    stands = is.stands;
+    alone = promotions is.promoted is.alone;
+    own = is.own;
+  }
 
-queued : (before after : Pass) (ask : Ask) (now : ℕ) (first : Told)
-    → IsQueued before after ask now first
-    → IsLogged before.log after.log first.number (acquire ask now) reply.Waiting
-queued before after ask now first is =
-    subst (IsLogged before.log after.log first.number (acquire ask now)) is.1
-    (logged before after (acquire ask now) first is.0)
+  queued : (before after : Pass) (r r' : ℕ) (ask : Ask) (now : ℕ) (first : Told)
+      → IsQueued before after ask now first
+      → IsLogged (known_at m before r) (known_at m after r') first.number (acquire ask now)
+      reply.Waiting
+  queued before after r r' ask now first is =
+      subst (IsLogged (known_at m before r) (known_at m after r') first.number (acquire ask now))
+      is.1 (logged before after r r' (acquire ask now) first is.0)
 
--- AN ASKING stands in the log
-pub asked_in : {M : Type 0} (before after : Pass) (ask : Ask) (now : ℕ) (kept : Receipts M)
-    (answer : Admission PermitFacts) → IsAnswered before after ask now kept answer
-    → IsAskedIn ask before.log now after.log answer
-asked_in before after ask now asked.Nothing answer is = absurd is
-asked_in before after ask now (asked.Exhausted refusal) answer is =
-    subst (IsAskedIn ask before.log now after.log) (sym is.1) (spent after.log is.0.begins)
-asked_in before after ask now (asked.Answered receipt) answer is =
-    answered after.log receipt.number receipt.reply answer
-    (logged before after (acquire ask now) receipt is.0) is.1
-asked_in before after ask now (asked.GaveUp first second) answer is =
-    gave_up is.0.log after.log first.number second.number second.reply answer
-    (queued before is.0 ask now first is.1)
-    (logged is.0 after (GiveUp first.number) second is.2) is.3
-asked_in before after ask now (asked.Missed first refusal) answer is =
-    subst (IsAskedIn ask before.log now after.log) (sym is.3)
-    (missed is.0.log after.log first.number (queued before is.0 ask now first is.1) is.2.begins)
+  -- AN ASKING stands in the log
+  pub asked_in : {M : Type 0} (before after : Pass) (r r' : ℕ) (ask : Ask) (now : ℕ)
+      (kept : Receipts M) (answer : Admission PermitFacts)
+      → IsAnswered before after ask now kept answer → IsOver (exhausted_from m) kept
+      → IsAskedIn ask (known_at m before r) now (known_at m after r') answer
+  asked_in before after r r' ask now asked.Nothing answer is over = absurd is
+  asked_in before after r r' ask now (asked.Exhausted refusal) answer is over =
+      subst (IsAskedIn ask (known_at m before r) now (known_at m after r')) (sym is.1)
+      (spent (known_at m after r') (is.0.begins, is.0.own) (omega (arith, over, is.0.next)))
+  asked_in before after r r' ask now (asked.Answered receipt) answer is over =
+      answered (known_at m after r') receipt.number receipt.reply answer
+      (logged before after r r' (acquire ask now) receipt is.0) is.1
+  asked_in before after r r' ask now (asked.GaveUp first second) answer is over =
+      gave_up (known_at m is.0 r) (known_at m after r') first.number second.number second.reply
+      answer (queued before is.0 r r ask now first is.1)
+      (logged is.0 after r r' (GiveUp first.number) second is.2) is.3
+  asked_in before after r r' ask now (asked.Missed first refusal) answer is over =
+      subst (IsAskedIn ask (known_at m before r) now (known_at m after r')) (sym is.3)
+      (missed (known_at m is.0 r) (known_at m after r') first.number
+      (queued before is.0 r r ask now first is.1) (is.2.begins, is.2.own)
+      (omega (arith, over, is.2.next)))
 
 -- what is answered of permits that are their facts
 pub same_told : (answer : Admission PermitFacts)
@@ -98,14 +108,16 @@ ended_reply permit outcome now reply.ResetDone is = absurd is
 ended_reply permit outcome now (reply.Seen limit total waiting granted inflight share) is =
     absurd is
 
-pub ended_in : (before after : Pass) (permit : PermitFacts) (outcome : Outcome) (now : ℕ)
-    (receipt : Told) → IsTold before after (End permit outcome now) receipt
+pub ended_in : (m : Making) (before after : Pass) (r r' : ℕ) (permit : PermitFacts)
+    (outcome : Outcome) (now : ℕ) (receipt : Told)
+    → IsTold before after (End permit outcome now) receipt
     → IsOf (End permit outcome now) receipt.reply
-    → IsEndedIn permit outcome now before.log after.log
-ended_in before after permit outcome now receipt is of =
-    let ended = ended_reply permit outcome now receipt.reply of in (
+    → IsEndedIn permit outcome now (known_at m before r) (known_at m after r')
+ended_in m before after r r' permit outcome now receipt is of =
+    let ended = ended_reply permit outcome now receipt.reply of in
+    let e = End permit outcome now in (
       receipt.number,
       ended.0,
-      subst (IsLogged before.log after.log receipt.number (End permit outcome now)) ended.1
-          (logged before after (End permit outcome now) receipt is),
+      subst (IsLogged (known_at m before r) (known_at m after r') receipt.number e) ended.1
+          (logged m before after r r' e receipt is),
     )

@@ -1,6 +1,6 @@
-use Rattle.std.proofs.Common.{rules, subst}
+use Rattle.std.proofs.Common.{refl, rules, subst}
 use Rattle.gate_port.specs.Log.{IsEndedIn}
-use Rattle.ports.specs.Asked.{Shared}
+use Rattle.ports.specs.Asked.{Shared, known_at, known_by}
 use Rattle.ports.proofs.InLog.{ended_in}
 use Rattle.ports.proofs.shared.PortGatePort.end.Goals as goal
 
@@ -14,9 +14,11 @@ pub returns-clause-few : goal.returns-clause-few
 returns-clause-few g c = search rules
 
 pub returns-clause-log : goal.returns-clause-log
-returns-clause-log g c =
-    subst (λ (port : Shared _).
-    IsEndedIn c.args.permit c.args.outcome c.args.now port.pass.log c.end.new.pass.log)
-    c.self.view_is
-    (ended_in _ _ c.args.permit c.args.outcome c.args.now c.end.result
-    c.end.ensures.0 c.end.ensures.1)
+returns-clause-log g c = (
+  refl,
+  subst (λ (port : Shared _).
+      IsEndedIn c.args.permit c.args.outcome c.args.now (known_by g.M.Naming.making port)
+      (known_at g.M.Naming.making c.end.new.pass c.self.inside.reached)) c.self.view_is
+      (ended_in g.M.Naming.making _ _ _ _ c.args.permit c.args.outcome c.args.now c.end.result
+      c.end.ensures.0 c.end.ensures.1),
+)
