@@ -4,6 +4,7 @@ mod Entries
 mod Exchanges
 mod InFlight
 mod Logged
+mod Owned
 mod Recovery
 mod Replies
 mod Steps

@@ -1,11 +1,12 @@
 -- A call that stands in what a port knows of a log, in the whole log.
-use Rattle.std.proofs.Common.{◌≡◌, ◌≤◌, ◌<◌, ℕ, zero, suc, cond, true, [], ◌∷◌, ◌++◌, List, All}
-use Rattle.std.proofs.Common.{length, sym, ap, ◌∙◌, subst, refl, arith, append_assoc}
+use Rattle.std.proofs.Common.{◌≡◌, ◌≤◌, ◌<◌, ℕ, zero, suc, cond, true, [], ◌∷◌, List, All}
+use Rattle.std.proofs.Common.{length, sym, ap, ◌∙◌, subst, refl, arith}
 use Rattle.std.proofs.Common.{length-append}
 use Rattle.std.proofs.lemmas.Option.{same_Some, none-some}
 use Rattle.std.proofs.lemmas.List.Elements.{All-head, All-tail}
 use Rattle.std.proofs.lemmas.List.Sums.{sum_by-cons}
 use mathlib.Core.List.{IsPrefix}
+use Rattle.lemmas.proofs.Lists.{prefix_length, prefix_trans}
 use Rattle.limiter_core.specs.declared.event.Event.{Event}
 use Rattle.limiter_core.specs.declared.event.Reply.{Reply}
 use Rattle.limiter_core.specs.declared.event.Entry.{Entry}
@@ -18,20 +19,17 @@ use Rattle.gate_history.specs.Book.{calls_of}
 use Rattle.audit.specs.Firsts.{EachHas}
 use Rattle.gate_port.specs.Asking.{Ask, acquire}
 use Rattle.gate_port.specs.Ending.{IsPromotion}
-use Rattle.gate_port.specs.Log.{IsLogged}
+use Rattle.gate_port.specs.Log.{IsLogged, Known}
 use Rattle.shared_gate.specs.Calls.{IsTold}
 use Rattle.shared_gate.specs.Running.{AreCallsOf, Call, IsServedAsOne, RunningIsOneThreads}
 use Rattle.gate_laws.specs.Decided.{IsAnsweredAt, IsTurnedAway}
-
-pub prefix_trans : (xs ys zs : List Entry) → IsPrefix xs ys → IsPrefix ys zs → IsPrefix xs zs
-prefix_trans xs ys zs p q =
-    (p.0 ++ q.0, sym (append_assoc xs p.0 q.0) ∙ (ap (λ w. w ++ q.0) p.1 ∙ q.1))
+use Rattle.gate_laws.proofs.Owned.{Since, Within, is_own}
 
 -- what was known begins what is known
-pub begins : (old new : List Entry) (number : ℕ) (e : Event) (r : Reply)
-    → IsLogged old new number e r → IsPrefix old new
+pub begins : (old new : Known) (number : ℕ) (e : Event) (r : Reply)
+    → IsLogged old new number e r → IsPrefix old.log new.log
 begins old new number e r is =
-    prefix_trans old is.found new is.begins (entry.Call e r ∷ is.promoted, sym is.stands)
+    prefix_trans old.log is.found new.log is.begins (entry.Call e r ∷ is.promoted, sym is.stands)
 
 abbrev one : Entry → ℕ
 one e = cond (is_call e) 1 0
@@ -47,17 +45,14 @@ no_calls (entry.Promotion waiter part start inflight ∷ h) all =
       no_calls h (All-tail IsPromotion first h all),
     )
 
-prefix_length : (xs ys : List Entry) → IsPrefix xs ys → length xs ≤ length ys
-prefix_length xs ys p = omega (arith, sym (ap length p.1) ∙ length-append xs p.0)
-
 -- what was known has no entry of its number or a later one, and what is known has it
-pub unseen : (old new : List Entry) (number : ℕ) (e : Event) (r : Reply)
-    → IsLogged old new number e r → length old ≤ number
+pub unseen : (old new : Known) (number : ℕ) (e : Event) (r : Reply)
+    → IsLogged old new number e r → length old.log ≤ number
 unseen old new number e r is =
-    omega (arith, prefix_length old is.found is.begins, is.number_is)
+    omega (arith, prefix_length old.log is.found is.begins, is.number_is)
 
-pub seen : (old new : List Entry) (number : ℕ) (e : Event) (r : Reply)
-    → IsLogged old new number e r → number < length new
+pub seen : (old new : Known) (number : ℕ) (e : Event) (r : Reply)
+    → IsLogged old new number e r → number < length new.log
 seen old new number e r is =
     omega (
       arith,
@@ -66,20 +61,22 @@ seen old new number e r is =
     )
 
 module _ {S : Type 0} (g : Gate S) (served : RunningIsOneThreads g) (o : Image S)
-    (log : List Entry) (legal : IsLegal g o log) (old new : List Entry) (number : ℕ) (e : Event)
-    (r : Reply) (is : IsLogged old new number e r) (begun : IsPrefix new log) where
+    (log : List Entry) (legal : IsLegal g o log) (own base : List ℕ) (old new : Known)
+    (number : ℕ) (e : Event) (r : Reply) (is : IsLogged old new number e r)
+    (begun : IsPrefix new.log log) (since : Since base old) (within : Within own base new) where
   -- as the only call of a pass
   abbrev call : Call
   call = record {
-    before = record { count = 0; log = old };
+    before = record { count = 0; log = old.log; own = old.own };
     receipt = record { number = number; event = e; reply = r };
-    after = record { count = 1; log = new };
+    after = record { count = 1; log = new.log; own = new.own };
   }
 
   told : IsTold call.before call.after e call.receipt
   told = record {
     event = refl;
     counted = refl;
+    own = is.own;
     ahead = omega arith;
     found = is.found;
     promoted = is.promoted;
@@ -94,26 +91,27 @@ module _ {S : Type 0} (g : Gate S) (served : RunningIsOneThreads g) (o : Image S
   each : EachHas (λ pass calls. AreCallsOf [] calls log) ((call ∷ []) ∷ [])
   each zero calls here =
       subst (λ (cs : List Call). AreCallsOf [] cs log) (same_Some (call ∷ []) calls here)
-      ((old, refl), told, begun)
+      ((old.log, refl), told, begun)
   each (suc place) calls here = absurd (none-some calls here)
 
   all : IsServedAsOne g o log ((call ∷ []) ∷ [])
   all = served o log ((call ∷ []) ∷ []) legal each
 
-  pub answered_at : IsAnsweredAt g o log number e r
+  pub answered_at : IsAnsweredAt g o log own number e r
   answered_at = record {
+    is_own = is_own base old new number e r is own since within;
     stands = all.stand 0 (call ∷ []) refl 0 call refl;
     sequential = all.replies 0 (call ∷ []) refl 0 call refl;
   }
 
   pub turned_away : (ask : Ask) (now : ℕ) → e ≡ acquire ask now → is_turned_away r ≡ true
-      → IsTurnedAway g o log ask now number r
+      → IsTurnedAway g o log own ask now number r
   turned_away ask now asks away =
       let full = all.shares 0 (call ∷ []) refl 0 call refl ask.part ask.bypass ask.wait now
       asks away in
       record {
         answered =
-            subst (λ (it : Event). IsAnsweredAt g o log number it r) asks answered_at;
+            subst (λ (it : Event). IsAnsweredAt g o log own number it r) asks answered_at;
         in_use = full.0;
         taken = full.1;
       }

@@ -1,7 +1,9 @@
 -- What the gate's verdict on a request is: that of one thread's limiter, at its place in one log.
 --
--- g: what the limiter was made with, o: what stood at first, log: all that was asked and answered
-use Rattle.std.specs.Prelude.{◌≡◌, ◌≤◌, ◌<◌, ◌⊎◌, ⊤, ℕ, true, List, Option, Some, IfSome}
+-- g: what the limiter was made with, o: what stood at first, log: all that was asked and answered,
+-- own: the numbers of the calls for the request, most: from how many entries on the history is
+-- exhausted
+use Rattle.std.specs.Prelude.{◌≡◌, ◌≤◌, ◌<◌, ◌⊎◌, ℕ, true, List, length, Option, Some, IfSome}
 use Rattle.std.specs.Prelude.{is_some, slice_get, take}
 use Rattle.partitions.specs.declared.part.Part.{Part}
 use Rattle.partitions.specs.Table.{place_of, share}
@@ -21,19 +23,21 @@ use Rattle.gateway_settings.specs.declared.settings.Settings.{Settings}
 use Rattle.gate_port.specs.declared.port.Why.{Why}
 use Rattle.gate_port.specs.declared.port.Why.TheVariants as why
 use Rattle.gate_port.specs.Asking.{Ask, acquire}
+use Rattle.gate_word.specs.Rule.{times}
 use Rattle.proxy.specs.declared.told.ExchangeSummary.{ExchangeSummary}
 use Rattle.proxy.specs.declared.told.Verdict.{Verdict}
 use Rattle.proxy.specs.declared.told.Verdict.TheVariants as verdict
 use Rattle.proxy.specs.Settling.{asked_for}
 
-module _ {S : Type 0} (g : Gate S) (o : Image S) (log : List Entry) where
-  -- what stood before the entry of a number
-  abbrev pub found_at : ℕ → Image S
-  found_at number = image_after g o (take number log)
+-- what stood before the entry of a number
+abbrev pub found_at : {S : Type 0} → Gate S → Image S → List Entry → ℕ → Image S
+found_at g o log number = image_after g o (take number log)
 
-  -- ANSWERED at a number: the call stands there with its reply, which is the sequential limiter's
-  -- after the entries before it
+module _ {S : Type 0} (g : Gate S) (o : Image S) (log : List Entry) (own : List ℕ) where
+  -- ANSWERED at a number of one's own: the call stands there with its reply, which is the
+  -- sequential limiter's after the entries before it
   pub record IsAnsweredAt (number : ℕ) (e : Event) (r : Reply) : Type 0 where
+    pub is_own : 1 ≤ times number own
     pub stands : slice_get log number ≡ Some (Call e r)
     pub sequential : slice_get (answer g o (take number log) e) 0 ≡ Some (Call e r)
 
@@ -41,9 +45,9 @@ module _ {S : Type 0} (g : Gate S) (o : Image S) (log : List Entry) where
   -- limit in use and the share of its class taken
   pub record IsTurnedAway (ask : Ask) (now number : ℕ) (r : Reply) : Type 0 where
     pub answered : IsAnsweredAt number (acquire ask now) r
-    pub in_use : limit g (found_at number) ≤ total (found_at number)
-    pub taken : share g.rows (place_of g.rows ask.part) (limit g (found_at number))
-        ≤ (found_at number).inflight (place_of g.rows ask.part)
+    pub in_use : limit g (found_at g o log number) ≤ total (found_at g o log number)
+    pub taken : share g.rows (place_of g.rows ask.part) (limit g (found_at g o log number))
+        ≤ (found_at g o log number).inflight (place_of g.rows ask.part)
 
   -- WAITED from a number on: it was made to wait, and its giving up, at a later number, was
   -- answered so
@@ -63,7 +67,7 @@ module _ {S : Type 0} (g : Gate S) (o : Image S) (log : List Entry) where
   -- ENDED: the permit of this number was ended with this outcome, at a later number
   pub record IsEnded (number : ℕ) (outcome : Outcome) : Type 0 where
     pub permit : PermitFacts
-    pub own : permit.number ≡ number
+    pub of : permit.number ≡ number
     pub end : ℕ
     pub promoted : ℕ
     pub last : ℕ
@@ -74,30 +78,37 @@ module _ {S : Type 0} (g : Gate S) (o : Image S) (log : List Entry) where
   pub record IsTimedOut (ask : Ask) (now : ℕ) : Type 0 where
     pub number : ℕ
     pub waited : HasWaited ask now number reply.TimedOut
-    pub still : waits (found_at waited.second) number ≡ true
-    pub no_room : g.promote ≡ rule.All → NobodyHasRoom g (found_at waited.second)
+    pub still : waits (found_at g o log waited.second) number ≡ true
+    pub no_room : g.promote ≡ rule.All → NobodyHasRoom g (found_at g o log waited.second)
+
+  -- LOST: it was made to wait, and its giving up told that it neither waited nor lay granted, or
+  -- wasn't answered, since the history was exhausted by then
+  abbrev pub IsLost : ℕ → Ask → ℕ → ℕ → Type 0
+  IsLost most ask now number =
+      HasWaited ask now number reply.Lost
+      ⊎ (IsTurnedAway ask now number reply.Waiting × (most ≤ length log))
 
   -- REFUSED for this cause; where the history is exhausted nothing was answered
-  abbrev pub IsRefused : Ask → ℕ → Why → Type 0
-  IsRefused ask now why.Full = (number : ℕ) × IsTurnedAway ask now number reply.Full
-  IsRefused ask now why.BacklogFull =
+  abbrev pub IsRefused : ℕ → Ask → ℕ → Why → Type 0
+  IsRefused most ask now why.Full = (number : ℕ) × IsTurnedAway ask now number reply.Full
+  IsRefused most ask now why.BacklogFull =
       (number : ℕ) × IsTurnedAway ask now number reply.BacklogFull
-  IsRefused ask now why.TimedOut = IsTimedOut ask now
-  IsRefused ask now why.Lost = (number : ℕ) × IsTurnedAway ask now number reply.Waiting
-  IsRefused ask now why.Exhausted = ⊤
+  IsRefused most ask now why.TimedOut = IsTimedOut ask now
+  IsRefused most ask now why.Lost = (number : ℕ) × IsLost most ask now number
+  IsRefused most ask now why.Exhausted = most ≤ length log
 
   -- THE VERDICT on what was asked for at this moment, and the outcome of what was let through
-  abbrev pub IsVerdict : Ask → ℕ → Verdict → Option Outcome → Type 0
-  IsVerdict ask now verdict.NotAsked outcome = ⊥
-  IsVerdict ask now verdict.Admitted outcome =
+  abbrev pub IsVerdict : ℕ → Ask → ℕ → Verdict → Option Outcome → Type 0
+  IsVerdict most ask now verdict.NotAsked outcome = ⊥
+  IsVerdict most ask now verdict.Admitted outcome =
       (number : ℕ) × IsGot ask now number × IfSome outcome (IsEnded number)
       × (is_some outcome ≡ true)
-  IsVerdict ask now verdict.Bypassed outcome =
+  IsVerdict most ask now verdict.Bypassed outcome =
       (number : ℕ) × IsAnsweredAt number (acquire ask now) reply.Bypassed
-  IsVerdict ask now (verdict.Refused cause) outcome = IsRefused ask now cause
+  IsVerdict most ask now (verdict.Refused cause) outcome = IsRefused most ask now cause
 
   -- DECIDED: an exchange whose request was read, by the request's class
-  abbrev pub IsDecided : Settings → ExchangeSummary → Type 0
-  IsDecided s x =
+  abbrev pub IsDecided : ℕ → Settings → ExchangeSummary → Type 0
+  IsDecided most s x =
       IfSome x.class (λ class.
-      (now : ℕ) × IsVerdict (asked_for s class) now x.admission x.outcome)
+      (now : ℕ) × IsVerdict most (asked_for s class) now x.admission x.outcome)
