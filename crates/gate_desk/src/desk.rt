@@ -10,7 +10,7 @@ use gate_history::{Receipt, Spent};
 use gate_port::Report;
 use limit_laws::{Limit, SetFault};
 use limiter_core::Reply;
-use listening::Listener;
+use listening::Closable;
 use operator_serving::{ChangeFault, Desk};
 use partitions::PartitionTable;
 use serve_reports::GatewayStats;
@@ -61,7 +61,7 @@ where
     G: Limit,
     M: GateNaming,
     R: SystemClock + Wait,
-    L: Listener,
+    L: Closable,
     C: Clock,
     W: DeskWatch,
 {

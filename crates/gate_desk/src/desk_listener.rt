@@ -2,7 +2,7 @@
 ghost use Rattle.std.specs.Prelude.{◌≡◌, true, false};
 ghost use Rattle.gate_desk.specs.Listeners.{is_shut, listener_in};
 
-use listening::Listener;
+use listening::{Closable, Listener};
 use seats::ClientConnections;
 use std::time::{Clock as SystemClock, Duration};
 
@@ -39,7 +39,9 @@ impl<'a, L: Listener> DeskListener<'a, L> {
     pub(crate) fn connections(&self) -> ClientConnections {
         self.listener.connections()
     }
+}
 
+impl<'a, L: Closable> DeskListener<'a, L> {
     // Lets no further client come; those who wait still do, for so long at most.
     pub(crate) fn close<R: SystemClock>(&mut self, rt: &R, most: Duration)
         ensures listener { listener_in self.new ≡ listener_in self.old }

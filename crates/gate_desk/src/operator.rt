@@ -8,7 +8,7 @@ use crate::desk::GateDesk;
 use crate::watch::DeskWatch;
 use clocks::Clock;
 use limit_laws::Limit;
-use listening::Listener;
+use listening::Closable;
 use operator_serving::{AnswerMemory, ListenerDoor, Operating, operate};
 use shared_gate::{GateNaming, Pass};
 use std::alloc::AllocError;
@@ -55,7 +55,7 @@ where
     G: Limit,
     M: GateNaming + Send + Sync,
     R: SystemClock + Wait,
-    L: Listener,
+    L: Closable,
     L::Stream: Drop,
     C: Clock,
     W: DeskWatch + Drop,
@@ -87,7 +87,7 @@ where
 }
 
 /// Closes a listener, where there is one.
-fn close_too<R: SystemClock, L: Listener>(rt: &R, also: Option<&L>) {
+fn close_too<R: SystemClock, L: Closable>(rt: &R, also: Option<&L>) {
     if let Some(also) = also {
         also.close(rt, Duration::ZERO);
     }

@@ -3,7 +3,7 @@ ghost use Rattle.std.specs.Prelude.{IfOk, OnErr};
 ghost use Rattle.std.specs.Net.Text.{socket_v4_text};
 
 use crate::bound_listener::BoundListener;
-use crate::listener::Listener;
+use crate::listener::Closable;
 use std::io::Result;
 use std::net::{Net, SocketAddr, SocketAddrV4};
 use std::sync::Wait;
@@ -12,7 +12,7 @@ use std::time::Clock;
 /// Where addresses are bound, to listen there.
 pub trait Binder {
     /// What listens at an address.
-    type Bound: Listener + Drop;
+    type Bound: Closable + Drop;
 
     ghost use Rattle.std.specs.Prelude.{ℕ, List};
 

@@ -1,5 +1,5 @@
 // Clients over TCP.
-use crate::listener::{AcceptedClient, Listener};
+use crate::listener::{AcceptedClient, Closable, Listener};
 use crate::opaque_end::OpaqueEnd;
 use crate::room::{Came, Room};
 use libc::net::{POLLIN, SHUT_RD, listen, poll, shutdown};
@@ -178,8 +178,6 @@ impl<'r, R: Net + Wait + Clock> Listener for BoundListener<'r, R> {
 
     ghost found = { λ _ _. ⊤ };
 
-    ghost closed = { λ _. ⊤ };
-
     fn accept(&self) -> Result<Arrival> {
         for _ in self.rt.forever() {
             let client = self.next()?;
@@ -232,6 +230,12 @@ impl<'r, R: Net + Wait + Clock> Listener for BoundListener<'r, R> {
     fn is_open(&self) -> bool {
         self.open.load(Ordering::SeqCst)
     }
+}
+
+impl<'r, R: Net + Wait + Clock> Closable for BoundListener<'r, R> {
+    ghost use Rattle.std.specs.Prelude.{⊤};
+
+    ghost closed = { λ _. ⊤ };
 
     // Only the first time: a socket that was shut down would listen anew. The queue is made short
     // where it doesn't get empty by itself alone: a client that finds it full isn't refused by the

@@ -24,5 +24,5 @@ pub use binding::{Binder, SystemAddresses};
 pub use bound_listener::BoundListener;
 pub use counted_listener::CountedListener;
 pub use descriptors::spare_descriptors;
-pub use listener::{AcceptedClient, Listener};
+pub use listener::{AcceptedClient, Closable, Listener};
 pub use opaque_end::OpaqueEnd;

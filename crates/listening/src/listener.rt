@@ -50,9 +50,6 @@ pub trait Listener {
     // It was found open, or closed.
     ghost found: { Self → Bool → Type 0 };
 
-    // It was closed for good.
-    ghost closed: { Self → Type 0 };
-
     /// Waits for the next new client, to whom nothing was written yet; the fault is the system's,
     /// where there was none to be had. Once it is closed, nobody waits. Nobody is kept where this
     /// is asked: who was, is let go.
@@ -94,6 +91,12 @@ pub trait Listener {
     /// may still be had.
     fn is_open(&self) -> bool
         ensures { found self.now result };
+}
+
+/// A listener that may be closed: whoever has it as a [`Listener`] alone can't do that.
+pub trait Closable: Listener {
+    // It was closed for good.
+    ghost closed: { Self → Type 0 };
 
     /// Closes it for good, with all who wait in `accept`. Connections that wait are still accepted,
     /// for so long at most; it returns once there are none, and whoever connects then is refused.

@@ -4,7 +4,7 @@ use Rattle.std.proofs.Common.{Option, None, Result, Ok, Err, IfOk, ap, sym, subs
 use Rattle.std.proofs.Common.{length, true≢false}
 use Rattle.std.specs.List.{AllZip, list_all}
 use Rattle.gateway_settings.specs.declared.settings.Settings.{Settings}
-use Rattle.limiter_core.specs.declared.event.Entry.{Entry}
+use Rattle.gate_port.specs.Log.{Known}
 use Rattle.gate_port.specs.Shown.{Shown}
 use Rattle.wire.specs.Forwards.{Forwarded}
 use Rattle.tcp_backend.specs.declared.connecting.TcpBackend.{TcpBackend}
@@ -89,14 +89,14 @@ pub on_ok : {T E : Type 0} (r : Result T E) (P Q : T → Type 0) → IfOk r P
 on_ok (Ok v) P Q p f = f v p
 on_ok (Err e) P Q p f = tt
 
-module _ {A P B T D S R L C W : Type 0} (given failed : A → ℕ) (closed : A → Bool)
+module _ {A P B T D S R L E C W : Type 0} (given failed : A → ℕ) (closed : A → Bool)
     (visits : A → Option Visits) (came : A → Bytes → Type 0) (shown : P → Option Shown)
-    (known : P → Option (List Entry)) (forwarded : B → ℕ) (log : B → Option (List Forwarded))
+    (known : P → Option Known) (forwarded : B → ℕ) (log : B → Option (List Forwarded))
     (gives : S → Settings → Type 0) (lacks : S → Type 0) (makes : T → D → Type 0) where
-  abbrev Made : Job A P B T (Context R L C S W) → JobResult A P B D → Type 0
+  abbrev Made : Job A P B T (Context R L E C S W) → JobResult A P B D → Type 0
   Made = Makes given failed closed visits came shown known forwarded log gives lacks makes
 
-  made_by : (jobs : List (Job A P B T (Context R L C S W))) (lefts : List (JobResult A P B D))
+  made_by : (jobs : List (Job A P B T (Context R L E C S W))) (lefts : List (JobResult A P B D))
       → AllZip Made jobs lefts → list_all has_begun lefts ≡ true
       → AllZip makes (tasks_in jobs) (made_in lefts)
   made_by [] [] all begun = tt
@@ -113,26 +113,26 @@ module _ {A P B T D S R L C W : Type 0} (given failed : A → ℕ) (closed : A �
       made_by hs ls all.1 begun
 
   -- what the tasks beside them made
-  pub all_made : (tasks : List T) (jobs : List (Job A P B T (Context R L C S W)))
+  pub all_made : (tasks : List T) (jobs : List (Job A P B T (Context R L E C S W)))
       (lefts : List (JobResult A P B D)) → tasks_in jobs ≡ tasks → AllZip Made jobs lefts
       → list_all has_begun lefts ≡ true → AllZip makes tasks (made_in lefts)
   all_made tasks jobs lefts same all begun =
       subst (λ (ts : List T). AllZip makes ts (made_in lefts)) same (made_by jobs lefts all begun)
 
-module _ {A P B T D S R L C W : Type 0} (given failed : A → ℕ) (closed : A → Bool)
+module _ {A P B T D S R L E C W : Type 0} (given failed : A → ℕ) (closed : A → Bool)
     (visits : A → Option Visits) (came : A → Bytes → Type 0) (shown : P → Option Shown)
-    (known : P → Option (List Entry)) (forwarded : B → ℕ) (log : B → Option (List Forwarded))
+    (known : P → Option Known) (forwarded : B → ℕ) (log : B → Option (List Forwarded))
     (gives : S → Settings → Type 0) (lacks : S → Type 0) (makes : T → D → Type 0)
-    (x : Context R L C S W) where
+    (x : Context R L E C S W) where
   abbrev Worked : Worker A P B → WorkerExit A P B → Type 0
   Worked = HasWorked given failed closed visits came shown known forwarded log gives lacks
       x.common.now.source.now x.common.now.marks x.common.now.per_worker
 
-  abbrev AllDone : List (Job A P B T (Context R L C S W)) → List (JobResult A P B D) → Type 0
+  abbrev AllDone : List (Job A P B T (Context R L E C S W)) → List (JobResult A P B D) → Type 0
   AllDone = AllZip
       (Made given failed closed visits came shown known forwarded log gives lacks makes)
 
-  worked_in : (jobs : List (Job A P B T (Context R L C S W))) (lefts : List (JobResult A P B D))
+  worked_in : (jobs : List (Job A P B T (Context R L E C S W))) (lefts : List (JobResult A P B D))
       → AllDone jobs lefts → AreWithin x jobs → list_all has_begun lefts ≡ true
       → AllZip Worked (workers_in jobs) (ended_in lefts)
   worked_in [] [] all within begun = tt
@@ -147,7 +147,7 @@ module _ {A P B T D S R L C W : Type 0} (given failed : A → ℕ) (closed : A �
   worked_in (job.Worker context worker ∷ hs) (left.SideTask made ∷ ls) all within begun =
       absurd all.0
   worked_in (job.Worker context worker ∷ hs) (left.Worked ended ∷ ls) all within begun = (
-    subst (λ (c : Context R L C S W). HasWorked given failed closed visits came shown known
+    subst (λ (c : Context R L E C S W). HasWorked given failed closed visits came shown known
         forwarded log gives lacks c.common.now.source.now c.common.now.marks
         c.common.now.per_worker worker ended)
         within.0 all.0,
@@ -156,7 +156,7 @@ module _ {A P B T D S R L C W : Type 0} (given failed : A → ℕ) (closed : A �
 
   -- what the workers leave, where all jobs began in the same context
   pub all_worked : (workers : List (Worker A P B))
-      (jobs : List (Job A P B T (Context R L C S W))) (lefts : List (JobResult A P B D))
+      (jobs : List (Job A P B T (Context R L E C S W))) (lefts : List (JobResult A P B D))
       → workers_in jobs ≡ workers → AllDone jobs lefts → AreWithin x jobs
       → list_all has_begun lefts ≡ true → AllZip Worked workers (ended_in lefts)
   all_worked workers jobs lefts same all within begun =
@@ -164,7 +164,7 @@ module _ {A P B T D S R L C W : Type 0} (given failed : A → ℕ) (closed : A �
       (worked_in jobs lefts all within begun)
 
 -- what stands at a worker's end, or at its start
-abbrev from : {P : Type 0} → (P → Option Shown) → (P → Option (List Entry)) → ℕ → ℕ → Bool → P → ℕ
+abbrev from : {P : Type 0} → (P → Option Shown) → (P → Option Known) → ℕ → ℕ → Bool → P → ℕ
     → Place
 from shown known given failed closed port count = record {
   given = given;
@@ -175,7 +175,7 @@ from shown known given failed closed port count = record {
 }
 
 module _ {R T L C S W V P : Type 0} (gives : S → Settings → Type 0) (lacks : S → Type 0)
-    (came : L → Bytes → Type 0) (shown : P → Option Shown) (known : P → Option (List Entry))
+    (came : L → Bytes → Type 0) (shown : P → Option Shown) (known : P → Option Known)
     (common : WorkerSettings L C S W) (address : List ℕ) where
   abbrev Did : Worker (Door L W) P (TcpBackend (Dialer R T) T V C)
       → WorkerExit (Door L W) P (TcpBackend (Dialer R T) T V C) → Type 0

@@ -7,7 +7,7 @@ use crate::reporting::ActiveWorkers;
 use crate::working::{Source, TurnCounts, WorkerSettings, work};
 use clocks::Clock;
 use gate_port::GatePort;
-use listening::Listener;
+use listening::{Closable, Listener};
 use proxy::Watch;
 use std::sync::Wait;
 use std::time::{Clock as SystemClock, Duration};
@@ -39,10 +39,12 @@ pub struct WorkerExit<A, P, B> {
 
 /// What all workers have in common.
 #[derive(Drop)]
-pub(crate) struct Context<'a, R, L, C, S, W> {
+pub(crate) struct Context<'a, R, L, E, C, S, W> {
     pub(crate) rt: &'a R,
     pub(crate) common: &'a WorkerSettings<'a, L, C, S, W>,
     pub(crate) active: &'a ActiveWorkers,
+    /// The listener of the task beside them, where there is one.
+    pub(crate) side_listener: Option<&'a E>,
 }
 
 /// What a thread does: runs a task beside the workers, or is a worker in a context.
@@ -63,7 +65,7 @@ pub enum JobResult<A, P, B, D> {
     Worked(WorkerExit<A, P, B>),
 }
 
-impl<'a, R, A, P, B, T, L, C, S, W> Task for Job<'a, A, P, B, T, Context<'a, R, L, C, S, W>>
+impl<'a, R, A, P, B, T, L, E, C, S, W> Task for Job<'a, A, P, B, T, Context<'a, R, L, E, C, S, W>>
 where
     R: Wait + SystemClock + Sync,
     A: Accepts + Send + Drop,
@@ -71,6 +73,7 @@ where
     B: Backend + Send + Drop,
     T: Task + Send + Drop,
     L: Listener + Sync,
+    E: Closable + Sync,
     C: Clock + Sync,
     S: Source + Sync,
     W: Watch + Sync,
@@ -95,21 +98,21 @@ where
 }
 
 /// One worker ends. The last one closes the listener of the task beside the workers.
-fn leave<R, L, C, S, W>(context: &Context<'_, R, L, C, S, W>)
+fn leave<R, L, E, C, S, W>(context: &Context<'_, R, L, E, C, S, W>)
 where
     R: Wait + SystemClock,
-    L: Listener,
+    E: Closable,
 {
     if context.active.leave(context.rt) {
-        if let Some(listener) = context.common.side_listener {
+        if let Some(listener) = context.side_listener {
             listener.close(context.rt, Duration::from_millis(0));
         }
     }
 }
 
 /// One worker's whole run, over settings of its own.
-fn run_one<R, A, P, B, D, L, C, S, W>(
-    context: &Context<'_, R, L, C, S, W>,
+fn run_one<R, A, P, B, D, L, E, C, S, W>(
+    context: &Context<'_, R, L, E, C, S, W>,
     worker: Worker<A, P, B>,
 ) -> JobResult<A, P, B, D>
 where

@@ -14,7 +14,7 @@ use crate::working::{Source, WorkerSettings};
 use clocks::Clock;
 use gate_port::{GatePort, GateView};
 use gateway_settings::Settings;
-use listening::{CountedListener, Listener, spare_descriptors};
+use listening::{Closable, CountedListener, Listener, spare_descriptors};
 use proxy::Watch;
 use seats::Places;
 use std::alloc::{AllocError, Global};
@@ -40,13 +40,13 @@ const OTHER_DESCRIPTORS: u64 = 24;
 /// connection of its own to the backend of the settings, until all have ended; and tells what they
 /// left, in the order of the ports. Each task beside them has one more thread: these are started
 /// last, once all workers were, the last task first, and tell what they made first. They are to
-/// end once the last worker has closed their listener. Where reports are wanted, the thread of the
-/// caller makes them once all others were started.
+/// end once the last worker has closed their listener, and no other can be closed here. Where
+/// reports are wanted, the thread of the caller makes them once all others were started.
 ///
 /// The settings are those that the workers' source gives. `Memory` comes before any worker is
 /// started, or where one had none for its settings, once all have ended; `Thread` once those that
 /// were started have.
-pub fn serve<'l, R, G, P, T, L, C, S, W>(
+pub fn serve<'l, R, G, P, T, L, E, C, S, W>(
     rt: &'l R,
     spawner: &mut Spawner<'_, R>,
     common: &WorkerSettings<'l, L, C, S, W>,
@@ -54,6 +54,7 @@ pub fn serve<'l, R, G, P, T, L, C, S, W>(
     gate: G,
     ports: Vec<P>,
     side_tasks: Vec<T>,
+    side_listener: Option<&E>,
 ) -> Result<
     Vec<
         JobResult<
@@ -71,6 +72,7 @@ where
     P: GatePort + Send + Drop,
     T: Task + Send + Drop,
     L: Listener + Sync,
+    E: Closable + Sync,
     C: Clock + Sync,
     S: Source + Sync,
     W: Watch + BackendWatch + Sync,
@@ -79,6 +81,9 @@ where
     L::Stream: Send + Sync + Drop,
     L::From: Send + Sync,
     L::To: Send + Sync,
+    E::Stream: Send + Sync,
+    E::From: Send + Sync,
+    E::To: Send + Sync,
     R::Stream: Send + Sync,
     R::Listener: Send + Sync,
     ensures ran { IfOk result (λ lefts.
@@ -110,7 +115,16 @@ where
         listener: common.listener,
         every_ns: common.report_every_ns,
     };
-    serve_by(rt, spawner, common, &active, reporter, workers, side_tasks)
+    serve_by(
+        rt,
+        spawner,
+        common,
+        &active,
+        reporter,
+        workers,
+        side_tasks,
+        side_listener,
+    )
 }
 
 /// How many descriptors are wanted, two for each worker, for its client and its backend, and one
@@ -207,7 +221,7 @@ fn share<S: Drop>(
 
 /// Serves clients by these workers, with tasks beside them and a reporter on this thread. Which
 /// doors and backends they have isn't told apart here.
-fn serve_by<R, O, A, P, B, T, L, C, S, W>(
+fn serve_by<R, O, A, P, B, T, L, E, C, S, W>(
     rt: &R,
     spawner: &mut Spawner<'_, R>,
     common: &WorkerSettings<'_, L, C, S, W>,
@@ -215,6 +229,7 @@ fn serve_by<R, O, A, P, B, T, L, C, S, W>(
     reporter: O,
     workers: Vec<Worker<A, P, B>>,
     side_tasks: Vec<T>,
+    side_listener: Option<&E>,
 ) -> Result<Vec<JobResult<A, P, B, T::Done>>, ServeFault>
 where
     R: Threads + Wait + SystemClock + Sync,
@@ -224,6 +239,7 @@ where
     B: Backend + Send + Drop,
     T: Task + Send + Drop,
     L: Listener + Sync,
+    E: Closable + Sync,
     C: Clock + Sync,
     S: Source + Sync,
     W: Watch + Sync,
@@ -235,6 +251,9 @@ where
     L::Stream: Send + Sync,
     L::From: Send + Sync,
     L::To: Send + Sync,
+    E::Stream: Send + Sync,
+    E::From: Send + Sync,
+    E::To: Send + Sync,
     ensures worked { IfOk result (λ lefts. AllZip (HasWorked A.given A.failed A.closed A.visits
         A.came P.shown P.known B.forwarded B.shown S.gives S.lacks
         common.now.source.now common.now.marks common.now.per_worker)
@@ -246,7 +265,12 @@ where
     ensures started { ¬ IsErrOf result ServeFault.Thread →
         refused_of spawner.new ≡ refused_of spawner.old }
 {
-    let context = Context { rt, common, active };
+    let context = Context {
+        rt,
+        common,
+        active,
+        side_listener,
+    };
     let jobs = make_jobs(common.alloc, &context, side_tasks, workers)?;
     let lefts = run_tasks_beside(spawner, common.alloc, reporter, jobs)?;
     if !have_begun(&lefts) {

@@ -46,9 +46,6 @@ pub trait Source {
 pub struct WorkerSettings<'a, L, C, S, W> {
     /// Where clients come from.
     pub listener: &'a L,
-    /// Where those come from whom the tasks beside the workers serve: the last worker that ends
-    /// closes it.
-    pub side_listener: Option<&'a L>,
     /// Where a worker has its settings from.
     pub source: &'a S,
     /// The clock of deadlines.
