@@ -7,12 +7,19 @@ use Rattle.gate_config.specs.declared.fault.ConfigFault.{ConfigFault}
 use Rattle.gate_config.specs.declared.fault.ConfigFault.TheVariants as Config
 use Rattle.config_file.specs.declared.file_fault.FileFault.{FileFault}
 use Rattle.config_file.specs.declared.file_fault.FileFault.TheVariants as File
+use Rattle.config_file.specs.declared.unread_file.UnreadFile.{UnreadFile}
+use Rattle.config_file.specs.declared.unread_file.UnreadFile.TheVariants as Left
 
 -- the fault of a file whose bytes were not had
 abbrev pub read_fault : ReadFault → FileFault
 read_fault Reading.Memory = File.Config Config.Memory
 read_fault Reading.Read = File.Read
 read_fault Reading.TooLarge = File.Read
+
+-- the fault of a file whose text was not had
+abbrev pub fault_of : {R : Type 0} → UnreadFile R → FileFault
+fault_of Left.Unopened = File.Read
+fault_of (Left.Unread reader fault) = fault
 
 -- the text of a fault
 abbrev pub config_fault_text : ConfigFault → List ℕ

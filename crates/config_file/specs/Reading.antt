@@ -1,10 +1,10 @@
 -- What a file or its bytes give: settings, or why there are none.
-use Rattle.std.specs.Prelude.{◌≡◌, ◌≢◌, ◌<◌, ◌≤◌, ◌⊎◌, ℕ, List, length, Option, Result, Ok, Err, IsUtf8}
+use Rattle.std.specs.Prelude.{◌≡◌, ◌≢◌, ◌<◌, ◌≤◌, ◌⊎◌, ℕ, List, length, Option, Result, Err, IsUtf8}
 use Rattle.toml.specs.Data.{Members}
 use Rattle.toml.specs.Errors.{IsBlank}
 use Rattle.counted_io.specs.declared.counted.Counted.{Counted}
 use Rattle.counted_io.specs.Causes.{IsMemoryCause, IsReadCause}
-use Rattle.counted_io.specs.Counted.{failures_of, inner_of}
+use Rattle.counted_io.specs.Counted.{calls_of, failures_of, inner_of}
 use Rattle.counted_io.specs.Effects.{IfLeft}
 use Rattle.gate_config.specs.declared.fault.ConfigFault.{ConfigFault}
 use Rattle.gate_config.specs.declared.fault.ConfigFault.TheVariants as Config
@@ -12,6 +12,9 @@ use Rattle.gateway_settings.specs.declared.settings.Settings.{Settings}
 use Rattle.gate_config.specs.Settings.{Reads, settings_of}
 use Rattle.config_file.specs.declared.file_fault.FileFault.{FileFault}
 use Rattle.config_file.specs.declared.file_fault.FileFault.TheVariants as File
+use Rattle.config_file.specs.declared.unread_file.UnreadFile.{UnreadFile}
+use Rattle.config_file.specs.declared.unread_file.UnreadFile.TheVariants as Left
+use Rattle.config_file.specs.FileFault.{fault_of}
 
 -- the bytes have this answer: it is that of every table that toml reads of them, and without such a
 -- table it is the fault of the text
@@ -51,14 +54,23 @@ IsUnread remaining old new File.Read =
 IsUnread remaining old new (File.Config fault) =
     (fault ≡ Config.Memory) × IsMemoryCause remaining 1048576 old new
 
--- the fault of a file whose bytes were not had: it couldn't be opened, or was, and its reader's
--- bytes were not had
+-- a reader over a file that was opened, before any call
+abbrev pub IsFreshOver : {F : Type 0} → (F → Type 0) → Counted F → Type 0
+IsFreshOver Opened reader =
+    Opened (inner_of reader) × (calls_of reader ≡ 0) × (failures_of reader ≡ 0)
+
+-- WHY A FILE'S TEXT WAS NOT HAD: it couldn't be opened; or it was, and its reader is left so
+abbrev pub IsWhyUnread : {F : Type 0} → Type 0 → (F → Type 0) → (F → Option (List ℕ))
+    → UnreadFile F → Type 0
+IsWhyUnread Unopened Opened remaining Left.Unopened = Unopened
+IsWhyUnread {F} Unopened Opened remaining (Left.Unread after fault) =
+    (before : Counted F) × IsFreshOver Opened before × IsUnread remaining before after fault
+
+-- the fault alone of a file whose text was not had
 abbrev pub IsUnreadFile : {F : Type 0} → Type 0 → (F → Type 0) → (F → Option (List ℕ)) → FileFault
     → Type 0
 IsUnreadFile {F} Unopened Opened remaining fault =
-    ((fault ≡ File.Read) × Unopened)
-    ⊎ ((before : Counted F) × (after : Counted F) × Opened (inner_of before)
-    × IsUnread remaining before after fault)
+    (left : UnreadFile F) × (fault ≡ fault_of left) × IsWhyUnread Unopened Opened remaining left
 
 -- why a reader's settings weren't had: its bytes were not had; or no read failed, and the fault is
 -- that of its bytes

@@ -9,8 +9,10 @@ mod file_fault;
 mod opening;
 mod reading;
 mod unread;
+mod unread_file;
 
 pub use file_fault::{FileFault, report_file_fault};
 pub use opening::{Opener, SystemFiles};
 pub use reading::{read_bytes, read_file_text, read_text};
 pub use unread::why_unread;
+pub use unread_file::UnreadFile;

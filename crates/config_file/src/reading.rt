@@ -4,10 +4,11 @@ ghost use Rattle.counted_io.specs.declared.counted.Counted.{Counted as CountedVa
 ghost use Rattle.counted_io.specs.Causes.{HasRead};
 ghost use Rattle.counted_io.specs.Counted.{calls_of, failures_of, inner_of};
 ghost use Rattle.gateway_settings.specs.Settings.{AreSound};
-ghost use Rattle.config_file.specs.Reading.{Held, IsFaultOf, IsUnread, IsUnreadFile, Says, most_reads};
+ghost use Rattle.config_file.specs.Reading.{Held, IsFaultOf, IsUnread, IsWhyUnread, Says, most_reads};
 
 use super::file_fault::FileFault;
 use crate::opening::Opener;
+use crate::unread_file::UnreadFile;
 use counted_io::{Counted, read_all};
 use gate_config::read;
 use gateway_settings::Settings;
@@ -24,18 +25,29 @@ const MOST_READS: u64 = 33_554_432;
 /// 2^25 reads.
 ///
 /// A file that can't be opened or read, isn't at its end after so many reads, or has more is
-/// reported as one that can't be read; else the fault is that of running out of memory.
-pub fn read_file_text<F: Opener>(files: &F, alloc: Global, path: &str) -> Result<Vec<u8>, FileFault>
+/// told as one that can't be read; else the fault is that of running out of memory. Where it was
+/// opened, its reader is told too, and shows by its counts what was met.
+pub fn read_file_text<F: Opener>(
+    files: &F,
+    alloc: Global,
+    path: &str,
+) -> Result<Vec<u8>, UnreadFile<F::File>>
     ensures text { IfOk result (λ text. (before : CountedValue F.File)
         × (after : CountedValue F.File) × F.opened path.now (inner_of before)
         × Held F.File.remaining before text.items
         × (failures_of after ≡ failures_of before)) }
     ensures refused { IfErr result
-        (IsUnreadFile (F.unopened path.now) (F.opened path.now) F.File.remaining) }
+        (IsWhyUnread (F.unopened path.now) (F.opened path.now) F.File.remaining) }
 {
     match files.open(path) {
-        Ok(file) => read_text(alloc, &mut Counted::new(file)),
-        Err(_) => Err(FileFault::Read),
+        Ok(file) => {
+            let mut reader = Counted::new(file);
+            match read_text(alloc, &mut reader) {
+                Ok(text) => Ok(text),
+                Err(fault) => Err(UnreadFile::Unread(reader, fault)),
+            }
+        }
+        Err(_) => Err(UnreadFile::Unopened),
     }
 }
 

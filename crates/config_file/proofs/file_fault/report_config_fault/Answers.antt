@@ -8,8 +8,9 @@ use Rattle.config_file.proofs.file_fault.report_config_fault.Goals as goal
 pub returns : goal.returns
 returns g c =
     let pieces = c.pieces.result in
+    let errors = c.args.errors.now in
     subst
-    (λ text. IsTold g.E.Write.contents c.args.errors.now c.report_fault.new.errors (fault_line text))
+    (λ text. IsTold g.E.Write.contents errors c.report_fault.new.errors (fault_line text))
     (word_and_three (codes "config: ") pieces.0.now pieces.1.now pieces.2.now
     (fault_text c.args.fault.now) c.pieces.ensures)
     c.report_fault.ensures

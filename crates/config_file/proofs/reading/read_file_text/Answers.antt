@@ -1,19 +1,25 @@
-use Rattle.std.proofs.Common.{rules, ap, subst, sym}
+use Rattle.std.proofs.Common.{rules}
 use Rattle.counted_io.specs.Counted.{inner_of}
-use Rattle.config_file.proofs.Whys.{had_of_file, unread_of_file}
 use Rattle.config_file.proofs.reading.read_file_text.Goals as goal
 
 -- the file is the one that was opened, before its first read and after its last
-pub returns-in-Ok-clause-text : goal.returns-in-Ok-clause-text
-returns-in-Ok-clause-text g c =
-    let opened : g.F.Opener.opened c.args.path.now (inner_of c.new.result) = search rules in
-    had_of_file (λ text. text.items) (g.F.Opener.opened c.args.path.now)
-    g.F.File.Read.remaining c.new.result c.read_text.new.reader _ opened
-    c.read_text.ensures.text c.read_text.ensures.unfailing
+pub returns-in-Ok-read_text-clause-text : goal.returns-in-Ok-read_text-clause-text
+returns-in-Ok-read_text-clause-text g c =
+    let reader = c.new-reader.result in
+    let opened : g.F.Opener.opened c.args.path.now (inner_of reader) = search rules in (
+      c.new-reader.result,
+      c.read_text.new.reader,
+      opened,
+      c.in-Ok-read_text.ensures.text,
+      c.in-Ok-read_text.ensures.unfailing,
+    )
 
-pub returns-in-Ok-clause-refused : goal.returns-in-Ok-clause-refused
-returns-in-Ok-clause-refused g c =
-    let opened : g.F.Opener.opened c.args.path.now (inner_of c.new.result) = search rules in
-    unread_of_file (g.F.Opener.unopened c.args.path.now) (g.F.Opener.opened c.args.path.now)
-    g.F.File.Read.remaining c.new.result c.read_text.new.reader _ opened
-    c.read_text.ensures.refused
+-- and so is that of the reader which is told, as it was made
+pub returns-in-Err-read_text-clause-refused : goal.returns-in-Err-read_text-clause-refused
+returns-in-Err-read_text-clause-refused g c =
+    let opened : g.F.Opener.opened c.args.path.now (inner_of c.new-reader.result) = search rules in
+    let made = c.new-reader.ensures in (
+      c.new-reader.result,
+      (opened, made.calls, made.failures),
+      c.in-Err-read_text.ensures.refused,
+    )
