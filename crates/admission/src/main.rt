@@ -5,6 +5,7 @@
 
 use commands::{Run, parse_args};
 use config_check::check_file;
+use config_explain::Explainer;
 use config_file::SystemFiles;
 use counted_io::Counted;
 use fault_lines::tell_unread_words;
@@ -40,7 +41,16 @@ fn main(rt: HostRuntime) -> ExitCode {
             run_text(alloc, task, explain, &mut reader, &mut writer, &mut errors)
         }
         Run::Check { path, explain } => {
-            check_file(&files, alloc, path, explain, &mut writer, &mut errors)
+            let mut explainer = Explainer::new(alloc);
+            check_file(
+                &files,
+                &mut explainer,
+                alloc,
+                path,
+                explain,
+                &mut writer,
+                &mut errors,
+            )
         }
         Run::Load {
             limit,

@@ -27,43 +27,43 @@ abbrev pub IsWhy : {W : Type 0} → Counted W → Counted W → List ℕ → Che
 IsWhy old new bytes (Check.File fault) = (new ≡ old) × IsFaultOf bytes fault
 IsWhy old new bytes Check.Write = IsWriteCause old new × (s : Settings) × Says bytes (Ok s)
 
--- the words explain these bytes; out of memory there are none
-abbrev pub AreWordsOn : List ℕ → List ℕ → Type 0
-AreWordsOn bytes words = (words ≡ []) ⊎ IsExplained bytes words
+-- the words explain these bytes; or there are none, for this lack of memory
+abbrev pub AreWordsOn : Type 0 → List ℕ → List ℕ → Type 0
+AreWordsOn Lacked bytes words = ((words ≡ []) × Lacked) ⊎ IsExplained bytes words
 
 -- WORDS FIRST: if an explanation is asked for, words on these bytes are written, and behind them
 -- all that `P` says; else `P` says it from the start
-abbrev pub AfterWords : {W : Type 0} → Bool → (W → Option (List ℕ)) → List ℕ → Counted W
-    → (Counted W → Type 0) → Type 0
-AfterWords false contents bytes old P = P old
-AfterWords true contents bytes old P = (between : Counted _) × (words : List ℕ)
-    × AreWordsOn bytes words × Wrote contents old between words × P between
+abbrev pub AfterWords : {W : Type 0} → Bool → Type 0 → (W → Option (List ℕ)) → List ℕ
+    → Counted W → (Counted W → Type 0) → Type 0
+AfterWords false Lacked contents bytes old P = P old
+AfterWords true Lacked contents bytes old P = (between : Counted _) × (words : List ℕ)
+    × AreWordsOn Lacked bytes words × Wrote contents old between words × P between
 
 -- ACCEPTED: the line of the settings is written, behind the words
-abbrev pub IsAcceptedAfter : {W : Type 0} → Bool → (W → Option (List ℕ)) → Counted W → Counted W
-    → List ℕ → Type 0
-IsAcceptedAfter explain contents old new bytes =
-    AfterWords explain contents bytes old (λ between. IsAccepted contents between new bytes)
+abbrev pub IsAcceptedAfter : {W : Type 0} → Bool → Type 0 → (W → Option (List ℕ)) → Counted W
+    → Counted W → List ℕ → Type 0
+IsAcceptedAfter explain Lacked contents old new bytes =
+    AfterWords explain Lacked contents bytes old (λ between. IsAccepted contents between new bytes)
 
 -- WHY NOT: behind the words it is why the bytes aren't accepted; or the words weren't written
-abbrev pub IsWhyAfter : {W : Type 0} → Bool → (W → Option (List ℕ)) → Counted W → Counted W
-    → List ℕ → CheckFault → Type 0
-IsWhyAfter false contents old new bytes fault = IsWhy old new bytes fault
-IsWhyAfter true contents old new bytes fault =
+abbrev pub IsWhyAfter : {W : Type 0} → Bool → Type 0 → (W → Option (List ℕ)) → Counted W
+    → Counted W → List ℕ → CheckFault → Type 0
+IsWhyAfter false Lacked contents old new bytes fault = IsWhy old new bytes fault
+IsWhyAfter true Lacked contents old new bytes fault =
     ((fault ≡ Check.Write) × IsWriteCause old new)
-    ⊎ AfterWords true contents bytes old (λ between. IsWhy between new bytes fault)
+    ⊎ AfterWords true Lacked contents bytes old (λ between. IsWhy between new bytes fault)
 
 -- why the configuration of a file isn't accepted, which couldn't be opened, or was: its bytes were
 -- not had, and then nothing but an explanation is written; or no read failed, and it is why its
 -- bytes aren't accepted
-abbrev pub IsWhyOfFile : {F W : Type 0} → Bool → Type 0 → (F → Type 0) → (F → Option (List ℕ))
-    → (W → Option (List ℕ)) → Counted W → Counted W → CheckFault → Type 0
-IsWhyOfFile {F} explain Unopened Opened remaining contents old new fault =
+abbrev pub IsWhyOfFile : {F W : Type 0} → Bool → Type 0 → Type 0 → (F → Type 0)
+    → (F → Option (List ℕ)) → (W → Option (List ℕ)) → Counted W → Counted W → CheckFault → Type 0
+IsWhyOfFile {F} explain Lacked Unopened Opened remaining contents old new fault =
     ((unread : FileFault) × (fault ≡ Check.File unread)
     × IsUnreadFile Unopened Opened remaining unread × (explain ≡ false → new ≡ old))
     ⊎ ((before : Counted F) × (after : Counted F) × (bytes : List ℕ)
     × Opened (inner_of before) × (failures_of after ≡ failures_of before)
-    × Held remaining before bytes × IsWhyAfter explain contents old new bytes fault)
+    × Held remaining before bytes × IsWhyAfter explain Lacked contents old new bytes fault)
 
 -- REFUSED: the line of a fault is reported, and this fault is why
 abbrev pub IsRefused : {E : Type 0} → (E → Option (List ℕ)) → Counted E → Counted E

@@ -4,12 +4,14 @@ ghost use Rattle.counted_io.specs.declared.counted.Counted.{Counted as CountedVa
 ghost use Rattle.counted_io.specs.Counted.{inner_of};
 ghost use Rattle.config_check.specs.Check.{IsAccepted, IsAcceptedAfter, IsRefused, IsWhy, IsWhyAfter, IsWhyOfFile};
 ghost use Rattle.config_check.specs.CheckFault.{check_fault_text};
+ghost use Rattle.config_explain.specs.Lacking.{HasLacked};
 ghost use Rattle.config_file.specs.Reading.{Held};
 ghost use Rattle.fault_lines.specs.FaultLine.{IsTold, fault_line};
 
 use super::accepted::write_accepted;
 use super::check_fault::{CheckFault, report_check_fault};
 use super::explained::{write_explanation, write_why_unread};
+use config_explain::Explainer;
 use config_file::{Opener, read_bytes, read_file_text};
 use counted_io::Counted;
 use fault_lines::{DONE, FAULT};
@@ -24,6 +26,7 @@ use std::io::Write;
 /// system's words are written before, if they can be.
 pub fn check_file<F: Opener, W: Write, E: Write>(
     files: &F,
+    explainer: &mut Explainer,
     alloc: Global,
     path: &str,
     explain: bool,
@@ -33,19 +36,20 @@ pub fn check_file<F: Opener, W: Write, E: Write>(
     ensures status { (result ≡ 0) ⊎ (result ≡ 1) }
     ensures accepted { result ≡ 0 → (file : CountedValue F.File) × (bytes : List ℕ)
         × F.opened path.now (inner_of file) × Held F.File.remaining file bytes
-        × IsAcceptedAfter explain W.contents writer.old writer.new bytes }
+        × IsAcceptedAfter explain (HasLacked explainer.old explainer.new) W.contents writer.old
+        writer.new bytes }
     ensures quiet { result ≡ 0 → errors.new ≡ errors.old }
 
     // The first fault is reported: of a file whose bytes were not had, or of its bytes.
     ensures refused { result ≡ 1 → IsRefused E.contents errors.old errors.new
-        (IsWhyOfFile explain (F.unopened path.now) (F.opened path.now) F.File.remaining
-        W.contents writer.old writer.new) }
+        (IsWhyOfFile explain (HasLacked explainer.old explainer.new) (F.unopened path.now)
+        (F.opened path.now) F.File.remaining W.contents writer.old writer.new) }
 {
     match read_file_text(files, alloc, path) {
-        Ok(text) => check_text(alloc, &text, explain, writer, errors),
-        Err(fault) => {
+        Ok(text) => check_text(explainer, alloc, &text, explain, writer, errors),
+        Err(unread) => {
             write_why_unread(files, alloc, path, explain, writer);
-            report(errors, CheckFault::File(fault))
+            report(errors, CheckFault::File(unread.into_fault()))
         }
     }
 }
@@ -54,12 +58,13 @@ pub fn check_file<F: Opener, W: Write, E: Write>(
 /// its first fault to `errors`, and answers the exit status.
 ///
 /// Where an explanation is asked for, it is written to `writer` before: where the first fault
-/// stands and what is wanted there, or what is worth knowing of settings without fault. Where it is
-/// out of memory for the words, there are none.
+/// stands and what is wanted there, or what is worth knowing of settings without fault. Where the
+/// explainer is out of memory for the words, there are none, and it counts that.
 ///
 /// Either line is flushed and takes no memory. Where the line of a fault can't be written itself,
 /// it is dropped.
 pub fn check_text<W: Write, E: Write>(
+    explainer: &mut Explainer,
     alloc: Global,
     bytes: &[u8],
     explain: bool,
@@ -71,14 +76,16 @@ pub fn check_text<W: Write, E: Write>(
     // The line of the settings is written, behind the words if they are asked for, and nothing
     // else.
     ensures accepted { result ≡ 0 →
-        IsAcceptedAfter explain W.contents writer.old writer.new bytes.now }
+        IsAcceptedAfter explain (HasLacked explainer.old explainer.new) W.contents writer.old
+        writer.new bytes.now }
     ensures quiet { result ≡ 0 → errors.new ≡ errors.old }
 
     // The first fault is reported.
     ensures refused { result ≡ 1 → IsRefused E.contents errors.old errors.new
-        (IsWhyAfter explain W.contents writer.old writer.new bytes.now) }
+        (IsWhyAfter explain (HasLacked explainer.old explainer.new) W.contents writer.old
+        writer.new bytes.now) }
 {
-    match check(alloc, bytes, explain, writer) {
+    match check(explainer, alloc, bytes, explain, writer) {
         Ok(()) => DONE,
         Err(fault) => report(errors, fault),
     }
@@ -86,18 +93,21 @@ pub fn check_text<W: Write, E: Write>(
 
 /// Writes the line of the settings that the bytes hold, behind the words if they are asked for.
 fn check<W: Write>(
+    explainer: &mut Explainer,
     alloc: Global,
     bytes: &[u8],
     explain: bool,
     writer: &mut Counted<W>,
 ) -> Result<(), CheckFault>
     ensures accepted { OnOk result
-        (IsAcceptedAfter explain W.contents writer.old writer.new bytes.now) }
+        (IsAcceptedAfter explain (HasLacked explainer.old explainer.new) W.contents writer.old
+        writer.new bytes.now) }
     ensures refused { IfErr result
-        (IsWhyAfter explain W.contents writer.old writer.new bytes.now) }
+        (IsWhyAfter explain (HasLacked explainer.old explainer.new) W.contents writer.old
+        writer.new bytes.now) }
 {
     if explain {
-        check_after_words(alloc, bytes, writer)
+        check_after_words(explainer, alloc, bytes, writer)
     } else {
         check_bytes(alloc, bytes, writer)
     }
@@ -105,15 +115,19 @@ fn check<W: Write>(
 
 /// Writes the words on the bytes, and behind them the line of their settings.
 fn check_after_words<W: Write>(
+    explainer: &mut Explainer,
     alloc: Global,
     bytes: &[u8],
     writer: &mut Counted<W>,
 ) -> Result<(), CheckFault>
     ensures accepted { OnOk result
-        (IsAcceptedAfter true W.contents writer.old writer.new bytes.now) }
-    ensures refused { IfErr result (IsWhyAfter true W.contents writer.old writer.new bytes.now) }
+        (IsAcceptedAfter true (HasLacked explainer.old explainer.new) W.contents writer.old
+        writer.new bytes.now) }
+    ensures refused { IfErr result
+        (IsWhyAfter true (HasLacked explainer.old explainer.new) W.contents writer.old writer.new
+        bytes.now) }
 {
-    match write_explanation(alloc, bytes, writer) {
+    match write_explanation(explainer, alloc, bytes, writer) {
         Ok(()) => check_bytes(alloc, bytes, writer),
         Err(_) => Err(CheckFault::Write),
     }

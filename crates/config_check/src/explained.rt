@@ -3,8 +3,9 @@ ghost use Rattle.std.specs.Prelude.{◌≡◌, false, ℕ, List, OnErr, OnOk, st
 ghost use Rattle.counted_io.specs.Effects.{Wrote};
 ghost use Rattle.counted_io.specs.Causes.{IsWriteCause};
 ghost use Rattle.config_check.specs.Check.{AreWordsOn};
+ghost use Rattle.config_explain.specs.Lacking.{HasLacked};
 
-use config_explain::explanation;
+use config_explain::Explainer;
 use config_file::{Opener, why_unread};
 use counted_io::{Counted, WriteFault, write_and_flush};
 use std::alloc::{AllocError, Global};
@@ -12,23 +13,25 @@ use std::io::Write;
 
 /// Writes what there is to say of the bytes of a configuration; nothing where it is out of memory.
 pub(crate) fn write_explanation<W: Write>(
+    explainer: &mut Explainer,
     alloc: Global,
     bytes: &[u8],
     writer: &mut Counted<W>,
 ) -> Result<(), WriteFault>
-    ensures all { OnOk result ((words : List ℕ) × AreWordsOn bytes.now words
+    ensures all { OnOk result ((words : List ℕ)
+        × AreWordsOn (HasLacked explainer.old explainer.new) bytes.now words
         × Wrote W.contents writer.old writer.new words) }
     ensures failed { OnErr result (IsWriteCause writer.old writer.new) }
 {
-    let words = words_on(alloc, bytes);
+    let words = words_on(explainer, alloc, bytes);
     write_and_flush(writer, words.as_bytes())
 }
 
 /// What there is to say of the bytes of a configuration; nothing where it is out of memory.
-fn words_on(alloc: Global, bytes: &[u8]) -> String
-    ensures { AreWordsOn bytes.now (string_bytes result) }
+fn words_on(explainer: &mut Explainer, alloc: Global, bytes: &[u8]) -> String
+    ensures { AreWordsOn (HasLacked explainer.old explainer.new) bytes.now (string_bytes result) }
 {
-    match explanation(alloc, bytes) {
+    match explainer.explain(bytes) {
         Ok(words) => words,
         Err(_) => String::new(alloc),
     }

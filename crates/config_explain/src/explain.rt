@@ -13,7 +13,7 @@ use std::alloc::{AllocError, Global};
 use toml::Table;
 
 /// What is said of a configuration, a line or more. Fails where it is out of memory.
-pub fn explanation(alloc: Global, bytes: &[u8]) -> Result<String, AllocError>
+pub(crate) fn explanation(alloc: Global, bytes: &[u8]) -> Result<String, AllocError>
     // Of a key at fault: which table of its array has it, its path, and what it was judged by.
     ensures { IfOk result (λ words. IsExplained bytes.now (string_bytes words)) }
 {

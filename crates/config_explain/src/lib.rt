@@ -1,14 +1,15 @@
 //! What `check --explain` says of a configuration to a person.
 //!
-//! [`explanation`] says where the first fault stands and what is wanted there, or what is worth
+//! [`Explainer`] says where the first fault stands and what is wanted there, or what is worth
 //! knowing of a configuration without fault. Which key a contract says, with its table, its path
 //! and the numbers that it was judged by, and of bytes that aren't UTF-8 the line; of other words
-//! none says anything.
+//! none says anything. How often it had no memory for them it counts.
 #![tactic(auto)]
 
 mod about;
 mod callers;
 mod explain;
+mod explainer;
 mod faults;
 mod finding;
 mod limits;
@@ -18,4 +19,4 @@ mod routes;
 mod settings;
 mod unknown;
 
-pub use explain::explanation;
+pub use explainer::Explainer;

@@ -1,5 +1,6 @@
 use Rattle.std.proofs.Common.{rules, ◌≡◌, inl, inr, ℕ, List, refl, subst}
 use Rattle.config_check.specs.declared.check_fault.CheckFault.TheVariants as Check
+use Rattle.config_explain.specs.Lacking.{HasLacked}
 use Rattle.config_check.specs.Check.{IsAcceptedAfter, IsWhyAfter}
 use Rattle.config_check.proofs.check.check_file.Goals as goal
 
@@ -13,7 +14,8 @@ returns-in-Ok-clause-accepted g c is =
       bytes,
       had.2,
       had.3,
-      subst (λ (xs : List ℕ). IsAcceptedAfter c.args.explain g.W.Write.contents
+      subst (λ (xs : List ℕ). IsAcceptedAfter c.args.explain
+          (HasLacked c.args.explainer.now c.check_text.new.explainer) g.W.Write.contents
           c.args.writer.now c.check_text.new.writer xs) same (c.check_text.ensures.accepted is),
     )
 
@@ -32,17 +34,23 @@ returns-in-Ok-clause-refused g c is =
         had.2,
         had.4,
         had.3,
-        subst (λ (xs : List ℕ). IsWhyAfter c.args.explain g.W.Write.contents
+        subst (λ (xs : List ℕ). IsWhyAfter c.args.explain
+            (HasLacked c.args.explainer.now c.check_text.new.explainer) g.W.Write.contents
             c.args.writer.now c.check_text.new.writer xs why.0) same why.2,
       ),
     )
 
 pub returns-in-Err-clause-refused : goal.returns-in-Err-clause-refused
 returns-in-Err-clause-refused g c is =
-    let unread = c.in-Err.fault in (
-      Check.File unread,
+    let fault = c.into_fault.result in (
+      Check.File fault,
       c.report.ensures.told,
-      inl (unread, refl, c.in-Err.ensures.refused, search rules),
+      inl (
+        fault,
+        refl,
+        (c.in-Err.unread, c.into_fault.ensures, c.in-Err.ensures.refused),
+        search rules,
+      ),
     )
 
 pub returns-in-Ok-clause-status : goal.returns-in-Ok-clause-status
