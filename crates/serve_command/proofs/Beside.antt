@@ -15,10 +15,11 @@ use Rattle.gate_desk.specs.Operator.{HasLeft, desk_of, serves_at}
 use Rattle.gate_desk.specs.State.{DeskState}
 use Rattle.serve_command.specs.declared.admin.AdminAddress.{AdminAddress}
 use Rattle.serve_command.specs.declared.admin.SideAddresses.{SideAddresses}
-use Rattle.serve_command.specs.Beside.{AreAt, AreBeside, AreOperatedAt, AreServedBeside}
+use Rattle.serve_command.specs.Beside.{AreAt, AreBeside, AreOperated, AreOperatedAt}
+use Rattle.serve_command.specs.Beside.{AreServedBeside}
 use Rattle.serve_command.specs.Beside.{IsAdminBound, IsAdminServed, IsLookingAt, IsOperatingAt}
 use Rattle.serve_command.specs.Beside.{IsServedThere, IsStatusBound, IsStatusServed, LeavesAt}
-use Rattle.serve_command.specs.Beside.{StandsAt}
+use Rattle.serve_command.specs.Beside.{ServesAt, StandsAt}
 use Rattle.serve_command.specs.Command.{IsBoundToo}
 
 -- an operator's address that is bound
@@ -117,6 +118,18 @@ module _ {L : Type 0} (does : DeskState L → DeskState L → Deed → Type 0)
   abbrev There : Option (List ℕ) → L → List Pass → Type 0
   There = IsServedThere does came found begin
 
+  -- whoever serves so served there
+  there : {C : Type 0} (listener : L) (name : Option (List ℕ)) (at : Operating L C)
+      (passes : List Pass) → ServesAt listener name at
+      → AreOperatedAt does came found begin (Some at) passes → There name listener passes
+  there listener name at passes is served =
+      subst (λ (l : L). There name l passes) is.from (
+        at.audience,
+        is.named,
+        subst (λ (page : List ℕ). AreOperated does came found begin at.listener.now at.audience
+            page passes) is.page served,
+      )
+
   -- by what listens at an operator's address
   pub admin_there : {C : Type 0} (admin : Option (AdminAddress L)) (at : Option (Operating L C))
       (passes : List Pass)
@@ -126,8 +139,7 @@ module _ {L : Type 0} (does : DeskState L → DeskState L → Deed → Type 0)
   admin_there None (Some at) passes is served = absurd is
   admin_there (Some it) None passes is served = absurd is
   admin_there (Some it) (Some at) passes is served =
-      subst (λ (l : L). There (Some (string_bytes it.host)) l passes) is.0
-      (at.audience, at.page.now, is.1, served)
+      there it.listener (Some (string_bytes it.host)) at passes is served
 
   -- and at that of whoever looks
   pub status_there : {C : Type 0} (status : Option L) (at : Option (Operating L C))
@@ -137,8 +149,7 @@ module _ {L : Type 0} (does : DeskState L → DeskState L → Deed → Type 0)
   status_there None None passes is served = served
   status_there None (Some at) passes is served = absurd is
   status_there (Some it) None passes is served = absurd is
-  status_there (Some it) (Some at) passes is served =
-      subst (λ (l : L). There None l passes) is.0 (at.audience, at.page.now, is.1, served)
+  status_there (Some it) (Some at) passes is served = there it None at passes is served
 
 module _ {L : Type 0} (does : DeskState L → DeskState L → Deed → Type 0)
     (came : L → Option (List ℕ) → Type 0) (found : L → Bool → Type 0) (begin : DeskState L)

@@ -2,7 +2,7 @@
 use Rattle.std.proofs.Common.{◌≡◌, ◌⊎◌, inl, inr, refl, ap, Bool, ℕ, suc, ◌+◌, false, List, [], ◌∷◌}
 use Rattle.std.proofs.Common.{All, Option, None, Some, Result, Ok, Err, IfOk, IfErr}
 use Rattle.std.specs.List.{AllZip}
-use Rattle.std.specs.Prelude.{IfNone, IfSome}
+use Rattle.std.specs.Prelude.{IfNone, IfSome, sum_by}
 use Rattle.std.proofs.Common.{◌++◌, ◌∙◌, arith, length, map, subst, sym}
 use mathlib.Core.List.{IsPrefix}
 use Rattle.std.proofs.lemmas.List.Elements.{All-append, All-nil, All-cons, All-head, All-tail}
@@ -13,11 +13,12 @@ use Rattle.limiter_core.specs.declared.event.Entry.{Entry}
 use Rattle.limiter_core.specs.History.{Gate}
 use Rattle.audit.specs.declared.judge.Calls.{Calls}
 use Rattle.gate_ledgers.specs.Making.{Making}
+use Rattle.gate_word.specs.Rule.{times}
 use Rattle.shared_gate.specs.Calls.{Pass}
 use Rattle.shared_gate.specs.Closing.{calls_by}
 use Rattle.shared_gate.specs.Reported.{AreCountersOfAll, ArePassesMissing}
 use Rattle.ports.specs.declared.asked.Receipts.TheVariants.{Nothing}
-use Rattle.ports.specs.Asked.{Shared, port_in}
+use Rattle.ports.specs.Asked.{Shared, known_at, known_by, port_in}
 use Rattle.gateway_settings.specs.declared.settings.Settings.{Settings}
 use Rattle.proxy.specs.Exchanges.{Policy}
 use Rattle.tcp_backend.specs.declared.connecting.TcpBackend.{TcpBackend}
@@ -38,22 +39,22 @@ use Rattle.gate_laws.specs.Exchanges.{ExchangesAreOneThreads}
 use Rattle.gate_desk.specs.Desk.{IsDone}
 use Rattle.gate_desk.specs.State.{DeskState}
 use Rattle.serve_command.specs.declared.admin.SideAddresses.{SideAddresses}
-use Rattle.serve_command.specs.Beside.{AreServedBeside}
+use Rattle.serve_command.specs.Beside.{AreServedBeside, IsUnused}
 use Rattle.serve_command.specs.Runs.{AreCountersOfRuns, AreEnded, AreMiscounted, AreOff}
 use Rattle.serve_command.specs.Runs.{HasRunTo, HasServedAll, IsBy, calls_told}
 use Rattle.serve_command.specs.Runs.{passes_in, served_by, stood_at}
 use Rattle.serve_command.proofs.Clients.{all_ran_in}
 
-module _ {L C S W : Type 0} (R T V M : Type 0) (gives : S → Settings → Type 0)
+module _ {L C S W : Type 0} (R T V M : Type 0) (m : Making) (gives : S → Settings → Type 0)
     (came : L → Option (List ℕ) → Type 0) (common : WorkerSettings L C S W) where
   abbrev End : Type 0
   End = WorkerExit (Door L W) (Shared M) (TcpBackend (Dialer R T) T V C)
 
   abbrev Ran : Shared M → End → Type 0
-  Ran = HasRun gives came (λ port. None) (λ port. Some port.pass.log) common
+  Ran = HasRun gives came (λ port. None) (λ port. Some (known_by m port)) common
 
   abbrev RanTo : Pass → Type 0
-  RanTo = HasRunTo (IsBy (gives common.source.now) common.marks) (came common.listener.now)
+  RanTo = HasRunTo m (IsBy (gives common.source.now) common.marks) (came common.listener.now)
       common.per_worker
 
   abbrev pass_in : End → Pass
@@ -63,7 +64,7 @@ module _ {L C S W : Type 0} (R T V M : Type 0) (gives : S → Settings → Type 
   port_of pass = port_in pass Nothing 0
 
   -- one worker, whose pass knew nothing
-  ran_to : (pass : Pass) (ended : End) → pass.log ≡ [] → Ran (port_of pass) ended
+  ran_to : (pass : Pass) (ended : End) → IsUnused pass → Ran (port_of pass) ended
       → RanTo (pass_in ended)
   ran_to pass ended empty did = record {
     policy = policy_of did.settings common.marks;
@@ -72,13 +73,14 @@ module _ {L C S W : Type 0} (R T V M : Type 0) (gives : S → Settings → Type 
     failed = failed_of ended.door;
     closed = is_closed ended.door;
     forwarded = count_of ended.backend;
+    reached = ended.port.reached;
     tally = ended.tally;
     run =
-        subst (λ (log : List Entry). IsRun
+        subst (λ (it : Pass). IsRun
         (policy_of did.settings common.marks) (came common.listener.now)
-        common.per_worker (stood_at 0 0 false 0 log)
+        common.per_worker (stood_at 0 0 false 0 (known_at m it 0))
         (stood_at (given_of ended.door) (failed_of ended.door) (is_closed ended.door)
-        (count_of ended.backend) ended.port.pass.log) ended.tally) empty did.run;
+        (count_of ended.backend) (known_by m ended.port)) ended.tally) empty did.run;
     accepted = did.accepted;
     unaccepted = did.unaccepted;
     once = did.once;
@@ -87,17 +89,16 @@ module _ {L C S W : Type 0} (R T V M : Type 0) (gives : S → Settings → Type 
   }
 
   -- all of them: as many as there were passes
-  pub all_ran_to : (passes : List Pass) (ends : List End) → All (λ pass. pass.log ≡ []) passes
+  pub all_ran_to : (passes : List Pass) (ends : List End) → All IsUnused passes
       → AllZip Ran (map port_of passes) ends
       → All RanTo (map pass_in ends) × (length (map pass_in ends) ≡ length passes)
   all_ran_to [] [] empty all = (All-nil RanTo, refl)
   all_ran_to [] (e ∷ es) empty all = absurd all
   all_ran_to (p ∷ ps) [] empty all = absurd all
   all_ran_to (p ∷ ps) (e ∷ es) empty all =
-      let unused : Pass → Type 0 = λ pass. pass.log ≡ [] in
-      let rest = all_ran_to ps es (All-tail unused p ps empty) all.1 in (
+      let rest = all_ran_to ps es (All-tail IsUnused p ps empty) all.1 in (
         All-cons RanTo (pass_in e) (map pass_in es)
-            (ran_to p e (All-head unused p ps empty) all.0) rest.0,
+            (ran_to p e (All-head IsUnused p ps empty) all.0) rest.0,
         ap suc rest.1,
       )
 
@@ -165,24 +166,22 @@ all_apart P (left.Worked ended ∷ lefts) all =
       rest.1,
     )
 
--- and together they made as many calls
-calls_apart : {A B M : Type 0} (lefts : List (JobResult A (Shared M) B Pass))
-    → calls_by (passes_in lefts) ≡ calls_by (served_by lefts) + calls_by (made_in lefts)
-calls_apart [] = refl
-calls_apart (left.Unbegun ∷ lefts) = calls_apart lefts
-calls_apart (left.SideTask pass ∷ lefts) =
-    let count : Pass → ℕ = λ pass. pass.count in
+-- and together they made as many calls, and as many of a number
+sums_apart : {A B M : Type 0} (count : Pass → ℕ) (lefts : List (JobResult A (Shared M) B Pass))
+    → sum_by count (passes_in lefts) ≡ sum_by count (served_by lefts) + sum_by count (made_in lefts)
+sums_apart count [] = refl
+sums_apart count (left.Unbegun ∷ lefts) = sums_apart count lefts
+sums_apart count (left.SideTask pass ∷ lefts) =
     omega (
       arith,
-      calls_apart lefts,
+      sums_apart count lefts,
       sum_by-cons count pass (passes_in lefts),
       sum_by-cons count pass (made_in lefts),
     )
-calls_apart (left.Worked ended ∷ lefts) =
-    let count : Pass → ℕ = λ pass. pass.count in
+sums_apart count (left.Worked ended ∷ lefts) =
     omega (
       arith,
-      calls_apart lefts,
+      sums_apart count lefts,
       sum_by-cons count ended.port.pass (passes_in lefts),
       sum_by-cons count ended.port.pass (served_by lefts),
     )
@@ -192,12 +191,15 @@ module _ {S A B M : Type 0} (rules : Algorithm S) (m : Making)
   abbrev both : List Pass
   both = served_by lefts ++ made_in lefts
 
-  made_by_both : calls_by both ≡ calls_by (passes_in lefts)
-  made_by_both = omega (
+  sums_by_both : (count : Pass → ℕ) → sum_by count both ≡ sum_by count (passes_in lefts)
+  sums_by_both count = omega (
     arith,
-    sum_by-append (λ (pass : Pass). pass.count) (served_by lefts) (made_in lefts),
-    calls_apart lefts,
+    sum_by-append count (served_by lefts) (made_in lefts),
+    sums_apart count lefts,
   )
+
+  made_by_both : calls_by both ≡ calls_by (passes_in lefts)
+  made_by_both = sums_by_both (λ (pass : Pass). pass.count)
 
   begun_both : (log : List Entry) → All (λ pass. IsPrefix pass.log log) (passes_in lefts)
       → All (λ pass. IsPrefix pass.log log) both
@@ -216,6 +218,11 @@ module _ {S A B M : Type 0} (rules : Algorithm S) (m : Making)
     told = behind.told;
     begun = begun_both behind.log behind.begun;
     all = made_by_both ∙ behind.all;
+    once = λ number. omega (
+      arith,
+      sums_by_both (λ (pass : Pass). times number pass.own),
+      behind.once number,
+    );
   }
 
   missing_both : (calls : Calls) → ArePassesMissing rules m (passes_in lefts) calls
@@ -256,7 +263,7 @@ module _ {S A B M : Type 0} (rules : Algorithm S) (m : Making)
   -- the counters of runs, where they tell of just as many calls as the workers made
   pub counted_runs : (Gives : Policy → Type 0) (Came : Option (List ℕ) → Type 0) (most : ℕ)
       (told : Option Counters) → ((g : Gate S) → ExchangesAreOneThreads g) → ReportsBalance rules
-      → All (HasRunTo Gives Came most) (served_by lefts)
+      → All (HasRunTo m Gives Came most) (served_by lefts)
       → IfSome told (λ it. (counted ≡ Ok it) × (calls_told it ≡ calls) × AreEnded it)
       → IfSome told (AreCountersOfRuns rules m Gives Came workers most (made_in lefts))
   counted_runs Gives Came most None one balances ran some = tt

@@ -1,5 +1,5 @@
 -- Why a gateway didn't serve, by what was read of its configuration.
-use Rattle.std.proofs.Common.{◌≡◌, ◌⊎◌, inl, inr, ℕ, List, Option, Result, Err, IfErr, IsErrOf}
+use Rattle.std.proofs.Common.{◌≡◌, inl, inr, ℕ, List, Option, Result, Err, IfErr, IsErrOf}
 use Rattle.std.proofs.Common.{refl, subst, sym}
 use Rattle.std.specs.declared.net.socket_addr.SocketAddrV4.{SocketAddrV4}
 use Rattle.counted_io.specs.declared.counted.Counted.{Counted}
@@ -7,8 +7,10 @@ use Rattle.counted_io.specs.Causes.{IsWriteCause}
 use Rattle.counted_io.specs.Count.{raised}
 use Rattle.counted_io.specs.Counted.{failures_of, inner_of}
 use Rattle.config_file.specs.declared.file_fault.FileFault.{FileFault}
-use Rattle.config_file.specs.declared.file_fault.FileFault.TheVariants as File
-use Rattle.config_file.specs.Reading.{Held, IsFaultOf, IsUnread}
+use Rattle.config_file.specs.declared.unread_file.UnreadFile.{UnreadFile}
+use Rattle.config_file.specs.declared.unread_file.UnreadFile.TheVariants as Left
+use Rattle.config_file.specs.FileFault.{fault_of}
+use Rattle.config_file.specs.Reading.{Held, IsFaultOf, IsUnreadFile, IsWhyUnread}
 use Rattle.serve_command.specs.declared.fault.ServiceFault.{ServiceFault}
 use Rattle.serve_command.specs.declared.fault.ServiceFault.TheVariants as Service
 use Rattle.gateway_settings.specs.declared.settings.Settings.{Settings}
@@ -50,17 +52,15 @@ module _ {F W X : Type 0} (Unopened : Type 0) (Opened : F → Type 0)
 
   -- the file's text was not had
   pub why_unread : (fault : FileFault) → r ≡ Err (Service.Config fault)
-      → ((fault ≡ File.Read) × Unopened)
-      ⊎ ((b : Counted F) × (a : Counted F) × Opened (inner_of b) × IsUnread remaining b a fault)
-      → IfErr r Why
+      → IsUnreadFile Unopened Opened remaining fault → IfErr r Why
   why_unread fault is unread =
-      why (Service.Config fault) is (
-        refl,
-        elim unread [
-          | inl none ↦ inl none
-          | inr had ↦ inr (had.0, had.1, had.2, inl had.3)
-        ],
-      )
+      why (Service.Config fault) is
+      (subst (λ (f : FileFault). Why (Service.Config f)) (sym unread.1) (go unread.0 unread.2))
+    where
+      go : (left : UnreadFile F) → IsWhyUnread Unopened Opened remaining left
+          → Why (Service.Config (fault_of left))
+      go Left.Unopened none = (refl, inl (refl, none))
+      go (Left.Unread after fault) why = (refl, inr (why.0, after, why.1.0, inl why.2))
 
   -- the text holds no settings
   pub why_unset : (fault : FileFault) → r ≡ Err (Service.Config fault) → (bytes : List ℕ)

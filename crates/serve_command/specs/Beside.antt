@@ -6,6 +6,7 @@ use Rattle.std.specs.Net.Text.{socket_v4_text}
 use Rattle.limit_laws.specs.declared.limit.Limit.{Ghosts as LimitGhosts}
 use Rattle.shared_gate.specs.declared.naming.GateNaming.{Ghosts as NamingGhosts}
 use Rattle.shared_gate.specs.Calls.{Pass, pass_of}
+use Rattle.metrics.specs.declared.page.TheConstants.{PAGE}
 use Rattle.operator_calls.specs.declared.audience.Audience.{Audience}
 use Rattle.operator_calls.specs.declared.audience.Audience.TheVariants as audience
 use Rattle.operator_calls.specs.Host.{host_of}
@@ -57,24 +58,36 @@ abbrev pub name_for : Audience → Option (List ℕ)
 name_for (audience.Operator host) = Some host.now
 name_for audience.Anyone = None
 
--- what serves at an operator's address, where there is one: by what listens there, and as that has
--- to be named
+-- the page that is shown where the address has to be named so, or by any name: the operator's that
+-- draws the state, and to whoever looks none
+abbrev pub page_for : Option (List ℕ) → List ℕ
+page_for None = []
+page_for (Some name) = PAGE.now
+
+-- SERVED SO: by what listens there, to those who name it so, with that page; and each of them may
+-- take a second to send its request, and again to take its answer
+pub record ServesAt {L C : Type 0} (listener : L) (name : Option (List ℕ))
+    (operating : Operating L C) : Type 0 where
+  pub from : operating.listener.now ≡ listener
+  pub named : name_for operating.audience ≡ name
+  pub page : operating.page.now ≡ page_for name
+  pub time : operating.timeout_ns ≡ 1000000000
+
+-- what serves at an operator's address, where there is one
 abbrev pub IsOperatingAt : {L C : Type 0} → Option (AdminAddress L) → Option (Operating L C)
     → Type 0
 IsOperatingAt None None = Unit {0}
 IsOperatingAt None (Some operating) = ⊥
 IsOperatingAt (Some at) None = ⊥
 IsOperatingAt (Some at) (Some operating) =
-    (operating.listener.now ≡ at.listener)
-    × (name_for operating.audience ≡ Some (string_bytes at.host))
+    ServesAt at.listener (Some (string_bytes at.host)) operating
 
 -- what serves at that of whoever looks
 abbrev pub IsLookingAt : {L C : Type 0} → Option L → Option (Operating L C) → Type 0
 IsLookingAt None None = Unit {0}
 IsLookingAt None (Some operating) = ⊥
 IsLookingAt (Some listener) None = ⊥
-IsLookingAt (Some listener) (Some operating) =
-    (operating.listener.now ≡ listener) × (name_for operating.audience ≡ None)
+IsLookingAt (Some listener) (Some operating) = ServesAt listener None operating
 
 -- where there is an address this holds of it and of the passes that are left there, and else none
 -- is left
@@ -107,11 +120,11 @@ module _ {L : Type 0} (does : DeskState L → DeskState L → Deed → Type 0)
       pub status : AreOperatedAt side.status lookers
       pub admin : AreOperatedAt side.admin admins
 
-  -- for those who have to name the address so, or by any name
+  -- for those who have to name the address so, or by any name, with the page that is theirs
   abbrev pub IsServedThere : Option (List ℕ) → L → List Pass → Type 0
   IsServedThere name listener passes =
-      (audience : Audience) × (page : List ℕ) × (name_for audience ≡ name)
-      × AreOperated listener audience page passes
+      (audience : Audience) × (name_for audience ≡ name)
+      × AreOperated listener audience (page_for name) passes
 
   -- OF AN ADDRESS THAT IS BOUND: a listener was bound there, and those were served who came to it
   abbrev pub IsServedAt : (List ℕ → L → Type 0) → Option (List ℕ) → SocketAddrV4 → List Pass

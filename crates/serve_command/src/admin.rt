@@ -61,6 +61,15 @@ impl<'a, L, C> SideAddresses<'a, L, C> {
     {
         count_at(&self.admin) + count_at(&self.status)
     }
+
+    /// The listener that the end of the last worker closes: the operator's, where there is one.
+    /// Whoever serves there then closes that of whoever looks.
+    pub(crate) fn side_listener(&self) -> Option<&'a L> {
+        match (&self.admin, &self.status) {
+            (Some(operating), _) | (None, Some(operating)) => Some(operating.listener),
+            (None, None) => None,
+        }
+    }
 }
 
 /// How many serve at an address, where there is one.
@@ -69,18 +78,6 @@ pub(crate) fn count_at<L, C>(operating: &Option<Operating<'_, L, C>>) -> usize
     ensures all { result ≡ count_at operating.now }
 {
     if operating.is_some() { AT_ONCE } else { 0 }
-}
-
-/// The listener that the end of the last worker closes: the operator's, where there is one. Whoever
-/// serves there then closes that of whoever looks.
-pub(crate) fn listener_of<'a, L>(
-    admin: &'a Option<AdminAddress<L>>,
-    status: &'a Option<L>,
-) -> Option<&'a L> {
-    match admin {
-        Some(admin) => Some(&admin.listener),
-        None => status.as_ref(),
-    }
 }
 
 /// What serves operators at their address.

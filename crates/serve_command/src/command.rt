@@ -141,8 +141,8 @@ where
     Ok(())
 }
 
-/// The text of the configuration in the file that is opened at a path. Where that can't be read,
-/// the log has the path and the system's reason.
+/// The text of the configuration in the file that is opened at a path. Where it isn't had, the log
+/// has why.
 fn read_config<R: Log, F: Opener>(
     rt: &R,
     files: &F,
@@ -156,11 +156,21 @@ fn read_config<R: Log, F: Opener>(
     ensures refused { IfErr result
         (IsUnreadFile (F.unopened path.now) (F.opened path.now) F.File.remaining) }
 {
-    let text = read_file_text(files, alloc, path);
-    if let Err(FileFault::Read) = &text {
+    match read_file_text(files, alloc, path) {
+        Ok(text) => Ok(text),
+        Err(unread) => {
+            let fault = unread.into_fault();
+            log_fault(rt, files, alloc, path, &fault);
+            Err(fault)
+        }
+    }
+}
+
+/// Where the file couldn't be read, the log has the path and the system's reason.
+fn log_fault<R: Log, F: Opener>(rt: &R, files: &F, alloc: Global, path: &str, fault: &FileFault) {
+    if let FileFault::Read = fault {
         log_unread(rt, files, alloc, path);
     }
-    text
 }
 
 /// Serves by these settings, which are those of the text.

@@ -9,7 +9,7 @@ ghost use Rattle.gate_opening.specs.Opening.{making_of};
 ghost use Rattle.gate_desk.specs.State.{new_desk};
 ghost use Rattle.serve_command.specs.Runs.{AreMiscounted, HasServedAt, IsBy};
 
-use crate::admin::{AdminAddress, SideAddresses, listener_of};
+use crate::admin::{AdminAddress, SideAddresses};
 use crate::config_text::ConfigText;
 use crate::gateway::{Gateway, serve_gateway};
 use clocks::ProgramClock;
@@ -17,7 +17,7 @@ use commands::ServeOptions;
 use gate_desk::LameDuck;
 use gateway_settings::Settings;
 use limiter_core::Counters;
-use listening::Listener;
+use listening::Closable;
 use log::Log;
 use serve_reports::Watcher;
 use serving::{ServeFault, WorkerSettings};
@@ -66,7 +66,7 @@ pub(crate) fn serve_in<'c, R, L>(
 ) -> Result<Option<Counters>, ServeFault>
 where
     R: Net + Threads + Wait + SystemClock + Log + Sync,
-    L: Listener + Sync,
+    L: Closable + Sync,
     L::Stream: Send + Sync + Drop,
     L::From: Send + Sync,
     L::To: Send + Sync,
@@ -91,7 +91,6 @@ where
     let side = SideAddresses::new(alloc, admin, status, clock, context.lame_duck);
     let common = WorkerSettings {
         listener: context.front,
-        side_listener: listener_of(admin, status),
         source: context.text,
         clock,
         per_worker: u64::from(service.per_worker),

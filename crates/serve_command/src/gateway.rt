@@ -26,7 +26,7 @@ use gate_opening::{balanced, open_gate};
 use gateway_settings::Settings;
 use limit_laws::Limit;
 use limiter_core::Counters;
-use listening::Listener;
+use listening::Closable;
 use log::Log;
 use ports::{Port, View};
 use serve_reports::Watcher;
@@ -64,7 +64,7 @@ pub(crate) fn serve_gateway<R, L, C, S>(
 ) -> Result<Option<Counters>, ServeFault>
 where
     R: Net + Threads + Wait + SystemClock + Log + Sync,
-    L: Listener + Sync,
+    L: Closable + Sync,
     C: Clock + Sync,
     S: Source + Sync,
     L::Stream: Send + Sync + Drop,
@@ -103,7 +103,7 @@ fn serve_named<M, R, L, C, S>(
 where
     M: GateNaming + Send + Sync,
     R: Net + Threads + Wait + SystemClock + Log + Sync,
-    L: Listener + Sync,
+    L: Closable + Sync,
     C: Clock + Sync,
     S: Source + Sync,
     L::Stream: Send + Sync + Drop,
@@ -159,7 +159,7 @@ where
     M: GateNaming + Send + Sync,
     R: Net + Threads + Wait + SystemClock + Log + Sync,
     G: Limit + Send,
-    L: Listener + Sync,
+    L: Closable + Sync,
     C: Clock + Sync,
     S: Source + Sync,
     L::Stream: Send + Sync + Drop,
@@ -167,7 +167,7 @@ where
     L::To: Send + Sync,
     R::Stream: Send + Sync,
     R::Listener: Send + Sync,
-    requires unused { All (λ pass. pass.log ≡ []) passes.items }
+    requires unused { All IsUnused passes.items }
     requires unused_beside { All IsUnused own.items }
     requires beside { vec_len own ≡ count_beside gateway.now.side.now + 1 }
     ensures served { IfOk result (λ told. IfSome told (HasServedAll G.rules M.making
@@ -196,6 +196,7 @@ where
         view,
         ports,
         operators,
+        gateway.side.side_listener(),
     )?;
     let back = passes_of(kept, lefts)?;
     exchanges_are_one_threads::<G>();
@@ -211,7 +212,7 @@ fn take_own<M: GateNaming>(
 ) -> Result<Vec<Pass<M>>, AllocError>
     requires { passes.old.items ≡ replicate (first + others) (pass_of 0) }
     ensures all { OnOk result (vec_len passes.new ≡ first) }
-    ensures unused { OnOk result (All (λ pass. pass.log ≡ []) passes.new.items) }
+    ensures unused { OnOk result (All IsUnused passes.new.items) }
     ensures others { IfOk result (λ own. vec_len own ≡ others) }
     ensures unused_too { IfOk result (λ own. All IsUnused own.items) }
 {

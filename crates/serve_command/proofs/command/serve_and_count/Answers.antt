@@ -95,7 +95,7 @@ returns-clause-served g c =
       counters = c.in_ok-counters.counters;
       served =
           subst (λ (xs : List ℕ). IsServedBy g.B.Binder.bound g.B.Bound.Listener.came
-          g.B.Bound.Listener.found g.B.Bound.Listener.closed
+          g.B.Bound.Listener.found g.B.Bound.Closable.closed
           (IsBy (λ own. Says xs (Ok own)) c.args.service.now.marks) s c.args.service.now.admin
           c.args.service.now.status c.args.service.now.workers c.args.service.now.per_worker
           c.in_ok-counters.counters) same

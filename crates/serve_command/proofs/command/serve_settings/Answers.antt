@@ -96,17 +96,17 @@ pub returns-in-Some-clause-served : goal.returns-in-Some-clause-served
 returns-in-Some-clause-served g c =
     let same : socket_v4_text c.socket.result ≡ c.args.settings.now.listen = search rules in
     let does = IsDone any_rules (making_of c.args.service.now.workers c.args.settings.now)
-    g.B.Bound.Listener.closed in
+    g.B.Bound.Closable.closed in
     let begin = new_desk c.args.settings.now.table c.in_ok-front.front in
     let made = making_of c.args.service.now.workers c.args.settings.now in
     let was : c.serve_in.result ≡ Ok (Some c.in-Some.counters) = search rules in
-    let served : HasServedAt any_rules made g.B.Bound.Listener.closed g.B.Bound.Listener.came
+    let served : HasServedAt any_rules made g.B.Bound.Closable.closed g.B.Bound.Listener.came
     g.B.Bound.Listener.found
     (IsBy (λ own. Says c.args.text.now.bytes.items (Ok own)) c.args.service.now.marks) begin
     c.in_ok-admin.admin c.in_ok-status.status c.args.service.now.workers
     c.args.service.now.per_worker c.in-Some.counters =
     subst (λ (it : Result (Option Counters) ServeFault). IfOk it (λ told. IfSome told
-    (HasServedAt any_rules made g.B.Bound.Listener.closed g.B.Bound.Listener.came
+    (HasServedAt any_rules made g.B.Bound.Closable.closed g.B.Bound.Listener.came
     g.B.Bound.Listener.found
     (IsBy (λ own. Says c.args.text.now.bytes.items (Ok own)) c.args.service.now.marks) begin
     c.in_ok-admin.admin c.in_ok-status.status c.args.service.now.workers

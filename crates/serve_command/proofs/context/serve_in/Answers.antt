@@ -16,9 +16,9 @@ returns-clause-served g c =
     IsBy (λ own. Says context.text.now.bytes.items (Ok own)) c.args.service.now.marks in
     let begin = new_desk c.args.settings.now.table context.front.now in
     subst (λ (turns : ℕ). IfOk c.serve_gateway.result (λ told. IfSome told
-    (HasServedAt any_rules made g.L.Listener.closed g.L.Listener.came g.L.Listener.found gives begin
+    (HasServedAt any_rules made g.L.Closable.closed g.L.Listener.came g.L.Listener.found gives begin
     context.admin.now context.status.now c.args.service.now.workers turns))) same
-    (on_ok c.serve_gateway.result (λ told. served_at any_rules made g.L.Listener.closed
+    (on_ok c.serve_gateway.result (λ told. served_at any_rules made g.L.Closable.closed
     g.L.Listener.came g.L.Listener.found gives begin context.admin.now context.status.now
     c.new-side.result c.args.service.now.workers c.from.result told c.new-side.ensures.admin
     c.new-side.ensures.status) c.serve_gateway.ensures.served)

@@ -17,10 +17,10 @@ returns-clause-served g c =
     let begin = new_desk gateway.settings.now.table common.listener.now in
     let all : vec_len c.take_own.new.passes ≡ gateway.workers = c.in_ok-own.ensures.all in
     subst (λ (n : ℕ). IfOk c.serve_through.result (λ told. IfSome told
-    (HasServedAll any_rules (making_of gateway.workers gateway.settings.now) g.L.Listener.closed
+    (HasServedAll any_rules (making_of gateway.workers gateway.settings.now) g.L.Closable.closed
     g.L.Listener.came g.L.Listener.found gives begin gateway.side.now n common.per_worker))) all
     (subst (λ (m : Making). IfOk c.serve_through.result (λ told. IfSome told
-    (HasServedAll any_rules m g.L.Listener.closed g.L.Listener.came g.L.Listener.found gives begin
+    (HasServedAll any_rules m g.L.Closable.closed g.L.Listener.came g.L.Listener.found gives begin
     gateway.side.now (vec_len c.take_own.new.passes) common.per_worker)))
     c.requires.making c.serve_through.ensures.served)
 
