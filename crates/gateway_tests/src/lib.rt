@@ -3,9 +3,9 @@
 //! Of a gate: its book, calls through the lock by worked rows and by four threads at random, what a
 //! pass has seen, when who waits is woken, how it is closed, a port over it, and the windows of its
 //! limit. Of exchanges, over devices, clocks, backends and a gate of their own: their moments, ends
-//! that fail once, and what a backend answers. Of loads over devices that fail; and of the time of
-//! a connection, and of a clock. What clients, backends and operators see, the scripts of `tests/`
-//! try by the program.
+//! that fail once, and what a backend answers. Of loads over devices that fail; and of flushes, of
+//! the time of a connection, and of a clock. What clients, backends and operators see, the scripts
+//! of `tests/` try by the program.
 //!
 //! They are one crate, since each crate of tests reads and links all code below it.
 #![tactic(auto)]
@@ -26,6 +26,8 @@ mod closing;
 mod devices;
 #[cfg(test)]
 mod exchanged;
+#[cfg(test)]
+mod flushing_tests;
 #[cfg(test)]
 mod gates;
 #[cfg(test)]

@@ -7,6 +7,7 @@ ghost use Rattle.limit_kinds.specs.AnyKinds.{any_rules};
 ghost use Rattle.gateway_settings.specs.Settings.{AreSound};
 ghost use Rattle.gate_ledgers.specs.Names.{AreNamed, AreWhole};
 ghost use Rattle.gate_opening.specs.Opening.{journal_of, making_of};
+ghost use Rattle.shared_gate.specs.Calls.{pass_of};
 ghost use Rattle.shared_gate.specs.Log.{CallsLegal};
 ghost use Rattle.proxy.specs.Exchanges.{Policy};
 ghost use Rattle.gateway_tests.specs.Deciding.{AreBothDecided, IsServed};
@@ -103,8 +104,8 @@ fn serve_one<L: Limit, M: GateNaming, R: Wait + SystemClock + Abort>(
     gate: &SharedGate<L, M>,
     pass: Pass<M>,
 ) -> Served<M>
-    requires unused { pass.log ≡ [] }
-    ensures { (p : Policy) × IsServed p result.told result.pass.log }
+    requires unused { pass ≡ pass_of 0 }
+    ensures { (p : Policy) × IsServed M.making p result.told result.pass }
 {
     let settings = read(alloc, ONE_AT_ONCE.as_bytes()).expect(rt, "settings");
     let clock = Ticking::new();
@@ -120,15 +121,15 @@ fn serve_by<L: Limit, M: GateNaming, R: Wait + SystemClock>(
     pass: Pass<M>,
     clock: &Ticking,
 ) -> Served<M>
-    requires unused { pass.log ≡ [] }
-    ensures { IsServed
+    requires unused { pass ≡ pass_of 0 }
+    ensures { IsServed M.making
         (record {
           settings = settings.now;
           marks = false;
           keeps = Some true;
           later = false;
         })
-        result.told result.pass.log }
+        result.told result.pass }
 {
     let mut port = Port::new(rt, gate, pass, clock);
     let mut backend = Patient {
@@ -190,19 +191,19 @@ where
     L: Limit + Send,
     M: GateNaming + Send + Sync,
     R: Threads + Wait + SystemClock + Abort + Sync,
-    requires first { one.log ≡ [] }
-    requires second { two.log ≡ [] }
+    requires first { one ≡ pass_of 0 }
+    requires second { two ≡ pass_of 0 }
     ensures { AreBothDecided L.rules M.making result.counters result.first result.second }
 {
     let (first, second) = join(
         rt,
         move || -> Served<M>
-            requires { one.log ≡ [] }
-            ensures { (p : Policy) × IsServed p result.told result.pass.log }
+            requires { one ≡ pass_of 0 }
+            ensures { (p : Policy) × IsServed M.making p result.told result.pass }
         { serve_one(rt, alloc, gate, one) },
         move || -> Served<M>
-            requires { two.log ≡ [] }
-            ensures { (p : Policy) × IsServed p result.told result.pass.log }
+            requires { two ≡ pass_of 0 }
+            ensures { (p : Policy) × IsServed M.making p result.told result.pass }
         { serve_one(rt, alloc, gate, two) },
     );
     exchanges_are_one_threads::<L>();
