@@ -1,6 +1,7 @@
 """Starts the program that is wanted, and answers for it where there is none."""
 from __future__ import annotations
 
+import contextlib
 import os
 import re
 import shutil
@@ -68,6 +69,14 @@ def find(way: str | None) -> Path:
     return OUT / PROGRAM
 
 
+def yield_to_others() -> None:
+    """Changes to the scheduling policy batch, as the packaged unit has it (docs/OPERATING.md): who is woken doesn't
+    interrupt whoever runs. A policy that was chosen stays, and so does the usual one where a sandbox wants it."""
+    with contextlib.suppress(OSError):
+        if os.sched_getscheduler(0) == os.SCHED_OTHER:
+            os.sched_setscheduler(0, os.SCHED_BATCH, os.sched_param(0))
+
+
 def main(words: list[str]) -> None:
     """Starts the program with these words."""
     way = words.pop(0) if words[:1] in (["--prove"], ["--unproved"]) else "--prove" if words[:1] == ["serve"] else None
@@ -86,6 +95,8 @@ def main(words: list[str]) -> None:
         signal.signal(it, was)
     for it in (signal.SIGPIPE, signal.SIGXFSZ):
         signal.signal(it, signal.SIG_DFL)
+    if words[:1] == ["serve"]:
+        yield_to_others()
     try:
         os.execv(program, [str(program), *words])
     except OSError as error:
