@@ -20,8 +20,8 @@ seconds. It prints the medians of requests a second, the ratio to nginx by round
 answer, the user and system time of an exchange and its voluntary switches over all rounds, overflows of the accept
 queues, and the resident memory after the last round.
 
-`admission` runs under the scheduling policy batch, as its packaged unit has it, and under the usual one, as it is
-started by hand; so do nginx and HAProxy. With --answer the origin answers with BYTES bytes; with --upload each request
+`admission` runs under the scheduling policy batch, as it is packaged and as ./admission starts it, and under the usual
+one; so do nginx and HAProxy. With --answer the origin answers with BYTES bytes; with --upload each request
 is a POST of BYTES bytes, all of which the origin reads before it answers. With either one more nginx runs without
 buffering. With --refused the limit is one and an exchange without an answer holds it; the refusals of `admission` with
 429 and those of nginx's `limit_conn` are timed, and the others aren't there. The ratios are round by round.
