@@ -1,10 +1,11 @@
 -- What stands before a call of a legal history is legal.
-use Rattle.std.proofs.Common.{◌≡◌, ℕ, zero, suc, ◌+◌, [], ◌∷◌, ◌++◌, List, Option, Some, None}
-use Rattle.std.proofs.Common.{length, take, sym, ap, ◌∙◌, subst, arith, inl, inr, ◌⊎◌}
+use Rattle.std.proofs.Common.{◌≡◌, ℕ, zero, suc, [], ◌∷◌, ◌++◌, List, Option, Some, None}
+use Rattle.std.proofs.Common.{length, take, sym, ap, ◌∙◌, subst, arith, inl, inr}
 use Rattle.std.specs.Prelude.{slice_get}
 use Rattle.std.proofs.Math.Seq.{take-append_seam}
 use Rattle.std.proofs.lemmas.List.{take-append-le}
 use Rattle.std.proofs.lemmas.Option.{same_Some, none-some, slice_get_within}
+use Rattle.lemmas.proofs.Lists.{slice_get-append}
 use Rattle.lifo_backlog.specs.declared.waiter.Waiter.{Waiter}
 use Rattle.limiter_core.specs.declared.event.Event.{Event}
 use Rattle.limiter_core.specs.declared.event.Reply.{Reply}
@@ -15,16 +16,6 @@ use Rattle.limiter_core.specs.Answer.{answer, reply_to, promotion, promotion_the
 use Rattle.limiter_core.specs.Answer.{promotions_at, next_waiter, moment_of}
 use Rattle.limiter_core.specs.Legal.{IsLegal}
 use Rattle.limiter_core.specs.Legal.IsLegal.{nothing, more}
-
--- where an item of joined lists stands
-joined : {X : Type 0} (xs ys : List X) (n : ℕ) (x : X) → slice_get (xs ++ ys) n ≡ Some x
-    → (slice_get xs n ≡ Some x) ⊎ ((k : ℕ) × (n ≡ length xs + k) × (slice_get ys k ≡ Some x))
-joined [] ys n x here = inr (n, omega arith, here)
-joined (y ∷ xs) ys zero x here = inl here
-joined (y ∷ xs) ys (suc n) x here = elim (joined xs ys n x here) [
-  | inl there ↦ inl there
-  | inr after ↦ inr (after.0, omega (arith, after.1), after.2)
-]
 
 -- a promotion is no call
 abbrev pub IsPromoted : Entry → Type 0
@@ -68,7 +59,7 @@ module _ {S : Type 0} (g : Gate S) (o : Image S) where
       → slice_get h n ≡ Some (Call event reply) → IsLegal g o (take n h)
   legal_before [] nothing n event reply here = absurd (none-some (Call event reply) here)
   legal_before _ (more h e before may) n event reply here =
-      elim (joined h (answer g o h e) n (Call event reply) here) [
+      elim (slice_get-append h (answer g o h e) n (Call event reply) here) [
         | inl earlier ↦
             let within = slice_get_within h n (Call event reply) earlier in
             subst (IsLegal g o) (sym (take-append-le n h (answer g o h e) (omega (arith, within))))

@@ -1,11 +1,12 @@
 -- A call that stands in what a port knows of a log, in the whole log.
-use Rattle.std.proofs.Common.{◌≡◌, ◌≤◌, ◌<◌, ℕ, zero, suc, cond, true, [], ◌∷◌, ◌++◌, List, All}
-use Rattle.std.proofs.Common.{length, sym, ap, ◌∙◌, subst, refl, arith, append_assoc}
+use Rattle.std.proofs.Common.{◌≡◌, ◌≤◌, ◌<◌, ℕ, zero, suc, cond, true, [], ◌∷◌, List, All}
+use Rattle.std.proofs.Common.{length, sym, ap, ◌∙◌, subst, refl, arith}
 use Rattle.std.proofs.Common.{length-append}
 use Rattle.std.proofs.lemmas.Option.{same_Some, none-some}
 use Rattle.std.proofs.lemmas.List.Elements.{All-head, All-tail}
 use Rattle.std.proofs.lemmas.List.Sums.{sum_by-cons}
 use mathlib.Core.List.{IsPrefix}
+use Rattle.lemmas.proofs.Lists.{prefix_length, prefix_trans}
 use Rattle.limiter_core.specs.declared.event.Event.{Event}
 use Rattle.limiter_core.specs.declared.event.Reply.{Reply}
 use Rattle.limiter_core.specs.declared.event.Entry.{Entry}
@@ -22,10 +23,6 @@ use Rattle.gate_port.specs.Log.{IsLogged}
 use Rattle.shared_gate.specs.Calls.{IsTold}
 use Rattle.shared_gate.specs.Running.{AreCallsOf, Call, IsServedAsOne, RunningIsOneThreads}
 use Rattle.gate_laws.specs.Decided.{IsAnsweredAt, IsTurnedAway}
-
-pub prefix_trans : (xs ys zs : List Entry) → IsPrefix xs ys → IsPrefix ys zs → IsPrefix xs zs
-prefix_trans xs ys zs p q =
-    (p.0 ++ q.0, sym (append_assoc xs p.0 q.0) ∙ (ap (λ w. w ++ q.0) p.1 ∙ q.1))
 
 -- what was known begins what is known
 pub begins : (old new : List Entry) (number : ℕ) (e : Event) (r : Reply)
@@ -46,9 +43,6 @@ no_calls (entry.Promotion waiter part start inflight ∷ h) all =
       sum_by-cons one first h,
       no_calls h (All-tail IsPromotion first h all),
     )
-
-prefix_length : (xs ys : List Entry) → IsPrefix xs ys → length xs ≤ length ys
-prefix_length xs ys p = omega (arith, sym (ap length p.1) ∙ length-append xs p.0)
 
 -- what was known has no entry of its number or a later one, and what is known has it
 pub unseen : (old new : List Entry) (number : ℕ) (e : Event) (r : Reply)

@@ -41,7 +41,8 @@ pub record IsMoved (ws : List Waiter) (next : ℕ) (t : List Entry) : Type 0 whe
 pub nothing_moved : (ws : List Waiter) (next : ℕ) → AreDistinct ws next → IsMoved ws next []
 nothing_moved ws next are = record {
   moved = omega (arith, ap (λ (vs : List Waiter). length vs) (waiting_at_first ws next));
-  distinct = subst (λ (vs : List Waiter). AreDistinct vs (next + 0)) (sym (waiting_at_first ws next))
+  distinct =
+      subst (λ (vs : List Waiter). AreDistinct vs (next + 0)) (sym (waiting_at_first ws next))
       (subst (AreDistinct ws) (omega arith) are);
 }
 
@@ -73,7 +74,8 @@ quiet ws next e stops starts counted none are =
     let same : waiting_after ws next (e ∷ []) ≡ ws =
     ap (λ (o : Option Waiter). stays (e ∷ []) ws ++ (stays [] (option_to_list o) ++ [])) starts
     ∙ append-nil (stays (e ∷ []) ws)
-    ∙ kept_all (λ w. stops_waiting w e || false) (λ w. ap (λ (b : Bool). b || false) (stops w)) ws in
+    ∙ kept_all (λ w. stops_waiting w e || false)
+    (λ w. ap (λ (b : Bool). b || false) (stops w)) ws in
     record {
       moved = omega (
         arith,

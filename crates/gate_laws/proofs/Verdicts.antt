@@ -1,10 +1,11 @@
 -- What a caller of a port is told, by where its calls stand in the whole log.
-use Rattle.std.proofs.Common.{◌≡◌, ◌<◌, ℕ, true, false, [], List, Some, sym, subst, refl}
+use Rattle.std.proofs.Common.{◌≡◌, ◌<◌, ◌≤◌, ℕ, true, false, [], List, Some, sym, subst, refl}
 use Rattle.std.proofs.Common.{arith, inl, inr, length}
 use Rattle.std.proofs.lemmas.Option.{same_Some, none-some}
 use Rattle.std.proofs.lemmas.List.Elements.{All-nil}
 use Rattle.std.specs.Prelude.{All, take, ⊤}
 use mathlib.Core.List.{IsPrefix}
+use Rattle.lemmas.proofs.Lists.{prefix_length, prefix_trans}
 use Rattle.partitions.specs.Table.{place_of}
 use Rattle.lifo_backlog.specs.declared.waiter.Waiter.{Waiter}
 use Rattle.limiter_core.specs.declared.event.Event.TheVariants.{End, GiveUp}
@@ -28,19 +29,19 @@ use Rattle.shared_gate.specs.Running.{RunningIsOneThreads}
 use Rattle.gate_laws.specs.Decided.{HasWaited, IsAnsweredAt, IsEnded, IsGot, IsRefused}
 use Rattle.gate_laws.specs.Decided.{IsTurnedAway, found_at}
 use Rattle.gate_laws.proofs.Before.{legal_before}
-use Rattle.gate_laws.proofs.Logged.{answered_at, begins, prefix_trans, seen, turned_away, unseen}
+use Rattle.gate_laws.proofs.Logged.{answered_at, begins, seen, turned_away, unseen}
 use Rattle.gate_laws.proofs.Replies.{IsOfAcquire, IsOfGivingUp, of_acquire, of_giving_up}
 
 -- what was known before an asking begins what is known behind it
-pub asked_behind : (ask : Ask) (old : List Entry) (now : ℕ) (new : List Entry)
-    (answer : Admission PermitFacts) → IsAskedIn ask old now new answer → IsPrefix old new
-asked_behind ask old now _ _ (spent new goes_on) = goes_on
-asked_behind ask old now _ _ (answered new number r told is says) =
+pub asked_behind : (ask : Ask) (most : ℕ) (old : List Entry) (now : ℕ) (new : List Entry)
+    (answer : Admission PermitFacts) → IsAskedIn ask most old now new answer → IsPrefix old new
+asked_behind ask most old now _ _ (spent new goes_on over) = goes_on
+asked_behind ask most old now _ _ (answered new number r told is says) =
     begins old new number (acquire ask now) r is
-asked_behind ask old now _ _ (gave_up mid new number second r told first is says) =
+asked_behind ask most old now _ _ (gave_up mid new number second r told first is says) =
     prefix_trans old mid new (begins old mid number (acquire ask now) reply.Waiting first)
     (begins mid new second (GiveUp number) r is)
-asked_behind ask old now _ _ (missed mid new number first goes_on) =
+asked_behind ask most old now _ _ (missed mid new number first goes_on over) =
     prefix_trans old mid new (begins old mid number (acquire ask now) reply.Waiting first) goes_on
 
 -- the number of a permit that was got is below those that aren't known yet
@@ -66,13 +67,13 @@ below ask number now next reply.Lost told less says =
     subst (IsBelow next) (same_Some _ told says) tt
 below ask number now next _ told less says = absurd (none-some told says)
 
-pub asked_below : (ask : Ask) (old : List Entry) (now : ℕ) (new : List Entry)
-    (answer : Admission PermitFacts) → IsAskedIn ask old now new answer
+pub asked_below : (ask : Ask) (most : ℕ) (old : List Entry) (now : ℕ) (new : List Entry)
+    (answer : Admission PermitFacts) → IsAskedIn ask most old now new answer
     → IsBelow (length new) answer
-asked_below ask old now _ _ (spent new goes_on) = tt
-asked_below ask old now _ _ (answered new number r told is says) =
+asked_below ask most old now _ _ (spent new goes_on over) = tt
+asked_below ask most old now _ _ (answered new number r told is says) =
     below ask number now (length new) r told (seen old new number (acquire ask now) r is) says
-asked_below ask old now _ _ (gave_up mid new number second r told first is says) =
+asked_below ask most old now _ _ (gave_up mid new number second r told first is says) =
     below ask number now (length new) r told
     (omega (
       arith,
@@ -80,14 +81,15 @@ asked_below ask old now _ _ (gave_up mid new number second r told first is says)
       unseen mid new second (GiveUp number) r is,
       seen mid new second (GiveUp number) r is,
     )) says
-asked_below ask old now _ _ (missed mid new number first goes_on) = tt
+asked_below ask most old now _ _ (missed mid new number first goes_on over) = tt
 
 -- the part of a verdict that an asking decides
-module _ {S : Type 0} (g : Gate S) (o : Image S) (log : List Entry) (ask : Ask) (now : ℕ) where
+module _ {S : Type 0} (g : Gate S) (o : Image S) (log : List Entry) (most : ℕ) (ask : Ask)
+    (now : ℕ) where
   abbrev pub Decides : Admission PermitFacts → Type 0
   Decides (Admitted permit) = IsGot g o log ask now permit.number
   Decides Bypassed = (number : ℕ) × IsAnsweredAt g o log number (acquire ask now) reply.Bypassed
-  Decides (Refused cause) = IsRefused g o log ask now cause
+  Decides (Refused cause) = IsRefused g o log most ask now cause
 
   at_once : (number : ℕ) (r : Reply) (told : Admission PermitFacts)
       → IsAnsweredAt g o log number (acquire ask now) r
@@ -115,7 +117,7 @@ module _ {S : Type 0} (g : Gate S) (o : Image S) (log : List Entry) (ask : Ask) 
       subst Decides (same_Some _ told says)
       (record { number = number; waited = waited; still = may; no_room = nobody })
   behind number reply.Lost told waited nobody may says =
-      subst Decides (same_Some _ told says) (number, waited.queued)
+      subst Decides (same_Some _ told says) (number, inl waited)
   behind number _ told waited nobody may says = absurd may
 
 module _ {S : Type 0} (g : Gate S) (served : RunningIsOneThreads g)
@@ -134,22 +136,27 @@ module _ {S : Type 0} (g : Gate S) (served : RunningIsOneThreads g)
       turned_away g served o log legal old mid number (acquire ask now) reply.Waiting is begun
       ask now refl refl
 
+  -- whoever was told behind so many entries that the history is exhausted, so it is in the log
+  over_then : (most : ℕ) (new : List Entry) → most ≤ length new → IsPrefix new log
+      → most ≤ length log
+  over_then most new over begun = omega (arith, over, prefix_length new log begun)
+
   -- AN ASKING DECIDES what its caller is told
-  pub decides : (ask : Ask) (old : List Entry) (now : ℕ) (new : List Entry)
-      (answer : Admission PermitFacts) → IsAskedIn ask old now new answer → IsPrefix new log
-      → Decides g o log ask now answer
-  decides ask old now _ _ (spent new goes_on) begun = tt
-  decides ask old now _ _ (answered new number r told is says) begun =
+  pub decides : (ask : Ask) (most : ℕ) (old : List Entry) (now : ℕ) (new : List Entry)
+      (answer : Admission PermitFacts) → IsAskedIn ask most old now new answer → IsPrefix new log
+      → Decides g o log most ask now answer
+  decides ask most old now _ _ (spent new goes_on over) begun = over_then most new over begun
+  decides ask most old now _ _ (answered new number r told is says) begun =
       let own = answered_at g served o log legal old new number (acquire ask now) r is begun in
-      at_once g o log ask now number r told own
+      at_once g o log most ask now number r told own
       (turned_away g served o log legal old new number (acquire ask now) r is begun ask now refl)
       (of_acquire g o (take number log) ask.part ask.bypass ask.wait now r own.sequential) says
-  decides ask old now _ _ (gave_up mid new number second r told first is says) begun =
+  decides ask most old now _ _ (gave_up mid new number second r told first is says) begun =
       let between = begins mid new second (GiveUp number) r is in
       let own = answered_at g served o log legal mid new second (GiveUp number) r is begun in
-      let before = made_to_wait ask now old mid number first (prefix_trans mid new log between begun)
-      in
-      behind g o log ask now number r told
+      let before = made_to_wait ask now old mid number first
+      (prefix_trans mid new log between begun) in
+      behind g o log most ask now number r told
       (record {
         queued = before;
         second = second;
@@ -163,8 +170,13 @@ module _ {S : Type 0} (g : Gate S) (served : RunningIsOneThreads g)
       (λ all. leaves o (take second log) all nobody
       (legal_before g o log legal second (GiveUp number) r own.stands))
       (of_giving_up g o (take second log) number r own.sequential) says
-  decides ask old now _ _ (missed mid new number first goes_on) begun =
-      (number, made_to_wait ask now old mid number first (prefix_trans mid new log goes_on begun))
+  decides ask most old now _ _ (missed mid new number first goes_on over) begun = (
+    number,
+    inr (
+      made_to_wait ask now old mid number first (prefix_trans mid new log goes_on begun),
+      over_then most new over begun,
+    ),
+  )
 
   -- AN ENDING, behind what was known
   pub ends : (permit : PermitFacts) (outcome : Outcome) (end : ℕ) (mid new : List Entry)

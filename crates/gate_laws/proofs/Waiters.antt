@@ -104,7 +104,8 @@ module _ {S : Type 0} (g : Gate S) where
       → Moves i (promotions g start turns i)
   all_move start zero i are = nothing_moved i.waiters i.next are
   all_move start (suc turns) i are =
-      then_moves i start (promotions g start turns) (all_move start turns) (next_waiter g i) refl are
+      then_moves i start (promotions g start turns) (all_move start turns) (next_waiter g i) refl
+      are
 
   move_at : (i : Image S) (at : Option ℕ) → AreDistinct i.waiters i.next
       → Moves i (promotions_at g i at)

@@ -1,7 +1,8 @@
 -- What the gate's verdict on a request is: that of one thread's limiter, at its place in one log.
 --
--- g: what the limiter was made with, o: what stood at first, log: all that was asked and answered
-use Rattle.std.specs.Prelude.{◌≡◌, ◌≤◌, ◌<◌, ◌⊎◌, ⊤, ℕ, true, List, Option, Some, IfSome}
+-- g: what the limiter was made with, o: what stood at first, log: all that was asked and answered,
+-- most: from how many entries on the history is exhausted
+use Rattle.std.specs.Prelude.{◌≡◌, ◌≤◌, ◌<◌, ◌⊎◌, ℕ, true, List, length, Option, Some, IfSome}
 use Rattle.std.specs.Prelude.{is_some, slice_get, take}
 use Rattle.partitions.specs.declared.part.Part.{Part}
 use Rattle.partitions.specs.Table.{place_of, share}
@@ -77,27 +78,34 @@ module _ {S : Type 0} (g : Gate S) (o : Image S) (log : List Entry) where
     pub still : waits (found_at waited.second) number ≡ true
     pub no_room : g.promote ≡ rule.All → NobodyHasRoom g (found_at waited.second)
 
+  -- LOST: it was made to wait, and its giving up told that it neither waited nor lay granted, or
+  -- wasn't answered, since the history was exhausted by then
+  abbrev pub IsLost : ℕ → Ask → ℕ → ℕ → Type 0
+  IsLost most ask now number =
+      HasWaited ask now number reply.Lost
+      ⊎ (IsTurnedAway ask now number reply.Waiting × (most ≤ length log))
+
   -- REFUSED for this cause; where the history is exhausted nothing was answered
-  abbrev pub IsRefused : Ask → ℕ → Why → Type 0
-  IsRefused ask now why.Full = (number : ℕ) × IsTurnedAway ask now number reply.Full
-  IsRefused ask now why.BacklogFull =
+  abbrev pub IsRefused : ℕ → Ask → ℕ → Why → Type 0
+  IsRefused most ask now why.Full = (number : ℕ) × IsTurnedAway ask now number reply.Full
+  IsRefused most ask now why.BacklogFull =
       (number : ℕ) × IsTurnedAway ask now number reply.BacklogFull
-  IsRefused ask now why.TimedOut = IsTimedOut ask now
-  IsRefused ask now why.Lost = (number : ℕ) × IsTurnedAway ask now number reply.Waiting
-  IsRefused ask now why.Exhausted = ⊤
+  IsRefused most ask now why.TimedOut = IsTimedOut ask now
+  IsRefused most ask now why.Lost = (number : ℕ) × IsLost most ask now number
+  IsRefused most ask now why.Exhausted = most ≤ length log
 
   -- THE VERDICT on what was asked for at this moment, and the outcome of what was let through
-  abbrev pub IsVerdict : Ask → ℕ → Verdict → Option Outcome → Type 0
-  IsVerdict ask now verdict.NotAsked outcome = ⊥
-  IsVerdict ask now verdict.Admitted outcome =
+  abbrev pub IsVerdict : ℕ → Ask → ℕ → Verdict → Option Outcome → Type 0
+  IsVerdict most ask now verdict.NotAsked outcome = ⊥
+  IsVerdict most ask now verdict.Admitted outcome =
       (number : ℕ) × IsGot ask now number × IfSome outcome (IsEnded number)
       × (is_some outcome ≡ true)
-  IsVerdict ask now verdict.Bypassed outcome =
+  IsVerdict most ask now verdict.Bypassed outcome =
       (number : ℕ) × IsAnsweredAt number (acquire ask now) reply.Bypassed
-  IsVerdict ask now (verdict.Refused cause) outcome = IsRefused ask now cause
+  IsVerdict most ask now (verdict.Refused cause) outcome = IsRefused most ask now cause
 
   -- DECIDED: an exchange whose request was read, by the request's class
-  abbrev pub IsDecided : Settings → ExchangeSummary → Type 0
-  IsDecided s x =
+  abbrev pub IsDecided : ℕ → Settings → ExchangeSummary → Type 0
+  IsDecided most s x =
       IfSome x.class (λ class.
-      (now : ℕ) × IsVerdict (asked_for s class) now x.admission x.outcome)
+      (now : ℕ) × IsVerdict most (asked_for s class) now x.admission x.outcome)

@@ -2,7 +2,7 @@
 ghost use Rattle.std.specs.Prelude.{◌≡◌};
 ghost use Rattle.gate_port.specs.Asking.{Admits};
 ghost use Rattle.gate_port.specs.Ending.{Ends};
-ghost use Rattle.gate_port.specs.Log.{AdmitsIn, EndsIn};
+ghost use Rattle.gate_port.specs.Log.{AdmitsIn, EndsIn, IsLate};
 
 use limiter_core::Outcome;
 use partitions::Part;
@@ -42,23 +42,24 @@ pub trait GatePort {
     /// What is told of an ending.
     type Receipt: Drop;
 
-    ghost use Rattle.std.specs.Prelude.{Option, List};
-    ghost use Rattle.limiter_core.specs.declared.event.Entry.{Entry};
+    ghost use Rattle.std.specs.Prelude.{Option};
     ghost use Rattle.limiter_core.specs.declared.event.PermitFacts.{PermitFacts};
+    ghost use Rattle.gate_port.specs.Log.{Known};
     ghost use Rattle.gate_port.specs.Shown.{Shown};
 
     /// The entries, where they are shown.
     ghost shown: { Self → Option Shown };
 
-    /// The beginning of the gate's log that it knows, where it knows one.
-    ghost known: { Self → Option (List Entry) };
+    /// What it knows of the gate, where it knows the beginning of its log.
+    ghost known: { Self → Option Known };
 
     /// The facts of a permit.
     ghost facts: { Self.Permit → PermitFacts };
 
     /// Asks for a permit. With a deadline it waits for one where there is no room, until then;
     /// with `bypass` it is let through without one, and never waits. A port that shows its entries
-    /// answers `Exhausted` just where they were exhausted before.
+    /// answers `Exhausted` just where they were exhausted before; one that knows a log only where
+    /// that is exhausted, and `TimedOut` only once its clock has reached the deadline.
     fn admit(
         &mut self,
         part: Part,
@@ -69,7 +70,8 @@ pub trait GatePort {
         ensures entries { Admits part bypass deadline now (shown self.old) (shown self.new) facts
             result }
         ensures log { AdmitsIn part bypass deadline now (known self.old) (known self.new) facts
-            result };
+            result }
+        ensures late { IsLate deadline (known self.new) result };
 
     /// The moment at which a permit started: that of its asking, or where its caller waited that of
     /// the ending which promoted it.

@@ -9,6 +9,8 @@ use Rattle.limiter_core.specs.declared.event.Entry.{Entry}
 use Rattle.limiter_core.specs.History.{Gate}
 use Rattle.gate_journal.specs.Image.{image_of}
 use Rattle.gate_ledgers.specs.Making.{Making}
+use Rattle.gate_history.specs.Refusal.{exhausted_from}
+use Rattle.gate_port.specs.Log.{Known}
 use Rattle.gate_port.specs.declared.report.Report.{Report}
 use Rattle.gateway_settings.specs.declared.settings.Settings.{Settings}
 use Rattle.shared_gate.specs.Calls.{Pass}
@@ -18,26 +20,29 @@ use Rattle.proxy.specs.declared.told.ExchangeSummary.{ExchangeSummary}
 use Rattle.proxy.specs.Exchanges.{Policy}
 use Rattle.gate_laws.specs.Decided.{IsDecided}
 use Rattle.gate_laws.specs.Exchanges.{ExchangesAreOneThreads}
-use Rattle.gateway_tests.specs.Deciding.{AreBothDecided, IsServed}
+use Rattle.gateway_tests.specs.Deciding.{AreBothDecided, IsServed, known_of}
 
 module _ {S : Type 0} (rules : Algorithm S) (m : Making) (passes : List Pass) (counters : Counters)
     (law : (g : Gate S) → ExchangesAreOneThreads g)
     (behind : AreCountersOfAll rules m passes counters) where
   decided : (x : ExchangeSummary) (known : List Entry)
-      → ((p : Policy) × IsServed p x known) → IsPrefix known behind.log
+      → ((p : Policy) × IsServed m p x known) → IsPrefix known behind.log
       → (s : Settings)
-      × IsDecided (limiter_of rules m) (image_of behind.after.origin) behind.log s x
+      × IsDecided (limiter_of rules m) (image_of behind.after.origin) behind.log
+      (exhausted_from m) s x
   decided x known is begun =
-      let told = law (limiter_of rules m) is.0 is.1.old is.1.new x [] is.1.exchanged is.1.from in (
+      let told = law (limiter_of rules m) is.0 is.1.old is.1.new x (known_of m [] 0)
+      is.1.exchanged is.1.from in (
         is.0.settings,
-        told.3 (image_of behind.after.origin) behind.log behind.after.unasked.nobody
+        told.4 (image_of behind.after.origin) behind.log behind.after.unasked.nobody
             behind.after.legal
-            (subst (λ (log : List Entry). IsPrefix log behind.log)
-            (same_Some known told.0 (sym is.1.to ∙ told.1)) begun),
+            (subst (λ (it : Known). IsPrefix it.log behind.log)
+            (same_Some (known_of m known is.1.reached) told.0 (sym is.1.to ∙ told.1)) begun),
       )
 
   pub both_decided : (one two : Pass) (x y : ExchangeSummary) → passes ≡ one ∷ two ∷ []
-      → ((p : Policy) × IsServed p x one.log) → ((p : Policy) × IsServed p y two.log)
+      → ((p : Policy) × IsServed m p x one.log)
+      → ((p : Policy) × IsServed m p y two.log)
       → AreBothDecided rules m counters x y
   both_decided one two x y same first second =
       let begins : Pass → Type 0 = λ pass. IsPrefix pass.log behind.log in

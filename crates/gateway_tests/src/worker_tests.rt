@@ -104,7 +104,7 @@ fn serve_one<L: Limit, M: GateNaming, R: Wait + SystemClock + Abort>(
     pass: Pass<M>,
 ) -> Served<M>
     requires unused { pass.log ≡ [] }
-    ensures { (p : Policy) × IsServed p result.told result.pass.log }
+    ensures { (p : Policy) × IsServed M.making p result.told result.pass.log }
 {
     let settings = read(alloc, ONE_AT_ONCE.as_bytes()).expect(rt, "settings");
     let clock = Ticking::new();
@@ -121,7 +121,7 @@ fn serve_by<L: Limit, M: GateNaming, R: Wait + SystemClock>(
     clock: &Ticking,
 ) -> Served<M>
     requires unused { pass.log ≡ [] }
-    ensures { IsServed
+    ensures { IsServed M.making
         (record {
           settings = settings.now;
           marks = false;
@@ -198,11 +198,11 @@ where
         rt,
         move || -> Served<M>
             requires { one.log ≡ [] }
-            ensures { (p : Policy) × IsServed p result.told result.pass.log }
+            ensures { (p : Policy) × IsServed M.making p result.told result.pass.log }
         { serve_one(rt, alloc, gate, one) },
         move || -> Served<M>
             requires { two.log ≡ [] }
-            ensures { (p : Policy) × IsServed p result.told result.pass.log }
+            ensures { (p : Policy) × IsServed M.making p result.told result.pass.log }
         { serve_one(rt, alloc, gate, two) },
     );
     exchanges_are_one_threads::<L>();

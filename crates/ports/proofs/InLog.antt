@@ -22,7 +22,7 @@ use Rattle.gate_port.specs.Ending.{IsPromotion}
 use Rattle.gate_port.specs.Log.{IsAskedIn, IsEndedIn, IsLogged, answered, gave_up, missed, spent}
 use Rattle.ports.specs.declared.asked.Receipts.{Receipts}
 use Rattle.ports.specs.declared.asked.Receipts.TheVariants as asked
-use Rattle.ports.specs.Asked.{IsAnswered, IsQueued}
+use Rattle.ports.specs.Asked.{IsAnswered, IsOver, IsQueued}
 
 abbrev one : Entry → ℕ
 one entry = cond (is_call entry) 1 0
@@ -55,22 +55,25 @@ queued before after ask now first is =
     (logged before after (acquire ask now) first is.0)
 
 -- AN ASKING stands in the log
-pub asked_in : {M : Type 0} (before after : Pass) (ask : Ask) (now : ℕ) (kept : Receipts M)
-    (answer : Admission PermitFacts) → IsAnswered before after ask now kept answer
-    → IsAskedIn ask before.log now after.log answer
-asked_in before after ask now asked.Nothing answer is = absurd is
-asked_in before after ask now (asked.Exhausted refusal) answer is =
-    subst (IsAskedIn ask before.log now after.log) (sym is.1) (spent after.log is.0.begins)
-asked_in before after ask now (asked.Answered receipt) answer is =
+pub asked_in : {M : Type 0} (most : ℕ) (before after : Pass) (ask : Ask) (now : ℕ)
+    (kept : Receipts M) (answer : Admission PermitFacts)
+    → IsAnswered before after ask now kept answer → IsOver most kept
+    → IsAskedIn ask most before.log now after.log answer
+asked_in most before after ask now asked.Nothing answer is over = absurd is
+asked_in most before after ask now (asked.Exhausted refusal) answer is over =
+    subst (IsAskedIn ask most before.log now after.log) (sym is.1)
+    (spent after.log is.0.begins (omega (arith, over, is.0.next)))
+asked_in most before after ask now (asked.Answered receipt) answer is over =
     answered after.log receipt.number receipt.reply answer
     (logged before after (acquire ask now) receipt is.0) is.1
-asked_in before after ask now (asked.GaveUp first second) answer is =
+asked_in most before after ask now (asked.GaveUp first second) answer is over =
     gave_up is.0.log after.log first.number second.number second.reply answer
     (queued before is.0 ask now first is.1)
     (logged is.0 after (GiveUp first.number) second is.2) is.3
-asked_in before after ask now (asked.Missed first refusal) answer is =
-    subst (IsAskedIn ask before.log now after.log) (sym is.3)
-    (missed is.0.log after.log first.number (queued before is.0 ask now first is.1) is.2.begins)
+asked_in most before after ask now (asked.Missed first refusal) answer is over =
+    subst (IsAskedIn ask most before.log now after.log) (sym is.3)
+    (missed is.0.log after.log first.number (queued before is.0 ask now first is.1) is.2.begins
+    (omega (arith, over, is.2.next)))
 
 -- what is answered of permits that are their facts
 pub same_told : (answer : Admission PermitFacts)

@@ -1,15 +1,17 @@
 -- What a port over a shared gate keeps of an asking: the receipts of its calls.
-use Rattle.std.specs.Prelude.{◌≡◌, ℕ, Some, Result, Ok, Err}
+use Rattle.std.specs.Prelude.{◌≡◌, ◌≤◌, ⊤, ℕ, Some, Result, Ok, Err}
 use Rattle.limiter_core.specs.declared.event.Event.TheVariants.{GiveUp}
 use Rattle.limiter_core.specs.declared.event.Reply.TheVariants.{Waiting}
 use Rattle.limiter_core.specs.declared.event.PermitFacts.{PermitFacts}
+use Rattle.gate_ledgers.specs.Making.{Making}
 use Rattle.gate_ledgers.specs.Told.{Told}
-use Rattle.gate_history.specs.Refusal.{Refusal}
+use Rattle.gate_history.specs.Refusal.{Refusal, exhausted_from}
 use Rattle.shared_gate.specs.Calls.{IsTold, IsUntold, Pass}
 use Rattle.gate_port.specs.declared.port.Why.TheVariants as why
 use Rattle.gate_port.specs.declared.port.Admission.{Admission}
 use Rattle.gate_port.specs.declared.port.Admission.TheVariants.{Refused}
 use Rattle.gate_port.specs.Asking.{Ask, acquire, says}
+use Rattle.gate_port.specs.Log.{Known}
 use Rattle.ports.specs.declared.asked.Receipts.{Receipts}
 use Rattle.ports.specs.declared.asked.Receipts.TheVariants as asked
 
@@ -22,6 +24,14 @@ pub record Shared (M : Type 0) : Type 0 where
 -- a port with this pass that was told so
 abbrev pub port_in : {M : Type 0} → Pass → Receipts M → ℕ → Shared M
 port_in pass asked reached = record { pass = pass; asked = asked; reached = reached }
+
+-- what it knows of a gate that is made so: the log that its pass knows
+abbrev pub known_by : {M : Type 0} → Making → Shared M → Known
+known_by m port = record {
+  log = port.pass.log;
+  exhausted_from = exhausted_from m;
+  reached = port.reached;
+}
 
 -- an acquire that waited, and what its giving up was answered
 abbrev pub asked_by : {M : Type 0} → Told → Result Told Refusal → Receipts M
@@ -53,3 +63,9 @@ IsAnswered before after ask now (asked.Missed first spent) answer =
     (mid : Pass) × IsQueued before mid ask now first
     × IsUntold mid after (GiveUp first.number) spent
     × (answer ≡ Refused why.Lost)
+
+-- a call was refused only behind so many entries
+abbrev pub IsOver : {M : Type 0} → ℕ → Receipts M → Type 0
+IsOver most (asked.Exhausted spent) = most ≤ spent.next
+IsOver most (asked.Missed first spent) = most ≤ spent.next
+IsOver most _ = ⊤

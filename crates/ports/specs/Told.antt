@@ -1,5 +1,5 @@
 -- What a port over a shared gate tells, by its pass.
-use Rattle.std.specs.Prelude.{◌≡◌, ◌⊎◌, ⊤, ℕ, ◌+◌, ◌<◌, ◌≤◌, Option, IfSome, true, false}
+use Rattle.std.specs.Prelude.{◌≡◌, ◌⊎◌, ℕ, ◌+◌, ◌<◌, ◌≤◌, true, false}
 use Rattle.limit_laws.specs.Facts.{moment}
 use Rattle.limiter_core.specs.declared.event.PermitFacts.{PermitFacts}
 use Rattle.limiter_core.specs.History.{permit_of}
@@ -37,8 +37,3 @@ IsTold before after ask now (Refused why.Lost) =
     (Makes 1 before after ⊎ Makes 2 before after) × (ask.wait ≡ true)
 IsTold before after ask now (Refused why.Exhausted) =
     (after.count ≡ before.count) × (seen_by before ≤ seen_by after)
-
--- LATE: who is told that the time is over is told so once the clock has reached the deadline
-abbrev pub IsLate : Option ℕ → ℕ → Admission PermitFacts → Type 0
-IsLate deadline reached (Refused why.TimedOut) = IfSome deadline (λ until. until ≤ reached)
-IsLate deadline reached _ = ⊤

@@ -1,6 +1,7 @@
 // What a gate told of an asking.
 ghost use Rattle.std.specs.Prelude.{◌≡◌};
-ghost use Rattle.ports.specs.Asked.{asked_by};
+ghost use Rattle.gate_history.specs.Refusal.{exhausted_from};
+ghost use Rattle.ports.specs.Asked.{IsOver, asked_by};
 
 use gate_history::{Naming, Receipt, Spent};
 
@@ -22,11 +23,15 @@ pub enum Receipts<M: Naming> {
 impl<M: Naming> Receipts<M> {
     /// An acquire that waited, and what its giving up was answered.
     pub(crate) fn waited(first: Receipt<M>, second: Result<Receipt<M>, Spent<M>>) -> Receipts<M>
-        ensures { result ≡ asked_by first second }
+        ensures asked { result ≡ asked_by first second }
+        ensures over { IsOver (exhausted_from M.making) result }
     {
         match second {
             Ok(second) => Receipts::GaveUp(first, second),
-            Err(spent) => Receipts::Missed(first, spent),
+            Err(spent) => {
+                spent.invariant();
+                Receipts::Missed(first, spent)
+            }
         }
     }
 }

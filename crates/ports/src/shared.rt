@@ -1,11 +1,12 @@
 // A port over a gate that threads share.
 ghost use Rattle.std.specs.Prelude.{◌≡◌, ◌+◌, ◌≤◌, Some, true, false, is_some, if◌then◌else◌};
+ghost use Rattle.gate_history.specs.Refusal.{exhausted_from};
 ghost use Rattle.shared_gate.specs.Calls.{Ends};
 ghost use Rattle.gate_port.specs.Asking.{ask_of};
-ghost use Rattle.gate_port.specs.Log.{AdmitsIn, EndsIn};
+ghost use Rattle.gate_port.specs.Log.{AdmitsIn, EndsIn, IsLate};
 ghost use Rattle.ports.specs.declared.asked.Receipts.TheVariants.{Nothing};
-ghost use Rattle.ports.specs.Asked.{IsAnswered, port_in};
-ghost use Rattle.ports.specs.Told.{IsLate, IsTold};
+ghost use Rattle.ports.specs.Asked.{IsAnswered, IsOver, known_by, port_in};
+ghost use Rattle.ports.specs.Told.{IsTold};
 
 use crate::asked::Receipts;
 use crate::reached::Reached;
@@ -125,6 +126,7 @@ impl<'a, L: Limit, M: GateNaming, R: Wait + SystemClock, C: Clock> Port<'a, L, M
             (record { part = part; bypass = bypass; wait = false }) now result }
         ensures answered { IsAnswered self.old.pass self.new.pass
             (record { part = part; bypass = bypass; wait = false }) now self.new.asked result }
+        ensures over { IsOver (exhausted_from M.making) self.new.asked }
     {
         let pass = &mut self.pass;
         let (asked, answer) = match self.gate.acquire(self.rt, pass, part, bypass, false, now) {
@@ -140,10 +142,13 @@ impl<'a, L: Limit, M: GateNaming, R: Wait + SystemClock, C: Clock> Port<'a, L, M
                 )
             }
             Got::Waiting(_receipt, _ticket) => unreachable!(),
-            Got::Exhausted(spent) => (
-                Receipts::Exhausted(spent),
-                Admission::Refused(Why::Exhausted),
-            ),
+            Got::Exhausted(spent) => {
+                spent.invariant();
+                (
+                    Receipts::Exhausted(spent),
+                    Admission::Refused(Why::Exhausted),
+                )
+            }
         };
         self.asked = asked;
         answer
@@ -155,7 +160,8 @@ impl<'a, L: Limit, M: GateNaming, R: Wait + SystemClock, C: Clock> Port<'a, L, M
             (record { part = part; bypass = false; wait = true }) now result }
         ensures answered { IsAnswered self.old.pass self.new.pass
             (record { part = part; bypass = false; wait = true }) now self.new.asked result }
-        ensures late { IsLate (Some deadline) self.new.reached result }
+        ensures over { IsOver (exhausted_from M.making) self.new.asked }
+        ensures late { IsLate (Some deadline) (Some (known_by M.making self.new)) result }
     {
         let mut looks = MonotonicClock::new(self.clock);
         self.ask_until(part, now, &mut looks, deadline)
@@ -173,7 +179,8 @@ impl<'a, L: Limit, M: GateNaming, R: Wait + SystemClock, C: Clock> Port<'a, L, M
             (record { part = part; bypass = false; wait = true }) now result }
         ensures answered { IsAnswered self.old.pass self.new.pass
             (record { part = part; bypass = false; wait = true }) now self.new.asked result }
-        ensures late { IsLate (Some deadline) self.new.reached result }
+        ensures over { IsOver (exhausted_from M.making) self.new.asked }
+        ensures late { IsLate (Some deadline) (Some (known_by M.making self.new)) result }
     {
         let (rt, pass) = (self.rt, &mut self.pass);
         let (asked, answer) = match self.gate.acquire_wait(rt, pass, part, now, looks, deadline) {
@@ -203,6 +210,7 @@ impl<'a, L: Limit, M: GateNaming, R: Wait + SystemClock, C: Clock> Port<'a, L, M
                 )
             }
             Waited::Exhausted(spent) => {
+                spent.invariant();
                 (
                     Receipts::Exhausted(spent),
                     Admission::Refused(Why::Exhausted),
@@ -226,9 +234,9 @@ impl<'a, L: Limit, M: GateNaming, R: Wait + SystemClock, C: Clock> Port<'a, L, M
             result }
         ensures answered { IsAnswered self.old.pass self.new.pass
             (ask_of part bypass deadline) now self.new.asked result }
-        ensures late { IsLate deadline self.new.reached result }
-        ensures log { AdmitsIn part bypass deadline now (Some self.old.pass.log)
-            (Some self.new.pass.log) (λ permit. permit) result }
+        ensures late { IsLate deadline (Some (known_by M.making self.new)) result }
+        ensures log { AdmitsIn part bypass deadline now (Some (known_by M.making self.old))
+            (Some (known_by M.making self.new)) (λ permit. permit) result }
         ensures few { self.new.pass.count
             ≤ self.old.pass.count + (if is_some deadline then 2 else 1) }
     {
@@ -264,10 +272,11 @@ impl<'a, L: Limit, M: GateNaming, R: Wait + SystemClock, C: Clock> GatePort
     type Receipt = Receipt<M>;
 
     ghost use Rattle.std.specs.Prelude.{None, Some};
+    ghost use Rattle.ports.specs.Asked.{known_by};
 
     ghost shown = { λ p. None };
 
-    ghost known = { λ p. Some p.pass.log };
+    ghost known = { λ p. Some (known_by M.making p) };
 
     ghost facts = { λ p. p };
 
@@ -285,9 +294,9 @@ impl<'a, L: Limit, M: GateNaming, R: Wait + SystemClock, C: Clock> GatePort
             result }
         ensures answered { IsAnswered self.old.pass self.new.pass
             (ask_of part bypass deadline) now self.new.asked result }
-        ensures late { IsLate deadline self.new.reached result }
-        ensures log { AdmitsIn part bypass deadline now (Some self.old.pass.log)
-            (Some self.new.pass.log) (λ permit. permit) result }
+        ensures late { IsLate deadline (Some (known_by M.making self.new)) result }
+        ensures log { AdmitsIn part bypass deadline now (Some (known_by M.making self.old))
+            (Some (known_by M.making self.new)) (λ permit. permit) result }
         ensures few { self.new.pass.count
             ≤ self.old.pass.count + (if is_some deadline then 2 else 1) }
     {
@@ -305,8 +314,8 @@ impl<'a, L: Limit, M: GateNaming, R: Wait + SystemClock, C: Clock> GatePort
     #[inline(always)]
     fn end(&mut self, permit: Permit<M>, outcome: Outcome, now: u64) -> Receipt<M>
         ensures told { Ends self.old.pass self.new.pass permit outcome now result }
-        ensures log { EndsIn permit outcome now (Some self.old.pass.log)
-            (Some self.new.pass.log) }
+        ensures log { EndsIn permit outcome now (Some (known_by M.making self.old))
+            (Some (known_by M.making self.new)) }
         ensures asked { self.new.asked ≡ self.old.asked }
         ensures few { self.new.pass.count ≤ self.old.pass.count + 1 }
     {

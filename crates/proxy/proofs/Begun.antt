@@ -1,5 +1,5 @@
 -- What was begun to be written.
-use Rattle.std.proofs.Common.{ℕ, List, [], ◌++◌, take, sym, Option, None, Some, IfSome}
+use Rattle.std.proofs.Common.{ℕ, List, [], take, sym, Option, None, Some, IfSome}
 use Rattle.std.specs.Io.KnownBytes.{Appends}
 use Rattle.std.proofs.lemmas.List.{append-nil}
 

@@ -1,5 +1,5 @@
 -- What the calls of one exchange add together to the entries of a port.
-use Rattle.std.proofs.Common.{◌≡◌, ℕ, ◌+◌, ◌≤◌, List, [], ◌++◌, Bool, true, false, Option}
+use Rattle.std.proofs.Common.{◌≡◌, ℕ, ◌≤◌, List, [], ◌++◌, Bool, true, false, Option}
 use Rattle.std.proofs.Common.{Some, None, is_some, cond, append_assoc, append-nil, refl, sym, ap}
 use Rattle.std.proofs.Common.{◌∙◌, subst, arith}
 use Rattle.limiter_core.specs.declared.event.Outcome.{Outcome}
@@ -10,9 +10,10 @@ use Rattle.gateway_settings.specs.declared.settings.Settings.{Settings}
 use Rattle.gate_port.specs.declared.port.Admission.{Admission}
 use Rattle.gate_port.specs.declared.port.Admission.TheVariants as admission
 use Rattle.gate_port.specs.declared.port.Why.{Why}
+use Rattle.gate_port.specs.declared.port.Why.TheVariants as why
 use Rattle.gate_port.specs.Asking.{Admits, Ask, IsAsked, ask_of, told}
 use Rattle.gate_port.specs.Ending.{Ends, IsEnding}
-use Rattle.gate_port.specs.Log.{AdmitsIn, EndsIn, Grows, IsAskedIn, IsEndedIn}
+use Rattle.gate_port.specs.Log.{AdmitsIn, EndsIn, Grows, IsAskedIn, IsEndedIn, IsLate, Known}
 use Rattle.gate_port.specs.Shown.{Adds, Shown}
 use Rattle.wire.specs.declared.answer.BackendAnswer.{BackendAnswer}
 use Rattle.proxy.specs.declared.told.PermitTimes.{PermitTimes}
@@ -91,16 +92,38 @@ asks s class class' deadline until now old new facts answer a waits is same p =
     Adds old new (λ before added. IsAsked ask before now added x)) p
 
 -- and so it is in a log
+abbrev pub Asks : Ask → ℕ → Admission PermitFacts → Known → Known → Type 0
+Asks ask now told before after =
+    IsAskedIn ask before.exhausted_from before.log now after.log told
+
 pub asks_in : {P : Type 0} (s : Settings) (class class' : Class) (deadline : Option ℕ)
-    (until now : ℕ) (old new : Option (List Entry)) (facts : P → PermitFacts)
-    (answer a : Admission P)
+    (until now : ℕ) (old new : Option Known) (facts : P → PermitFacts) (answer a : Admission P)
     → deadline ≡ cond s.wait (Some until) None → answer ≡ a → class ≡ class'
     → AdmitsIn class.part class.bypass deadline now old new facts answer
-    → Grows old new (λ before after. IsAskedIn (asked_for s class') before now after (told facts a))
+    → Grows old new (Asks (asked_for s class') now (told facts a))
 asks_in s class class' deadline until now old new facts answer a waits is same p =
     asks_so s class class' deadline until facts answer a waits is same
-    (λ (ask : Ask) (x : Admission PermitFacts).
-    Grows old new (λ before after. IsAskedIn ask before now after x)) p
+    (λ (ask : Ask) (x : Admission PermitFacts). Grows old new (Asks ask now x)) p
+
+-- who was refused is late whatever a permit would have been
+late_so : (P : Type 0) (until : Option ℕ) (known : Option Known) (cause : Why)
+    → IsLate {P = P} until known (admission.Refused cause)
+    → IsLate {P = PermitFacts} until known (admission.Refused cause)
+late_so P until None cause late = tt
+late_so P until (Some known) why.Full late = tt
+late_so P until (Some known) why.BacklogFull late = tt
+late_so P until (Some known) why.TimedOut late = late
+late_so P until (Some known) why.Lost late = tt
+late_so P until (Some known) why.Exhausted late = tt
+
+pub refused_late : {P : Type 0} (deadline until : Option ℕ) (known : Option Known) (cause : Why)
+    (answer : Admission P) → deadline ≡ until → answer ≡ admission.Refused cause
+    → IsLate deadline known answer
+    → IsLate {P = PermitFacts} until known (admission.Refused cause)
+refused_late {P} deadline until known cause answer waits is late =
+    late_so P until known cause
+    (subst (λ (d : Option ℕ). IsLate {P = P} d known (admission.Refused cause)) waits
+    (subst (λ (a : Admission P). IsLate deadline known a) is late))
 
 module _ (ask : Ask) (now : ℕ) where
   -- who was admitted is asked for, and then ended
@@ -162,67 +185,73 @@ module _ (ask : Ask) (now : ℕ) where
       })
 
 -- one stretch of a log, and then another
-grows_then : (old mid new : Option (List Entry)) (P Q R : List Entry → List Entry → Type 0)
+grows_then : (old mid new : Option Known) (P Q R : Known → Known → Type 0)
     → Grows old mid P → Grows mid new Q
-    → ((a b c : List Entry) → P a b → Q b c → R a c) → Grows old new R
+    → ((a b c : Known) → P a b → Q b c → R a c) → Grows old new R
 grows_then None mid new P Q R p q f = tt
 grows_then (Some o) None new P Q R p q f = absurd p
 grows_then (Some o) (Some m) None P Q R p q f = absurd q
-grows_then (Some o) (Some m) (Some n) P Q R p q f = f o m n p q
+grows_then (Some o) (Some m) (Some n) P Q R p q f = (q.0 ∙ p.0, f o m n p.1 q.1)
 
-grows_map : (old new : Option (List Entry)) (P R : List Entry → List Entry → Type 0)
-    → Grows old new P → ((a b : List Entry) → P a b → R a b) → Grows old new R
+grows_map : (old new : Option Known) (P R : Known → Known → Type 0)
+    → Grows old new P → ((a b : Known) → P a b → R a b) → Grows old new R
 grows_map None new P R p f = tt
 grows_map (Some o) None P R p f = absurd p
-grows_map (Some o) (Some n) P R p f = f o n p
+grows_map (Some o) (Some n) P R p f = (p.0, f o n p.1)
 
-module _ (ask : Ask) (now : ℕ) where
-  pub logs_admitted : (old mid new : Option (List Entry)) (permit : PermitFacts)
+module _ (ask : Ask) (until : Option ℕ) (now : ℕ) where
+  pub logs_admitted : (old mid new : Option Known) (permit : PermitFacts)
       (answer : BackendAnswer) (outcome : Outcome) (times : Option PermitTimes) (end : ℕ)
-      → Grows old mid (λ before after. IsAskedIn ask before now after (admission.Admitted permit))
+      → Grows old mid (Asks ask now (admission.Admitted permit))
       → times ≡ Some (times_between now permit.start end)
       → outcome ≡ outcome_of answer → EndsIn permit outcome end mid new
-      → Grows old new (ServesIn ask verdict.Admitted times (Some answer) now end)
+      → Grows old new (ServesIn ask until verdict.Admitted times (Some answer) now end)
   logs_admitted old mid new permit answer outcome times end p timed same q =
-      grows_then old mid new (λ a b. IsAskedIn ask a now b (admission.Admitted permit))
-      (IsEndedIn permit (outcome_of answer) end)
-      (ServesIn ask verdict.Admitted times (Some answer) now end) p
+      grows_then old mid new (Asks ask now (admission.Admitted permit))
+      (λ b c. IsEndedIn permit (outcome_of answer) end b.log c.log)
+      (ServesIn ask until verdict.Admitted times (Some answer) now end) p
       (subst (λ (o : Outcome). EndsIn permit o end mid new) same q)
-      (λ (a b c : List Entry) asked ended. record {
+      (λ (a b c : Known) asked ended. record {
         mid = b;
         admission = admission.Admitted permit;
         asking = asked;
+        late = tt;
         verdict = refl;
         timed = timed;
         ending = ended;
       })
 
-  pub logs_bypassed : (old new : Option (List Entry)) (answer : BackendAnswer) (end : ℕ)
-      → Grows old new (λ before after. IsAskedIn ask before now after admission.Bypassed)
-      → Grows old new (ServesIn ask verdict.Bypassed None (Some answer) now end)
+  pub logs_bypassed : (old new : Option Known) (answer : BackendAnswer) (end : ℕ)
+      → Grows old new (Asks ask now admission.Bypassed)
+      → Grows old new (ServesIn ask until verdict.Bypassed None (Some answer) now end)
   logs_bypassed old new answer end p =
-      grows_map old new (λ a b. IsAskedIn ask a now b admission.Bypassed)
-      (ServesIn ask verdict.Bypassed None (Some answer) now end) p
-      (λ (a b : List Entry) asked. record {
+      grows_map old new (Asks ask now admission.Bypassed)
+      (ServesIn ask until verdict.Bypassed None (Some answer) now end) p
+      (λ (a b : Known) asked. record {
         mid = b;
         admission = admission.Bypassed;
         asking = asked;
+        late = tt;
         verdict = refl;
         timed = refl;
         ending = refl;
       })
 
-  pub logs_refused : (old new : Option (List Entry)) (why : Why) (end : ℕ)
-      → Grows old new (λ before after. IsAskedIn ask before now after (admission.Refused why))
-      → Grows old new (ServesIn ask (verdict.Refused why) None None now end)
-  logs_refused old new why end p =
-      grows_map old new (λ a b. IsAskedIn ask a now b (admission.Refused why))
-      (ServesIn ask (verdict.Refused why) None None now end) p
-      (λ (a b : List Entry) asked. record {
-        mid = b;
-        admission = admission.Refused why;
-        asking = asked;
-        verdict = refl;
-        timed = refl;
-        ending = refl;
-      })
+  pub logs_refused : (old new : Option Known) (cause : Why) (end : ℕ)
+      → Grows old new (Asks ask now (admission.Refused cause))
+      → IsLate {P = PermitFacts} until new (admission.Refused cause)
+      → Grows old new (ServesIn ask until (verdict.Refused cause) None None now end)
+  logs_refused None new cause end p late = tt
+  logs_refused (Some old) None cause end p late = absurd p
+  logs_refused (Some old) (Some new) cause end p late = (
+    p.0,
+    record {
+      mid = new;
+      admission = admission.Refused cause;
+      asking = p.1;
+      late = late;
+      verdict = refl;
+      timed = refl;
+      ending = refl;
+    },
+  )

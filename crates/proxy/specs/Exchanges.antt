@@ -7,7 +7,6 @@ use Rattle.counted_io.specs.declared.counted.Counted.{Counted}
 use Rattle.counted_io.specs.Count.{raised}
 use Rattle.counted_io.specs.Causes.{HasRead, IsWriteCause}
 use Rattle.counted_io.specs.Counted.{failures_of, inner_of}
-use Rattle.limiter_core.specs.declared.event.Entry.{Entry}
 use Rattle.message_reading.specs.Reading.{HasFailed}
 use Rattle.wire.specs.declared.fault.WireFault.{WireFault}
 use Rattle.wire.specs.declared.fault.WireFault.TheVariants as fault
@@ -15,6 +14,7 @@ use Rattle.message_parts.specs.declared.request.Request.{Request}
 use Rattle.wire.specs.Fault.{IsUsedUp, Reads}
 use Rattle.wire.specs.Messages.{IsRequest, Said, SaidFront}
 use Rattle.gateway_settings.specs.declared.settings.Settings.{Settings}
+use Rattle.gate_port.specs.Log.{Known}
 use Rattle.gate_port.specs.Shown.{Shown}
 use Rattle.wire.specs.declared.answer.BackendAnswer.{BackendAnswer}
 use Rattle.wire.specs.Forwards.{Forwarded}
@@ -56,7 +56,7 @@ pub record World : Type 0 where
   pub reader : Counted Bytes
   pub writer : Counted Bytes
   pub shown : Option Shown
-  pub known : Option (List Entry)
+  pub known : Option Known
   pub looks : Looked BackendAnswer
   pub count : ℕ
   pub log : Option (List Forwarded)

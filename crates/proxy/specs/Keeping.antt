@@ -1,5 +1,5 @@
 -- When a client is kept.
-use Rattle.std.specs.Prelude.{◌≡◌, Bool, true, false, not, ◌&&◌, ◌||◌, List, ℕ, Option, is_some}
+use Rattle.std.specs.Prelude.{◌≡◌, Bool, true, not, ◌&&◌, ◌||◌, List, ℕ, Option, is_some}
 use Rattle.std.specs.Prelude.{IfSome, Result, Ok, Err, if◌then◌else◌}
 use Rattle.message_fields.specs.Passed.{asks_close}
 use Rattle.message_parts.specs.declared.request.Request.{Request}

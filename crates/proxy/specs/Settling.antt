@@ -1,6 +1,6 @@
 -- What becomes of a request that was read, at the gate and at the backend.
-use Rattle.std.specs.Prelude.{◌≡◌, ◌≢◌, ℕ, ◌-◌, ◌≤◌, List, [], ◌++◌, Bool, true, false, Option}
-use Rattle.std.specs.Prelude.{None, Some, is_some, if◌then◌else◌}
+use Rattle.std.specs.Prelude.{◌≡◌, ◌≢◌, ℕ, ◌+◌, ◌-◌, ◌^◌, ◌≤◌, min, List, [], ◌++◌, Bool, true, false}
+use Rattle.std.specs.Prelude.{Option, None, Some, is_some, if◌then◌else◌}
 use Rattle.counted_io.specs.Count.{raised}
 use Rattle.clocks.specs.Looks.{Looked, looked}
 use Rattle.limiter_core.specs.declared.event.Entry.{Entry}
@@ -13,7 +13,7 @@ use Rattle.gate_port.specs.declared.port.Admission.{Admission}
 use Rattle.gate_port.specs.declared.port.Admission.TheVariants as admission
 use Rattle.gate_port.specs.Asking.{Ask, IsAsked}
 use Rattle.gate_port.specs.Ending.{IsEnding}
-use Rattle.gate_port.specs.Log.{Grows, IsAskedIn, IsEndedIn}
+use Rattle.gate_port.specs.Log.{Grows, IsAskedIn, IsEndedIn, IsLate, Known}
 use Rattle.gate_port.specs.Shown.{Adds, Shown}
 use Rattle.wire.specs.declared.answer.BackendAnswer.{BackendAnswer}
 use Rattle.wire.specs.Forwards.{Forwarded, Logs}
@@ -34,6 +34,10 @@ asked_for s class = record {
   bypass = class.bypass;
   wait = if class.bypass then false else s.wait;
 }
+
+-- until when it may wait that is asked for at this moment, at most 2^62; none where it may not
+abbrev pub waits_until : Settings → ℕ → Option ℕ
+waits_until s now = if s.wait then Some (min (now + s.timeout_ns) (2 ^ 62)) else None
 
 -- a request is let through where it is admitted or bypasses
 abbrev pub is_through : Verdict → Bool
@@ -89,20 +93,20 @@ pub record Serves (ask : Ask) (said : Verdict) (times : Option PermitTimes)
   pub ending : Closes admission answer end ended
 
 -- and the same in a log: an admitted permit's ending stands in it, and nothing else is added
-abbrev pub ClosesIn : Admission PermitFacts → Option BackendAnswer → ℕ → List Entry
-    → List Entry → Type 0
+abbrev pub ClosesIn : Admission PermitFacts → Option BackendAnswer → ℕ → Known → Known → Type 0
 ClosesIn (admission.Admitted permit) (Some answer) end old new =
-    IsEndedIn permit (outcome_of answer) end old new
+    IsEndedIn permit (outcome_of answer) end old.log new.log
 ClosesIn (admission.Admitted permit) None end old new = ⊥
 ClosesIn _ answer end old new = new ≡ old
 
--- IN A LOG of which this was known: one asking at this moment, and behind it the ending of what it
--- got, with others' calls between
-pub record ServesIn (ask : Ask) (said : Verdict) (times : Option PermitTimes)
-    (answer : Option BackendAnswer) (now end : ℕ) (old new : List Entry) : Type 0 where
-  pub mid : List Entry
+-- IN A LOG of which this was known: one asking at this moment, whose time isn't over before this
+-- deadline, and behind it the ending of what it got, with others' calls between
+pub record ServesIn (ask : Ask) (until : Option ℕ) (said : Verdict) (times : Option PermitTimes)
+    (answer : Option BackendAnswer) (now end : ℕ) (old new : Known) : Type 0 where
+  pub mid : Known
   pub admission : Admission PermitFacts
-  pub asking : IsAskedIn ask old now mid admission
+  pub asking : IsAskedIn ask old.exhausted_from old.log now mid.log admission
+  pub late : IsLate until (Some mid) admission
   pub verdict : said ≡ verdict_of admission
   pub timed : times ≡ times_of admission now end
   pub ending : ClosesIn admission answer end mid new
@@ -112,7 +116,7 @@ pub record ServesIn (ask : Ask) (said : Verdict) (times : Option PermitTimes)
 -- of this, at the moments that the clock told at just these looks, of which none tells less than
 -- the one before
 pub record IsSettled (s : Settings) (request : Request) (shown shown' : Option Shown)
-    (known known' : Option (List Entry)) (looks looks' : Looked BackendAnswer)
+    (known known' : Option Known) (looks looks' : Looked BackendAnswer)
     (count count' : ℕ) (log log' : Option (List Forwarded))
     (class : Class) (said : Verdict) (times : Option PermitTimes) (answer : Option BackendAnswer)
     : Type 0 where
@@ -129,4 +133,4 @@ pub record IsSettled (s : Settings) (request : Request) (shown shown' : Option S
   pub entries : Adds shown shown'
       (Serves (asked_for s (class_by s request)) said times answer now end)
   pub logged : Grows known known'
-      (ServesIn (asked_for s (class_by s request)) said times answer now end)
+      (ServesIn (asked_for s (class_by s request)) (waits_until s now) said times answer now end)

@@ -1,7 +1,7 @@
 // A request on its way through the gate.
-ghost use Rattle.std.specs.Prelude.{◌≡◌, ◌+◌, ◌^◌, None, Some, min, if◌then◌else◌};
+ghost use Rattle.std.specs.Prelude.{◌≡◌};
 ghost use Rattle.proxy.specs.Table.{outcome_at, outcome_of, status_outcome};
-ghost use Rattle.proxy.specs.Settling.{IsSettled};
+ghost use Rattle.proxy.specs.Settling.{IsSettled, waits_until};
 
 use crate::told::{PermitTimes, Verdict};
 use classifier::{Class, classify};
@@ -60,8 +60,7 @@ pub(crate) fn outcome_at(answer: &Option<BackendAnswer>) -> Option<Outcome>
 
 /// Until when a request may wait that is read now, at most 2^62; none where it may not.
 fn deadline(settings: &Settings, now: u64) -> Option<u64>
-    ensures { result ≡ (if settings.now.wait
-        then Some (min (now + settings.now.timeout_ns) (2 ^ 62)) else None) }
+    ensures { result ≡ waits_until settings.now now }
 {
     if settings.wait {
         Some(now.saturating_add(settings.timeout_ns).min(LAST_MOMENT))

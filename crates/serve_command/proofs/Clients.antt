@@ -5,6 +5,7 @@ use Rattle.std.proofs.lemmas.List.{append-nil}
 use Rattle.std.proofs.lemmas.Option.{same_Some}
 use Rattle.std.proofs.lemmas.List.Elements.{All-cons, All-head, All-nil, All-tail}
 use mathlib.Core.List.{IsPrefix}
+use Rattle.lemmas.proofs.Lists.{prefix_trans}
 use Rattle.limit_laws.specs.Algorithm.{Algorithm}
 use Rattle.limiter_core.specs.declared.counters.Counters.{Counters}
 use Rattle.limiter_core.specs.declared.event.Entry.{Entry}
@@ -12,6 +13,8 @@ use Rattle.limiter_core.specs.History.{Gate, Image}
 use Rattle.limiter_core.specs.Legal.{IsLegal}
 use Rattle.gate_journal.specs.Image.{image_of}
 use Rattle.gate_ledgers.specs.Making.{Making}
+use Rattle.gate_history.specs.Refusal.{exhausted_from}
+use Rattle.gate_port.specs.Log.{Known}
 use Rattle.clocks.specs.Looks.{unlooked}
 use Rattle.shared_gate.specs.Calls.{Pass}
 use Rattle.shared_gate.specs.Closing.{limiter_of}
@@ -25,102 +28,105 @@ use Rattle.serving.specs.Served.{Back, around, fresh, policy_for}
 use Rattle.serving.specs.Turns.{AreServed, Ending, IsTurn, Keeping, Missing, Turn}
 use Rattle.serving.specs.Visits.{Client}
 use Rattle.serve_command.specs.Clients.{AreDecided, HasRunIn}
-use Rattle.serve_command.specs.Worked.{HasRunTo}
-
-prefix_trans : (xs ys zs : List Entry) → IsPrefix xs ys → IsPrefix ys zs → IsPrefix xs zs
-prefix_trans xs ys zs p q =
-    (p.0 ++ q.0, sym (append_assoc xs p.0 q.0) ∙ (ap (λ w. w ++ q.0) p.1 ∙ q.1))
+use Rattle.serve_command.specs.Worked.{HasRunTo, known_of}
 
 module _ {S : Type 0} (g : Gate S) (one : ExchangesAreOneThreads g) (p : Policy)
     (came : Bytes → Type 0) where
   -- a worker knows so much of a log, in which this was decided
-  abbrev Knows : Option (List Entry) → List Entry → (Image S → List Entry → Type 0) → Type 0
+  abbrev Knows : Option Known → Known → (Image S → List Entry → Type 0) → Type 0
   Knows known before Decided =
-      (after : List Entry) × (known ≡ Some after) × IsPrefix before after
-      × ((o : Image S) (log : List Entry) → o.waiters ≡ [] → IsLegal g o log → IsPrefix after log
-      → Decided o log)
+      (after : Known) × (known ≡ Some after) × (after.exhausted_from ≡ before.exhausted_from)
+      × IsPrefix before.log after.log
+      × ((o : Image S) (log : List Entry) → o.waiters ≡ [] → IsLegal g o log
+      → IsPrefix after.log log → Decided o log)
 
   -- behind one exchange, and behind one and what comes then
-  decided_one : (before behind : Client) (told : Exchange) (old mid : Back) (known : List Entry)
+  decided_one : (before behind : Client) (told : Exchange) (old mid : Back) (known : Known)
+      (most : ℕ) → known.exhausted_from ≡ most
       → IsTurn p came before behind old mid told → old.known ≡ Some known
-      → Knows mid.known known (λ o log. IsDecided g o log p.settings (summary_of told))
-  decided_one before behind told old mid known turn from =
+      → Knows mid.known known (λ o log. IsDecided g o log most p.settings (summary_of told))
+  decided_one before behind told old mid known most same turn from =
       let is = turn.served in
-      one (policy_for p before.is_kept)
+      subst (λ (n : ℕ). Knows mid.known known
+      (λ o log. IsDecided g o log n p.settings (summary_of told))) same
+      (one (policy_for p before.is_kept)
       (around (fresh before.sent) (fresh before.written) unlooked old)
       (around (counted_with is.left (reads_of told)) (counted_with is.given (writes_of told))
       is.looks mid)
-      (summary_of told) known is.exchanged from
+      (summary_of told) known is.exchanged from)
 
-  decided_more : (known : Option (List Entry)) (before mid : List Entry)
+  decided_more : (known : Option Known) (before mid : Known)
       (One Rest : Image S → List Entry → Type 0)
-      → IsPrefix before mid
-      → ((o : Image S) (log : List Entry) → o.waiters ≡ [] → IsLegal g o log → IsPrefix mid log
-      → One o log)
+      → mid.exhausted_from ≡ before.exhausted_from → IsPrefix before.log mid.log
+      → ((o : Image S) (log : List Entry) → o.waiters ≡ [] → IsLegal g o log
+      → IsPrefix mid.log log → One o log)
       → Knows known mid Rest → Knows known before (λ o log. One o log × Rest o log)
-  decided_more known before mid One Rest begins decided rest = (
+  decided_more known before mid One Rest same begins decided rest = (
     rest.0,
     rest.1,
-    prefix_trans before mid rest.0 begins rest.2,
+    rest.2 ∙ same,
+    prefix_trans before.log mid.log rest.0.log begins rest.3,
     λ o log idle legal begun. (
-      decided o log idle legal (prefix_trans mid rest.0 log rest.2 begun),
-      rest.3 o log idle legal begun,
+      decided o log idle legal (prefix_trans mid.log rest.0.log log rest.3 begun),
+      rest.4 o log idle legal begun,
     ),
   )
 
   -- behind its turns a worker knows of a log, in which all of their requests were decided
-  decided_behind : (turns : List Turn) (old new : Back) (before : List Entry)
+  decided_behind : (turns : List Turn) (old new : Back) (before : Known) (most : ℕ)
+      → before.exhausted_from ≡ most
       → AreServed p came turns old new → old.known ≡ Some before
-      → Knows new.known before (λ o log. AreDecided g o log p.settings turns)
-  decided_behind [] old new before same from = (
+      → Knows new.known before (λ o log. AreDecided g o log most p.settings turns)
+  decided_behind [] old new before most from_there same from = (
     before,
     ap (λ (back : Back). back.known) same ∙ from,
-    ([], append-nil before),
+    refl,
+    ([], append-nil before.log),
     λ o log idle legal begun. tt,
   )
-  decided_behind (Missing ∷ turns) old new before are from =
-      decided_behind turns old new before are from
-  decided_behind (Ending before behind told ∷ turns) old new known are from =
-      let first = decided_one before behind told old are.0 known are.1 from in
-      decided_more new.known known first.0 _ _ first.2 first.3
-      (decided_behind turns are.0 new first.0 are.3 first.1)
-  decided_behind (Keeping before behind told ∷ turns) old new known are from =
-      let first = decided_one before behind told old are.0 known are.1 from in
-      decided_more new.known known first.0 _ _ first.2 first.3
-      (decided_behind turns are.0 new first.0 are.3 first.1)
+  decided_behind (Missing ∷ turns) old new before most from_there are from =
+      decided_behind turns old new before most from_there are from
+  decided_behind (Ending before behind told ∷ turns) old new known most from_there are from =
+      let first = decided_one before behind told old are.0 known most from_there are.1 from in
+      decided_more new.known known first.0 _ _ first.2 first.3 first.4
+      (decided_behind turns are.0 new first.0 most (first.2 ∙ from_there) are.3 first.1)
+  decided_behind (Keeping before behind told ∷ turns) old new known most from_there are from =
+      let first = decided_one before behind told old are.0 known most from_there are.1 from in
+      decided_more new.known known first.0 _ _ first.2 first.3 first.4
+      (decided_behind turns are.0 new first.0 most (first.2 ∙ from_there) are.3 first.1)
 
 module _ {S : Type 0} (rules : Algorithm S) (m : Making) (Gives : Policy → Type 0)
     (Came : Option (List ℕ) → Type 0) (most : ℕ) (passes beside : List Pass) (counters : Counters)
     (one : (g : Gate S) → ExchangesAreOneThreads g)
     (behind : AreCountersOfAll rules m (passes ++ beside) counters) where
   abbrev pub RanIn : Pass → Type 0
-  RanIn = HasRunIn (limiter_of rules m) (image_of behind.after.origin) behind.log Gives Came most
+  RanIn = HasRunIn (limiter_of rules m) (image_of behind.after.origin) behind.log m Gives Came most
 
-  ran_in : (pass : Pass) → HasRunTo Gives Came most pass → IsPrefix pass.log behind.log
+  ran_in : (pass : Pass) → HasRunTo m Gives Came most pass → IsPrefix pass.log behind.log
       → RanIn pass
   ran_in pass ran begun =
       let g = limiter_of rules m in
-      let all = decided_behind g (one g) ran.policy Came ran.run.turns _ _ []
-      ran.run.taken.exchanges refl in
+      let all = decided_behind g (one g) ran.policy Came ran.run.turns _ _ (known_of m [] 0)
+      (exhausted_from m) refl ran.run.taken.exchanges refl in
       record {
         ran = ran;
         decided =
-            all.3 (image_of behind.after.origin) behind.log behind.after.unasked.nobody
+            all.4 (image_of behind.after.origin) behind.log behind.after.unasked.nobody
             behind.after.legal
-            (subst (λ (known : List Entry). IsPrefix known behind.log)
-            (same_Some pass.log all.0 all.1) begun);
+            (subst (λ (known : Known). IsPrefix known.log behind.log)
+            (same_Some (known_of m pass.log ran.reached) all.0 all.1) begun);
       }
 
-  all_ran : (own : List Pass) → All (HasRunTo Gives Came most) own
+  all_ran : (own : List Pass) → All (HasRunTo m Gives Came most) own
       → All (λ pass. IsPrefix pass.log behind.log) (own ++ beside) → All RanIn own
   all_ran [] ran begun = All-nil RanIn
   all_ran (p ∷ ps) ran begun =
       let Begun : Pass → Type 0 = λ pass. IsPrefix pass.log behind.log in
-      let Ran = HasRunTo Gives Came most in
+      let Ran = HasRunTo m Gives Came most in
       All-cons RanIn p ps
       (ran_in p (All-head Ran p ps ran) (All-head Begun p (ps ++ beside) begun))
       (all_ran ps (All-tail Ran p ps ran) (All-tail Begun p (ps ++ beside) begun))
 
   -- ALL OF THEM RAN IN THE LOG whose counters are told
-  pub all_ran_in : All (HasRunTo Gives Came most) passes → All RanIn passes
+  pub all_ran_in : All (HasRunTo m Gives Came most) passes → All RanIn passes
   all_ran_in all = all_ran passes all behind.begun

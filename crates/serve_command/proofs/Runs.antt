@@ -17,7 +17,7 @@ use Rattle.shared_gate.specs.Calls.{Pass}
 use Rattle.shared_gate.specs.Closing.{calls_by}
 use Rattle.shared_gate.specs.Reported.{AreCountersOfAll, ArePassesMissing}
 use Rattle.ports.specs.declared.asked.Receipts.TheVariants.{Nothing}
-use Rattle.ports.specs.Asked.{Shared, port_in}
+use Rattle.ports.specs.Asked.{Shared, known_by, port_in}
 use Rattle.gateway_settings.specs.declared.settings.Settings.{Settings}
 use Rattle.proxy.specs.Exchanges.{Policy}
 use Rattle.tcp_backend.specs.declared.connecting.TcpBackend.{TcpBackend}
@@ -42,18 +42,19 @@ use Rattle.serve_command.specs.Beside.{AreServedBeside}
 use Rattle.serve_command.specs.Runs.{AreCountersOfRuns, AreEnded, AreMiscounted, AreOff}
 use Rattle.serve_command.specs.Runs.{HasRunTo, HasServedAll, IsBy, calls_told}
 use Rattle.serve_command.specs.Runs.{passes_in, served_by, stood_at}
+use Rattle.serve_command.specs.Worked.{known_of}
 use Rattle.serve_command.proofs.Clients.{all_ran_in}
 
-module _ {L C S W : Type 0} (R T V M : Type 0) (gives : S → Settings → Type 0)
+module _ {L C S W : Type 0} (R T V M : Type 0) (m : Making) (gives : S → Settings → Type 0)
     (came : L → Option (List ℕ) → Type 0) (common : WorkerSettings L C S W) where
   abbrev End : Type 0
   End = WorkerExit (Door L W) (Shared M) (TcpBackend (Dialer R T) T V C)
 
   abbrev Ran : Shared M → End → Type 0
-  Ran = HasRun gives came (λ port. None) (λ port. Some port.pass.log) common
+  Ran = HasRun gives came (λ port. None) (λ port. Some (known_by m port)) common
 
   abbrev RanTo : Pass → Type 0
-  RanTo = HasRunTo (IsBy (gives common.source.now) common.marks) (came common.listener.now)
+  RanTo = HasRunTo m (IsBy (gives common.source.now) common.marks) (came common.listener.now)
       common.per_worker
 
   abbrev pass_in : End → Pass
@@ -72,13 +73,14 @@ module _ {L C S W : Type 0} (R T V M : Type 0) (gives : S → Settings → Type 
     failed = failed_of ended.door;
     closed = is_closed ended.door;
     forwarded = count_of ended.backend;
+    reached = ended.port.reached;
     tally = ended.tally;
     run =
         subst (λ (log : List Entry). IsRun
         (policy_of did.settings common.marks) (came common.listener.now)
-        common.per_worker (stood_at 0 0 false 0 log)
+        common.per_worker (stood_at 0 0 false 0 (known_of m log 0))
         (stood_at (given_of ended.door) (failed_of ended.door) (is_closed ended.door)
-        (count_of ended.backend) ended.port.pass.log) ended.tally) empty did.run;
+        (count_of ended.backend) (known_by m ended.port)) ended.tally) empty did.run;
     accepted = did.accepted;
     unaccepted = did.unaccepted;
     once = did.once;
@@ -256,7 +258,7 @@ module _ {S A B M : Type 0} (rules : Algorithm S) (m : Making)
   -- the counters of runs, where they tell of just as many calls as the workers made
   pub counted_runs : (Gives : Policy → Type 0) (Came : Option (List ℕ) → Type 0) (most : ℕ)
       (told : Option Counters) → ((g : Gate S) → ExchangesAreOneThreads g) → ReportsBalance rules
-      → All (HasRunTo Gives Came most) (served_by lefts)
+      → All (HasRunTo m Gives Came most) (served_by lefts)
       → IfSome told (λ it. (counted ≡ Ok it) × (calls_told it ≡ calls) × AreEnded it)
       → IfSome told (AreCountersOfRuns rules m Gives Came workers most (made_in lefts))
   counted_runs Gives Came most None one balances ran some = tt

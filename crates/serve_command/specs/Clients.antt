@@ -1,6 +1,7 @@
 -- The headline of a gateway: what it gives whoever sends a request to it.
 --
--- g: what the limiter is made with, o: what stood at first, log: all that was asked and answered
+-- g: what the limiter is made with, o: what stood at first, log: all that was asked and answered,
+-- most: from how many entries on the history is exhausted
 use Rattle.std.specs.Prelude.{◌≡◌, ⊤, ℕ, List, [], ◌∷◌, ◌++◌, All, Option, length}
 use Rattle.limit_laws.specs.Algorithm.{Algorithm}
 use Rattle.limiter_core.specs.declared.counters.Counters.{Counters}
@@ -8,6 +9,7 @@ use Rattle.limiter_core.specs.declared.event.Entry.{Entry}
 use Rattle.limiter_core.specs.History.{Gate, Image}
 use Rattle.gate_journal.specs.Image.{image_of}
 use Rattle.gate_ledgers.specs.Making.{Making}
+use Rattle.gate_history.specs.Refusal.{exhausted_from}
 use Rattle.gateway_settings.specs.declared.settings.Settings.{Settings}
 use Rattle.shared_gate.specs.Calls.{Pass}
 use Rattle.shared_gate.specs.Closing.{calls_by, limiter_of}
@@ -19,20 +21,22 @@ use Rattle.serving.specs.Turns.{Ending, Keeping, Missing, Turn}
 use Rattle.serve_command.specs.Worked.{HasRunTo, calls_told}
 
 -- each request of these turns, in order, was let through or refused as one thread's limiter decides
-abbrev pub AreDecided : {S : Type 0} → Gate S → Image S → List Entry → Settings → List Turn → Type 0
-AreDecided g o log s [] = ⊤
-AreDecided g o log s (Missing ∷ turns) = AreDecided g o log s turns
-AreDecided g o log s (Ending before behind told ∷ turns) =
-    IsDecided g o log s (summary_of told) × AreDecided g o log s turns
-AreDecided g o log s (Keeping before behind told ∷ turns) =
-    IsDecided g o log s (summary_of told) × AreDecided g o log s turns
+abbrev pub AreDecided : {S : Type 0} → Gate S → Image S → List Entry → ℕ → Settings → List Turn
+    → Type 0
+AreDecided g o log most s [] = ⊤
+AreDecided g o log most s (Missing ∷ turns) = AreDecided g o log most s turns
+AreDecided g o log most s (Ending before behind told ∷ turns) =
+    IsDecided g o log most s (summary_of told) × AreDecided g o log most s turns
+AreDecided g o log most s (Keeping before behind told ∷ turns) =
+    IsDecided g o log most s (summary_of told) × AreDecided g o log most s turns
 
--- RAN IN A LOG: a worker that ran, with requests each of which was decided there
-pub record HasRunIn {S : Type 0} (g : Gate S) (o : Image S) (log : List Entry)
+-- RAN IN A LOG of a gate that is made so: a worker that ran, with requests each of which was
+-- decided there
+pub record HasRunIn {S : Type 0} (g : Gate S) (o : Image S) (log : List Entry) (m : Making)
     (Gives : Policy → Type 0) (Came : Option (List ℕ) → Type 0) (most : ℕ) (pass : Pass)
     : Type 0 where
-  pub ran : HasRunTo Gives Came most pass
-  pub decided : AreDecided g o log ran.policy.settings ran.run.turns
+  pub ran : HasRunTo m Gives Came most pass
+  pub decided : AreDecided g o log (exhausted_from m) ran.policy.settings ran.run.turns
 
 -- THE COUNTERS OF RUNS: there is one log of the gate, legal since nothing was asked, after which
 -- these are its counters. It begins with what the passes of so many workers know, each of which ran
@@ -45,7 +49,7 @@ pub record AreCountersOfRuns {S : Type 0} (rules : Algorithm S) (m : Making)
   pub passes : List Pass
   pub all : length passes ≡ workers
   pub behind : AreCountersOfAll rules m (passes ++ beside) counters
-  pub ran : All (HasRunIn (limiter_of rules m) (image_of behind.after.origin) behind.log Gives Came
-      most) passes
+  pub ran : All (HasRunIn (limiter_of rules m) (image_of behind.after.origin) behind.log m Gives
+      Came most) passes
   pub balance : calls_told counters ≡ calls_by passes
   pub ended : (behind.report.inflight ≡ 0) × (behind.report.waiters ≡ 0)

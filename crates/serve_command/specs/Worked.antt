@@ -1,6 +1,9 @@
 -- What a worker of a gateway did.
 use Rattle.std.specs.Prelude.{◌≡◌, ◌≤◌, ◌+◌, ℕ, Bool, false, List, [], ◌∷◌, map, Option, Some, None}
 use Rattle.limiter_core.specs.declared.event.Entry.{Entry}
+use Rattle.gate_ledgers.specs.Making.{Making}
+use Rattle.gate_history.specs.Refusal.{exhausted_from}
+use Rattle.gate_port.specs.Log.{Known}
 use Rattle.shared_gate.specs.Calls.{Pass}
 use Rattle.gateway_settings.specs.declared.settings.Settings.{Settings}
 use Rattle.proxy.specs.Exchanges.{Policy}
@@ -13,15 +16,21 @@ use Rattle.serving.specs.declared.jobs.JobResult.TheVariants as left
 use Rattle.serving.specs.Workers.{ended_in}
 pub use Rattle.gate_opening.specs.Counting.{AreEnded, calls_told}
 
+-- what is known of a gate that is made so, by this beginning of its log and a clock that has
+-- reached this moment
+abbrev pub known_of : Making → List Entry → ℕ → Known
+known_of m log reached =
+    record { log = log; exhausted_from = exhausted_from m; reached = reached }
+
 -- where a worker stands: by the counts of its door and of its backend, of which sockets show
--- nothing more, and by what its pass knows of the gate's log
-abbrev pub stood_at : ℕ → ℕ → Bool → ℕ → List Entry → Place
-stood_at given failed closed forwarded log = record {
+-- nothing more, and by what its port knows of the gate
+abbrev pub stood_at : ℕ → ℕ → Bool → ℕ → Known → Place
+stood_at given failed closed forwarded known = record {
   given = given;
   failed = failed;
   closed = closed;
   visits = None;
-  back = record { shown = None; known = Some log; count = forwarded; log = None };
+  back = record { shown = None; known = Some known; count = forwarded; log = None };
 }
 
 -- by these settings, which may keep clients, and with marks or without
@@ -32,17 +41,18 @@ IsBy Gives marks p = Gives p.settings × (p ≡ policy_of p.settings marks)
 -- from where its pass knew nothing to what that knows now; each client came where they are to come,
 -- each time that one came was counted, for each there was one exchange, and no more was forwarded
 -- than there were exchanges
-pub record HasRunTo (Gives : Policy → Type 0) (Came : Option (List ℕ) → Type 0) (most : ℕ)
-    (pass : Pass) : Type 0 where
+pub record HasRunTo (m : Making) (Gives : Policy → Type 0) (Came : Option (List ℕ) → Type 0)
+    (most : ℕ) (pass : Pass) : Type 0 where
   pub policy : Policy
   pub is_given : Gives policy
   pub given : ℕ
   pub failed : ℕ
   pub closed : Bool
   pub forwarded : ℕ
+  pub reached : ℕ
   pub tally : TurnCounts
-  pub run : IsRun policy Came most (stood_at 0 0 false 0 [])
-      (stood_at given failed closed forwarded pass.log) tally
+  pub run : IsRun policy Came most (stood_at 0 0 false 0 (known_of m [] 0))
+      (stood_at given failed closed forwarded (known_of m pass.log reached)) tally
   pub accepted : given ≡ tally.accepted
   pub unaccepted : failed ≡ tally.unaccepted
   pub once : forwarded ≤ tally.accepted

@@ -4,7 +4,7 @@ use Rattle.std.proofs.Common.{Option, None, Result, Ok, Err, IfOk, ap, sym, subs
 use Rattle.std.proofs.Common.{length, true≢false}
 use Rattle.std.specs.List.{AllZip, list_all}
 use Rattle.gateway_settings.specs.declared.settings.Settings.{Settings}
-use Rattle.limiter_core.specs.declared.event.Entry.{Entry}
+use Rattle.gate_port.specs.Log.{Known}
 use Rattle.gate_port.specs.Shown.{Shown}
 use Rattle.wire.specs.Forwards.{Forwarded}
 use Rattle.tcp_backend.specs.declared.connecting.TcpBackend.{TcpBackend}
@@ -91,7 +91,7 @@ on_ok (Err e) P Q p f = tt
 
 module _ {A P B T D S R L C W : Type 0} (given failed : A → ℕ) (closed : A → Bool)
     (visits : A → Option Visits) (came : A → Bytes → Type 0) (shown : P → Option Shown)
-    (known : P → Option (List Entry)) (forwarded : B → ℕ) (log : B → Option (List Forwarded))
+    (known : P → Option Known) (forwarded : B → ℕ) (log : B → Option (List Forwarded))
     (gives : S → Settings → Type 0) (lacks : S → Type 0) (makes : T → D → Type 0) where
   abbrev Made : Job A P B T (Context R L C S W) → JobResult A P B D → Type 0
   Made = Makes given failed closed visits came shown known forwarded log gives lacks makes
@@ -121,7 +121,7 @@ module _ {A P B T D S R L C W : Type 0} (given failed : A → ℕ) (closed : A �
 
 module _ {A P B T D S R L C W : Type 0} (given failed : A → ℕ) (closed : A → Bool)
     (visits : A → Option Visits) (came : A → Bytes → Type 0) (shown : P → Option Shown)
-    (known : P → Option (List Entry)) (forwarded : B → ℕ) (log : B → Option (List Forwarded))
+    (known : P → Option Known) (forwarded : B → ℕ) (log : B → Option (List Forwarded))
     (gives : S → Settings → Type 0) (lacks : S → Type 0) (makes : T → D → Type 0)
     (x : Context R L C S W) where
   abbrev Worked : Worker A P B → WorkerExit A P B → Type 0
@@ -164,7 +164,7 @@ module _ {A P B T D S R L C W : Type 0} (given failed : A → ℕ) (closed : A �
       (worked_in jobs lefts all within begun)
 
 -- what stands at a worker's end, or at its start
-abbrev from : {P : Type 0} → (P → Option Shown) → (P → Option (List Entry)) → ℕ → ℕ → Bool → P → ℕ
+abbrev from : {P : Type 0} → (P → Option Shown) → (P → Option Known) → ℕ → ℕ → Bool → P → ℕ
     → Place
 from shown known given failed closed port count = record {
   given = given;
@@ -175,7 +175,7 @@ from shown known given failed closed port count = record {
 }
 
 module _ {R T L C S W V P : Type 0} (gives : S → Settings → Type 0) (lacks : S → Type 0)
-    (came : L → Bytes → Type 0) (shown : P → Option Shown) (known : P → Option (List Entry))
+    (came : L → Bytes → Type 0) (shown : P → Option Shown) (known : P → Option Known)
     (common : WorkerSettings L C S W) (address : List ℕ) where
   abbrev Did : Worker (Door L W) P (TcpBackend (Dialer R T) T V C)
       → WorkerExit (Door L W) P (TcpBackend (Dialer R T) T V C) → Type 0

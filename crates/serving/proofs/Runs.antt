@@ -3,7 +3,7 @@ use Rattle.std.proofs.Common.{◌≡◌, ◌∙◌, ℕ, ◌+◌, ◌≤◌, Boo
 use Rattle.std.proofs.Common.{length, length-append, Option, None, Some, ap, sym, subst, refl}
 use Rattle.std.proofs.Common.{append_assoc, append-nil, arith, if◌then◌else◌, zero-add, add-zero}
 use Rattle.counted_io.specs.Count.{count_end, raised}
-use Rattle.limiter_core.specs.declared.event.Entry.{Entry}
+use Rattle.gate_port.specs.Log.{Known}
 use Rattle.gate_port.specs.Shown.{Shown}
 use Rattle.wire.specs.Forwards.{Forwarded}
 use Rattle.timed_io.specs.declared.client_ends.ClientEnds.{ClientEnds}
@@ -23,7 +23,7 @@ use Rattle.serving.specs.Visits.{Missed, Misses, Opened, Visits}
 use Rattle.serving.proofs.Forwards.{exchanged_once}
 
 -- what stands behind a worker at a port and a backend
-abbrev pub back_of : {P B : Type 0} → (P → Option Shown) → (P → Option (List Entry)) → (B → ℕ)
+abbrev pub back_of : {P B : Type 0} → (P → Option Shown) → (P → Option Known) → (B → ℕ)
     → (B → Option (List Forwarded)) → P → B → Back
 back_of shown known forwarded log port backend = record {
   shown = shown port;
@@ -335,7 +335,7 @@ run_of s came count most old new tally took few whole = record {
 }
 
 -- a port, and a backend that was left with this count and log
-abbrev back_with : {P : Type 0} → (P → Option Shown) → (P → Option (List Entry)) → P → ℕ
+abbrev back_with : {P : Type 0} → (P → Option Shown) → (P → Option Known) → P → ℕ
     → Option (List Forwarded) → Back
 back_with shown known port count log = record {
   shown = shown port;
@@ -345,7 +345,7 @@ back_with shown known port count log = record {
 }
 
 -- what stands behind a worker whose backend is left is as before
-pub same_back : {P B : Type 0} (shown : P → Option Shown) (known : P → Option (List Entry))
+pub same_back : {P B : Type 0} (shown : P → Option Shown) (known : P → Option Known)
     (forwarded : B → ℕ) (log : B → Option (List Forwarded)) (p p' : P) (b b' left : B) → p ≡ p'
     → b ≡ left → forwarded left ≡ forwarded b' → log left ≡ log b'
     → back_of shown known forwarded log p b ≡ back_of shown known forwarded log p' b'

@@ -5,8 +5,8 @@ use Rattle.std.specs.Io.KnownBytes.{append_known}
 use Rattle.clocks.specs.Looks.{Looked, unlooked}
 use Rattle.counted_io.specs.declared.counted.Counted.{Counted}
 use Rattle.counted_io.specs.Causes.{IsWriteCause}
-use Rattle.limiter_core.specs.declared.event.Entry.{Entry}
 use Rattle.gateway_settings.specs.declared.settings.Settings.{Settings}
+use Rattle.gate_port.specs.Log.{Known}
 use Rattle.gate_port.specs.Shown.{Shown}
 use Rattle.wire.specs.declared.fault.WireFault.TheVariants as fault
 use Rattle.wire.specs.declared.answer.BackendAnswer.{BackendAnswer}
@@ -20,7 +20,7 @@ use Rattle.proxy.specs.Made.{counted_with, is_all_sent, is_kept, reads_of, summa
 -- them
 pub record Back : Type 0 where
   pub shown : Option Shown
-  pub known : Option (List Entry)
+  pub known : Option Known
   pub count : ℕ
   pub log : Option (List Forwarded)
 

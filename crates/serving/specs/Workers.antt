@@ -1,8 +1,8 @@
 -- Workers on threads, and what they leave.
 use Rattle.std.specs.Prelude.{◌≡◌, ◌≤◌, ◌+◌, ℕ, Bool, true, false, List, [], ◌∷◌, Option, None, ⊤}
 use Rattle.counted_io.specs.Count.{count_end}
-use Rattle.limiter_core.specs.declared.event.Entry.{Entry}
 use Rattle.gateway_settings.specs.declared.settings.Settings.{Settings}
+use Rattle.gate_port.specs.Log.{Known}
 use Rattle.gate_port.specs.Shown.{Shown}
 use Rattle.wire.specs.Forwards.{Forwarded}
 use Rattle.tcp_backend.specs.declared.connecting.TcpBackend.{TcpBackend}
@@ -65,7 +65,7 @@ has_begun (left.Worked ended) = true
 -- what is known of doors, ports and backends, and which settings a source gives or lacks
 module _ {A P B S : Type 0} (given failed : A → ℕ) (closed : A → Bool)
     (visits : A → Option Visits) (came : A → Bytes → Type 0) (shown : P → Option Shown)
-    (known : P → Option (List Entry)) (forwarded : B → ℕ) (log : B → Option (List Forwarded))
+    (known : P → Option Known) (forwarded : B → ℕ) (log : B → Option (List Forwarded))
     (gives : S → Settings → Type 0) (lacks : S → Type 0) where
   -- what stands at a door, a port and a backend
   abbrev pub place_of : A → P → B → Place
@@ -139,7 +139,7 @@ pub record Begins {R T L W V C P : Type 0} (listener : L) (most : Option ℕ) (a
 -- listener was closed; each client came to that listener, each accept was counted, for each client
 -- there was one exchange, and no more was forwarded than there were clients
 pub record HasRun {R T L C S W V P : Type 0} (gives : S → Settings → Type 0)
-    (came : L → Bytes → Type 0) (shown : P → Option Shown) (known : P → Option (List Entry))
+    (came : L → Bytes → Type 0) (shown : P → Option Shown) (known : P → Option Known)
     (common : WorkerSettings L C S W) (port : P)
     (ended : WorkerExit (Door L W) P (TcpBackend (Dialer R T) T V C)) : Type 0 where
   pub settings : Settings

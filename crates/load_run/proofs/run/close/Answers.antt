@@ -7,7 +7,7 @@ use Rattle.shared_gate.specs.Closing.{IsKept}
 use Rattle.load_run.specs.Load.{IsRejected}
 use Rattle.load_run.specs.Summary.{summary_of}
 use Rattle.load_run.specs.Workers.{AllOfAllFit}
-use Rattle.load_run.proofs.Runs.{is_rejected_unread}
+use Rattle.load_run.proofs.WrittenRun.{is_rejected_unread}
 use Rattle.load_run.proofs.run.close.Goals as goal
 
 pub returns-then-all_fit-clause-accepted : goal.returns-then-all_fit-clause-accepted

@@ -2,6 +2,7 @@ use Rattle.std.proofs.Common.{rules, ◌≡◌, ◌∙◌, subst, None, Some, le
 use Rattle.std.specs.Prelude.{vec_len}
 use Rattle.std.specs.List.{AllZip}
 use Rattle.serving.specs.Workers.{HasRun, ended_in, made_in}
+use Rattle.ports.specs.Asked.{known_by}
 use Rattle.serve_command.specs.Runs.{IsBy}
 use Rattle.gate_desk.specs.Desk.{IsDone}
 use Rattle.gate_desk.specs.State.{new_desk}
@@ -18,10 +19,12 @@ returns-clause-served g c =
     let gives = g.S.Source.gives in
     let came = g.L.Listener.came in
     let lefts = c.in_ok-lefts.lefts.items in
-    let both = all_ran_to _ _ _ _ gives came common c.args.passes.items (ended_in lefts)
-    c.requires.unused
+    let making = g.M.Naming.making in
+    let both = all_ran_to _ _ _ _ making gives came common c.args.passes.items
+    (ended_in lefts) c.requires.unused
     (subst (λ ports. AllZip
-    (HasRun gives came (λ port. None) (λ port. Some port.pass.log) common) ports (ended_in lefts))
+    (HasRun gives came (λ port. None) (λ port. Some (known_by making port)) common) ports
+    (ended_in lefts))
     c.in_ok-ports.ensures c.in_ok-lefts.ensures.ran) in
     let long : length c.args.passes.items ≡ vec_len c.args.passes = search rules in
     let begin = new_desk gateway.settings.now.table common.listener.now in
@@ -43,10 +46,12 @@ returns-clause-miscounted g c =
     let gives = g.S.Source.gives in
     let came = g.L.Listener.came in
     let lefts = c.in_ok-lefts.lefts.items in
-    let both = all_ran_to _ _ _ _ gives came common c.args.passes.items (ended_in lefts)
-    c.requires.unused
+    let making = g.M.Naming.making in
+    let both = all_ran_to _ _ _ _ making gives came common c.args.passes.items
+    (ended_in lefts) c.requires.unused
     (subst (λ ports. AllZip
-    (HasRun gives came (λ port. None) (λ port. Some port.pass.log) common) ports (ended_in lefts))
+    (HasRun gives came (λ port. None) (λ port. Some (known_by making port)) common) ports
+    (ended_in lefts))
     c.in_ok-ports.ensures c.in_ok-lefts.ensures.ran) in
     let long : length c.args.passes.items ≡ vec_len c.args.passes = search rules in
     runs_miscounted g.G.Limit.rules g.M.Naming.making lefts (vec_len c.args.passes) (both.1 ∙ long)

@@ -6,3 +6,6 @@ returns-clause-told g c = search rules
 
 pub returns-clause-answered : goal.returns-clause-answered
 returns-clause-answered g c = search rules
+
+pub returns-clause-over : goal.returns-clause-over
+returns-clause-over g c = search rules

@@ -9,3 +9,6 @@ returns-clause-answered g c = search rules
 
 pub returns-clause-late : goal.returns-clause-late
 returns-clause-late g c = search rules
+
+pub returns-clause-over : goal.returns-clause-over
+returns-clause-over g c = search rules
