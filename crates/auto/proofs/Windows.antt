@@ -12,7 +12,8 @@ needed_by : (weight limit rough : ℕ) → weight ≤ 16 → limit ≤ 10000 →
     max 2 (limit * max (2 ^ 20) (weight * (rough * rough)) / 2 ^ 20) ≤ 640000
 needed_by weight limit rough light small even =
     let one : rough * rough ≤ rough * 2048 = mul-le-mul_left rough even in
-    let two : weight * (rough * rough) ≤ 16 * (rough * rough) = mul-le-mul_right (rough * rough) light in
+    let two : weight * (rough * rough) ≤ 16 * (rough * rough) =
+    mul-le-mul_right (rough * rough) light in
     let part : max (2 ^ 20) (weight * (rough * rough)) ≤ 67108864 = omega arith in
     let all : limit * max (2 ^ 20) (weight * (rough * rough)) ≤ limit * 67108864 =
     mul-le-mul_left limit part in

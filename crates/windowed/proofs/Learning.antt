@@ -11,7 +11,7 @@ use Rattle.windowed.specs.declared.numbers.WindowNumbers.{WindowNumbers}
 use Rattle.windowed.specs.WindowedRules.{windowed_rules, windowed_next, is_kept}
 use Rattle.windowed.specs.Windows.{Input, Sampled, after, run, is_setting, Stretch, samples_of, inputs_of, window_samples, window_mean, handed_on, IsCuttingFrom}
 use Rattle.windowed.specs.Learning.{HasEnough, HasTooFew, emptied, LearnsFromEachWindow, LearnsNothingFromFew}
-use Rattle.windowed.proofs.Runs.{run_windows}
+use Rattle.windowed.proofs.InnerRuns.{run_windows}
 
 no_settings : (xs : List SampleFacts) → filter is_setting (map Sampled xs) ≡ []
 no_settings [] = refl

@@ -1,5 +1,5 @@
 pub mod Totals
 pub mod Cuttings
 pub mod Steps
-pub mod Runs
+pub mod InnerRuns
 pub mod Learning

@@ -1,4 +1,4 @@
-use Rattle.windowed.proofs.Runs.{inner_runs}
+use Rattle.windowed.proofs.InnerRuns.{inner_runs}
 use Rattle.windowed.proofs.laws.inner_runs_over_windows.Goals as goal
 
 pub returns : goal.returns

@@ -13,10 +13,12 @@ returns-then-timeout-lt1-clause-made c = search rules
 pub returns-then-timeout-lt1-clause-value : goal.returns-then-timeout-lt1-clause-value
 returns-then-timeout-lt1-clause-value c = search rules
 
-pub returns-then-ratio-lt-LEAST_RATIO-clause-made : goal.returns-then-ratio-lt-LEAST_RATIO-clause-made
+pub returns-then-ratio-lt-LEAST_RATIO-clause-made
+    : goal.returns-then-ratio-lt-LEAST_RATIO-clause-made
 returns-then-ratio-lt-LEAST_RATIO-clause-made c = search rules
 
-pub returns-then-ratio-lt-LEAST_RATIO-clause-value : goal.returns-then-ratio-lt-LEAST_RATIO-clause-value
+pub returns-then-ratio-lt-LEAST_RATIO-clause-value
+    : goal.returns-then-ratio-lt-LEAST_RATIO-clause-value
 returns-then-ratio-lt-LEAST_RATIO-clause-value c = search rules
 
 pub returns-clause-made : goal.returns-clause-made

@@ -42,4 +42,5 @@ pub returns : goal.returns
 returns c =
     placed_then c
     ∙ ap (λ (rows : List Row). with_places rows c.place-place.result c.args.places) c.self.view_is
-    ∙ ap (λ (place : ℕ). with_places c.args.self.now place c.args.places) c.place-place.ensures.place
+    ∙ ap (λ (place : ℕ). with_places c.args.self.now place c.args.places)
+    c.place-place.ensures.place
