@@ -1,5 +1,5 @@
 -- A greater limit gives no smaller share.
-use Rattle.std.proofs.Common.{◌≡◌, ℕ, ◌*◌, ◌≤◌, Bool, true, false, nat_le, List, Option, None, Some, slice_get, cond, ◌==◌, arith}
+use Rattle.std.proofs.Common.{◌≡◌, ℕ, ◌*◌, ◌≤◌, true, false, nat_le, List, Option, None, Some, slice_get, cond, ◌==◌, arith}
 use Rattle.std.proofs.lemmas.Bool.{leb-true, le-leb}
 use Rattle.std.proofs.lemmas.Nat.{mul-le}
 use Rattle.lemmas.specs.Extremes.{least}
