@@ -7,7 +7,7 @@ use Rattle.std.proofs.lemmas.Option.{slice_get_within, get_or_from_slice_get, sa
 use Rattle.std.proofs.lemmas.List.{length-take-le, get_or-take}
 use Rattle.limiter_core.specs.declared.event.PermitFacts.{PermitFacts}
 use Rattle.limiter_core.specs.declared.event.Entry.{Entry}
-use Rattle.gate_ledgers.specs.Told.{Told}
+use Rattle.gate_ledgers.specs.Receipt.{Told}
 use Rattle.audit.specs.Firsts.{EachHas}
 use Rattle.audit.specs.Receipts.{IsInOrder, IsOfCall, all_kept}
 use Rattle.audit.specs.Permits.{ends, ended, IsMatched}
@@ -29,7 +29,11 @@ NumbersRise-each receipts ordered place (suc n) one other before here there =
     ordered (suc n) other there n last.0 (omega arith) last.1 in
     elim (cases_lt place n) [
       | inl earlier ↦
-          omega (arith, step, NumbersRise-each receipts ordered place n one last.0 earlier here last.1)
+          omega (
+            arith,
+            step,
+            NumbersRise-each receipts ordered place n one last.0 earlier here last.1,
+          )
       | inr late ↦
           let equal : place ≡ n = omega (arith, late, before) in
           let same : one ≡ last.0 =

@@ -3,7 +3,7 @@ use Rattle.std.specs.Prelude.{◌≡◌, ℕ, ◌<◌, ◌==◌, true, false, Li
 use Rattle.std.specs.declared.alloc.Global.{Global}
 use Rattle.limiter_core.specs.declared.event.PermitFacts.{PermitFacts}
 use Rattle.limiter_core.specs.declared.event.Entry.{Entry}
-use Rattle.gate_ledgers.specs.Told.{Told}
+use Rattle.gate_ledgers.specs.Receipt.{Told}
 use Rattle.audit.specs.Firsts.{EachHas}
 use Rattle.limiter_core.specs.History.{is_call}
 use Rattle.audit.specs.Receipts.{IsOfCall, all_kept}

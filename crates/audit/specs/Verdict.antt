@@ -2,7 +2,7 @@
 use Rattle.std.specs.Prelude.{◌≡◌, ◌≢◌, ℕ, Bool, true, false, List, Vec}
 use Rattle.std.specs.declared.alloc.Global.{Global}
 use Rattle.limiter_core.specs.declared.event.Entry.{Entry}
-use Rattle.gate_ledgers.specs.Told.{Told}
+use Rattle.gate_ledgers.specs.Receipt.{Told}
 use Rattle.audit.specs.declared.cause.Cause.{Cause}
 use Rattle.audit.specs.declared.cause.Cause.TheVariants.{Memory, PassesMissing, Rolled, Strange, Order, Uncovered, Unmatched}
 use Rattle.audit.specs.declared.judge.Calls.{Calls}

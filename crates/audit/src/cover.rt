@@ -1,6 +1,6 @@
 // Calls without a receipt.
 ghost use Rattle.std.specs.Prelude.{◌≡◌, List, length, MatchOption};
-ghost use Rattle.gate_ledgers.specs.Told.{Told};
+ghost use Rattle.gate_ledgers.specs.Receipt.{Told};
 ghost use Rattle.audit.specs.Firsts.{EachHas, IsFirstWithout};
 ghost use Rattle.limiter_core.specs.History.{is_call};
 ghost use Rattle.audit.specs.Receipts.{IsCovered};

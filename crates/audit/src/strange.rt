@@ -3,7 +3,7 @@ ghost use Rattle.std.specs.Prelude.{◌≡◌, ◌++◌, ◌<◌, ◌↔◌, ◌
 ghost use Rattle.std.specs.Prelude.{IsTrue, MatchOption, IfNone};
 ghost use Rattle.std.specs.Bool.{OnTrue};
 ghost use Rattle.limiter_core.specs.declared.event.Entry.TheVariants.{Call};
-ghost use Rattle.gate_ledgers.specs.Told.{Told};
+ghost use Rattle.gate_ledgers.specs.Receipt.{Told};
 ghost use Rattle.audit.specs.Firsts.{EachHas, IsFirstWithout, AllPlacesHave, IsFirstPlaceWithout};
 ghost use Rattle.audit.specs.Receipts.{IsOfCall, Stands, StandsAfter, StandsIn, all_kept};
 ghost use Rattle.audit.specs.Marks.{AreNamed};

@@ -2,7 +2,7 @@
 use Rattle.std.specs.Prelude.{⊤}
 use Rattle.limiter_core.specs.declared.event.Reply.{Reply}
 use Rattle.limiter_core.specs.declared.event.Reply.TheVariants as reply
-use Rattle.gate_ledgers.specs.Told.{Told}
+use Rattle.gate_ledgers.specs.Receipt.{Told}
 use Rattle.gate_history.specs.declared.answers.Claimed.{Claimed}
 use Rattle.gate_history.specs.declared.answers.Claimed.TheVariants as claimed
 use Rattle.gate_history.specs.declared.answers.GaveUp.{GaveUp}

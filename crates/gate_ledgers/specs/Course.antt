@@ -16,7 +16,7 @@ changed rules s (sampled x) = rules.next s x
 changed rules s (put n) = accepted_or s (rules.put s n)
 changed rules s reset = rules.first s
 
--- THE COURSE of a limit from a state on: what it is after each list of changes. Limits that find
--- another number after some of them have different courses, however they begin
+-- THE COURSE of a limit from a state on: the number that it is after each list of changes. Two are
+-- the same where both limits give the same numbers after all of them
 abbrev pub course_of : {S : Type 0} → Algorithm S → S → List Change → ℕ
 course_of rules s changes = rules.limit (fold (changed rules) s changes)

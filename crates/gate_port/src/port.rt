@@ -16,7 +16,8 @@ pub enum Why {
     BacklogFull,
     /// It waited, and got no permit.
     TimedOut,
-    /// It waited, and then its number neither waited nor lay granted.
+    /// It waited, and then its number neither waited nor lay granted, or its giving up wasn't
+    /// answered, since the history was exhausted.
     Lost,
     /// The history is exhausted.
     Exhausted,

@@ -1,5 +1,5 @@
 use Rattle.std.proofs.Common.{List, length}
-use Rattle.gate_ledgers.specs.Told.{Told}
+use Rattle.gate_ledgers.specs.Receipt.{Told}
 use Rattle.audit.specs.Receipts.{IsCovered}
 use Rattle.audit.specs.Marks.{AreNamed}
 use Rattle.lemmas.proofs.Walks.{EachBefore}

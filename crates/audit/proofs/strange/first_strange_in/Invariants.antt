@@ -1,6 +1,6 @@
 use Rattle.std.proofs.Common.{◌≡◌, ◌++◌, ◌<◌, ℕ, List, Some, length, take}
 use Rattle.std.specs.Prelude.{slice_get}
-use Rattle.gate_ledgers.specs.Told.{Told}
+use Rattle.gate_ledgers.specs.Receipt.{Told}
 use Rattle.audit.specs.Receipts.{StandsAfter}
 use Rattle.audit.specs.Marks.{AreNamed}
 use Rattle.audit.proofs.strange.first_strange_in.Given as goal
