@@ -6,7 +6,7 @@ use Rattle.message_parts.specs.declared.field.Field.TheVariants as field
 use Rattle.message_parts.specs.Field.{IsFieldOf, name_of}
 use Rattle.message_parts.specs.Header.{Header}
 use Rattle.message_fields.specs.Lines.{is_named, count_named}
-use Rattle.message_fields.proofs.Told.{has_name, has_other_name}
+use Rattle.message_fields.proofs.FieldNames.{has_name, has_other_name}
 
 next : (name : List ℕ) (lines : List Header) (i : ℕ) (line : Header) → i < length lines
     → line ≡ get_or lines i line

@@ -1,9 +1,9 @@
 pub mod SameName
 pub mod Digits
-pub mod Lists
+pub mod ListTests
 pub mod First
 pub mod OnePart
 pub mod Short
 pub mod PartLengths
-pub mod Told
+pub mod FieldNames
 pub mod Counts

@@ -9,7 +9,7 @@ use Rattle.httparse.specs.declared.spans.Span.{Span}
 use Rattle.httparse.specs.Grammar.{Field, print_request, print_response}
 use Rattle.httparse.specs.Spans.{AreFieldsAt, IsHeaderWithin, IsRequestAt, IsRequestOf, IsRequestWithin, IsResponseAt, IsResponseOf, IsResponseWithin, IsSectionWithin, IsWithin, header_bytes, name_and_value, span_bytes}
 use Rattle.message_reading.specs.HeadTexts.{IsHeadText}
-use Rattle.message_reading.specs.WholeHeads.{AreRequestParts, AreResponseParts}
+use Rattle.message_reading.specs.WholeHeads.{AreRequestParts, AreResponseParts, IsWholeRequest, IsWholeResponse}
 use Rattle.message_reading.proofs.HeadTexts.{request_is_text, response_is_text, some_text}
 
 span_front : (bytes : List ℕ) (n : ℕ) (s : Span) → IsWithin n s
@@ -31,37 +31,44 @@ headers_front bytes n (s ∷ spans) within =
     (span_front bytes n s.value first.1))
     (headers_front bytes n spans (All-tail (IsHeaderWithin n) s spans within))
 
--- as many lines as spans at most
-few_fields : (bytes : List ℕ) (spans : List HeaderSpan) (len count : ℕ) (fields : List Field)
-    → IsSectionWithin bytes spans len count → AreFieldsAt bytes spans count fields
-    → length fields ≤ length spans
-few_fields bytes spans len count fields within are =
+-- a head of either kind that was found in front of the bytes, so many bytes long, with spans over
+-- its lines: these first bytes are its text alone, and the spans cover the lines in them too
+record IsAlone (bytes : List ℕ) (spans : List HeaderSpan) (len count : ℕ) (text : List ℕ)
+    (fields : List Field) : Type 0 where
+  whole : take len bytes ≡ text ++ []
+  reads : take len bytes ≡ text ++ drop len (take len bytes)
+  lines : AreFieldsAt (take len bytes) spans count fields
+  section : IsSectionWithin (take len bytes) spans len count
+  size : length (take len bytes) ≡ len
+  few : length fields ≤ length spans
+
+alone : (bytes : List ℕ) (spans : List HeaderSpan) (len count : ℕ) (text : List ℕ)
+    (fields : List Field) → bytes ≡ text ++ drop len bytes → len ≡ length text
+    → AreFieldsAt bytes spans count fields → IsSectionWithin bytes spans len count
+    → IsAlone bytes spans len count text fields
+alone bytes spans len count text fields reads is lines within =
+    let size = length-take-le len bytes within.len_fits in
+    let split : len ≡ len + 0 = omega arith in
+    let none : drop len (take len bytes) ≡ [] =
+    ap (λ k. drop len (take k bytes)) split ∙ drop-take len 0 bytes in
+    let whole = ap (take len) reads ∙ take_at text (drop len bytes) len (sym is)
+    ∙ sym (append-nil text) in
     let written = length-take-le count spans within.count_fits in
     let covered = length-map (take count spans) (header_bytes bytes) in
     let told = length-map fields name_and_value in
-    let same = ap length are in
-    omega (arith, within.count_fits)
-
-section_front : (bytes : List ℕ) (spans : List HeaderSpan) (len count : ℕ)
-    → IsSectionWithin bytes spans len count → IsSectionWithin (take len bytes) spans len count
-section_front bytes spans len count within =
-    let size = length-take-le len bytes within.len_fits in
+    let same = ap length lines in
     record {
-      len_fits = omega arith;
-      count_fits = within.count_fits;
-      headers_fit = within.headers_fit;
+      whole = whole;
+      reads = whole ∙ ap (λ rest. text ++ rest) (sym none);
+      lines = headers_front bytes len (take count spans) within.headers_fit ∙ lines;
+      section = record {
+        len_fits = omega arith;
+        count_fits = within.count_fits;
+        headers_fit = within.headers_fit;
+      };
+      size = size;
+      few = omega (arith, within.count_fits);
     }
-
--- the bytes up to the end of a text in front of others are this text
-text_front : (bytes text rest : List ℕ) (n : ℕ) → bytes ≡ text ++ rest → n ≡ length text
-    → take n bytes ≡ text
-text_front bytes text rest n is len = ap (take n) is ∙ take_at text rest n (sym len)
-
--- nothing else is in front of their end
-none_behind : (bytes : List ℕ) (n : ℕ) → n ≤ length bytes → drop n (take n bytes) ≡ []
-none_behind bytes n fits =
-    let split : n ≡ n + 0 = omega arith in
-    ap (λ k. drop n (take k bytes)) split ∙ drop-take n 0 bytes
 
 -- what was found in front of the bytes shown: how long it is, and what it is
 pub record IsFront {P : Type 0} (AreOf : P → List HeaderSpan → List ℕ → Type 0)
@@ -75,35 +82,23 @@ pub request_front : (bytes : List ℕ) (spans : List HeaderSpan) (r : RequestSpa
     → length bytes ≤ 65536 → length spans ≤ 100 → IsRequestOf bytes spans r
     → IsRequestWithin bytes spans r → IsFront AreRequestParts bytes spans r r.len
 request_front bytes spans r short few (h, at) within =
-    let n = r.len in
-    let front = take n bytes in
-    let fits = within.section.len_fits in
-    let size = length-take-le n bytes fits in
-    let is : front ≡ print_request h ++ [] =
-    text_front bytes (print_request h) (drop n bytes) n at.reads.1 at.len
-    ∙ sym (append-nil (print_request h)) in
-    let none = none_behind bytes n fits in
-    let covered = within.section.headers_fit in
-    let there : IsRequestAt front spans r h = record {
-      reads = (at.reads.0, is ∙ ap (λ rest. print_request h ++ rest) (sym none));
+    let found = alone bytes spans r.len r.headers (print_request h) h.fields at.reads.1 at.len
+    at.fields within.section in
+    let there : IsRequestAt (take r.len bytes) spans r h = record {
+      reads = (at.reads.0, found.reads);
       len = at.len;
-      method = span_front bytes n r.method within.method ∙ at.method;
-      path = span_front bytes n r.path within.path ∙ at.path;
+      method = span_front bytes r.len r.method within.method ∙ at.method;
+      path = span_front bytes r.len r.path within.path ∙ at.path;
       version = at.version;
-      fields = headers_front bytes n (take r.headers spans) covered ∙ at.fields;
+      fields = found.lines;
     } in
-    let inside : IsRequestWithin front spans r = record {
-      method = within.method;
-      path = within.path;
-      version = within.version;
-      section = section_front bytes spans n r.headers within.section;
-    } in
-    let lines = few_fields bytes spans n r.headers h.fields within.section at.fields in
-    let text = request_is_text front h (at.reads.0, is) (omega arith) (omega arith) in
+    let is : IsWholeRequest (take r.len bytes) h = (at.reads.0, found.whole) in
+    let inside : IsRequestWithin (take r.len bytes) spans r = search (found.section) in
+    let text = request_is_text (take r.len bytes) h is (omega arith) (omega arith) in
     record {
-      fits = fits;
-      some = omega (arith, some_text front text);
-      are = ((h, there, (at.reads.0, is)), inside);
+      fits = within.section.len_fits;
+      some = omega (arith, some_text (take r.len bytes) text);
+      are = ((h, there, is), inside);
       text = text;
     }
 
@@ -111,34 +106,22 @@ pub response_front : (bytes : List ℕ) (spans : List HeaderSpan) (r : ResponseS
     → length bytes ≤ 65536 → length spans ≤ 100 → IsResponseOf bytes spans r
     → IsResponseWithin bytes spans r → IsFront AreResponseParts bytes spans r r.len
 response_front bytes spans r short few (h, at) within =
-    let n = r.len in
-    let front = take n bytes in
-    let fits = within.section.len_fits in
-    let size = length-take-le n bytes fits in
-    let is : front ≡ print_response h ++ [] =
-    text_front bytes (print_response h) (drop n bytes) n at.reads.1 at.len
-    ∙ sym (append-nil (print_response h)) in
-    let none = none_behind bytes n fits in
-    let covered = within.section.headers_fit in
-    let there : IsResponseAt front spans r h = record {
-      reads = (at.reads.0, is ∙ ap (λ rest. print_response h ++ rest) (sym none));
+    let found = alone bytes spans r.len r.headers (print_response h) h.fields at.reads.1 at.len
+    at.fields within.section in
+    let there : IsResponseAt (take r.len bytes) spans r h = record {
+      reads = (at.reads.0, found.reads);
       len = at.len;
       version = at.version;
       code = at.code;
-      reason = span_front bytes n r.reason within.reason ∙ at.reason;
-      fields = headers_front bytes n (take r.headers spans) covered ∙ at.fields;
+      reason = span_front bytes r.len r.reason within.reason ∙ at.reason;
+      fields = found.lines;
     } in
-    let inside : IsResponseWithin front spans r = record {
-      version = within.version;
-      code = within.code;
-      reason = within.reason;
-      section = section_front bytes spans n r.headers within.section;
-    } in
-    let lines = few_fields bytes spans n r.headers h.fields within.section at.fields in
-    let text = response_is_text front h (at.reads.0, is) (omega arith) (omega arith) in
+    let is : IsWholeResponse (take r.len bytes) h = (at.reads.0, found.whole) in
+    let inside : IsResponseWithin (take r.len bytes) spans r = search (found.section) in
+    let text = response_is_text (take r.len bytes) h is (omega arith) (omega arith) in
     record {
-      fits = fits;
-      some = omega (arith, some_text front text);
-      are = ((h, there, (at.reads.0, is)), inside);
+      fits = within.section.len_fits;
+      some = omega (arith, some_text (take r.len bytes) text);
+      are = ((h, there, is), inside);
       text = text;
     }

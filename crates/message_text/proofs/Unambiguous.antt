@@ -80,7 +80,8 @@ unfolding forwarded_lines
 tells_no_coding request =
     filter_four (is_named (codes "transfer-encoding"))
     (map (hosted (authority_of request.target)) (request_lines request.headers))
-    (host_lines request) (length_lines request.body) (via_line request.is_old ∷ close_lines request.persistence)
+    (host_lines request) (length_lines request.body)
+    (via_line request.is_old ∷ close_lines request.persistence)
     ∙ rw (
       kept_coding request,
       (host_apart request).0,
@@ -93,7 +94,8 @@ unfolding forwarded_lines
 tells_its_length request =
     filter_four (is_named (codes "content-length"))
     (map (hosted (authority_of request.target)) (request_lines request.headers))
-    (host_lines request) (length_lines request.body) (via_line request.is_old ∷ close_lines request.persistence)
+    (host_lines request) (length_lines request.body)
+    (via_line request.is_old ∷ close_lines request.persistence)
     ∙ rw (
       kept_length request,
       (host_apart request).1,

@@ -1,5 +1,5 @@
 use Rattle.message_parts.specs.declared.field.Field.TheVariants as field
-use Rattle.message_fields.proofs.Told.{has_name, has_other_name}
+use Rattle.message_fields.proofs.FieldNames.{has_name, has_other_name}
 use Rattle.message_fields.proofs.fields.is_connection.Goals as goal
 
 pub returns-in-Connection : goal.returns-in-Connection

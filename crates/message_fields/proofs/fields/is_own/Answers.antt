@@ -1,4 +1,4 @@
-use Rattle.message_fields.proofs.Told.{own_is, own_is_not}
+use Rattle.message_fields.proofs.FieldNames.{own_is, own_is_not}
 use Rattle.message_fields.proofs.fields.is_own.Goals as goal
 
 pub returns-in-Host : goal.returns-in-Host

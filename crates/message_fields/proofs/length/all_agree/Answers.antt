@@ -5,7 +5,7 @@ use Rattle.std.proofs.lemmas.Iterator.{YieldsList-from_slice}
 use Rattle.std.proofs.lemmas.Iterator.Search.{all_from_yields_List}
 use Rattle.message_fields.specs.Lines.{is_named}
 use Rattle.message_fields.specs.Parts.{parts}
-use Rattle.message_fields.proofs.Lists.{list_all-chosen}
+use Rattle.message_fields.proofs.ListTests.{list_all-chosen}
 use Rattle.message_fields.proofs.length.all_agree.Goals as goal
 
 pub returns : goal.returns

@@ -3,7 +3,7 @@ use Rattle.std.specs.Prelude.{codes}
 use Rattle.std.proofs.lemmas.Iterator.{YieldsList-from_slice}
 use Rattle.std.proofs.lemmas.Iterator.Search.{any_from_yields_List}
 use Rattle.message_fields.specs.Lines.{is_named}
-use Rattle.message_fields.proofs.Lists.{any_counted}
+use Rattle.message_fields.proofs.ListTests.{any_counted}
 use Rattle.message_fields.proofs.lines.has_host.Goals as goal
 
 pub returns : goal.returns

@@ -4,7 +4,7 @@ use Rattle.std.specs.List.{slice_split}
 use Rattle.std.proofs.lemmas.Iterator.Search.{all_from_yields_List}
 use Rattle.std.proofs.lemmas.Iterator.Splits.{YieldsList-from_slice_split}
 use Rattle.message_fields.specs.Parts.{trimmed}
-use Rattle.message_fields.proofs.Lists.{list_all-map}
+use Rattle.message_fields.proofs.ListTests.{list_all-map}
 use Rattle.message_fields.proofs.parts.is_every_part.Goals as goal
 
 pub returns : goal.returns

@@ -6,7 +6,7 @@ use Rattle.std.proofs.lemmas.Iterator.Search.{any_from_yields_List}
 use Rattle.message_parts.specs.Names.{same_name}
 use Rattle.message_fields.specs.Lines.{is_named}
 use Rattle.message_fields.specs.Parts.{parts}
-use Rattle.message_fields.proofs.Lists.{list_any-chosen}
+use Rattle.message_fields.proofs.ListTests.{list_any-chosen}
 use Rattle.message_fields.proofs.passed.is_connection_option.Goals as goal
 
 pub returns : goal.returns

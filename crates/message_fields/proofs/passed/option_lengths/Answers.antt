@@ -6,7 +6,7 @@ use Rattle.message_parts.specs.Names.{same_name}
 use Rattle.message_fields.specs.Lines.{is_named}
 use Rattle.message_fields.specs.Parts.{parts}
 use Rattle.message_fields.specs.Passed.{is_connection_option}
-use Rattle.message_fields.proofs.Lists.{list_any-chosen}
+use Rattle.message_fields.proofs.ListTests.{list_any-chosen}
 use Rattle.message_fields.proofs.passed.option_lengths.Goals as goal
 use Rattle.message_fields.proofs.passed.option_lengths.Invariants.{NoneNames}
 

@@ -20,7 +20,8 @@ returns-in_err-write_all-clause-front g c =
     front_err _ _ _ _ _ (status_pieces c.args.status)
     (front_first _ _ (((one ++ two) ++ three) ++ four) (codes "\r\n")
     (front_first _ _ ((one ++ two) ++ three) four
-    (front_first _ _ (one ++ two) three (front_first _ _ one two c.in_err-write_all.ensures.front))))
+    (front_first _ _ (one ++ two) three
+    (front_first _ _ one two c.in_err-write_all.ensures.front))))
 
 pub returns-in_err-write_decimal-clause-front : goal.returns-in_err-write_decimal-clause-front
 returns-in_err-write_decimal-clause-front g c =

@@ -11,7 +11,8 @@ returns-clause-all g c =
     (hosted (lent c.args.authority))
     c.args.lines.now c.loop-line.line-index (omega arith) c.loop-line.invariant.written
 
-pub returns-in_err-write_passed_in_request-clause-front : goal.returns-in_err-write_passed_in_request-clause-front
+pub returns-in_err-write_passed_in_request-clause-front
+    : goal.returns-in_err-write_passed_in_request-clause-front
 returns-in_err-write_passed_in_request-clause-front g c =
     let i = c.loop-line.line-index in
     let line = c.line-item.result in

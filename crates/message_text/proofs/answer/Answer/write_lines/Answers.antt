@@ -8,7 +8,8 @@ returns-clause-all g c =
     wrote_then c.write_last.result _ _ _ _ _ _ (answer_pieces (seen c.args.self.now))
     c.in_ok-write_response_lines.ensures.all c.write_last.ensures.all
 
-pub returns-in_err-write_response_lines-clause-front : goal.returns-in_err-write_response_lines-clause-front
+pub returns-in_err-write_response_lines-clause-front
+    : goal.returns-in_err-write_response_lines-clause-front
 returns-in_err-write_response_lines-clause-front g c =
     front_err _ _ _ _ _ (answer_pieces (seen c.args.self.now))
     (front_first _ _ _ _ c.in_err-write_response_lines.ensures.front)

@@ -17,7 +17,8 @@ returns-clause-all g c =
     c.in_ok-write_body_length.ensures.all)
     c.write_last.ensures.all
 
-pub returns-in_err-write_request_lines-clause-front : goal.returns-in_err-write_request_lines-clause-front
+pub returns-in_err-write_request_lines-clause-front
+    : goal.returns-in_err-write_request_lines-clause-front
 returns-in_err-write_request_lines-clause-front g c =
     let told : lent c.args.authority ≡ authority_of c.args.self.now.target.now = c.requires.told in
     front_err _ _ _ _ _ (forwarded_pieces (seen c.args.self.now))
@@ -32,7 +33,8 @@ returns-in_err-write_host-clause-front g c =
     (front_second _ _ _ _ _ (rw told at c.in_ok-write_request_lines.ensures.all)
     c.in_err-write_host.ensures.front)))
 
-pub returns-in_err-write_body_length-clause-front : goal.returns-in_err-write_body_length-clause-front
+pub returns-in_err-write_body_length-clause-front
+    : goal.returns-in_err-write_body_length-clause-front
 returns-in_err-write_body_length-clause-front g c =
     let told : lent c.args.authority ≡ authority_of c.args.self.now.target.now = c.requires.told in
     front_err _ _ _ _ _ (forwarded_pieces (seen c.args.self.now))
