@@ -1,13 +1,7 @@
 -- How far the words of a line stand where a form wants them.
-use Rattle.std.proofs.Common.{◌≡◌, ◌∙◌, ◌+◌, ◌||◌, refl, ap, Bool, true, false, cond, List, [], ◌∷◌, length, map, find, take_while, zip, Some, option_map}
-use Rattle.std.specs.List.{common_prefix_len, list_any, prefix_len}
+use Rattle.std.proofs.Common.{◌≡◌, ◌∙◌, ◌+◌, refl, ap, Bool, true, false, cond, List, [], ◌∷◌, length, map, find, take_while, zip, Some, option_map}
+use Rattle.std.specs.List.{common_prefix_len, prefix_len}
 use Rattle.std.proofs.lemmas.List.Folds.{length-prefix_len}
-
--- a test of some element of what is made of a list, by the list
-pub any_of_map : {A B : Type 0} (test : B → Bool) (f : A → B) (xs : List A)
-    → list_any (λ x. test (f x)) xs ≡ list_any test (map f xs)
-any_of_map test f [] = refl
-any_of_map test f (x ∷ xs) = ap (λ rest. test (f x) || rest) (any_of_map test f xs)
 
 -- how many pairs from the front on pass, by the two lists
 common : {A B C : Type 0} (fits : C → A → Bool) (f : B → C) (ws : List A) (xs : List B)

@@ -11,7 +11,7 @@ use Rattle.limiter_core.specs.declared.event.PermitFacts.{PermitFacts}
 use Rattle.limiter_core.specs.History.{permit_of}
 use Rattle.limiter_core.specs.Open.{handed_out}
 use Rattle.limiter_core.specs.declared.event.Reply.TheVariants as reply
-use Rattle.gate_ledgers.specs.Told.{Told}
+use Rattle.gate_ledgers.specs.Receipt.{Told}
 use Rattle.gate_history.specs.Refusal.{IsSpent, Refusal}
 use Rattle.shared_gate.specs.declared.answers.Waited.TheVariants.{Lost}
 use Rattle.shared_gate.specs.Calls.{Pass, Waits}

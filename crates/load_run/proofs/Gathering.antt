@@ -6,7 +6,8 @@ use Rattle.std.specs.declared.alloc.Global.{Global}
 use Rattle.std.specs.declared.alloc.AllocError.{AllocError}
 use Rattle.std.proofs.lemmas.Option.{same_Some, none-some}
 use Rattle.std.proofs.lemmas.Slice.Zip.{AllZip-right}
-use Rattle.gate_ledgers.specs.Told.{Told}
+use Rattle.lemmas.proofs.Lists.{length-one_more}
+use Rattle.gate_ledgers.specs.Receipt.{Told}
 use Rattle.gate_history.specs.Refusal.{Refusal}
 use Rattle.audit.specs.Firsts.{EachHas}
 use Rattle.shared_gate.specs.Calls.{seen_by}
@@ -38,15 +39,11 @@ at_last : {X : Type 0} (xs : List X) (y : X) → slice_get (xs ++ y ∷ []) (len
 at_last [] y = refl
 at_last (z ∷ xs) y = at_last xs y
 
-pub one_longer : {X : Type 0} (xs : List X) (y : X) → length (xs ++ y ∷ []) ≡ suc (length xs)
-one_longer [] y = refl
-one_longer (z ∷ xs) y = ap suc (one_longer xs y)
-
 -- one item more in each of two lists that are as long as each other
 pub long_more : {X Y : Type 0} (xs all : List X) (x : X) (ys : List Y) (y : Y)
     → all ≡ xs ++ x ∷ [] → length xs ≡ length ys → length all ≡ length (ys ++ y ∷ [])
 long_more xs all x ys y joined same =
-    ap length joined ∙ one_longer xs x ∙ ap suc same ∙ sym (one_longer ys y)
+    ap length joined ∙ length-one_more xs x ∙ ap suc same ∙ sym (length-one_more ys y)
 
 -- one item more that has the property of its place
 pub each_more : {X : Type 0} (P : ℕ → X → Type 0) (xs all : List X) (y : X) → all ≡ xs ++ y ∷ []

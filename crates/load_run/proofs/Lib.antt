@@ -1,6 +1,5 @@
 pub mod Calling
 mod Gathering
 pub mod Ordering
-pub mod Runs
-pub mod Walks
+pub mod WrittenRun
 pub mod Working

@@ -2,7 +2,7 @@
 use Rattle.std.proofs.Common.{◌≡◌, ℕ, ◌≤◌, ◌<◌, List, [], ◌∷◌, All, Result, Ok, Err, subst, arith}
 use Rattle.std.proofs.lemmas.List.Elements.{All-cons, All-nil}
 use Rattle.limiter_core.specs.declared.event.Event.{Event}
-use Rattle.gate_ledgers.specs.Told.{Told}
+use Rattle.gate_ledgers.specs.Receipt.{Told}
 use Rattle.gate_history.specs.Refusal.{Refusal}
 use Rattle.shared_gate.specs.declared.answers.Waited.TheVariants.{Lost}
 use Rattle.shared_gate.specs.Calls.{IsTold, IsUntold, Pass, Waits, seen_by}

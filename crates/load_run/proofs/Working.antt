@@ -4,7 +4,7 @@ use Rattle.std.specs.Prelude.{OnOk}
 use Rattle.std.proofs.lemmas.List.{length-take-le, take_more}
 use Rattle.partitions.specs.declared.part.Part.TheVariants.{Unknown}
 use Rattle.limiter_core.specs.declared.event.Outcome.TheVariants.{Success}
-use Rattle.gate_ledgers.specs.Told.{Told}
+use Rattle.gate_ledgers.specs.Receipt.{Told}
 use Rattle.gate_history.specs.Refusal.{Refusal}
 use Rattle.trace.specs.declared.arrival.Arrival.{Arrival}
 use Rattle.load_run.specs.Worker.{IsWork, LieBetween, Makes}

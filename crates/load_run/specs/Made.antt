@@ -1,6 +1,6 @@
 -- The receipts and the refusals of one arrival as lists.
 use Rattle.std.specs.Prelude.{List, [], ◌∷◌}
-use Rattle.gate_ledgers.specs.Told.{Told}
+use Rattle.gate_ledgers.specs.Receipt.{Told}
 use Rattle.gate_history.specs.Refusal.{Refusal}
 use Rattle.load_run.specs.declared.calls.Made.{Made}
 use Rattle.load_run.specs.declared.calls.Made.TheVariants.{Exhausted, One, Stuck, Two, Three}

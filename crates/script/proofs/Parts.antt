@@ -1,20 +1,14 @@
 -- Texts cut at a byte: the first line and the lines after it, the first word and the words after
 -- it.
-use Rattle.std.proofs.Common.{◌≡◌, ℕ, ◌+◌, ◌<◌, ◌≤◌, Bool, true, false, cond, not, eqb, List, [], ◌∷◌, length, take, drop, refl, ap, ◌∙◌, sym, arith, filter, ltb, suc, add-one, get_or, drop-cons, inl, inr, unwrap_or, length-take-le}
+use Rattle.std.proofs.Common.{◌≡◌, ℕ, ◌+◌, ◌<◌, ◌≤◌, Bool, true, false, cond, not, eqb, List, [], ◌∷◌, length, take, drop, refl, ap, ◌∙◌, sym, arith, filter, ltb, suc, add-one, get_or, drop-cons, inl, inr, length-take-le}
 use Rattle.std.proofs.lemmas.Grind.{common_steps}
 use Rattle.std.specs.List.{slice_split, onto_first, prefix_len, position_or_len, after_first}
 use Rattle.std.specs.Str.Lines.{lines, lines_of_parts, strip_carriage_return}
 use Rattle.std.proofs.lemmas.List.Splits.{length-slice_split, slice_split_first, slice_split-cons_yes}
 use Rattle.std.proofs.lemmas.List.Sums.{prefix_len-le-length, passes_at_first}
 use Rattle.std.proofs.lemmas.Bool.{cases_lt}
-use Rattle.std.specs.List.{position}
 use Rattle.std.proofs.lemmas.Bool.Decides.{nat_tests, Decides-eqb}
 use Rattle.script.specs.Words.{words}
-
--- the first place as an index
-pub place_is : (p : ℕ → Bool) (xs : List ℕ)
-    → unwrap_or (position p xs) (length xs) ≡ position_or_len p xs
-place_is p xs = grind (arith, nat_tests, prefix_len-le-length (λ x. not (p x)) xs)
 
 -- where no element passes the list is the one part
 split_whole : (p : ℕ → Bool) (xs : List ℕ) → position_or_len p xs ≡ length xs

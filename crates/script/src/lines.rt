@@ -11,7 +11,7 @@ fn find_byte(bytes: &[u8], byte: u8) -> Option<usize>
 }
 
 /// Where a byte first stands, or the length of the text without one.
-#[tactic(auto, using(crate::proofs::Parts::place_is))]
+#[tactic(auto, using(lemmas::proofs::Tests::place_is))]
 pub(crate) fn place_of(bytes: &[u8], byte: u8) -> usize
     ensures value { result ≡ position_or_len (λ found. found == byte) bytes.now }
     ensures inside { result ≤ length bytes.now }

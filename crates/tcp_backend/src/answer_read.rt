@@ -121,7 +121,7 @@ impl<'c, S: Read + OpenStream + AsRawFd, C: Clock> Read for AnswerRead<'c, S, C>
 
     ghost remaining = { λ _. None };
 
-    #[tactic(auto, using(crate::proofs::Known::anew))]
+    #[tactic(auto, using(crate::proofs::RepeatedCalls::anew))]
     fn read(&mut self, buf: &mut [u8]) -> Result<usize>
         ensures bound { ReadsAtMost result buf.new }
         ensures bytes { ReadConsumes None None result buf.new }

@@ -100,7 +100,7 @@ impl<'c, S, E, C> UnansweredWrite<'c, S, E, C> {
 impl<'c, S: OpenStream, E: RequestOutlet<S>, C: Clock> Write for UnansweredWrite<'c, S, E, C> {
     ghost contents = { λ writer. E.contents (end_of writer) };
 
-    #[tactic(auto, using(crate::proofs::Known::anew))]
+    #[tactic(auto, using(crate::proofs::RepeatedCalls::anew))]
     fn write(&mut self, buf: &[u8]) -> Result<usize>
         ensures bound { WritesAtMost result buf.now }
         ensures bytes { WriteAppends (E.contents (end_of self.old)) (E.contents (end_of self.new))

@@ -1,5 +1,5 @@
 mod OneReading
 mod Paths
-mod Told
+mod MessagePhases
 mod SaidTexts
 mod Unambiguous

@@ -3,7 +3,7 @@ use Rattle.std.proofs.Common.{rules, arith, ◌≡◌, ◌<◌, ◌≤◌, ◌+�
 use Rattle.std.proofs.lemmas.List.{drop_min}
 use Rattle.std.specs.Prelude.{if◌then◌else◌, codes, get_or}
 use Rattle.std.specs.Str.{IsCharBoundary}
-use Rattle.std.specs.List.{before_first, position, position_or_len}
+use Rattle.std.specs.List.{before_first, position_or_len}
 use Rattle.std.proofs.lemmas.List.Sums.{passes_at_first}
 use Rattle.std.proofs.lemmas.Str.{IsCharBoundary-after_ascii, IsCharBoundary-before_ascii, IsUtf8-append, IsUtf8-drop, IsUtf8-from_ascii, IsUtf8-take}
 use Rattle.message_fields.specs.Target.{after_authority, ends_authority, is_absolute, local_part, path_of, wants_slash}
@@ -13,8 +13,6 @@ use Rattle.std.proofs.lemmas.List.Sums.{prefix_len-le-length}
 use Rattle.std.proofs.Math.Seq.{take-append-add}
 use Rattle.std.proofs.lemmas.Slice.Eq.{bytes_eq-Decides}
 use Rattle.message_parts.specs.Names.{same_name}
-use Rattle.std.specs.Prelude.{unwrap_or}
-use Rattle.std.proofs.lemmas.Bool.Decides.{nat_tests}
 
 abbrev is_query : ℕ → Bool
 is_query byte = byte == 63
@@ -118,10 +116,6 @@ local_path_range t q =
     let start = length t - length (local_part t) in
     let same : start + q - start ≡ q = omega arith in
     ap (λ n. take n (drop start t)) same ∙ ap (take q) ((local_part_is_rest t).1)
-
-pub before_query : (p : ℕ → Bool) (xs : List ℕ)
-    → unwrap_or (position p xs) (length xs) ≡ position_or_len p xs
-before_query p xs = grind (arith, nat_tests, prefix_len-le-length (λ x. not (p x)) xs)
 
 -- with a `/` in front it is text, too
 pub slash_path_is_text : (t : List ℕ) → IsUtf8 t

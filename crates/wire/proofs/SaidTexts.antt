@@ -13,7 +13,7 @@ use Rattle.wire.specs.declared.fault.WireFault.{WireFault}
 use Rattle.wire.specs.declared.fault.WireFault.TheVariants as fault
 use Rattle.wire.specs.Fault.{bytes_fault, of_read}
 use Rattle.wire.specs.Messages.{Said, SaidFront, SaidRight}
-use Rattle.wire.proofs.Told.{GivesChecked, request_no_memory, request_not_asked}
+use Rattle.wire.proofs.MessagePhases.{GivesChecked, request_no_memory, request_not_asked}
 
 if_any : {P : Type 0} (o : Option Fault) → P → IfSome o (λ own. P)
 if_any None p = tt

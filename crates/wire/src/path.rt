@@ -15,7 +15,7 @@ fn find_query(target: &[u8]) -> Option<usize>
 }
 
 // Where the query begins, or else the end.
-#[tactic(auto, using(crate::proofs::Paths::before_query))]
+#[tactic(auto, using(lemmas::proofs::Tests::place_is))]
 fn query_at(target: &[u8]) -> usize
     ensures value { result ≡ position_or_len (λ byte. byte == 63) target.now }
     ensures inside { result ≤ length target.now }

@@ -12,7 +12,8 @@ use Rattle.line_wants.proofs.value.count_within.Goals as goal
 pub returns : goal.returns
 returns c =
     count_from_yields_List c.take_while.result _ c.count.ensures.ran
-    (YieldsList-from_take_while _ (λ pair. is_within (words c.args.line.now) (wanted_at pair.1) pair.0)
+    (YieldsList-from_take_while _
+    (λ pair. is_within (words c.args.line.now) (wanted_at pair.1) pair.0)
     (YieldsList-at c.take_while.ensures.source (YieldsList-from_zip
     (YieldsList-at c.zip.ensures.first (YieldsList-from_filter _ (λ part. nat_lt 0 (length part))
     (YieldsList-at c.filter.ensures.source (YieldsList-from_slice_split _ (λ byte. byte == 32) _

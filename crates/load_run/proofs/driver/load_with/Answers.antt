@@ -3,7 +3,7 @@ use Rattle.std.proofs.lemmas.Option.{IfSome_then}
 use Rattle.counted_io.specs.Effects.{Wrote}
 use Rattle.load_driver.specs.Limits.{most_script}
 use Rattle.load_run.specs.Summary.{summary_text}
-use Rattle.load_run.proofs.Runs.{is_loaded}
+use Rattle.load_run.proofs.WrittenRun.{is_loaded}
 use Rattle.load_run.proofs.driver.load_with.Goals as goal
 
 pub returns-clause-done : goal.returns-clause-done

@@ -1,5 +1,5 @@
 use Rattle.load_run.specs.Workers.{AllFit}
-use Rattle.load_run.proofs.Walks.{EachBefore}
+use Rattle.lemmas.proofs.Walks.{EachBefore}
 use Rattle.load_run.proofs.fitting.all_fit.Given as goal
 
 -- those of the workers so far fit

@@ -1,5 +1,5 @@
 use Rattle.load_run.specs.Workers.{Fits}
-use Rattle.load_run.proofs.Walks.{EachBefore}
+use Rattle.lemmas.proofs.Walks.{EachBefore}
 use Rattle.load_run.proofs.fitting.fit.Given as goal
 
 -- those so far fit

@@ -2,12 +2,12 @@ use Rattle.std.proofs.Common.{rules, ◌≡◌, ℕ, length, subst}
 use Rattle.std.specs.Prelude.{Vec}
 use Rattle.std.specs.declared.alloc.Global.{Global}
 use Rattle.limit_kinds.specs.AnyKinds.{any_rules}
-use Rattle.gate_ledgers.specs.Told.{Told}
+use Rattle.gate_ledgers.specs.Receipt.{Told}
 use Rattle.shared_gate.specs.Closing.{IsKept}
 use Rattle.load_run.specs.Load.{IsRejected}
 use Rattle.load_run.specs.Summary.{summary_of}
 use Rattle.load_run.specs.Workers.{AllOfAllFit}
-use Rattle.load_run.proofs.Runs.{is_rejected_unread}
+use Rattle.load_run.proofs.WrittenRun.{is_rejected_unread}
 use Rattle.load_run.proofs.run.close.Goals as goal
 
 pub returns-then-all_fit-clause-accepted : goal.returns-then-all_fit-clause-accepted

@@ -1,7 +1,7 @@
 use Rattle.std.proofs.Common.{rules, ◌≡◌, length, Err}
 use Rattle.load_run.specs.Workers.{AreWork}
 use Rattle.load_run.specs.declared.fault.LoadFault.TheVariants.{Audit}
-use Rattle.load_run.proofs.Runs.{audit_stops, is_unaccepted}
+use Rattle.load_run.proofs.WrittenRun.{audit_stops, is_unaccepted}
 use Rattle.load_run.proofs.run.run_named.Goals as goal
 
 pub returns-in_err-close-clause-stops : goal.returns-in_err-close-clause-stops

@@ -4,9 +4,10 @@ use Rattle.std.specs.Prelude.{vec_len}
 use Rattle.std.proofs.lemmas.Iterator.Adapters.{YieldsList-from_vec}
 use Rattle.std.proofs.lemmas.Iterator.Consumers.{YieldsList-end}
 use Rattle.std.proofs.lemmas.List.{map-id}
+use Rattle.lemmas.proofs.Lists.{length-one_more}
 use Rattle.audit.specs.Firsts.{EachHas}
 use Rattle.load_run.specs.Gathered.{IsKeptAt}
-use Rattle.load_run.proofs.Gathering.{kept_more, long_more, one_longer}
+use Rattle.load_run.proofs.Gathering.{kept_more, long_more}
 use Rattle.load_run.proofs.workers.gather.Goals as goal
 
 pub loop-worker-preserved : goal.loop-worker-preserved
@@ -29,7 +30,7 @@ loop-worker-preserved g c =
         arith,
         so_far.3,
         more,
-        one_longer c.loop-worker.yielded c.in-Some.worker,
+        length-one_more c.loop-worker.yielded c.in-Some.worker,
       ),
     )
 

@@ -10,5 +10,6 @@ invariant-loop-worker g l = record {
   all : vec_len l.hands + length (into_iter_items l.worker-iterator)
       ≡ length (into_iter_items l.initial.worker-iterator);
   room : vec_len l.hands + length (into_iter_items l.worker-iterator) ≤ vec_capacity l.hands;
-  each : EachHas (λ place hand. (hand.number ≡ place) × (hand.context.now ≡ l.context)) l.hands.items;
+  each : EachHas (λ place hand. (hand.number ≡ place) × (hand.context.now ≡ l.context))
+      l.hands.items;
 }

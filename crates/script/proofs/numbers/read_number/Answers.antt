@@ -1,7 +1,7 @@
 use Rattle.std.proofs.Common.{◌≡◌, true, rules}
 use Rattle.std.specs.Char.{is_ascii_digit}
 use Rattle.std.specs.List.{list_all}
-use Rattle.script.proofs.Digits.{digits_are_text}
+use Rattle.lemmas.proofs.Digits.{digits_are_text}
 use Rattle.script.proofs.numbers.read_number.Goals as goal
 
 pub returns-in-Err : goal.returns-in-Err

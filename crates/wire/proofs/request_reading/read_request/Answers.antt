@@ -2,7 +2,7 @@ use Rattle.std.proofs.Common.{rules, refl, ◌≡◌, Err}
 use Rattle.counted_io.specs.Counted.{inner_of}
 use Rattle.message_parts.specs.declared.request.Request.{Request}
 use Rattle.wire.specs.Fault.{of_read}
-use Rattle.wire.proofs.Told.{request_body_cut, request_cut, request_whole}
+use Rattle.wire.proofs.MessagePhases.{request_body_cut, request_cut, request_whole}
 use Rattle.wire.proofs.SaidTexts.{request_told, said_front, silent_head}
 use Rattle.wire.proofs.request_reading.read_request.Goals as goal
 

@@ -2,7 +2,7 @@ use Rattle.std.proofs.Common.{rules, refl, ◌≡◌, Ok, Err}
 use Rattle.counted_io.specs.Counted.{inner_of}
 use Rattle.message_reading.specs.Framing.{response_framing}
 use Rattle.wire.specs.Fault.{of_bytes, of_read}
-use Rattle.wire.proofs.Told.{response_body_cut, response_cut, response_refused, response_whole}
+use Rattle.wire.proofs.MessagePhases.{response_body_cut, response_cut, response_refused, response_whole}
 use Rattle.wire.proofs.response_reading.read_response.Goals as goal
 
 pub returns-in_err-head-clause-response : goal.returns-in_err-head-clause-response

@@ -17,7 +17,8 @@ invariant_of-self c = search rules
 pub invariant_of-self-in-Some : goal.invariant_of-self-in-Some
 invariant_of-self-in-Some c =
     let old = c.self.inside.table in
-    let row : Row = record { name = c.args.name.now; thousandths = c.in-Ok.thousandths; places = 0 } in
+    let row : Row =
+    record { name = c.args.name.now; thousandths = c.in-Ok.thousandths; places = 0 } in
     let made = made_is (given c.self.inside.rows.items ++ row ∷ []) c.in-Some.table
     (sym c.in_ok-table.ensures.table ∙ c.in-Some.is) in
     let begins = made ∙ ap (λ (rows : List Row). rows ++ row ∷ []) c.self.invariant.0 in
