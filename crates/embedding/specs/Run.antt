@@ -5,7 +5,7 @@ use Rattle.aimd.specs.AimdRules.{AimdState, aimd_rules}
 use Rattle.limiter_core.specs.declared.event.Entry.{Entry}
 use Rattle.gate_journal.specs.Image.{Standing, image_of}
 use Rattle.gate_ledgers.specs.Making.{Making}
-use Rattle.gate_ledgers.specs.Told.{Told}
+use Rattle.gate_ledgers.specs.Receipt.{Told}
 use Rattle.shared_gate.specs.Closing.{limiter_of}
 use Rattle.shared_gate.specs.Headline.{IsOneThreads}
 

@@ -8,7 +8,7 @@ use Rattle.limiter_core.specs.declared.event.Event.TheVariants.{SetLimit, Reset}
 use Rattle.limiter_core.specs.declared.event.Reply.{Reply}
 use Rattle.limiter_core.specs.declared.event.Reply.TheVariants.{Refused}
 use Rattle.gate_ledgers.specs.Making.{Making}
-use Rattle.gate_ledgers.specs.Told.{Told}
+use Rattle.gate_ledgers.specs.Receipt.{Told}
 use Rattle.gate_history.specs.Refusal.{Refusal}
 use Rattle.shared_gate.specs.declared.naming.GateNaming.{Ghosts as NamingGhosts}
 use Rattle.shared_gate.specs.Calls.{Changes, Pass}

@@ -13,7 +13,7 @@ use Rattle.limiter_core.specs.declared.event.Entry.{Entry}
 use Rattle.limiter_core.specs.declared.event.Entry.TheVariants as entry
 use Rattle.limiter_core.specs.History.{Gate, Image}
 use Rattle.limiter_core.specs.Legal.{IsLegal}
-use Rattle.limiter_core.specs.Laws.{is_turned_away}
+use Rattle.limiter_core.specs.Answer.{is_turned_away}
 use Rattle.limiter_core.specs.History.{is_call}
 use Rattle.gate_history.specs.Book.{calls_of}
 use Rattle.audit.specs.Firsts.{EachHas}

@@ -16,9 +16,9 @@ use Rattle.limiter_core.specs.declared.event.Reply.TheVariants as reply
 use Rattle.limiter_core.specs.declared.event.Entry.{Entry}
 use Rattle.limiter_core.specs.declared.promote.Promote.TheVariants as rule
 use Rattle.limiter_core.specs.History.{Gate, Image}
-use Rattle.limiter_core.specs.Answer.{has_room, waits}
+use Rattle.limiter_core.specs.Answer.{has_room, is_turned_away, waits}
 use Rattle.limiter_core.specs.Legal.{IsLegal}
-use Rattle.limiter_core.specs.Laws.{LeavesNobodyWithRoom, is_turned_away}
+use Rattle.limiter_core.specs.Laws.{LeavesNobodyWithRoom}
 use Rattle.limiter_core.specs.Settled.{NobodyHasRoom}
 use Rattle.gate_port.specs.declared.port.Admission.{Admission}
 use Rattle.gate_port.specs.declared.port.Admission.TheVariants.{Admitted, Bypassed, Refused}

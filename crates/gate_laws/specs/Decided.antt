@@ -64,7 +64,7 @@ module _ {S : Type 0} (g : Gate S) (o : Image S) (log : List Entry) (own : List 
       ⊎ ((part : Part) × (start : ℕ) × (inflight : ℕ)
       × HasWaited ask now number (reply.Granted part start inflight))
 
-  -- ENDED: the permit of this number was ended with this outcome, at a later number
+  -- ENDED: a permit of this number was ended with this outcome, at a later number
   pub record IsEnded (number : ℕ) (outcome : Outcome) : Type 0 where
     pub permit : PermitFacts
     pub of : permit.number ≡ number
@@ -82,13 +82,13 @@ module _ {S : Type 0} (g : Gate S) (o : Image S) (log : List Entry) (own : List 
     pub no_room : g.promote ≡ rule.All → NobodyHasRoom g (found_at g o log waited.second)
 
   -- LOST: it was made to wait, and its giving up told that it neither waited nor lay granted, or
-  -- wasn't answered, since the history was exhausted by then
+  -- wasn't answered, and then the log has as many entries as exhaust the history
   abbrev pub IsLost : ℕ → Ask → ℕ → ℕ → Type 0
   IsLost most ask now number =
       HasWaited ask now number reply.Lost
       ⊎ (IsTurnedAway ask now number reply.Waiting × (most ≤ length log))
 
-  -- REFUSED for this cause; where the history is exhausted nothing was answered
+  -- REFUSED for this cause; Exhausted only where the log has as many entries as exhaust the history
   abbrev pub IsRefused : ℕ → Ask → ℕ → Why → Type 0
   IsRefused most ask now why.Full = (number : ℕ) × IsTurnedAway ask now number reply.Full
   IsRefused most ask now why.BacklogFull =
@@ -97,7 +97,7 @@ module _ {S : Type 0} (g : Gate S) (o : Image S) (log : List Entry) (own : List 
   IsRefused most ask now why.Lost = (number : ℕ) × IsLost most ask now number
   IsRefused most ask now why.Exhausted = most ≤ length log
 
-  -- THE VERDICT on what was asked for at this moment, and the outcome of what was let through
+  -- THE VERDICT on what was asked for at this moment, and the outcome of what was admitted
   abbrev pub IsVerdict : ℕ → Ask → ℕ → Verdict → Option Outcome → Type 0
   IsVerdict most ask now verdict.NotAsked outcome = ⊥
   IsVerdict most ask now verdict.Admitted outcome =

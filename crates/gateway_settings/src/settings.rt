@@ -15,7 +15,7 @@ pub struct Settings {
     /// How many callers may wait in all, up to 10,000: in everybody's places, as many as the key
     /// `backlog` says, and in the classes' own.
     pub backlog: u32,
-    /// Whether refused callers wait.
+    /// Whether a caller that finds no room may wait.
     pub wait: bool,
     /// The longest wait, in nanoseconds: a millisecond to an hour.
     pub timeout_ns: u64,

@@ -9,7 +9,7 @@ use Rattle.limiter_core.specs.declared.event.Reply.{Reply}
 use Rattle.limiter_core.specs.declared.event.Reply.TheVariants as reply
 use Rattle.limiter_core.specs.History.{permit_of}
 use Rattle.gate_journal.specs.Journal.{Journal}
-use Rattle.gate_ledgers.specs.Told.{Told}
+use Rattle.gate_ledgers.specs.Receipt.{Told}
 use Rattle.gate_history.specs.declared.step.Step.{Step}
 use Rattle.gate_history.specs.declared.step.Step.TheVariants.{Done, Exhausted, Permit, Returned}
 use Rattle.gate_history.specs.declared.step.Step.TheVariants.{Ticket}

@@ -11,7 +11,7 @@ use Rattle.limiter_core.specs.declared.event.Entry.{Entry}
 use Rattle.limiter_core.specs.declared.event.Entry.TheVariants.{Call, Promotion}
 use Rattle.limiter_core.specs.declared.event.PermitFacts.{PermitFacts}
 use Rattle.gate_ledgers.specs.Making.{Making}
-use Rattle.gate_ledgers.specs.Told.{Told}
+use Rattle.gate_ledgers.specs.Receipt.{Told}
 use Rattle.limiter_core.specs.History.{is_call}
 use Rattle.gate_history.specs.Book.{calls_of}
 use Rattle.gate_history.specs.Refusal.{exhausted_from}

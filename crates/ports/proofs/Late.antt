@@ -7,7 +7,7 @@ use Rattle.gate_port.specs.declared.port.Admission.{Admission}
 use Rattle.gate_port.specs.declared.port.Admission.TheVariants.{Admitted, Bypassed, Refused}
 use Rattle.gate_port.specs.Asking.{Ask}
 use Rattle.gate_port.specs.Log.{IsLate, Known}
-use Rattle.ports.specs.Told.{IsTold}
+use Rattle.ports.specs.AskReplies.{IsTold}
 
 -- who doesn't wait
 pub never_late : (before after : Pass) (ask : Ask) (now : ℕ) (known : Known) (deadline : Option ℕ)

@@ -22,7 +22,7 @@ use Rattle.limiter_core.specs.Answer.{moment_of, next_waiter, promoted, promotio
 use Rattle.limiter_core.specs.Answer.{promotions, promotions_at, queued, reply_to, waits}
 use Rattle.gate_journal.specs.Journal.{Journal, answered, gate, image, is_over, opening}
 use Rattle.gate_journal.specs.Rolling.{continued, ready}
-use Rattle.gate_ledgers.specs.Told.{Told}
+use Rattle.gate_ledgers.specs.Receipt.{Told}
 use Rattle.gate_history.specs.Book.{Book}
 use Rattle.gate_history.specs.Handing.{Given}
 use Rattle.gate_history.specs.Refusal.{Refusal}

@@ -4,7 +4,7 @@ use Rattle.limiter_core.specs.declared.event.Event.TheVariants.{GiveUp}
 use Rattle.limiter_core.specs.declared.event.Reply.TheVariants.{Waiting}
 use Rattle.limiter_core.specs.declared.event.PermitFacts.{PermitFacts}
 use Rattle.gate_ledgers.specs.Making.{Making}
-use Rattle.gate_ledgers.specs.Told.{Told}
+use Rattle.gate_ledgers.specs.Receipt.{Told}
 use Rattle.gate_history.specs.Refusal.{Refusal, exhausted_from}
 use Rattle.shared_gate.specs.Calls.{IsTold, IsUntold, Pass}
 use Rattle.gate_port.specs.declared.port.Why.TheVariants as why

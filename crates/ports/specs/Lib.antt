@@ -1,3 +1,3 @@
 pub mod Asked
 pub mod Solo
-pub mod Told
+pub mod AskReplies

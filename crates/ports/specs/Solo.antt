@@ -15,7 +15,7 @@ use Rattle.limiter_core.specs.declared.event.Entry.TheVariants.{Call}
 use Rattle.limiter_core.specs.History.{permit_of}
 use Rattle.limiter_core.specs.Answer.{waits}
 use Rattle.gate_journal.specs.Journal.{Journal, image, is_over}
-use Rattle.gate_ledgers.specs.Told.{Told}
+use Rattle.gate_ledgers.specs.Receipt.{Told}
 use Rattle.gate_history.specs.declared.answers.GaveUp.{GaveUp}
 use Rattle.gate_history.specs.declared.answers.GaveUp.TheVariants as gave_up
 use Rattle.gate_history.specs.declared.answers.Got.{Got}

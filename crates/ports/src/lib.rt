@@ -4,7 +4,7 @@
 //! no entries, since other threads add theirs meanwhile, but knows of the gate's log what its pass
 //! knows: there its calls stand, behind all that it knew before. It keeps the receipts of its last
 //! asking too: `specs/Asked.antt` says which calls these are of and what is answered by them, and
-//! `specs/Told.antt` what else its calls tell. A [`View`] gives the gate's reports.
+//! `specs/AskReplies.antt` what else its calls tell. A [`View`] gives the gate's reports.
 //!
 //! A [`SoloPort`] is for those who drive a gate from a single thread: it has a book of its own and
 //! shows all entries of its history, so what an exchange adds to it is known to the entry.

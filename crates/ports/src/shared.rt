@@ -6,7 +6,7 @@ ghost use Rattle.gate_port.specs.Asking.{ask_of};
 ghost use Rattle.gate_port.specs.Log.{AdmitsIn, EndsIn, IsLate};
 ghost use Rattle.ports.specs.declared.asked.Receipts.TheVariants.{Nothing};
 ghost use Rattle.ports.specs.Asked.{IsAnswered, IsOver, known_by, port_in};
-ghost use Rattle.ports.specs.Told.{IsTold};
+ghost use Rattle.ports.specs.AskReplies.{IsTold};
 
 use crate::asked::Receipts;
 use crate::reached::Reached;

@@ -45,7 +45,7 @@ impl PermitTimes {
     }
 }
 
-/// What became of a connection.
+/// What became of an exchange.
 #[derive(Clone, Copy)]
 pub struct ExchangeSummary {
     /// The request's class, where one was read.
@@ -61,7 +61,8 @@ pub struct ExchangeSummary {
     /// Whether the client ended what it sends before a byte of a request, as who only looks whether
     /// the gateway is there does.
     pub is_empty: bool,
-    /// What the backend's answer told the gate, where the request was forwarded.
+    /// What the backend's answer means to the gate, where the request was forwarded. The gate is
+    /// told it as a permit is ended, and so nothing of a request that bypasses it.
     pub outcome: Option<Outcome>,
     /// Whether nothing was taken of the client's connection that isn't read.
     pub is_drained: bool,

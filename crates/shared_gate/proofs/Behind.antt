@@ -17,7 +17,7 @@ use Rattle.gate_journal.specs.Journal.{Journal, answered, gate, next_number, ope
 use Rattle.gate_journal.specs.Rolling.{IsLastStretch, StretchesJoin, continued, ready, rolls}
 use Rattle.gate_journal.specs.Rolling.{standing}
 use Rattle.gate_ledgers.specs.Course.{Change}
-use Rattle.gate_ledgers.specs.Told.{Told}
+use Rattle.gate_ledgers.specs.Receipt.{Told}
 use Rattle.gate_history.specs.Book.{Agrees, Book, IsUnasked, calls_of}
 use Rattle.gate_history.specs.Handing.{Given}
 use Rattle.gate_history.specs.Steps.{IsDone}
@@ -98,7 +98,8 @@ module _ {S : Type 0} (rules : Algorithm S) (j : Journal S) (e : Event)
       omega (arith, next_is, number) in
       subst (λ (v : Journal S).
       drop (length log - v.opening.next) v.entries ≡ answered rules j e) (sym is)
-      (drop-append_at fresh.entries (answered rules fresh e) (length log - fresh.opening.next) at ∙ same)
+      (drop-append_at fresh.entries (answered rules fresh e) (length log - fresh.opening.next) at
+      ∙ same)
 
   -- and the next number is behind that
   pub number_then : (log : List Entry) → next_number j ≡ length log

@@ -12,7 +12,7 @@ use Rattle.limiter_core.specs.Bound.{IsSound}
 use Rattle.gate_journal.specs.Image.{Standing, image_of}
 use Rattle.gate_journal.specs.Journal.{Journal, gate, opening}
 use Rattle.gate_ledgers.specs.Making.{Making}
-use Rattle.gate_ledgers.specs.Told.{Told}
+use Rattle.gate_ledgers.specs.Receipt.{Told}
 use Rattle.gate_history.specs.Book.{Agrees, Book, IsMadeAs, IsUnasked, calls_of}
 use Rattle.audit.specs.declared.cause.Cause.{Cause}
 use Rattle.audit.specs.declared.cause.Cause.TheVariants as cause
@@ -68,7 +68,8 @@ is_end_of {S} rules m legal log b base entries behind made is =
         length-append behind.earlier entries,
       );
       ends =
-          ap (λ (h : List Entry). drop base h) parts ∙ drop-append_at behind.earlier entries base at;
+          ap (λ (h : List Entry). drop base h) parts
+          ∙ drop-append_at behind.earlier entries base at;
     }
 
 -- where that begins with number 0 it is the log

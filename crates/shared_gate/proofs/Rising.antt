@@ -2,7 +2,7 @@
 use Rattle.std.proofs.Common.{◌≡◌, ℕ, zero, suc, ◌≤◌, List, [], ◌∷◌, Some, sym, ap, subst, arith}
 use Rattle.std.specs.Prelude.{slice_get}
 use Rattle.std.proofs.lemmas.Option.{none-some, same_Some}
-use Rattle.gate_ledgers.specs.Told.{Told}
+use Rattle.gate_ledgers.specs.Receipt.{Told}
 use Rattle.audit.specs.Accepted.{NumbersRise}
 use Rattle.shared_gate.specs.Seen.{AreOfOnePass, SeenCall, OrderIsNeverTheCause, ReceiptsOfAPassRise}
 use Rattle.shared_gate.specs.Seen.{receipts_of}

@@ -10,7 +10,7 @@ use Rattle.limiter_core.specs.declared.event.Entry.TheVariants as entry
 use Rattle.limiter_core.specs.History.{Gate}
 use Rattle.limiter_core.specs.Legal.{IsLegal}
 use Rattle.limiter_core.specs.Laws.{TurnsAwayRightly}
-use Rattle.gate_ledgers.specs.Told.{Told}
+use Rattle.gate_ledgers.specs.Receipt.{Told}
 use Rattle.audit.specs.Accepted.{NumbersRise}
 use Rattle.audit.specs.Receipts.{IsOfCall}
 use Rattle.shared_gate.specs.Calls.{IsTold}

@@ -11,7 +11,7 @@ use Rattle.limiter_core.specs.Laws.{CountersAddUp}
 use Rattle.gate_journal.specs.Journal.{Journal, answered, next_number}
 use Rattle.gate_journal.specs.Rolling.{StretchesJoin, ready}
 use Rattle.gate_ledgers.specs.Course.{Change}
-use Rattle.gate_ledgers.specs.Told.{Told}
+use Rattle.gate_ledgers.specs.Receipt.{Told}
 use Rattle.gate_history.specs.Book.{Book}
 use Rattle.gate_history.specs.Handing.{Given}
 use Rattle.gate_history.specs.Refusal.{Refusal}
@@ -96,8 +96,8 @@ module _ {S : Type 0} (rules : Algorithm S) (old new : Book S) (before after : �
         → (told : Result Told Refusal) (got : Given)
         → StepsTo rules old new before after e told got → TellsOf known now e told got
     tells_of known now first second begins knows owns (Ok told) got d =
-        let longer_by = longer_is rules old new before after e told got d same limit legal log behind
-        next is longer raised in
+        let longer_by = longer_is rules old new before after e told got d same limit legal log
+        behind next is longer raised in
         tells rules old new known now e told got log (picked log next)
         (rw (first, second) d)
         (number_is rules limit legal old log behind) begins (knows ∙ longer_by)

@@ -10,7 +10,7 @@ use Rattle.limiter_core.specs.declared.event.Entry.TheVariants.{Call}
 use Rattle.limiter_core.specs.declared.event.Outcome.{Outcome}
 use Rattle.limiter_core.specs.declared.event.PermitFacts.{PermitFacts}
 use Rattle.limiter_core.specs.declared.event.Reply.TheVariants as reply
-use Rattle.gate_ledgers.specs.Told.{Told}
+use Rattle.gate_ledgers.specs.Receipt.{Told}
 use Rattle.gate_history.specs.Book.{calls_of}
 use Rattle.gate_history.specs.declared.step.Step.{Step}
 use Rattle.gate_history.specs.Handing.{Given, given_by, told_of}
@@ -42,8 +42,7 @@ pass_of count = record { count = count; log = []; own = [] }
 
 -- TOLD: the receipt is of this event; the call is counted on the pass, its number is the pass's
 -- own, and no less than the pass's calls before it. Its entry stands at that number, behind all
--- that the pass knew before; only those whom it promoted come behind it, and the pass knows all
--- that now
+-- that the pass knew before; only promotions come behind it, and the pass knows all that now
 pub record IsTold (before after : Pass) (e : Event) (receipt : Told) : Type 0 where
   pub event : receipt.event ≡ e
   pub counted : after.count ≡ before.count + 1

@@ -11,10 +11,9 @@ use Rattle.limiter_core.specs.declared.event.Event.TheVariants.{Acquire}
 use Rattle.limiter_core.specs.declared.event.Entry.{Entry}
 use Rattle.limiter_core.specs.declared.event.Entry.TheVariants.{Call}
 use Rattle.limiter_core.specs.History.{Gate, Image, image_after, limit, total}
-use Rattle.limiter_core.specs.Answer.{answer}
+use Rattle.limiter_core.specs.Answer.{answer, is_turned_away}
 use Rattle.limiter_core.specs.Legal.{IsLegal}
-use Rattle.limiter_core.specs.Laws.{is_turned_away}
-use Rattle.gate_ledgers.specs.Told.{Told}
+use Rattle.gate_ledgers.specs.Receipt.{Told}
 use Rattle.audit.specs.Firsts.{EachHas}
 use Rattle.limiter_core.specs.History.{is_call}
 use Rattle.audit.specs.Receipts.{all_kept}

@@ -9,7 +9,7 @@ use Rattle.limiter_core.specs.declared.event.Entry.{Entry}
 use Rattle.limiter_core.specs.declared.event.Entry.TheVariants as entry
 use Rattle.limiter_core.specs.History.{Gate, Image}
 use Rattle.limiter_core.specs.Legal.{IsLegal}
-use Rattle.gate_ledgers.specs.Told.{Told}
+use Rattle.gate_ledgers.specs.Receipt.{Told}
 use Rattle.audit.specs.Accepted.{NumbersRise}
 use Rattle.audit.specs.Firsts.{EachHas}
 use Rattle.audit.specs.Receipts.{IsOfCall}

@@ -1,6 +1,6 @@
 -- The numbers that a pass sees, from call to call.
 use Rattle.std.specs.Prelude.{◌≡◌, ℕ, ◌<◌, ◌≤◌, List, [], ◌∷◌, map}
-use Rattle.gate_ledgers.specs.Told.{Told}
+use Rattle.gate_ledgers.specs.Receipt.{Told}
 use Rattle.audit.specs.Accepted.{NumbersRise}
 use Rattle.audit.specs.Firsts.{EachHas}
 use Rattle.audit.specs.Verdict.{Audit, IsFirstCause}
