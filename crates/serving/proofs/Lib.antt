@@ -1,5 +1,6 @@
-pub mod All
+pub mod JobLists
+pub mod WorkerRuns
 pub mod Forwards
-pub mod Runs
-pub mod Told
+pub mod TakenTurns
+pub mod ServedClient
 mod Visit

@@ -24,6 +24,16 @@ pub record Back : Type 0 where
   pub count : ℕ
   pub log : Option (List Forwarded)
 
+-- what stands behind it at a port and a backend, by what these show
+abbrev pub back_of : {P B : Type 0} → (P → Option Shown) → (P → Option Known) → (B → ℕ)
+    → (B → Option (List Forwarded)) → P → B → Back
+back_of shown known forwarded log port backend = record {
+  shown = shown port;
+  known = known port;
+  count = forwarded backend;
+  log = log backend;
+}
+
 -- a reader or a writer of these bytes that wasn't called
 abbrev pub fresh : Bytes → Counted Bytes
 fresh bytes = record { inner = bytes; calls = 0; flushes = 0; failures = 0; is_flushed = false }

@@ -80,6 +80,17 @@ pub record Place : Type 0 where
   pub visits : Option Visits
   pub back : Back
 
+-- what it finds or leaves at a door, a port and a backend, by what these show
+abbrev pub place_of : {A P B : Type 0} → (A → ℕ) → (A → ℕ) → (A → Bool) → (A → Option Visits)
+    → (P → B → Back) → A → P → B → Place
+place_of given failed closed visits back door port backend = record {
+  given = given door;
+  failed = failed door;
+  closed = closed door;
+  visits = visits door;
+  back = back port backend;
+}
+
 -- a door's counts after the turns; each stays at its greatest value
 abbrev pub given_by : List Turn → ℕ → ℕ
 given_by [] n = n

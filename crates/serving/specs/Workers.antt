@@ -4,7 +4,6 @@ use Rattle.counted_io.specs.Count.{count_end}
 use Rattle.gateway_settings.specs.declared.settings.Settings.{Settings}
 use Rattle.gate_port.specs.Log.{Known}
 use Rattle.gate_port.specs.Shown.{Shown}
-use Rattle.wire.specs.Forwards.{Forwarded}
 use Rattle.tcp_backend.specs.declared.connecting.TcpBackend.{TcpBackend}
 use Rattle.tcp_backend.specs.declared.dialing.Dialer.{Dialer}
 use Rattle.tcp_backend.specs.Connecting.{address_of, connector_of, count_of, host_of, limit_of}
@@ -16,13 +15,13 @@ use Rattle.serving.specs.declared.jobs.Job.TheVariants as job
 use Rattle.serving.specs.declared.jobs.JobResult.{JobResult}
 use Rattle.serving.specs.declared.jobs.JobResult.TheVariants as left
 use Rattle.serving.specs.declared.jobs.Worker.{Worker}
+use Rattle.serving.specs.declared.working.TurnCounts.{TurnCounts}
 use Rattle.serving.specs.declared.working.WorkerSettings.{WorkerSettings}
 use Rattle.listening.specs.Accepted.{listener_of}
 use Rattle.proxy.specs.Exchanges.{Bytes}
 use Rattle.serving.specs.Doors.{counted_in, failed_of, given_of, is_closed}
-use Rattle.serving.specs.Served.{policy_of}
-use Rattle.serving.specs.Turns.{IsRun, Place}
-use Rattle.serving.specs.Visits.{Visits}
+use Rattle.serving.specs.Served.{back_of, policy_of}
+use Rattle.serving.specs.Turns.{IsRun, Place, place_of}
 
 -- the workers among some jobs, in order
 abbrev pub workers_in : {A P B T X : Type 0} → List (Job A P B T X) → List (Worker A P B)
@@ -62,64 +61,58 @@ has_begun left.Unbegun = false
 has_begun (left.SideTask made) = true
 has_begun (left.Worked ended) = true
 
--- what is known of doors, ports and backends, and which settings a source gives or lacks
-module _ {A P B S : Type 0} (given failed : A → ℕ) (closed : A → Bool)
-    (visits : A → Option Visits) (came : A → Bytes → Type 0) (shown : P → Option Shown)
-    (known : P → Option Known) (forwarded : B → ℕ) (log : B → Option (List Forwarded))
-    (gives : S → Settings → Type 0) (lacks : S → Type 0) where
-  -- what stands at a door, a port and a backend
-  abbrev pub place_of : A → P → B → Place
-  place_of door port backend = record {
-    given = given door;
-    failed = failed door;
-    closed = closed door;
-    visits = visits door;
-    back = record {
-      shown = shown port;
-      known = known port;
-      count = forwarded backend;
-      log = log backend;
-    };
-  }
+-- WORKED: by settings that are given, with marks or without, somebody took turns from one place to
+-- another, each with a client who came or with none, and forwarded no more than there were clients
+pub record IsWork (gives : Settings → Type 0) (marks : Bool) (most : ℕ) (came : Bytes → Type 0)
+    (old new : Place) (tally : TurnCounts) : Type 0 where
+  pub bounded : most ≤ count_end
+  pub settings : Settings
+  pub are_given : gives settings
+  pub run : IsRun (policy_of settings marks) came most old new tally
+  pub turns : tally.accepted + tally.unaccepted ≤ most
+  pub whole : new.closed ≡ false → tally.accepted + tally.unaccepted ≡ most
+  pub once : new.back.count ≤ old.back.count + tally.accepted
+  pub accepted : old.given + most ≤ count_end → new.given ≡ old.given + tally.accepted
+  pub unaccepted : old.failed + most ≤ count_end → new.failed ≡ old.failed + tally.unaccepted
 
-  -- WORKED: by settings that the source gives, with marks or without, a worker took its turns, each
-  -- with a client or none, and forwarded no more than it had clients
-  pub record HasWorked (source : S) (marks : Bool) (most : ℕ) (worker : Worker A P B)
-      (ended : WorkerExit A P B) : Type 0 where
-    pub bounded : most ≤ count_end
-    pub settings : Settings
-    pub are_given : gives source settings
-    pub run : IsRun (policy_of settings marks) (came worker.door) most
-        (place_of worker.door worker.port worker.backend)
-        (place_of ended.door ended.port ended.backend) ended.tally
-    pub turns : ended.tally.accepted + ended.tally.unaccepted ≤ most
-    pub whole : closed ended.door ≡ false
-        → ended.tally.accepted + ended.tally.unaccepted ≡ most
-    pub once : forwarded ended.backend ≤ forwarded worker.backend + ended.tally.accepted
-    pub accepted : given worker.door + most ≤ count_end
-        → given ended.door ≡ given worker.door + ended.tally.accepted
-    pub unaccepted : failed worker.door + most ≤ count_end
-        → failed ended.door ≡ failed worker.door + ended.tally.unaccepted
+-- and so a worker did, by the place where it stands and by who comes to its door
+abbrev pub HasWorked : {A P B : Type 0} → (A → P → B → Place) → (A → Bytes → Type 0)
+    → (Settings → Type 0) → Bool → ℕ → Worker A P B → WorkerExit A P B → Type 0
+HasWorked place came gives marks most worker ended =
+    IsWork gives marks most (came worker.door) (place worker.door worker.port worker.backend)
+    (place ended.door ended.port ended.backend) ended.tally
 
-  -- what a worker leaves; who didn't begin had no settings
-  abbrev pub Leaves : {D : Type 0} → S → Bool → ℕ → Worker A P B → JobResult A P B D → Type 0
-  Leaves source marks most worker left.Unbegun = lacks source
-  Leaves source marks most worker (left.SideTask made) = ⊥
-  Leaves source marks most worker (left.Worked ended) = HasWorked source marks most worker ended
+-- in a context: by settings that its source gives, as many turns as are asked for there
+abbrev pub WorksIn : {A P B R L E C S W : Type 0} → (A → P → B → Place) → (A → Bytes → Type 0)
+    → (S → Settings → Type 0) → Context R L E C S W → Worker A P B → WorkerExit A P B → Type 0
+WorksIn place came gives context =
+    HasWorked place came (gives context.common.now.source.now) context.common.now.marks
+    context.common.now.per_worker
 
-  -- what a task beside the workers leaves, which may make this
-  abbrev pub IsMade : {D : Type 0} → (D → Type 0) → JobResult A P B D → Type 0
-  IsMade makes left.Unbegun = ⊥
-  IsMade makes (left.SideTask made) = makes made
-  IsMade makes (left.Worked ended) = ⊥
+-- the source of a context lacks settings
+abbrev pub LacksIn : {R L E C S W : Type 0} → (S → Type 0) → Context R L E C S W → Type 0
+LacksIn lacks context = lacks context.common.now.source.now
 
-  -- what each job leaves
-  abbrev pub Makes : {T D R L E C W : Type 0} → (T → D → Type 0)
-      → Job A P B T (Context R L E C S W) → JobResult A P B D → Type 0
-  Makes makes (job.SideTask task) left = IsMade (makes task) left
-  Makes makes (job.Worker context worker) left =
-      Leaves context.now.common.now.source.now context.now.common.now.marks
-      context.now.common.now.per_worker worker left
+-- what a worker leaves, by what it does; who didn't begin had no settings
+abbrev pub Leaves : {A P B D : Type 0} → Type 0 → (WorkerExit A P B → Type 0)
+    → JobResult A P B D → Type 0
+Leaves lacking works left.Unbegun = lacking
+Leaves lacking works (left.SideTask made) = ⊥
+Leaves lacking works (left.Worked ended) = works ended
+
+-- what a task beside the workers leaves, which may make this
+abbrev pub IsMade : {A P B D : Type 0} → (D → Type 0) → JobResult A P B D → Type 0
+IsMade makes left.Unbegun = ⊥
+IsMade makes (left.SideTask made) = makes made
+IsMade makes (left.Worked ended) = ⊥
+
+-- what each job leaves, by what a context lacks, what a worker does there, and what a task makes
+abbrev pub Makes : {A P B T D X : Type 0} → (X → Type 0)
+    → (X → Worker A P B → WorkerExit A P B → Type 0) → (T → D → Type 0) → Job A P B T X
+    → JobResult A P B D → Type 0
+Makes lacks works makes (job.SideTask task) left = IsMade (makes task) left
+Makes lacks works makes (job.Worker context worker) left =
+    Leaves (lacks context.now) (works context.now worker) left
 
 -- a new worker, with this port, a backend at an address that was given nothing and whose calls may
 -- take so many nanoseconds, where that is limited, and a door to a listener, without a visit
@@ -153,19 +146,8 @@ pub record HasRun {R T L C S W V P : Type 0} (gives : S → Settings → Type 0)
         visits = None;
         back = record { shown = shown port; known = known port; count = 0; log = None };
       })
-      (record {
-        given = given_of ended.door;
-        failed = failed_of ended.door;
-        closed = is_closed ended.door;
-        visits = None;
-        back = record {
-          shown = shown ended.port;
-          known = known ended.port;
-          count = count_of ended.backend;
-          log = None;
-        };
-      })
-      ended.tally
+      (place_of given_of failed_of is_closed (λ _. None)
+      (back_of shown known count_of (λ _. None)) ended.door ended.port ended.backend) ended.tally
   pub accepted : given_of ended.door ≡ ended.tally.accepted
   pub unaccepted : failed_of ended.door ≡ ended.tally.unaccepted
   pub once : count_of ended.backend ≤ ended.tally.accepted

@@ -1,6 +1,8 @@
 // Who has a thread, and what each leaves.
 ghost use Rattle.std.specs.Prelude.{◌≡◌, ◌≤◌, ◌+◌, false};
-ghost use Rattle.serving.specs.Workers.{Leaves, Makes};
+ghost use Rattle.serving.specs.Served.{back_of};
+ghost use Rattle.serving.specs.Turns.{place_of};
+ghost use Rattle.serving.specs.Workers.{LacksIn, Leaves, WorksIn};
 
 use crate::doors::Accepts;
 use crate::reporting::ActiveWorkers;
@@ -80,10 +82,13 @@ where
 {
     type Done = JobResult<A, P, B, T::Done>;
 
-    ghost use Rattle.serving.specs.Workers.{Makes};
+    ghost use Rattle.serving.specs.Served.{back_of};
+    ghost use Rattle.serving.specs.Turns.{place_of};
+    ghost use Rattle.serving.specs.Workers.{LacksIn, Makes, WorksIn};
 
-    ghost makes = { Makes A.given A.failed A.closed A.visits A.came P.shown P.known B.forwarded
-        B.shown S.gives S.lacks T.makes };
+    ghost makes = { Makes (LacksIn S.lacks)
+        (WorksIn (place_of A.given A.failed A.closed A.visits
+        (back_of P.shown P.known B.forwarded B.shown)) A.came S.gives) T.makes };
 
     fn run(self) -> JobResult<A, P, B, T::Done> {
         match self {
@@ -123,9 +128,9 @@ where
     C: Clock,
     S: Source,
     W: Watch,
-    ensures { Leaves A.given A.failed A.closed A.visits A.came P.shown P.known B.forwarded B.shown
-        S.gives S.lacks context.now.common.now.source.now context.now.common.now.marks
-        context.now.common.now.per_worker worker result }
+    ensures { Leaves (LacksIn S.lacks context.now)
+        (WorksIn (place_of A.given A.failed A.closed A.visits
+        (back_of P.shown P.known B.forwarded B.shown)) A.came S.gives context.now worker) result }
 {
     let common = context.common;
     let Ok(settings) = common.source.settings(common.alloc) else {

@@ -3,6 +3,8 @@ ghost use Rattle.std.specs.Prelude.{◌≡◌, [], IfOk, IsErrOf, OnErr};
 ghost use Rattle.std.specs.List.{AllZip, list_all};
 ghost use Rattle.counted_io.specs.Count.{raised};
 ghost use Rattle.tasks.specs.Refused.{refused_of};
+ghost use Rattle.serving.specs.Served.{back_of};
+ghost use Rattle.serving.specs.Turns.{place_of};
 ghost use Rattle.serving.specs.Workers.{AreWithin, Begins, HasRun, HasWorked};
 ghost use Rattle.serving.specs.Workers.{ended_in, has_begun, made_in, tasks_in, workers_in};
 
@@ -254,9 +256,10 @@ where
     E::Stream: Send + Sync,
     E::From: Send + Sync,
     E::To: Send + Sync,
-    ensures worked { IfOk result (λ lefts. AllZip (HasWorked A.given A.failed A.closed A.visits
-        A.came P.shown P.known B.forwarded B.shown S.gives S.lacks
-        common.now.source.now common.now.marks common.now.per_worker)
+    ensures worked { IfOk result (λ lefts. AllZip
+        (HasWorked (place_of A.given A.failed A.closed A.visits
+        (back_of P.shown P.known B.forwarded B.shown)) A.came
+        (S.gives common.now.source.now) common.now.marks common.now.per_worker)
         workers.items (ended_in lefts.items)) }
     ensures side_tasks { IfOk result (λ lefts.
         AllZip T.makes side_tasks.items (made_in lefts.items)) }

@@ -3,8 +3,8 @@ ghost use Rattle.std.specs.Prelude.{◌≡◌, ◌≤◌, ◌+◌, true, false, 
 ghost use Rattle.counted_io.specs.Count.{count_end};
 ghost use Rattle.gateway_settings.specs.declared.settings.Settings.{Settings as SettingsValue};
 ghost use Rattle.proxy.specs.Made.{is_kept};
-ghost use Rattle.serving.specs.Served.{IsServed, policy_of};
-ghost use Rattle.serving.specs.Turns.{IsRun};
+ghost use Rattle.serving.specs.Served.{IsServed, back_of, policy_of};
+ghost use Rattle.serving.specs.Turns.{IsRun, place_of};
 ghost use Rattle.timed_io.specs.Client.{from_of, to_of};
 
 use crate::doors::Accepts;
@@ -108,30 +108,10 @@ where
     requires settings { S.gives common.now.source.now settings.now }
     ensures run { IsRun (policy_of settings.now common.now.marks)
         (A.came door.old) common.now.per_worker
-        (record {
-          given = A.given door.old;
-          failed = A.failed door.old;
-          closed = A.closed door.old;
-          visits = A.visits door.old;
-          back = record {
-            shown = P.shown port.old;
-            known = P.known port.old;
-            count = B.forwarded backend.old;
-            log = B.shown backend.old;
-          };
-        })
-        (record {
-          given = A.given door.new;
-          failed = A.failed door.new;
-          closed = A.closed door.new;
-          visits = A.visits door.new;
-          back = record {
-            shown = P.shown port.new;
-            known = P.known port.new;
-            count = B.forwarded backend.new;
-            log = B.shown backend.new;
-          };
-        })
+        (place_of A.given A.failed A.closed A.visits (back_of P.shown P.known B.forwarded B.shown)
+        door.old port.old backend.old)
+        (place_of A.given A.failed A.closed A.visits (back_of P.shown P.known B.forwarded B.shown)
+        door.new port.new backend.new)
         result }
     ensures bounded { common.now.per_worker ≤ count_end }
     ensures turns { result.accepted + result.unaccepted ≤ common.now.per_worker }
@@ -207,18 +187,8 @@ where
         })
         (I.remaining (from_of client.ends)) (O.contents (to_of client.ends))
         (I.remaining (from_of result.0.ends)) (O.contents (to_of result.0.ends))
-        (record {
-          shown = P.shown port.old;
-          known = P.known port.old;
-          count = B.forwarded backend.old;
-          log = B.shown backend.old;
-        })
-        (record {
-          shown = P.shown port.new;
-          known = P.known port.new;
-          count = B.forwarded backend.new;
-          log = B.shown backend.new;
-        })
+        (back_of P.shown P.known B.forwarded B.shown port.old backend.old)
+        (back_of P.shown P.known B.forwarded B.shown port.new backend.new)
         result.1 }
 {
     let patience = FreeWorkers {
@@ -276,18 +246,8 @@ where
         })
         (I.remaining (from_of ends)) (O.contents (to_of ends))
         (I.remaining (from_of result.0)) (O.contents (to_of result.0))
-        (record {
-          shown = P.shown port.old;
-          known = P.known port.old;
-          count = B.forwarded backend.old;
-          log = B.shown backend.old;
-        })
-        (record {
-          shown = P.shown port.new;
-          known = P.known port.new;
-          count = B.forwarded backend.new;
-          log = B.shown backend.new;
-        })
+        (back_of P.shown P.known B.forwarded B.shown port.old backend.old)
+        (back_of P.shown P.known B.forwarded B.shown port.new backend.new)
         result.1 }
 {
     let time = ClientTime {

@@ -1,6 +1,6 @@
 use Rattle.std.proofs.Common.{rules, ◌∙◌, ◌++◌, ◌∷◌, [], ap, refl, subst, sym}
 use Rattle.serving.specs.Workers.{AreWithin, tasks_in, workers_in}
-use Rattle.serving.proofs.All.{no_task, none_within, one_within, one_worker}
+use Rattle.serving.proofs.JobLists.{no_task, none_within, one_within, one_worker}
 use Rattle.serving.proofs.workers.make_jobs.Goals as goal
 
 pub loop-worker-init : goal.loop-worker-init

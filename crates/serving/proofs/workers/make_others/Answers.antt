@@ -1,6 +1,6 @@
 use Rattle.std.proofs.Common.{rules, ◌∙◌, ◌++◌, ◌∷◌, [], ap, refl}
 use Rattle.serving.specs.Workers.{tasks_in, workers_in}
-use Rattle.serving.proofs.All.{no_worker, one_task}
+use Rattle.serving.proofs.JobLists.{no_worker, one_task}
 use Rattle.serving.proofs.workers.make_others.Goals as goal
 
 pub loop-task-preserved : goal.loop-task-preserved

@@ -1,11 +1,12 @@
+use Rattle.std.proofs.lemmas.Result.{IfOk-weaker}
 use Rattle.serving.specs.Workers.{ended_in}
-use Rattle.serving.proofs.All.{all_ran, on_ok}
+use Rattle.serving.proofs.WorkerRuns.{all_ran}
 use Rattle.serving.proofs.workers.serve.Goals as goal
 
 pub returns-clause-ran : goal.returns-clause-ran
-returns-clause-ran g c = on_ok c.serve_by.result _ _ c.serve_by.ensures.worked
-    (λ lefts all. all_ran g.S.Source.gives g.S.Source.lacks g.L.Listener.came g.P.GatePort.shown
-    g.P.GatePort.known
-    c.args.common.now c.args.settings.now.backend c.args.ports.items
+returns-clause-ran g c = IfOk-weaker c.serve_by.result _ _
+    (λ lefts all. all_ran g.S.Source.gives g.L.Listener.came g.P.GatePort.shown
+    g.P.GatePort.known c.args.common.now c.args.settings.now.backend c.args.ports.items
     c.in_ok-workers.workers.items (ended_in lefts.items)
     c.in_ok-workers.ensures.workers all)
+    c.serve_by.ensures.worked

@@ -4,7 +4,7 @@ use Rattle.counted_io.specs.Counted.{inner_of}
 use Rattle.lent_io.specs.Through.{held_of, pending_of}
 use Rattle.proxy.specs.Exchanges.{told_by}
 use Rattle.proxy.specs.Made.{is_kept}
-use Rattle.serving.proofs.Told.{all_left, is_fresh, nothing_held, served}
+use Rattle.serving.proofs.ServedClient.{all_left, is_fresh, nothing_held, served}
 use Rattle.serving.proofs.working.serve_over.Goals as goal
 
 pub returns : goal.returns
@@ -14,13 +14,15 @@ returns g c =
     let from = c.exchange-served.new.reader in
     let to = c.exchange-served.new.writer in
     let sent = c.close-left.result.is_sent in
-    served _ _ _ _ _ _ _ _ _ c.exchange-served.result _ _ _ _ _ sent
-    c.with_sent-served.ensures
-    (is_fresh _ _ opened.reader opened.unread.calls opened.unread.flushes
-    opened.unread.failures opened.unread.unflushed)
-    (is_fresh _ _ opened.writer opened.unwritten.calls opened.unwritten.flushes
-    opened.unwritten.failures opened.unwritten.unflushed)
-    (search rules) made.exchanged made.written made.reads made.writes (
+    served _ _ _ c.exchange-served.result _ _ _ _ _ sent made.exchanged
+    (record {
+      reader = is_fresh _ _ opened.reader opened.unread.calls opened.unread.flushes
+          opened.unread.failures opened.unread.unflushed;
+      writer = is_fresh _ _ opened.writer opened.unwritten.calls opened.unwritten.flushes
+          opened.unwritten.failures opened.unwritten.unflushed;
+      looks = search rules;
+    })
+    (record { broken = made.written; reads = made.reads; writes = made.writes }) (
       pending_of (inner_of to),
       ap (λ end. append_known (g.O.Outlet.contents end) (pending_of (inner_of to)))
           (sym (c.linger_behind-ends.ensures.to ∙ c.close-left.ensures.to)),
@@ -28,6 +30,7 @@ returns g c =
           let none : pending_of (inner_of to) ≡ [] = search rules in
           none,
     )
+    c.with_sent-served.ensures
     (λ (is : is_kept c.with_sent-served.result ≡ true).
     ap (λ end. g.I.Inlet.remaining end)
     (c.linger_behind-ends.ensures.kept is ∙ c.close-left.ensures.from)

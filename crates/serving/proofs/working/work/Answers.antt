@@ -1,10 +1,10 @@
 use Rattle.std.proofs.Common.{rules, ◌≡◌, ◌∙◌, arith, refl, subst}
 use Rattle.counted_io.specs.Count.{raised}
 use Rattle.proxy.specs.Made.{is_kept}
+use Rattle.serving.specs.Served.{back_of}
 use Rattle.serving.specs.Turns.{Missing}
-use Rattle.serving.proofs.Runs.{all_failed, all_given, back_of, begins, client_of}
-use Rattle.serving.proofs.Runs.{forwarded_at_most, goes_on, goes_on_served, missing_shown, run_of}
-use Rattle.serving.proofs.Runs.{same_back}
+use Rattle.serving.proofs.TakenTurns.{all_failed, all_given, begins, client_of, forwarded_at_most}
+use Rattle.serving.proofs.TakenTurns.{goes_on, goes_on_visited, missing_shown, run_of, same_back}
 use Rattle.serving.proofs.working.work.Goals.{in-Ok, in-Err+else-is_closed}
 use Rattle.serving.proofs.working.work.Goals as goal
 
@@ -14,25 +14,29 @@ loop-init g c = record { took = begins _ _ _; turns = refl; same = λ sent came.
 pub loop-preserved : goal.loop-preserved
 loop-preserved g c = elim c.match-accept.branch [
   | in-Ok w ↦ record {
-    took = goes_on_served _ _ _ _ _ _ _ _
+    took = goes_on_visited _ _ _ _ _ _ _ _
         (client_of g.A.From.Inlet.remaining g.A.To.Outlet.contents w.in-Ok.client.ends
         w.in-Ok.client.is_kept)
         (client_of g.A.From.Inlet.remaining g.A.To.Outlet.contents
         w.serve_client-client.result.0.ends (is_kept w.serve_client-client.result.1))
-        w.serve_client-client.result.1 (g.A.Accepts.visits c.accept.new.self)
-        (back_of g.P.GatePort.shown g.P.GatePort.known g.B.Backend.forwarded g.B.Backend.shown
-        w.serve_client-client.new.port w.serve_client-client.new.backend)
-        (is_kept w.serve_client-client.result.1) refl c.loop.invariant.took
-        (search rules) (search rules) (search rules) (search rules)
+        w.serve_client-client.result.1 c.loop.invariant.took (search rules) (search rules)
         (record {
-          unwritten = w.in-Ok.ensures.unwritten;
-          served = w.serve_client-client.ensures;
-          comes = c.loop.invariant.same _ w.in-Ok.ensures.came;
-        })
-        (same_back g.P.GatePort.shown g.P.GatePort.known g.B.Backend.forwarded g.B.Backend.shown
-        _ _ _ _ w.leave-in-Ok.new.self w.port-is w.backend-is w.leave-in-Ok.ensures.count
-        w.leave-in-Ok.ensures.log)
-        w.in-Ok.ensures.arrived (search rules);
+          visits = g.A.Accepts.visits c.accept.new.self;
+          back = back_of g.P.GatePort.shown g.P.GatePort.known g.B.Backend.forwarded
+              g.B.Backend.shown w.serve_client-client.new.port w.serve_client-client.new.backend;
+          given = search rules;
+          failed = search rules;
+          turn = record {
+            unwritten = w.in-Ok.ensures.unwritten;
+            served = w.serve_client-client.ensures;
+            comes = c.loop.invariant.same _ w.in-Ok.ensures.came;
+          };
+          same = same_back g.P.GatePort.shown g.P.GatePort.known g.B.Backend.forwarded
+              g.B.Backend.shown _ _ _ _ w.leave-in-Ok.new.self w.port-is w.backend-is
+              w.leave-in-Ok.ensures.count w.leave-in-Ok.ensures.log;
+          arrives = w.in-Ok.ensures.arrived;
+          leaves = search rules;
+        });
     turns = search rules;
     same = λ sent came. c.loop.invariant.same sent
         (c.accept.ensures.place sent (w.leave.ensures.place sent

@@ -1,6 +1,7 @@
 use Rattle.std.proofs.Common.{◌≡◌, ◌+◌, ℕ, List, Option}
-use Rattle.serving.specs.Served.{policy_of}
-use Rattle.serving.proofs.Runs.{Took}
+use Rattle.serving.specs.Served.{back_of, policy_of}
+use Rattle.serving.specs.Turns.{place_of}
+use Rattle.serving.proofs.TakenTurns.{Took}
 use Rattle.serving.proofs.working.work.Given as goal
 
 -- so many turns so far
@@ -8,30 +9,12 @@ abbrev pub invariant-loop : goal.invariant-loop
 invariant-loop g l = record {
   took : Took (policy_of l.settings l.common.marks)
       (g.A.Accepts.came l.fn.door) l.counter
-      (record {
-        given = g.A.Accepts.given l.fn.door;
-        failed = g.A.Accepts.failed l.fn.door;
-        closed = g.A.Accepts.closed l.fn.door;
-        visits = g.A.Accepts.visits l.fn.door;
-        back = record {
-          shown = g.P.GatePort.shown l.fn.port;
-          known = g.P.GatePort.known l.fn.port;
-          count = g.B.Backend.forwarded l.fn.backend;
-          log = g.B.Backend.shown l.fn.backend;
-        };
-      })
-      (record {
-        given = g.A.Accepts.given l.door;
-        failed = g.A.Accepts.failed l.door;
-        closed = g.A.Accepts.closed l.door;
-        visits = g.A.Accepts.visits l.door;
-        back = record {
-          shown = g.P.GatePort.shown l.port;
-          known = g.P.GatePort.known l.port;
-          count = g.B.Backend.forwarded l.backend;
-          log = g.B.Backend.shown l.backend;
-        };
-      })
+      (place_of g.A.Accepts.given g.A.Accepts.failed g.A.Accepts.closed g.A.Accepts.visits
+      (back_of g.P.GatePort.shown g.P.GatePort.known g.B.Backend.forwarded g.B.Backend.shown)
+      l.fn.door l.fn.port l.fn.backend)
+      (place_of g.A.Accepts.given g.A.Accepts.failed g.A.Accepts.closed g.A.Accepts.visits
+      (back_of g.P.GatePort.shown g.P.GatePort.known g.B.Backend.forwarded g.B.Backend.shown)
+      l.door l.port l.backend)
       l.tally;
   turns : l.tally.accepted + l.tally.unaccepted ≡ l.counter;
   same : (sent : Option (List ℕ)) → g.A.Accepts.came l.door sent → g.A.Accepts.came l.fn.door sent;

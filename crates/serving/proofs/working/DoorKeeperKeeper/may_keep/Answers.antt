@@ -1,5 +1,5 @@
 use Rattle.std.proofs.Common.{refl}
-use Rattle.serving.proofs.Told.{keeps_told}
+use Rattle.serving.proofs.ServedClient.{keeps_told}
 use Rattle.serving.proofs.working.DoorKeeperKeeper.may_keep.Goals as goal
 
 pub returns-then-self-eq0 : goal.returns-then-self-eq0

@@ -49,62 +49,71 @@ abbrev IsBroken : Counted Bytes → Counted Bytes → Exchange → Type 0
 IsBroken old new x =
     IfSome (summary_of x).written_fault (λ f. (f ≡ fault.Write) × IsWriteCause old new)
 
--- an exchange over a reader and a writer that weren't called, whose counts at its end it has
-over : (s : Policy) (from to from' to' : Counted Bytes) (looks looks' : Looked BackendAnswer)
-    (old new : Back) (x : Exchange) (first unwritten yet written : Bytes) (sent : Bool)
-    → from ≡ fresh first → to ≡ fresh unwritten → looks ≡ unlooked
-    → IsExchange s (around from to looks old) (around from' to' looks' new) (summary_of x)
-    → IsBroken to to' x → reads_of x ≡ counts_of from' → writes_of x ≡ counts_of to'
-    → IsSent (inner_of to') written sent
-    → (is_kept (with_sent sent x) ≡ true → yet ≡ inner_of from')
-    → IsServed s first unwritten yet written old new (with_sent sent x)
-over s from to from' to' looks looks' old new x first unwritten yet written sent new_from new_to
-    new_looks e broken reads writes ended unread =
-    let begun : IsExchange s (around (fresh first) (fresh unwritten) unlooked old)
-    (around from' to' looks' new) (summary_of x) =
+-- what stands behind a worker in a world
+abbrev behind : World → Back
+behind world = record {
+  shown = world.shown;
+  known = world.known;
+  count = world.count;
+  log = world.log;
+}
+
+-- nothing was called yet there, over a reader and a writer of these bytes
+pub record IsUncalled (world : World) (sent unwritten : Bytes) : Type 0 where
+  pub reader : world.reader ≡ fresh sent
+  pub writer : world.writer ≡ fresh unwritten
+  pub looks : world.looks ≡ unlooked
+
+-- an exchange has the counts at its end, and a fault of writing has its cause in them
+pub record IsCounted (old new : World) (x : Exchange) : Type 0 where
+  pub broken : IsBroken old.writer new.writer x
+  pub reads : reads_of x ≡ counts_of new.reader
+  pub writes : writes_of x ≡ counts_of new.writer
+
+-- an exchange that began where nothing was called, whose counts at its end it has
+over : (s : Policy) (old new : World) (x : Exchange) (first unwritten yet written : Bytes)
+    (sent : Bool) → IsExchange s old new (summary_of x) → IsUncalled old first unwritten
+    → IsCounted old new x → IsSent (inner_of new.writer) written sent
+    → (is_kept (with_sent sent x) ≡ true → yet ≡ inner_of new.reader)
+    → IsServed s first unwritten yet written (behind old) (behind new) (with_sent sent x)
+over s old new x first unwritten yet written sent e uncalled counted ended unread =
+    let begin : World = around (fresh first) (fresh unwritten) unlooked (behind old) in
+    let begun : IsExchange s begin new (summary_of x) =
     subst (λ (l : Looked BackendAnswer). IsExchange s
-    (around (fresh first) (fresh unwritten) l old) (around from' to' looks' new)
-    (summary_of x)) new_looks
-    (subst (λ (c : Counted Bytes). IsExchange s (around (fresh first) c looks old)
-    (around from' to' looks' new) (summary_of x)) new_to
-    (subst (λ (c : Counted Bytes). IsExchange s (around c to looks old)
-    (around from' to' looks' new) (summary_of x)) new_from e)) in
+    (around (fresh first) (fresh unwritten) l (behind old)) new (summary_of x)) uncalled.looks
+    (subst (λ (c : Counted Bytes). IsExchange s (around (fresh first) c old.looks (behind old)) new
+    (summary_of x)) uncalled.writer
+    (subst (λ (c : Counted Bytes). IsExchange s (around c old.writer old.looks (behind old)) new
+    (summary_of x)) uncalled.reader e)) in
     record {
-      left = inner_of from';
-      given = inner_of to';
-      looks = looks';
+      left = inner_of new.reader;
+      given = inner_of new.writer;
+      looks = new.looks;
       exchanged =
-          subst (λ (k : CallCounts). IsExchange s
-          (around (fresh first) (fresh unwritten) unlooked old)
-          (around (counted_with (inner_of from') (reads_of x)) (counted_with (inner_of to') k)
-          looks' new) (summary_of x)) (sym writes)
-          (subst (λ (k : CallCounts). IsExchange s
-          (around (fresh first) (fresh unwritten) unlooked old)
-          (around (counted_with (inner_of from') k) to' looks' new) (summary_of x)) (sym reads)
-          begun);
+          subst (λ (k : CallCounts). IsExchange s begin
+          (around (counted_with (inner_of new.reader) (reads_of x))
+          (counted_with (inner_of new.writer) k) new.looks (behind new)) (summary_of x))
+          (sym counted.writes)
+          (subst (λ (k : CallCounts). IsExchange s begin
+          (around (counted_with (inner_of new.reader) k) new.writer new.looks (behind new))
+          (summary_of x)) (sym counted.reads) begun);
       broken =
           subst (λ (k : CallCounts). IsBroken (fresh unwritten)
-          (counted_with (inner_of to') k) x) (sym writes)
-          (subst (λ (c : Counted Bytes). IsBroken c to' x) new_to broken);
+          (counted_with (inner_of new.writer) k) x) (sym counted.writes)
+          (subst (λ (c : Counted Bytes). IsBroken c new.writer x) uncalled.writer counted.broken);
       ended = ended;
       unread = unread;
     }
 
-pub served : (s : Policy) (from to from' to' : Counted Bytes)
-    (looks looks' : Looked BackendAnswer) (old new : Back) (x y : Exchange)
-    (first unwritten yet written : Bytes) (sent : Bool)
-    → y ≡ with_sent sent x → from ≡ fresh first → to ≡ fresh unwritten
-    → looks ≡ unlooked
-    → IsExchange s (around from to looks old) (around from' to' looks' new) (summary_of x)
-    → IsBroken to to' x → reads_of x ≡ counts_of from' → writes_of x ≡ counts_of to'
-    → IsSent (inner_of to') written sent
-    → (is_kept y ≡ true → yet ≡ inner_of from')
-    → IsServed s first unwritten yet written old new y
-served s from to from' to' looks looks' old new x y first unwritten yet written sent same new_from
-    new_to new_looks e broken reads writes ended unread =
-    subst (λ (told : Exchange). IsServed s first unwritten yet written old new told) (sym same)
-    (over s from to from' to' looks looks' old new x first unwritten yet written sent new_from
-    new_to new_looks e broken reads writes ended
+pub served : (s : Policy) (old new : World) (x y : Exchange) (first unwritten yet written : Bytes)
+    (sent : Bool) → IsExchange s old new (summary_of x) → IsUncalled old first unwritten
+    → IsCounted old new x → IsSent (inner_of new.writer) written sent → y ≡ with_sent sent x
+    → (is_kept y ≡ true → yet ≡ inner_of new.reader)
+    → IsServed s first unwritten yet written (behind old) (behind new) y
+served s old new x y first unwritten yet written sent e uncalled counted ended same unread =
+    subst (λ (told : Exchange). IsServed s first unwritten yet written (behind old) (behind new)
+    told) (sym same)
+    (over s old new x first unwritten yet written sent e uncalled counted ended
     (λ (kept : is_kept (with_sent sent x) ≡ true). unread (ap is_kept same ∙ kept)))
 
 -- who isn't drained isn't kept
