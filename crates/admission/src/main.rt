@@ -9,7 +9,7 @@ use config_explain::Explainer;
 use config_file::SystemFiles;
 use counted_io::Counted;
 use fault_lines::tell_unread_words;
-use line_explain::Kept;
+use line_explain::{Kept, LineExplainer};
 use listening::SystemAddresses;
 use log_lines::{LineStart, LogLines};
 use serve_command::serve_file;
@@ -38,20 +38,25 @@ fn main(rt: HostRuntime) -> ExitCode {
     ExitCode::from(match run {
         Run::Text { task, explain } => {
             let mut reader = Counted::new(Kept::new(alloc, rt.stdin(), explain));
-            run_text(alloc, task, explain, &mut reader, &mut writer, &mut errors)
-        }
-        Run::Check { path, explain } => {
-            let mut explainer = Explainer::new(alloc);
-            check_file(
-                &files,
-                &mut explainer,
+            run_text(
+                &mut LineExplainer::new(alloc),
                 alloc,
-                path,
+                task,
                 explain,
+                &mut reader,
                 &mut writer,
                 &mut errors,
             )
         }
+        Run::Check { path, explain } => check_file(
+            &files,
+            &mut Explainer::new(alloc),
+            alloc,
+            path,
+            explain,
+            &mut writer,
+            &mut errors,
+        ),
         Run::Load {
             limit,
             workers,
@@ -62,6 +67,7 @@ fn main(rt: HostRuntime) -> ExitCode {
             run_load(
                 &rt,
                 &mut Spawner::new(&rt),
+                &mut LineExplainer::new(alloc),
                 alloc,
                 limit,
                 workers,

@@ -46,7 +46,8 @@ IsExplained kind text fault said =
     (line : List ℕ) → slice_get (lines text) (fault.line - 1) ≡ Some line
     → NamesWord kind fault.why (words line) said
 
--- the same by the text that was kept, if one was; out of memory nothing is said
-abbrev pub IsExplainedBy : TextKind → Option (List ℕ) → LineFault → List ℕ → Type 0
-IsExplainedBy kind None fault said = said ≡ []
-IsExplainedBy kind (Some text) fault said = (said ≡ []) ⊎ IsExplained kind text fault said
+-- the same by the text that was kept, if one was; or nothing is said, for this lack of memory
+abbrev pub IsExplainedBy : Type 0 → TextKind → Option (List ℕ) → LineFault → List ℕ → Type 0
+IsExplainedBy Lacked kind None fault said = said ≡ []
+IsExplainedBy Lacked kind (Some text) fault said =
+    ((said ≡ []) × Lacked) ⊎ IsExplained kind text fault said

@@ -22,8 +22,8 @@ struct Faulty<'a> {
 }
 
 /// What is said of a line at fault, in a line: which of its words is wrong, and what is wanted
-/// there. Nothing where the text has no such line. `AllocError` where memory runs out.
-pub fn explanation(
+/// there. Nothing where the text has no such line. Fails where it is out of memory.
+pub(crate) fn explanation(
     alloc: Global,
     kind: TextKind,
     text: &[u8],

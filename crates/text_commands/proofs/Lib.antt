@@ -1,3 +1,3 @@
 pub mod LoadStops
 pub mod Stops
-pub mod Told
+pub mod BehindFault

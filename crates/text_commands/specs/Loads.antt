@@ -13,7 +13,7 @@ use Rattle.load_driver.specs.Limits.{most_reads, most_script}
 use Rattle.load_run.specs.declared.fault.LoadFault.{LoadFault}
 use Rattle.load_run.specs.declared.fault.LoadFault.TheVariants.{Memory, Read, TooLarge, Line, Write, Thread, Audit}
 use Rattle.script.specs.declared.forms.TextKind.TheVariants.{Trace}
-use Rattle.line_explain.specs.Told.{IsSaid}
+use Rattle.line_explain.specs.BehindFault.{IsSaid}
 use Rattle.load_run.specs.Driver.{IfAudit, IfLine, IsAtFault, IsRefused, LacksThread}
 
 -- the text of a fault
@@ -27,11 +27,12 @@ load_fault_text Thread = codes "thread"
 load_fault_text (Audit cause) = concat (codes "audit: " ∷ cause_text cause ∷ [])
 
 -- what is written behind the line of a fault, where an explanation is asked for: that of the line
--- at fault, by what was kept of the trace, and of any other fault nothing
-abbrev pub IsMore : {E : Type 0} → Option (List ℕ) → (E → Option (List ℕ)) → LoadFault
+-- at fault, by what was kept of the trace, or nothing, for this lack of memory; and of any other
+-- fault nothing
+abbrev pub IsMore : {E : Type 0} → Type 0 → Option (List ℕ) → (E → Option (List ℕ)) → LoadFault
     → Counted E → Counted E → Type 0
-IsMore kept contents (Line at) old new = IsSaid Trace kept contents at old new
-IsMore kept contents _ old new = new ≡ old
+IsMore Lacked kept contents (Line at) old new = IsSaid Lacked Trace kept contents at old new
+IsMore Lacked kept contents _ old new = new ≡ old
 
 -- why a load stops, by how many threads were refused before and after: a line at fault is the
 -- trace's, and an audit's cause that of its run; each other fault has its cause, and no other call

@@ -12,7 +12,7 @@ use Rattle.script.specs.declared.line_fault.LineFault.{LineFault}
 use Rattle.virtual_time.specs.Simulation.{IsSimulated}
 use Rattle.script.specs.declared.forms.TextKind.{TextKind}
 use Rattle.script.specs.declared.forms.TextKind.TheVariants.{Script, Trace}
-use Rattle.line_explain.specs.Told.{IsSaid}
+use Rattle.line_explain.specs.BehindFault.{IsSaid}
 use Rattle.commands.specs.declared.command_line.TextTask.{TextTask}
 use Rattle.commands.specs.declared.command_line.TextTask.TheVariants.{Replay, Simulate}
 
@@ -28,11 +28,12 @@ kind_of (Replay limit) = Script
 kind_of (Simulate limit) = Trace
 
 -- what is written behind the line of a fault, where an explanation is asked for: that of the line
--- at fault, by what was kept of this kind of text, and of any other fault nothing
-abbrev pub IsMore : {E : Type 0} → TextKind → Option (List ℕ) → (E → Option (List ℕ)) → DriverFault
-    → Counted E → Counted E → Type 0
-IsMore kind kept contents (Line at) old new = IsSaid kind kept contents at old new
-IsMore kind kept contents _ old new = new ≡ old
+-- at fault, by what was kept of this kind of text, or nothing, for this lack of memory; and of any
+-- other fault nothing
+abbrev pub IsMore : {E : Type 0} → Type 0 → TextKind → Option (List ℕ) → (E → Option (List ℕ))
+    → DriverFault → Counted E → Counted E → Type 0
+IsMore Lacked kind kept contents (Line at) old new = IsSaid Lacked kind kept contents at old new
+IsMore Lacked kind kept contents _ old new = new ≡ old
 
 -- why a command over a text stops: a line at fault is the text's, and what was told before it is
 -- written and flushed; each other fault has its cause, and no other call failed; and nothing is

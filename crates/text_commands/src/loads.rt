@@ -8,15 +8,16 @@ ghost use Rattle.limit_laws.specs.Algorithm.{greatest_limit};
 ghost use Rattle.audit.specs.Text.{cause_text};
 ghost use Rattle.load_driver.specs.Limits.{most_reads};
 ghost use Rattle.fault_lines.specs.FaultLine.{IsTold, fault_line};
+ghost use Rattle.line_explain.specs.BehindFault.{IsToldAnd};
 ghost use Rattle.line_explain.specs.Kept.{kept_of, remaining_of};
-ghost use Rattle.line_explain.specs.Told.{IsToldAnd};
+ghost use Rattle.line_explain.specs.Lacking.{HasLacked};
 ghost use Rattle.load_run.specs.Driver.{IsLoaded};
 ghost use Rattle.text_commands.specs.Loads.{IsLoadStop, IsMore, load_fault_text};
 
 use crate::line_fault::report_line_fault;
 use counted_io::Counted;
 use fault_lines::{DONE, FAULT, report_fault};
-use line_explain::{Kept, tell_explained};
+use line_explain::{Kept, LineExplainer, tell_explained};
 use load_run::{LoadFault, load};
 use script::TextKind;
 use shared_gate::Cause;
@@ -33,11 +34,12 @@ use tasks::Spawner;
 /// `limit` is in permits, where the trace has no `limit` line. The line of the fault comes after
 /// all output, is flushed and takes no memory; where it can't be written itself, it is dropped.
 /// Behind it, where an explanation is asked for and a line is at fault, it is said which of its
-/// words is wrong and what is wanted there, by the text that the reader kept; out of memory for
-/// that, nothing is.
+/// words is wrong and what is wanted there, by the text that the reader kept. Where the explainer
+/// is out of memory for that, nothing is, and it counts that.
 pub fn run_load<T, R: Read, W: Write, E: Write>(
     rt: &T,
     spawner: &mut Spawner<'_, T>,
+    explainer: &mut LineExplainer,
     alloc: Global,
     limit: u32,
     workers: usize,
@@ -62,12 +64,14 @@ where
     ensures unfailing { result ≡ 0 → failures_of writer.new ≡ failures_of writer.old }
     ensures quiet { result ≡ 0 → errors.new ≡ errors.old }
 
-    // The fault is reported, and behind it nothing but an explanation.
+    // The fault is reported, and behind it nothing but an explanation, which is left out only where
+    // the explainer lacked memory.
     ensures stopped { result ≡ 1 → (fault : LoadFault)
         × IsLoadStop (remaining_of R.remaining) workers limit (refused_of spawner.old)
         (refused_of spawner.new) reader.old reader.new writer.old writer.new fault
         × IsToldAnd explain E.contents errors.old errors.new (fault_line (load_fault_text fault))
-        (IsMore (kept_of (inner_of reader.new)) E.contents fault) }
+        (IsMore (HasLacked explainer.old explainer.new) (kept_of (inner_of reader.new)) E.contents
+        fault) }
 
     // Whatever it answers.
     ensures few_reads { calls_of reader.new ≤ calls_of reader.old + most_reads }
@@ -76,7 +80,7 @@ where
     match carry_out(rt, spawner, alloc, limit, workers, reader, writer) {
         Ok(()) => DONE,
         Err(fault) => {
-            tell(alloc, explain, reader.inner(), fault, errors);
+            tell(explainer, alloc, explain, reader.inner(), fault, errors);
             FAULT
         }
     }
@@ -84,6 +88,7 @@ where
 
 /// Tells why a load stopped, and says more of it if that is asked for.
 fn tell<R, E: Write>(
+    explainer: &mut LineExplainer,
     alloc: Global,
     explain: bool,
     reader: &Kept<R>,
@@ -91,26 +96,29 @@ fn tell<R, E: Write>(
     errors: &mut Counted<E>,
 )
     ensures { IsToldAnd explain E.contents errors.old errors.new
-        (fault_line (load_fault_text fault)) (IsMore (kept_of reader.now) E.contents fault) }
+        (fault_line (load_fault_text fault)) (IsMore (HasLacked explainer.old explainer.new)
+        (kept_of reader.now) E.contents fault) }
 {
     report_load_fault(errors, fault);
     if !explain {
         return;
     }
-    explain_fault(alloc, reader, fault, errors);
+    explain_fault(explainer, alloc, reader, fault, errors);
 }
 
 /// Says more of a fault, where a line has it.
 fn explain_fault<R, E: Write>(
+    explainer: &mut LineExplainer,
     alloc: Global,
     reader: &Kept<R>,
     fault: LoadFault,
     errors: &mut Counted<E>,
 )
-    ensures { IsMore (kept_of reader.now) E.contents fault errors.old errors.new }
+    ensures { IsMore (HasLacked explainer.old explainer.new) (kept_of reader.now) E.contents fault
+        errors.old errors.new }
 {
     if let LoadFault::Line(at) = fault {
-        tell_explained(alloc, TextKind::Trace, reader, at, errors);
+        tell_explained(explainer, alloc, TextKind::Trace, reader, at, errors);
     }
 }
 

@@ -8,15 +8,16 @@ ghost use Rattle.load_driver.specs.Driver.{fault_text};
 ghost use Rattle.load_driver.specs.Limits.{most_reads};
 ghost use Rattle.commands.specs.CommandLine.{limit_of};
 ghost use Rattle.fault_lines.specs.FaultLine.{IsTold, fault_line};
+ghost use Rattle.line_explain.specs.BehindFault.{IsToldAnd};
 ghost use Rattle.line_explain.specs.Kept.{kept_of, remaining_of};
-ghost use Rattle.line_explain.specs.Told.{IsToldAnd};
+ghost use Rattle.line_explain.specs.Lacking.{HasLacked};
 ghost use Rattle.text_commands.specs.Scripts.{IsAnswerOf, IsMore, IsStop, kind_of};
 
 use crate::line_fault::report_line_fault;
 use commands::TextTask;
 use counted_io::Counted;
 use fault_lines::{DONE, FAULT, report_fault};
-use line_explain::{Kept, tell_explained};
+use line_explain::{Kept, LineExplainer, tell_explained};
 use load_driver::{DriverFault, replay};
 use script::TextKind;
 use std::alloc::Global;
@@ -28,8 +29,9 @@ use virtual_time::simulate;
 /// The line of the fault comes after all output, is flushed and takes no memory; where it can't be
 /// written itself, it is dropped. Behind it, where an explanation is asked for and a line is at
 /// fault, it is said which of its words is wrong and what is wanted there, by the text that the
-/// reader kept; out of memory for that, nothing is.
+/// reader kept. Where the explainer is out of memory for that, nothing is, and it counts that.
 pub fn run_text<R: Read, W: Write, E: Write>(
+    explainer: &mut LineExplainer,
     alloc: Global,
     task: TextTask,
     explain: bool,
@@ -49,12 +51,14 @@ pub fn run_text<R: Read, W: Write, E: Write>(
     ensures unfailing { result ≡ 0 → failures_of writer.new ≡ failures_of writer.old }
     ensures quiet { result ≡ 0 → errors.new ≡ errors.old }
 
-    // The fault is reported, and behind it nothing but an explanation.
+    // The fault is reported, and behind it nothing but an explanation, which is left out only where
+    // the explainer lacked memory.
     ensures stopped { result ≡ 1 → (fault : DriverFault)
         × IsStop (remaining_of R.remaining) W.contents task
         reader.old reader.new writer.old writer.new fault
         × IsToldAnd explain E.contents errors.old errors.new (fault_line (fault_text fault))
-        (IsMore (kind_of task) (kept_of (inner_of reader.new)) E.contents fault) }
+        (IsMore (HasLacked explainer.old explainer.new) (kind_of task)
+        (kept_of (inner_of reader.new)) E.contents fault) }
 
     // Whatever it answers.
     ensures few { calls_of reader.new ≤ calls_of reader.old + most_reads }
@@ -63,7 +67,15 @@ pub fn run_text<R: Read, W: Write, E: Write>(
     match carry_out(alloc, task, reader, writer) {
         Ok(()) => DONE,
         Err(fault) => {
-            tell(alloc, task, explain, reader.inner(), fault, errors);
+            tell(
+                explainer,
+                alloc,
+                task,
+                explain,
+                reader.inner(),
+                fault,
+                errors,
+            );
             FAULT
         }
     }
@@ -71,6 +83,7 @@ pub fn run_text<R: Read, W: Write, E: Write>(
 
 /// Tells why a driver stopped, and says more of it if that is asked for.
 fn tell<R, E: Write>(
+    explainer: &mut LineExplainer,
     alloc: Global,
     task: TextTask,
     explain: bool,
@@ -79,27 +92,30 @@ fn tell<R, E: Write>(
     errors: &mut Counted<E>,
 )
     ensures { IsToldAnd explain E.contents errors.old errors.new (fault_line (fault_text fault))
-        (IsMore (kind_of task) (kept_of reader.now) E.contents fault) }
+        (IsMore (HasLacked explainer.old explainer.new) (kind_of task) (kept_of reader.now)
+        E.contents fault) }
 {
     report_driver_fault(errors, fault);
     if !explain {
         return;
     }
-    explain_fault(alloc, task, reader, fault, errors);
+    explain_fault(explainer, alloc, task, reader, fault, errors);
 }
 
 /// Says more of a fault, where a line has it.
 fn explain_fault<R, E: Write>(
+    explainer: &mut LineExplainer,
     alloc: Global,
     task: TextTask,
     reader: &Kept<R>,
     fault: DriverFault,
     errors: &mut Counted<E>,
 )
-    ensures { IsMore (kind_of task) (kept_of reader.now) E.contents fault errors.old errors.new }
+    ensures { IsMore (HasLacked explainer.old explainer.new) (kind_of task) (kept_of reader.now)
+        E.contents fault errors.old errors.new }
 {
     if let DriverFault::Line(at) = fault {
-        tell_explained(alloc, kind_of(task), reader, at, errors);
+        tell_explained(explainer, alloc, kind_of(task), reader, at, errors);
     }
 }
 

@@ -12,7 +12,8 @@ pub returns : goal.returns
 unfolding text_of
 returns g c =
     let Tells : List ℕ → Type 0 =
-    λ text. IsTold g.E.Write.contents c.args.errors.now c.report_fault.new.errors (fault_line text) in
+    λ text.
+    IsTold g.E.Write.contents c.args.errors.now c.report_fault.new.errors (fault_line text) in
     subst (λ why. Tells (text_of (decimal c.args.fault.line) why)) c.text.ensures
     (subst (λ number. Tells (text_of number c.text.result.now)) c.format.ensures.text
     c.report_fault.ensures)

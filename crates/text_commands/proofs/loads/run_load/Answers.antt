@@ -1,7 +1,8 @@
 use Rattle.std.proofs.Common.{rules, subst}
 use Rattle.fault_lines.specs.FaultLine.{fault_line}
+use Rattle.line_explain.specs.BehindFault.{IsToldAnd}
 use Rattle.line_explain.specs.Kept.{kept_of}
-use Rattle.line_explain.specs.Told.{IsToldAnd}
+use Rattle.line_explain.specs.Lacking.{HasLacked}
 use Rattle.text_commands.specs.Loads.{IsMore, load_fault_text}
 use Rattle.text_commands.proofs.loads.run_load.Goals as goal
 
@@ -51,7 +52,8 @@ returns-in-Err-clause-stopped g c is = (
   c.in-Err.ensures.stopped,
   subst (λ reader. IsToldAnd c.args.explain g.E.Write.contents c.args.errors.now
       c.tell.new.errors (fault_line (load_fault_text c.in-Err.fault))
-      (IsMore (kept_of reader) g.E.Write.contents c.in-Err.fault))
+      (IsMore (HasLacked c.args.explainer.now c.tell.new.explainer) (kept_of reader)
+      g.E.Write.contents c.in-Err.fault))
       c.inner.ensures c.tell.ensures,
 )
 

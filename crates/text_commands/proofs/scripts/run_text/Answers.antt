@@ -1,8 +1,9 @@
 use Rattle.std.proofs.Common.{rules, subst}
 use Rattle.fault_lines.specs.FaultLine.{fault_line}
 use Rattle.load_driver.specs.Driver.{fault_text}
+use Rattle.line_explain.specs.BehindFault.{IsToldAnd}
 use Rattle.line_explain.specs.Kept.{kept_of}
-use Rattle.line_explain.specs.Told.{IsToldAnd}
+use Rattle.line_explain.specs.Lacking.{HasLacked}
 use Rattle.text_commands.specs.Scripts.{IsMore, kind_of}
 use Rattle.text_commands.proofs.scripts.run_text.Goals as goal
 
@@ -13,7 +14,8 @@ returns-in-Err-clause-stopped g c is = (
   c.in-Err.ensures.stopped,
   subst (λ reader. IsToldAnd c.args.explain g.E.Write.contents c.args.errors.now
       c.tell.new.errors (fault_line (fault_text c.in-Err.fault))
-      (IsMore (kind_of c.args.task) (kept_of reader) g.E.Write.contents c.in-Err.fault))
+      (IsMore (HasLacked c.args.explainer.now c.tell.new.explainer) (kind_of c.args.task)
+      (kept_of reader) g.E.Write.contents c.in-Err.fault))
       c.inner.ensures c.tell.ensures,
 )
 

@@ -2,7 +2,7 @@
 use Rattle.std.proofs.Common.{◌≡◌, ℕ, Bool, true, sym, subst, List, Option}
 use Rattle.counted_io.specs.declared.counted.Counted.{Counted}
 use Rattle.fault_lines.specs.FaultLine.{IsTold}
-use Rattle.line_explain.specs.Told.{IsToldAnd}
+use Rattle.line_explain.specs.BehindFault.{IsToldAnd}
 
 pub told_and_more : {E : Type 0} (explain : Bool) (contents : E → Option (List ℕ))
     (old between new : Counted E) (line : List ℕ) (More : Counted E → Counted E → Type 0)

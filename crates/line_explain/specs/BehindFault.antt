@@ -6,11 +6,11 @@ use Rattle.script.specs.declared.line_fault.LineFault.{LineFault}
 use Rattle.script.specs.declared.forms.TextKind.{TextKind}
 use Rattle.line_explain.specs.Named.{IsExplainedBy}
 
--- the line is explained by the text that was kept
-abbrev pub IsSaid : {E : Type 0} → TextKind → Option (List ℕ) → (E → Option (List ℕ)) → LineFault
-    → Counted E → Counted E → Type 0
-IsSaid kind kept contents fault old new =
-    (words : List ℕ) × IsExplainedBy kind kept fault words × IsTold contents old new words
+-- the line is explained by the text that was kept; or nothing is said, for this lack of memory
+abbrev pub IsSaid : {E : Type 0} → Type 0 → TextKind → Option (List ℕ) → (E → Option (List ℕ))
+    → LineFault → Counted E → Counted E → Type 0
+IsSaid Lacked kind kept contents fault old new =
+    (words : List ℕ) × IsExplainedBy Lacked kind kept fault words × IsTold contents old new words
 
 -- TOLD, AND EXPLAINED: the line of a fault is told, and behind it, if that is asked for, what
 -- `More` says is written, and else nothing
