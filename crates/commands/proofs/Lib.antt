@@ -1,3 +1,4 @@
 mod GivenAddresses
 mod GivenNumbers
-mod Runs
+mod OptionValues
+mod NoRun

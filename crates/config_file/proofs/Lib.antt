@@ -1,2 +1,2 @@
 mod Pieces
-mod Whys
+mod HandedOn

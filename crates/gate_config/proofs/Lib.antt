@@ -1,7 +1,8 @@
-mod Lists
+mod MappedLists
+mod TableMembers
 mod Blank
 mod Documents
 mod Made
-mod Told
+mod EarlyFaults
 mod Places
 mod Tops

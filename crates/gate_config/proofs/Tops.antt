@@ -87,7 +87,8 @@ at_clients front None gate = refl
 at_clients front (Some kept) gate = refl
 
 pub at_client_idle : (front : FrontKeys) (kept : Option KeptKeys) (gate : GateKeys)
-    → number_at (codes "client_idle_ms") (front_values front ++ kept_values kept ++ gate_values gate)
+    → number_at (codes "client_idle_ms")
+    (front_values front ++ kept_values kept ++ gate_values gate)
     ≡ number_at (codes "client_idle_ms") (kept_values kept)
 at_client_idle front None gate = refl
 at_client_idle front (Some kept) gate = refl
@@ -99,10 +100,12 @@ at_backends front None gate = refl
 at_backends front (Some kept) gate = refl
 
 pub at_backend_idle : (front : FrontKeys) (kept : Option KeptKeys) (gate : GateKeys)
-    → number_at (codes "backend_idle_ms") (front_values front ++ kept_values kept ++ gate_values gate)
+    → number_at (codes "backend_idle_ms")
+    (front_values front ++ kept_values kept ++ gate_values gate)
     ≡ number_at (codes "backend_idle_ms") (kept_values kept)
 at_backend_idle front None gate = refl
 at_backend_idle front (Some kept) gate = refl
 
 -- What the settings can cite, by the name of the set.
-pub ruleset read_at = (at_keep, at_promote, at_clients, at_client_idle, at_backends, at_backend_idle)
+pub ruleset read_at =
+    (at_keep, at_promote, at_clients, at_client_idle, at_backends, at_backend_idle)

@@ -121,8 +121,8 @@ module _ {S : Type 0} (rules : Algorithm S) (m : Making) (Gives : Policy → Typ
   ran_in pass ran begun =
       let g = limiter_of rules m in
       let o = image_of behind.after.origin in
-      let all = decided_behind g (one g) ran.policy Came ran.run.turns _ _ (known_at m (pass_of 0) 0)
-      (exhausted_from m) refl ran.run.taken.exchanges refl in
+      let all = decided_behind g (one g) ran.policy Came ran.run.turns _ _
+      (known_at m (pass_of 0) 0) (exhausted_from m) refl ran.run.taken.exchanges refl in
       let ends : known_at m pass ran.reached ≡ all.0 = same_Some _ all.0 all.2 in
       let numbers : all.1 ≡ pass.own =
       sym (append-nil all.1) ∙ sym all.3.numbers ∙ ap (λ (known : Known). known.own) (sym ends) in

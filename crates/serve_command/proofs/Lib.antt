@@ -1,5 +1,5 @@
 mod Beside
 mod Clients
-mod Runs
+mod GatewayRun
 mod Served
-mod Whys
+mod WhyUnserved

@@ -11,7 +11,7 @@ use Rattle.gate_desk.specs.State.{DeskState}
 use Rattle.serve_command.specs.declared.admin.AdminAddress.{AdminAddress}
 use Rattle.serve_command.specs.declared.admin.SideAddresses.{SideAddresses}
 use Rattle.serve_command.specs.Beside.{IsLookingAt, IsOperatingAt}
-use Rattle.serve_command.specs.Runs.{AreCountersOfRuns, HasServedAll, HasServedAt}
+use Rattle.serve_command.specs.GatewayRun.{AreCountersOfRuns, HasServedAll, HasServedAt}
 use Rattle.serve_command.proofs.Beside.{admin_there, status_there}
 
 pub on_ok : {T E : Type 0} {P Q : T → Type 0} (r : Result T E) → ((v : T) → P v → Q v)

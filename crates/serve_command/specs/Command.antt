@@ -21,7 +21,7 @@ use Rattle.serve_command.specs.declared.fault.ServiceFault.TheVariants as Servic
 use Rattle.gate_desk.specs.Desk.{IsDone}
 use Rattle.gate_desk.specs.State.{new_desk}
 use Rattle.serve_command.specs.Beside.{IsAdminServed, IsStatusServed}
-use Rattle.serve_command.specs.Runs.{AreCountersOfRuns, IsBy}
+use Rattle.serve_command.specs.GatewayRun.{AreCountersOfRuns, IsBy}
 
 -- THE SETTINGS of a file that was opened as it says: its text was read whole, and holds them
 abbrev pub AreOfFile : {F : Type 0} → (F → Type 0) → (F → Option (List ℕ)) → Settings → Type 0

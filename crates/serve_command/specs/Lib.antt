@@ -1,6 +1,6 @@
 pub mod Beside
 pub mod Clients
 pub mod Command
-pub mod Runs
+pub mod GatewayRun
 pub mod ServiceFault
 pub mod Worked

@@ -13,7 +13,7 @@ ghost use Rattle.serve_command.specs.Beside.{IsAdminBound, IsStatusBound};
 ghost use Rattle.serve_command.specs.Command.{HasServed, IsOfAdmin, IsOfServing, IsServedBy};
 ghost use Rattle.serve_command.specs.Command.{IsUnboundToo, IsWhyOfService};
 ghost use Rattle.gate_opening.specs.Opening.{making_of};
-ghost use Rattle.serve_command.specs.Runs.{AreMiscounted, IsBy};
+ghost use Rattle.serve_command.specs.GatewayRun.{AreMiscounted, IsBy};
 ghost use Rattle.serve_command.specs.ServiceFault.{service_fault_text};
 
 use crate::admin::AdminAddress;

@@ -7,7 +7,7 @@ ghost use Rattle.gateway_settings.specs.Settings.{AreSound};
 ghost use Rattle.config_file.specs.Reading.{Says};
 ghost use Rattle.gate_opening.specs.Opening.{making_of};
 ghost use Rattle.gate_desk.specs.State.{new_desk};
-ghost use Rattle.serve_command.specs.Runs.{AreMiscounted, HasServedAt, IsBy};
+ghost use Rattle.serve_command.specs.GatewayRun.{AreMiscounted, HasServedAt, IsBy};
 
 use crate::admin::{AdminAddress, SideAddresses};
 use crate::config_text::ConfigText;

@@ -14,8 +14,8 @@ ghost use Rattle.ports.specs.declared.asked.Receipts.TheVariants.{Nothing};
 ghost use Rattle.ports.specs.Asked.{port_in};
 ghost use Rattle.gate_desk.specs.State.{new_desk};
 ghost use Rattle.serve_command.specs.Beside.{IsUnused, count_beside};
-ghost use Rattle.serve_command.specs.Runs.{AreMiscounted, HasServedAll, IsBy};
-ghost use Rattle.serve_command.specs.Runs.{passes_in, served_by};
+ghost use Rattle.serve_command.specs.GatewayRun.{AreMiscounted, HasServedAll, IsBy};
+ghost use Rattle.serve_command.specs.GatewayRun.{passes_in, served_by};
 
 use crate::admin::SideAddresses;
 use crate::operators::make_operators;

@@ -17,7 +17,8 @@ returns-in-Some-clause-none c none a has =
 
 pub returns-in_default-clause-value : goal.returns-in_default-clause-value
 returns-in_default-clause-value c =
-    (c.in-Some.ensures.value, subst IsLoopbackV4 c.ip.ensures (c.is_loopback.ensures.0 (search rules)))
+    let is_one = c.is_loopback.ensures.0 (search rules) in
+    (c.in-Some.ensures.value, subst IsLoopbackV4 c.ip.ensures is_one)
 
 pub returns-in_default-2-clause-none : goal.returns-in_default-2-clause-none
 returns-in_default-2-clause-none c none a has = c.address.ensures.none none a has.0

@@ -1,7 +1,7 @@
 use Rattle.std.proofs.Common.{rules, ◌∙◌, sym, refl}
 use Rattle.clap.specs.Words.{found_of, rows_of}
 use Rattle.clap.proofs.WalkLemmas.{first_value-rows}
-use Rattle.commands.proofs.Runs.{no_address}
+use Rattle.commands.proofs.OptionValues.{no_address}
 use Rattle.commands.proofs.addresses.optional_address.Goals as goal
 
 -- the text that is there is none of an address with a port

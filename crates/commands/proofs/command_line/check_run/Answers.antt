@@ -1,7 +1,7 @@
 use Rattle.std.proofs.Common.{rules, ◌∙◌, sym, refl, codes}
 use Rattle.clap.specs.Words.{found_of, rows_of}
 use Rattle.clap.proofs.WalkLemmas.{first_value-rows}
-use Rattle.commands.proofs.Runs.{no_check}
+use Rattle.commands.proofs.NoRun.{no_check}
 use Rattle.commands.proofs.command_line.check_run.Goals as goal
 
 pub returns-in_err-path-clause-none : goal.returns-in_err-path-clause-none

@@ -1,7 +1,7 @@
 use Rattle.std.proofs.Common.{rules, ◌∙◌, sym}
 use Rattle.clap.specs.Words.{found_of, rows_of}
 use Rattle.clap.proofs.WalkLemmas.{first_value-rows}
-use Rattle.commands.proofs.Runs.{set_by, unset_by}
+use Rattle.commands.proofs.OptionValues.{set_by, unset_by}
 use Rattle.commands.proofs.command_line.is_set.Goals as goal
 
 pub returns-in-Some : goal.returns-in-Some

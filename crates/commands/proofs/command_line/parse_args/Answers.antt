@@ -1,7 +1,7 @@
 use Rattle.std.proofs.Common.{rules, map, string_bytes}
 use Rattle.clap.specs.Words.{subcommand_of}
 use Rattle.commands.specs.CommandLine.{admission_app}
-use Rattle.commands.proofs.Runs.{ranges_kept}
+use Rattle.commands.proofs.NoRun.{ranges_kept}
 use Rattle.commands.proofs.command_line.parse_args.Goals as goal
 
 pub returns-in-Ok-clause-run : goal.returns-in-Ok-clause-run

@@ -1,6 +1,7 @@
 use Rattle.std.proofs.Common.{rules, refl}
 use Rattle.clap.specs.Words.{found_of, rows_of}
-use Rattle.commands.proofs.Runs.{given, no_serve}
+use Rattle.commands.proofs.NoRun.{no_serve}
+use Rattle.commands.proofs.OptionValues.{given}
 use Rattle.commands.proofs.command_line.serve_run.Goals as goal
 
 pub returns-in_err-options-clause-none : goal.returns-in_err-options-clause-none

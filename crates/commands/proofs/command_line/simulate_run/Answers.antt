@@ -1,6 +1,6 @@
 use Rattle.std.proofs.Common.{rules, refl}
 use Rattle.clap.specs.Words.{found_of, rows_of}
-use Rattle.commands.proofs.Runs.{no_simulate}
+use Rattle.commands.proofs.NoRun.{no_simulate}
 use Rattle.commands.proofs.command_line.simulate_run.Goals as goal
 
 pub returns-in_err-limit-clause-none : goal.returns-in_err-limit-clause-none

@@ -24,15 +24,15 @@ same found id low high n result fits value has =
 pub returns-in-Some-clause-none : goal.returns-in-Some-clause-none
 returns-in-Some-clause-none c none some =
     let read =
-    same (found_of c.args.matches.now) c.args.id.now c.args.low c.args.high some.value c.get_one.result
-    c.ranges.high.fits c.get_one.ensures.value some.has in
+    same (found_of c.args.matches.now) c.args.id.now c.args.low c.args.high some.value
+    c.get_one.result c.ranges.high.fits c.get_one.ensures.value some.has in
     search rules
 
 pub returns-in-Some-2-clause-none : goal.returns-in-Some-2-clause-none
 returns-in-Some-2-clause-none c none some =
     let read =
-    same (found_of c.args.matches.now) c.args.id.now c.args.low c.args.high some.value c.get_one.result
-    c.ranges.high.fits c.get_one.ensures.value some.has in
+    same (found_of c.args.matches.now) c.args.id.now c.args.low c.args.high some.value
+    c.get_one.result c.ranges.high.fits c.get_one.ensures.value some.has in
     search rules
 
 pub returns-in_default-clause-value : goal.returns-in_default-clause-value
@@ -46,6 +46,6 @@ returns-in_default-clause-value c =
 pub returns-in_default-2-clause-none : goal.returns-in_default-2-clause-none
 returns-in_default-2-clause-none c none some =
     let read =
-    same (found_of c.args.matches.now) c.args.id.now c.args.low c.args.high some.value c.get_one.result
-    c.ranges.high.fits c.get_one.ensures.value some.has in
+    same (found_of c.args.matches.now) c.args.id.now c.args.low c.args.high some.value
+    c.get_one.result c.ranges.high.fits c.get_one.ensures.value some.has in
     search rules

@@ -1,7 +1,7 @@
 use Rattle.std.proofs.Common.{rules, ◌∙◌, sym}
 use Rattle.clap.specs.Words.{found_of, rows_of}
 use Rattle.clap.proofs.WalkLemmas.{first_value-rows}
-use Rattle.commands.proofs.Runs.{log_lines_absent, no_log_lines}
+use Rattle.commands.proofs.OptionValues.{log_lines_absent, no_log_lines}
 use Rattle.commands.proofs.serve_options.log_lines.Goals as goal
 
 pub returns-in_err-get_str-clause-none : goal.returns-in_err-get_str-clause-none

@@ -1,7 +1,7 @@
 use Rattle.std.proofs.Common.{rules, ◌∙◌, sym, codes}
 use Rattle.clap.specs.Words.{found_of}
 use Rattle.clap.proofs.WalkLemmas.{first_value-rows}
-use Rattle.commands.proofs.Runs.{no_path}
+use Rattle.commands.proofs.OptionValues.{no_path}
 use Rattle.commands.proofs.serve_options.serve_options.Goals as goal
 
 pub returns-in_err-path-clause-none : goal.returns-in_err-path-clause-none

@@ -1,6 +1,6 @@
 use Rattle.std.proofs.Common.{rules}
 use Rattle.config_explain.specs.Lacking.{HasLacked}
-use Rattle.config_check.proofs.Whys.{accepted_behind, why_behind}
+use Rattle.config_check.proofs.BehindWords.{accepted_behind, why_behind}
 use Rattle.config_check.proofs.check.check_after_words.Goals as goal
 
 -- the words are those that were written before the bytes were checked

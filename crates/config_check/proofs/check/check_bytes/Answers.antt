@@ -1,6 +1,6 @@
 use Rattle.std.proofs.Common.{refl}
 use Rattle.std.proofs.lemmas.Result.{IfOk-from_err}
-use Rattle.config_check.proofs.Whys.{handed_on}
+use Rattle.config_check.proofs.HandedOn.{handed_on}
 use Rattle.config_check.proofs.check.check_bytes.Goals as goal
 
 -- bytes without settings

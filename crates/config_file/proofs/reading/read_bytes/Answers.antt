@@ -1,6 +1,6 @@
 use Rattle.std.proofs.Common.{Err, ap, refl}
 use Rattle.std.proofs.lemmas.Result.{IfOk-from_err}
-use Rattle.config_file.proofs.Whys.{handed_on}
+use Rattle.config_file.proofs.HandedOn.{handed_on}
 use Rattle.config_file.proofs.reading.read_bytes.Goals as goal
 
 pub returns-clause-settings : goal.returns-clause-settings

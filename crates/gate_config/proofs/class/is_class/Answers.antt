@@ -1,6 +1,6 @@
 use Rattle.std.proofs.Common.{sym, ◌∙◌, bytes_eq}
 use Rattle.gate_config.specs.ClassRows.{class_row}
-use Rattle.gate_config.proofs.Lists.{list_any_map}
+use Rattle.gate_config.proofs.MappedLists.{list_any_map}
 use Rattle.gate_config.proofs.class.is_class.Goals as goal
 
 pub returns : goal.returns

@@ -6,9 +6,10 @@ use Rattle.gate_config.proofs.document.read_document.Goals as goal
 
 pub returns-in_err-rules-clause-fault : goal.returns-in_err-rules-clause-fault
 returns-in_err-rules-clause-fault c = λ fault said.
-    let read : IsRead c.args.version (table_view c.args.table.now) = is_read _ _ _ _ _ c.in_ok-top.top
-    c.in_ok-limit.limit c.in_ok-window.window c.read_top.ensures.value c.limit_in.ensures.said
-    c.window_in.ensures.said c.in_ok-top.was c.in_ok-limit.was c.in_ok-window.was in
+    let read : IsRead c.args.version (table_view c.args.table.now) =
+    is_read _ _ _ _ _ c.in_ok-top.top c.in_ok-limit.limit c.in_ok-window.window
+    c.read_top.ensures.value c.limit_in.ensures.said c.window_in.ensures.said c.in_ok-top.was
+    c.in_ok-limit.was c.in_ok-window.was in
     let whole = document_read c.args.version (table_view c.args.table.now) read
     c.in_ok-top.top.front.backlog refl in
     let key : rules_of c.args.version c.in_ok-top.top.front.backlog (table_view c.args.table.now)
@@ -20,27 +21,30 @@ returns-in_err-rules-clause-fault c = λ fault said.
 
 pub returns-in_err-rules-clause-said : goal.returns-in_err-rules-clause-said
 returns-in_err-rules-clause-said c =
-    let read : IsRead c.args.version (table_view c.args.table.now) = is_read _ _ _ _ _ c.in_ok-top.top
-    c.in_ok-limit.limit c.in_ok-window.window c.read_top.ensures.value c.limit_in.ensures.said
-    c.window_in.ensures.said c.in_ok-top.was c.in_ok-limit.was c.in_ok-window.was in
+    let read : IsRead c.args.version (table_view c.args.table.now) =
+    is_read _ _ _ _ _ c.in_ok-top.top c.in_ok-limit.limit c.in_ok-window.window
+    c.read_top.ensures.value c.limit_in.ensures.said c.window_in.ensures.said c.in_ok-top.was
+    c.in_ok-limit.was c.in_ok-window.was in
     let whole = document_read c.args.version (table_view c.args.table.now) read
     c.in_ok-top.top.front.backlog refl in
     search rules
 
 pub returns-clause-said : goal.returns-clause-said
 returns-clause-said c =
-    let read : IsRead c.args.version (table_view c.args.table.now) = is_read _ _ _ _ _ c.in_ok-top.top
-    c.in_ok-limit.limit c.in_ok-window.window c.read_top.ensures.value c.limit_in.ensures.said
-    c.window_in.ensures.said c.in_ok-top.was c.in_ok-limit.was c.in_ok-window.was in
+    let read : IsRead c.args.version (table_view c.args.table.now) =
+    is_read _ _ _ _ _ c.in_ok-top.top c.in_ok-limit.limit c.in_ok-window.window
+    c.read_top.ensures.value c.limit_in.ensures.said c.window_in.ensures.said c.in_ok-top.was
+    c.in_ok-limit.was c.in_ok-window.was in
     let whole = document_read c.args.version (table_view c.args.table.now) read
     c.in_ok-top.top.front.backlog refl in
     search rules
 
 pub returns-clause-fault : goal.returns-clause-fault
 returns-clause-fault c =
-    let read : IsRead c.args.version (table_view c.args.table.now) = is_read _ _ _ _ _ c.in_ok-top.top
-    c.in_ok-limit.limit c.in_ok-window.window c.read_top.ensures.value c.limit_in.ensures.said
-    c.window_in.ensures.said c.in_ok-top.was c.in_ok-limit.was c.in_ok-window.was in
+    let read : IsRead c.args.version (table_view c.args.table.now) =
+    is_read _ _ _ _ _ c.in_ok-top.top c.in_ok-limit.limit c.in_ok-window.window
+    c.read_top.ensures.value c.limit_in.ensures.said c.window_in.ensures.said c.in_ok-top.was
+    c.in_ok-limit.was c.in_ok-window.was in
     let whole = document_read c.args.version (table_view c.args.table.now) read
     c.in_ok-top.top.front.backlog refl in
     search rules

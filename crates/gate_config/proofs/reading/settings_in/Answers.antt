@@ -3,7 +3,7 @@ use Rattle.toml.specs.Data.{get_member}
 use Rattle.toml.specs.View.{table_view}
 use Rattle.gate_config.specs.Document.{document_of}
 use Rattle.gate_config.specs.Settings.{version_of}
-use Rattle.gate_config.proofs.Told.{of_document}
+use Rattle.gate_config.proofs.EarlyFaults.{of_document}
 use Rattle.gate_config.proofs.reading.settings_in.Goals as goal
 
 pub returns-in_err-document-clause-fault : goal.returns-in_err-document-clause-fault

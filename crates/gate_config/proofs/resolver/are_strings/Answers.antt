@@ -1,6 +1,6 @@
 use Rattle.std.proofs.Common.{sym, ◌∙◌, is_some}
 use Rattle.toml.specs.Data.{as_str}
-use Rattle.gate_config.proofs.Lists.{all_values}
+use Rattle.gate_config.proofs.TableMembers.{all_values}
 use Rattle.gate_config.proofs.resolver.are_strings.Goals as goal
 
 pub returns : goal.returns

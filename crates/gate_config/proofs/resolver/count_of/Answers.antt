@@ -1,5 +1,5 @@
 use Rattle.std.proofs.Common.{sym, ◌∙◌}
-use Rattle.gate_config.proofs.Lists.{length_pairs}
+use Rattle.gate_config.proofs.TableMembers.{length_pairs}
 use Rattle.gate_config.proofs.resolver.count_of.Goals as goal
 
 pub returns : goal.returns

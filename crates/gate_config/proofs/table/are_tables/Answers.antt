@@ -1,7 +1,7 @@
 use Rattle.std.proofs.Common.{sym, ◌∙◌, is_some}
 use Rattle.toml.specs.Data.{as_table}
 use Rattle.toml.specs.View.{view}
-use Rattle.gate_config.proofs.Lists.{list_all_map}
+use Rattle.gate_config.proofs.MappedLists.{list_all_map}
 use Rattle.gate_config.proofs.table.are_tables.Goals as goal
 
 pub returns : goal.returns

@@ -1,5 +1,5 @@
 use Rattle.std.proofs.Common.{rules}
-use Rattle.gate_config.proofs.Lists.{items_back}
+use Rattle.gate_config.proofs.TableMembers.{items_back}
 use Rattle.gate_config.proofs.table.items_of.Goals as goal
 
 pub returns-in-Some : goal.returns-in-Some

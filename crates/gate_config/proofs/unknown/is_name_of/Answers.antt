@@ -1,6 +1,6 @@
 use Rattle.std.proofs.Common.{sym, ◌∙◌, bytes_eq}
 use Rattle.gate_config.specs.Rows.{name_of}
-use Rattle.gate_config.proofs.Lists.{list_any_map}
+use Rattle.gate_config.proofs.MappedLists.{list_any_map}
 use Rattle.gate_config.proofs.unknown.is_name_of.Goals as goal
 
 pub returns : goal.returns

@@ -4,10 +4,10 @@ use Rattle.limit_kinds.specs.AnyKinds.{any_rules}
 use Rattle.config_file.specs.Reading.{IsFaultOf, Says}
 use Rattle.gate_opening.specs.Opening.{making_of}
 use Rattle.serve_command.specs.Command.{IsOfServing, IsServedBy}
-use Rattle.serve_command.specs.Runs.{AreMiscounted, IsBy}
+use Rattle.serve_command.specs.GatewayRun.{AreMiscounted, IsBy}
 use Rattle.serve_command.specs.declared.fault.ServiceFault.TheVariants as Service
-use Rattle.serve_command.proofs.Whys.{serving_is, why_unread, why_unserved, why_unset}
-use Rattle.serve_command.proofs.Whys.{why_unwritten}
+use Rattle.serve_command.proofs.WhyUnserved.{serving_is, why_unread, why_unserved, why_unset}
+use Rattle.serve_command.proofs.WhyUnserved.{why_unwritten}
 use Rattle.serve_command.proofs.command.serve_and_count.Goals as goal
 
 pub returns-in_err-text-clause-refused :

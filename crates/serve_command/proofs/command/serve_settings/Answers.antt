@@ -9,11 +9,11 @@ use Rattle.gate_desk.specs.State.{new_desk}
 use Rattle.limiter_core.specs.declared.counters.Counters.{Counters}
 use Rattle.config_file.specs.Reading.{Says}
 use Rattle.serving.specs.declared.fault.ServeFault.{ServeFault}
-use Rattle.serve_command.specs.Runs.{AreMiscounted, HasServedAt, IsBy}
+use Rattle.serve_command.specs.GatewayRun.{AreMiscounted, HasServedAt, IsBy}
 use Rattle.serve_command.specs.ServiceFault.{of_workers}
 use Rattle.serve_command.proofs.Beside.{admin_served, bound_too, status_served}
-use Rattle.serve_command.proofs.Whys.{bound_at, lacks_admin, lacks_front, lacks_status}
-use Rattle.serve_command.proofs.Whys.{lacks_memory, lacks_workers}
+use Rattle.serve_command.proofs.WhyUnserved.{bound_at, lacks_admin, lacks_front, lacks_status}
+use Rattle.serve_command.proofs.WhyUnserved.{lacks_memory, lacks_workers}
 use Rattle.serve_command.proofs.command.serve_settings.Goals as goal
 
 pub returns-in_err-front-clause-refused : goal.returns-in_err-front-clause-refused

@@ -3,7 +3,7 @@ use Rattle.limit_kinds.specs.AnyKinds.{any_rules}
 use Rattle.config_file.specs.Reading.{Says}
 use Rattle.gate_opening.specs.Opening.{making_of}
 use Rattle.gate_desk.specs.State.{new_desk}
-use Rattle.serve_command.specs.Runs.{HasServedAt, IsBy}
+use Rattle.serve_command.specs.GatewayRun.{HasServedAt, IsBy}
 use Rattle.serve_command.proofs.Served.{on_ok, served_at}
 use Rattle.serve_command.proofs.context.serve_in.Goals as goal
 

@@ -3,8 +3,8 @@ use Rattle.std.proofs.lemmas.Iterator.Adapters.{YieldsList-from_vec}
 use Rattle.std.proofs.lemmas.Iterator.Consumers.{YieldsList-end}
 use Rattle.std.proofs.lemmas.List.{map-id}
 use Rattle.shared_gate.specs.Closing.{calls_by}
-use Rattle.serve_command.specs.Runs.{passes_in, served_by}
-use Rattle.serve_command.proofs.Runs.{one_call_more, one_pass_more}
+use Rattle.serve_command.specs.GatewayRun.{passes_in, served_by}
+use Rattle.serve_command.proofs.GatewayRun.{one_call_more, one_pass_more}
 use Rattle.serve_command.proofs.gateway.passes_of.Goals as goal
 
 pub loop-left-preserved-in-Some-pass_in : goal.loop-left-preserved-in-Some-pass_in

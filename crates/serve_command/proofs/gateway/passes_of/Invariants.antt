@@ -2,7 +2,7 @@ use Rattle.std.proofs.Common.{◌≡◌, ◌≤◌, ◌+◌, ◌*◌, ◌^◌, l
 use Rattle.std.specs.Prelude.{vec_len}
 use Rattle.std.specs.Vec.Iter.{into_iter_items}
 use Rattle.shared_gate.specs.Closing.{calls_by}
-use Rattle.serve_command.specs.Runs.{passes_in, served_by}
+use Rattle.serve_command.specs.GatewayRun.{passes_in, served_by}
 use Rattle.serve_command.proofs.gateway.passes_of.Given as goal
 
 -- the passes of those so far who served, and the calls of the workers among them, to each of whom

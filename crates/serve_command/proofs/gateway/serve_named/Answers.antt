@@ -4,7 +4,7 @@ use Rattle.limit_kinds.specs.AnyKinds.{any_rules}
 use Rattle.gate_ledgers.specs.Making.{Making}
 use Rattle.gate_opening.specs.Opening.{making_of}
 use Rattle.gate_desk.specs.State.{new_desk}
-use Rattle.serve_command.specs.Runs.{AreMiscounted, HasServedAll, IsBy}
+use Rattle.serve_command.specs.GatewayRun.{AreMiscounted, HasServedAll, IsBy}
 use Rattle.serve_command.proofs.gateway.serve_named.Goals as goal
 
 -- the counters are those of the gate that was opened, whose names say how it was made, and so are

@@ -3,11 +3,11 @@ use Rattle.std.specs.Prelude.{vec_len}
 use Rattle.std.specs.List.{AllZip}
 use Rattle.serving.specs.Workers.{HasRun, ended_in, made_in}
 use Rattle.ports.specs.Asked.{known_by}
-use Rattle.serve_command.specs.Runs.{IsBy}
+use Rattle.serve_command.specs.GatewayRun.{IsBy}
 use Rattle.gate_desk.specs.Desk.{IsDone}
 use Rattle.gate_desk.specs.State.{new_desk}
 use Rattle.serve_command.proofs.Beside.{beside}
-use Rattle.serve_command.proofs.Runs.{all_ran_to, counted_runs, runs_miscounted, served_all}
+use Rattle.serve_command.proofs.GatewayRun.{all_ran_to, counted_runs, runs_miscounted, served_all}
 use Rattle.serve_command.proofs.gateway.serve_through.Goals as goal
 
 -- the passes that were handed back are those of the workers, who began with passes of no call, and

@@ -1,5 +1,5 @@
 use Rattle.std.proofs.Common.{rules}
-use Rattle.gate_config.proofs.Lists.{routes_view}
+use Rattle.gate_config.proofs.TableMembers.{routes_view}
 use Rattle.gate_config.proofs.build.rules.router_of.Goals as goal
 
 pub loop-pattern-init : goal.loop-pattern-init

@@ -6,4 +6,5 @@ use Rattle.gate_config.proofs.build.rules.set_places.Given as goal
 -- the rows so far have their places
 abbrev pub invariant-loop-row : goal.invariant-loop-row
 invariant-loop-row l =
-    l.table ≡ take l.row (map class_row l.classes) ++ unplaced (drop l.row (map class_row l.classes))
+    l.table
+    ≡ take l.row (map class_row l.classes) ++ unplaced (drop l.row (map class_row l.classes))

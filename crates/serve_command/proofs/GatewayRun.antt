@@ -40,9 +40,9 @@ use Rattle.gate_desk.specs.Desk.{IsDone}
 use Rattle.gate_desk.specs.State.{DeskState}
 use Rattle.serve_command.specs.declared.admin.SideAddresses.{SideAddresses}
 use Rattle.serve_command.specs.Beside.{AreServedBeside, IsUnused}
-use Rattle.serve_command.specs.Runs.{AreCountersOfRuns, AreEnded, AreMiscounted, AreOff}
-use Rattle.serve_command.specs.Runs.{HasRunTo, HasServedAll, IsBy, calls_told}
-use Rattle.serve_command.specs.Runs.{passes_in, served_by, stood_at}
+use Rattle.serve_command.specs.GatewayRun.{AreCountersOfRuns, AreEnded, AreMiscounted, AreOff}
+use Rattle.serve_command.specs.GatewayRun.{HasRunTo, HasServedAll, IsBy, calls_told}
+use Rattle.serve_command.specs.GatewayRun.{passes_in, served_by, stood_at}
 use Rattle.serve_command.proofs.Clients.{all_ran_in}
 
 module _ {L C S W : Type 0} (R T V M : Type 0) (m : Making) (gives : S → Settings → Type 0)

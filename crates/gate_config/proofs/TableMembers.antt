@@ -1,7 +1,7 @@
--- Lists seen through a function, and the members of tables.
+-- The members of tables, and the items of arrays.
 use Rattle.std.specs.BTreeMap.{keys, values}
-use Rattle.std.specs.List.{list_all, list_any}
-use Rattle.std.proofs.Common.{◌≡◌, refl, ap, ℕ, Bool, ◌||◌, ◌&&◌, List, [], ◌∷◌, map, String}
+use Rattle.std.specs.List.{list_all}
+use Rattle.std.proofs.Common.{◌≡◌, refl, ap, ℕ, Bool, List, [], ◌∷◌, map, String}
 use Rattle.std.proofs.Common.{Global, BTreeMap, string_bytes, length, sym, ◌∙◌}
 use Rattle.std.proofs.lemmas.List.{length-map}
 use Rattle.toml.specs.declared.value.Value.{Value}
@@ -10,21 +10,7 @@ use Rattle.toml.specs.View.{items_of, members_view, table_view, view}
 use Rattle.gate_config.specs.Table.{items_in, pairs_of}
 use Rattle.gate_config.specs.Text.{string_of}
 use Rattle.gate_config.specs.Routes.{routes_of}
-
-pub list_any_map : {X Y : Type 0} (test : Y → Bool) (f : X → Y) (xs : List X) →
-    list_any test (map f xs) ≡ list_any (λ x. test (f x)) xs
-list_any_map test f [] = refl
-list_any_map test f (x ∷ xs) = ap (λ b. test (f x) || b) (list_any_map test f xs)
-
-pub list_all_map : {X Y : Type 0} (test : Y → Bool) (f : X → Y) (xs : List X) →
-    list_all test (map f xs) ≡ list_all (λ x. test (f x)) xs
-list_all_map test f [] = refl
-list_all_map test f (x ∷ xs) = ap (λ b. test (f x) && b) (list_all_map test f xs)
-
-map_twice : {X Y Z : Type 0} (f : Y → Z) (g : X → Y) (xs : List X) →
-    map f (map g xs) ≡ map (λ x. f (g x)) xs
-map_twice f g [] = refl
-map_twice f g (x ∷ xs) = ap (λ rest. f (g x) ∷ rest) (map_twice f g xs)
+use Rattle.gate_config.proofs.MappedLists.{list_all_map, map_twice}
 
 -- the items of an array are the list that they were made of
 pub items_back : (ds : List Data) → items_in (items_of ds) ≡ ds

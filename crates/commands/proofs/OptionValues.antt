@@ -1,33 +1,18 @@
--- Subcommands that name no run, and what every run keeps to.
+-- Values of options: in their range where the words have them, and lacking where they don't.
 use Rattle.std.proofs.Common.{rules, ap, Bool, false, ◌≡◌, ◌≢◌, ◌∙◌, sym, codes, ℕ, List, [], ◌∷◌, Option, Some, None}
 use Rattle.std.specs.declared.net.socket_addr.SocketAddrV4.{SocketAddrV4}
 use Rattle.std.specs.Option.{option_map_or}
 use Rattle.std.specs.Str.{bytes_eq}
-use Rattle.clap.specs.Words.{Row, Text, first_of}
-use Rattle.commands.specs.CommandLine.{IsCommandOf, IsRunOf, KeepsRanges}
-use Rattle.commands.specs.Options.{Holds, ServeRow, Value, address, flag, limit, log_lines, loopback}
-use Rattle.commands.specs.Options.{number, number_if_given, serve_rows, workers}
+use Rattle.clap.specs.Words.{Row, first_of}
+use Rattle.commands.specs.Options.{Holds, ServeRow, Value, address, flag, log_lines, loopback}
+use Rattle.commands.specs.Options.{number, number_if_given, serve_rows}
 use Rattle.commands.specs.ServeOptions.{AreGiven, AreServeOptions, Each}
 use Rattle.commands.specs.Values.{Has, HasAddress, HasLogLines, HasLoopback, HasOptional, HasSome}
 use Rattle.commands.specs.Values.{HasValue, IsWithin, Lacks, MayHaveAddress, MayHaveLoopback}
 use Rattle.commands.specs.Values.{is_set}
-use Rattle.commands.specs.declared.command_line.Run.{Run}
-use Rattle.commands.specs.declared.command_line.Run.TheVariants.{Text as OfText, Load, Check, Serve}
-use Rattle.commands.specs.declared.command_line.TextTask.TheVariants.{Replay, Simulate}
 use Rattle.commands.specs.declared.serve_options.LogLines.{LogLines}
 use Rattle.commands.specs.declared.serve_options.LogLines.TheVariants.{Plain, Time, Journal}
 use Rattle.commands.specs.declared.serve_options.ServeOptions.{ServeOptions}
-
--- a run is named by one subcommand alone
-pub no_run : (name : Text) (rows : List Row) (run : Run) → name ≢ codes "replay"
-    → name ≢ codes "simulate" → name ≢ codes "load" → name ≢ codes "check" → name ≢ codes "serve"
-    → IsCommandOf name rows run → ⊥
-no_run name rows (OfText (Replay permits) explain) replay simulate load check serve is = replay is.0.0
-no_run name rows (OfText (Simulate permits) explain) replay simulate load check serve is =
-    simulate is.0.0
-no_run name rows (Load permits threads explain) replay simulate load check serve is = load is.0
-no_run name rows (Check path explain) replay simulate load check serve is = check is.0
-no_run name rows (Serve options) replay simulate load check serve is = serve is.0
 
 -- a path that isn't there
 pub no_path : {o : Option (List ℕ)} {path : List ℕ} → o ≡ None → o ≡ Some path → ⊥
@@ -82,7 +67,7 @@ kept rows id log_lines lines has = tt
 kept rows id flag is has = tt
 
 -- so are those of all options
-each_kept : (rows : List Row) (o : ServeOptions) (table : List ServeRow)
+pub each_kept : (rows : List Row) (o : ServeOptions) (table : List ServeRow)
     → Each (λ row. Has rows row.entry (row.value o)) table
     → Each (λ row. IsWithin row.entry.holds (row.value o)) table
 each_kept rows o [] each = tt
@@ -135,62 +120,3 @@ pub unset_by : (rows : List Row) (id : List ℕ) → first_of id rows ≡ None
 unset_by rows id is =
     sym (ap (λ (o : Option (List ℕ)).
     option_map_or (λ text. bytes_eq text (codes "true")) o false) is)
-
--- what every run of the words keeps to
-pub ranges_kept : (named : Option (Text × List Row)) (run : Run) → IsRunOf named run
-    → KeepsRanges run
-ranges_kept None run is = absurd is
-ranges_kept (Some named) (OfText (Replay permits) explain) is = (is.0.1.4, is.0.1.5)
-ranges_kept (Some named) (OfText (Simulate permits) explain) is = (is.0.1.4, is.0.1.5)
-ranges_kept (Some named) (Load permits threads explain) is = ((is.1.4, is.1.5), (is.2.4, is.2.5))
-ranges_kept (Some named) (Check path explain) is = tt
-ranges_kept (Some named) (Serve options) is = each_kept named.1 options serve_rows is.1.values
-
-pub no_replay : (rows : List Row) (run : Run)
-    → Lacks rows limit.word limit.holds → IsCommandOf (codes "replay") rows run → ⊥
-no_replay rows (OfText (Replay permits) explain) none is =
-    none (record { value = permits; has = is.0.1 })
-no_replay rows (OfText (Simulate permits) explain) none is = let named = is.0.0 in search rules
-no_replay rows (Load permits threads explain) none is = let named = is.0 in search rules
-no_replay rows (Check path explain) none is = let named = is.0 in search rules
-no_replay rows (Serve options) none is =
-    let named = is.0 in search rules
-
-pub no_simulate : (rows : List Row) (run : Run)
-    → Lacks rows limit.word limit.holds → IsCommandOf (codes "simulate") rows run → ⊥
-no_simulate rows (OfText (Replay permits) explain) none is = let named = is.0.0 in search rules
-no_simulate rows (OfText (Simulate permits) explain) none is =
-    none (record { value = permits; has = is.0.1 })
-no_simulate rows (Load permits threads explain) none is = let named = is.0 in search rules
-no_simulate rows (Check path explain) none is = let named = is.0 in search rules
-no_simulate rows (Serve options) none is =
-    let named = is.0 in search rules
-
-pub no_load : (rows : List Row) (run : Run)
-    → (HasSome rows limit.word limit.holds → HasSome rows workers.word workers.holds → ⊥)
-    → IsCommandOf (codes "load") rows run → ⊥
-no_load rows (OfText (Replay permits) explain) none is = let named = is.0.0 in search rules
-no_load rows (OfText (Simulate permits) explain) none is = let named = is.0.0 in search rules
-no_load rows (Load permits threads explain) none is =
-    none (record { value = permits; has = is.1 }) (record { value = threads; has = is.2 })
-no_load rows (Check path explain) none is = let named = is.0 in search rules
-no_load rows (Serve options) none is =
-    let named = is.0 in search rules
-
-pub no_check : (rows : List Row) (run : Run) → first_of (codes "config") rows ≡ None
-    → IsCommandOf (codes "check") rows run → ⊥
-no_check rows (OfText (Replay permits) explain) none is = let named = is.0.0 in search rules
-no_check rows (OfText (Simulate permits) explain) none is = let named = is.0.0 in search rules
-no_check rows (Load permits threads explain) none is = let named = is.0 in search rules
-no_check rows (Check path explain) none is = no_path none is.1
-no_check rows (Serve options) none is =
-    let named = is.0 in search rules
-
-pub no_serve : (rows : List Row) (run : Run)
-    → ((options : ServeOptions) → AreServeOptions rows options → ⊥)
-    → IsCommandOf (codes "serve") rows run → ⊥
-no_serve rows (OfText (Replay permits) explain) none is = let named = is.0.0 in search rules
-no_serve rows (OfText (Simulate permits) explain) none is = let named = is.0.0 in search rules
-no_serve rows (Load permits threads explain) none is = let named = is.0 in search rules
-no_serve rows (Check path explain) none is = let named = is.0 in search rules
-no_serve rows (Serve options) none is = none options is.1

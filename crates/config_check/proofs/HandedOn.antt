@@ -1,4 +1,4 @@
--- Why settings weren't had.
+-- A fault that is handed on.
 use Rattle.std.proofs.Common.{◌≡◌, Result, Ok, Err, IfErr, IsErrAnd, sym, subst}
 
 -- `?` hands a fault on
