@@ -12,7 +12,7 @@ use partitions::Part;
 pub enum Why {
     /// There was no room, and it didn't wait.
     Full,
-    /// There was no room, and as many waited as may.
+    /// There was no room, and no more of its partition may wait.
     BacklogFull,
     /// It waited, and got no permit.
     TimedOut,

@@ -1,8 +1,8 @@
 -- The headline of a gate that serves: what its passes and receipts say of one history, with no
 -- audit and however often the gate has rolled.
 --
--- g: what the limiter was made with, o: what stood at first, log: the entries that a pass knows,
--- lists: the calls by passes, one list for each pass
+-- g: what the limiter was made with, o: what stood at first, log: a list of entries that begins
+-- with what each pass knows, lists: the calls by passes, one list for each pass
 use Rattle.std.specs.Prelude.{List, [], ◌∷◌, map}
 use mathlib.Core.List.{IsPrefix}
 use Rattle.limiter_core.specs.declared.event.Entry.{Entry}
