@@ -1,2 +1,2 @@
-mod Fresh
+mod ServedOperator
 mod Looks

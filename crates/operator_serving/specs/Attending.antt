@@ -5,7 +5,7 @@ use Rattle.std.specs.Io.KnownBytes.{append_known}
 use Rattle.counted_io.specs.declared.counted.Counted.{Counted}
 use Rattle.counted_io.specs.Causes.{IsWriteCause}
 use Rattle.counted_io.specs.Count.{raised}
-use Rattle.counted_io.specs.Counted.{inner_of}
+use Rattle.counted_io.specs.Counted.{fresh, inner_of}
 use Rattle.counted_io.specs.Effects.{Wrote}
 use Rattle.partitions.specs.Table.{Row}
 use Rattle.message_text.specs.declared.persistence.Persistence.TheVariants.{Close}
@@ -28,10 +28,6 @@ use Rattle.operator_serving.specs.Doors.{Stand, one_given, one_missed}
 use Rattle.operator_serving.specs.Memory.{refused_by}
 use Rattle.operator_serving.specs.Telling.{Tells, lines_of}
 use Rattle.operator_serving.specs.Words.{Words}
-
--- a reader or a writer of these bytes that wasn't called
-abbrev pub fresh : Bytes → Counted Bytes
-fresh bytes = record { inner = bytes; calls = 0; flushes = 0; failures = 0; is_flushed = false }
 
 -- the answer to a client that asked by this method: these lines, and what is told
 abbrev pub told_text_by : List ℕ → List Header → Words → List ℕ

@@ -6,6 +6,7 @@ use Rattle.std.proofs.lemmas.Option.{same_Some}
 use Rattle.std.proofs.lemmas.List.Elements.{All-cons, All-head, All-nil, All-tail}
 use mathlib.Core.List.{IsPrefix}
 use Rattle.lemmas.proofs.Lists.{prefix_trans}
+use Rattle.counted_io.specs.Counted.{fresh}
 use Rattle.limit_laws.specs.Algorithm.{Algorithm}
 use Rattle.limiter_core.specs.declared.counters.Counters.{Counters}
 use Rattle.limiter_core.specs.declared.event.Entry.{Entry}
@@ -25,7 +26,7 @@ use Rattle.proxy.specs.Exchanges.{Bytes, Policy}
 use Rattle.proxy.specs.Made.{counted_with, reads_of, summary_of, writes_of}
 use Rattle.gate_laws.specs.Decided.{IsDecided}
 use Rattle.gate_laws.specs.Exchanges.{ExchangesAreOneThreads, HasCalled}
-use Rattle.serving.specs.Served.{Back, around, fresh, policy_for}
+use Rattle.serving.specs.Served.{Back, around, policy_for}
 use Rattle.serving.specs.Turns.{AreServed, Ending, IsTurn, Keeping, Missing, Turn}
 use Rattle.serving.specs.Visits.{Client}
 use Rattle.serve_command.specs.Clients.{AreDecided, HasRunIn}

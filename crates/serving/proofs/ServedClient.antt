@@ -8,7 +8,7 @@ use Rattle.clocks.specs.Looks.{Looked, unlooked}
 use Rattle.counted_io.specs.declared.counted.Counted.{Counted}
 use Rattle.counted_io.specs.Count.{count_end}
 use Rattle.counted_io.specs.Causes.{IsWriteCause}
-use Rattle.counted_io.specs.Counted.{calls_of, failures_of, flushes_of, inner_of, is_flushed}
+use Rattle.counted_io.specs.Counted.{fresh, inner_of}
 use Rattle.message_parts.specs.declared.request.Request.{Request}
 use Rattle.message_text.specs.declared.persistence.Persistence.{Persistence}
 use Rattle.message_text.specs.declared.persistence.Persistence.TheVariants.{Close, Keep}
@@ -21,28 +21,7 @@ use Rattle.proxy.specs.Exchanges.{Bytes, IsExchange, Policy, World}
 use Rattle.proxy.specs.Keeping.{Persists, is_kept_behind}
 use Rattle.proxy.specs.Made.{counted_with, counts_of, is_kept, keeps_if, reads_of, summary_of}
 use Rattle.proxy.specs.Made.{with_sent, writes_of}
-use Rattle.serving.specs.Served.{Back, IsSent, IsServed, around, fresh, told_by_places}
-
--- a reader or a writer with these bytes and counts
-counted : Bytes → ℕ → ℕ → ℕ → Bool → Counted Bytes
-counted bytes calls flushes failures flushed = record {
-  inner = bytes;
-  calls = calls;
-  flushes = flushes;
-  failures = failures;
-  is_flushed = flushed;
-}
-
--- one that wasn't called
-pub is_fresh : (c : Counted Bytes) (first : Bytes) → inner_of c ≡ first → calls_of c ≡ 0
-    → flushes_of c ≡ 0 → failures_of c ≡ 0 → is_flushed c ≡ false → c ≡ fresh first
-unfolding counted
-is_fresh c first inner calls flushes failures flushed =
-    ap (λ (b : Bytes). counted b (calls_of c) (flushes_of c) (failures_of c) (is_flushed c)) inner
-    ∙ ap (λ (n : ℕ). counted first n (flushes_of c) (failures_of c) (is_flushed c)) calls
-    ∙ ap (λ (n : ℕ). counted first 0 n (failures_of c) (is_flushed c)) flushes
-    ∙ ap (λ (n : ℕ). counted first 0 0 n (is_flushed c)) failures
-    ∙ ap (λ (b : Bool). counted first 0 0 0 b) flushed
+use Rattle.serving.specs.Served.{Back, IsSent, IsServed, around, told_by_places}
 
 -- a fault of writing has its cause
 abbrev IsBroken : Counted Bytes → Counted Bytes → Exchange → Type 0

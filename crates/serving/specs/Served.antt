@@ -5,6 +5,7 @@ use Rattle.std.specs.Io.KnownBytes.{append_known}
 use Rattle.clocks.specs.Looks.{Looked, unlooked}
 use Rattle.counted_io.specs.declared.counted.Counted.{Counted}
 use Rattle.counted_io.specs.Causes.{IsWriteCause}
+use Rattle.counted_io.specs.Counted.{fresh}
 use Rattle.gateway_settings.specs.declared.settings.Settings.{Settings}
 use Rattle.gate_port.specs.Log.{Known}
 use Rattle.gate_port.specs.Shown.{Shown}
@@ -33,10 +34,6 @@ back_of shown known forwarded log port backend = record {
   count = forwarded backend;
   log = log backend;
 }
-
--- a reader or a writer of these bytes that wasn't called
-abbrev pub fresh : Bytes → Counted Bytes
-fresh bytes = record { inner = bytes; calls = 0; flushes = 0; failures = 0; is_flushed = false }
 
 -- what an exchange finds or leaves
 abbrev pub around : Counted Bytes → Counted Bytes → Looked BackendAnswer → Back → World

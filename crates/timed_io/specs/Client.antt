@@ -1,7 +1,7 @@
 -- A client that is served.
-use Rattle.std.specs.Prelude.{◌≡◌, false, List, ℕ, Option}
+use Rattle.std.specs.Prelude.{List, ℕ, Option}
 use Rattle.counted_io.specs.declared.counted.Counted.{Counted}
-use Rattle.counted_io.specs.Counted.{calls_of, failures_of, flushes_of, inner_of, is_flushed}
+use Rattle.counted_io.specs.Counted.{inner_of}
 use Rattle.lent_io.specs.declared.reading.BufferedRead.{BufferedRead}
 use Rattle.lent_io.specs.declared.writing.BufferedWrite.{BufferedWrite}
 use Rattle.lent_io.specs.Through.{held_by, left_of, reader_below, writer_below}
@@ -43,10 +43,3 @@ inlet_in reader =
 abbrev pub outlet_in : {S O C : Type 0}
     → Counted (BufferedWrite (Uninterrupted (TimedWriter (Lent S O) C))) → O
 outlet_in writer = end_of (writer_in (uninterrupted_in (writer_below (inner_of writer))))
-
--- a reader or a writer that wasn't called
-pub record IsUnused {T : Type 0} (c : Counted T) : Type 0 where
-  pub calls : calls_of c ≡ 0
-  pub flushes : flushes_of c ≡ 0
-  pub failures : failures_of c ≡ 0
-  pub unflushed : is_flushed c ≡ false

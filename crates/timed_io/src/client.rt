@@ -1,8 +1,8 @@
 // A client while it is served.
 ghost use Rattle.std.specs.Prelude.{◌≡◌, [], IsTrue, length};
-ghost use Rattle.counted_io.specs.Counted.{inner_of};
+ghost use Rattle.counted_io.specs.Counted.{fresh, inner_of};
 ghost use Rattle.lent_io.specs.Through.{held_of, pending_of};
-ghost use Rattle.timed_io.specs.Client.{IsUnused, from_of, inlet_in, outlet_in, to_of};
+ghost use Rattle.timed_io.specs.Client.{from_of, inlet_in, outlet_in, to_of};
 ghost use Rattle.timed_io.specs.Client.{unread_of, written_of};
 
 use crate::client_ends::ClientEnds;
@@ -105,8 +105,8 @@ where
             ≡ I.remaining (from_of ends) }
         ensures writer { written_of O.contents (inner_of result.writer)
             ≡ O.contents (to_of ends) }
-        ensures unread { IsUnused result.reader }
-        ensures unwritten { IsUnused result.writer }
+        ensures unread { result.reader ≡ fresh (inner_of result.reader) }
+        ensures unwritten { result.writer ≡ fresh (inner_of result.writer) }
     {
         let ClientEnds { from, to } = ends;
         let ClientBuffers { ahead, behind } = buffers;

@@ -1,5 +1,5 @@
-use Rattle.std.proofs.Common.{rules}
-use Rattle.counted_io.specs.Counted.{inner_of}
+use Rattle.std.proofs.Common.{ap, rules}
+use Rattle.counted_io.specs.Counted.{calls_of, failures_of, inner_of}
 use Rattle.config_file.proofs.reading.read_file_text.Goals as goal
 
 -- the file is the one that was opened, before its first read and after its last
@@ -20,6 +20,6 @@ returns-in-Err-read_text-clause-refused g c =
     let opened : g.F.Opener.opened c.args.path.now (inner_of c.new-reader.result) = search rules in
     let made = c.new-reader.ensures in (
       c.new-reader.result,
-      (opened, made.calls, made.failures),
+      (opened, ap calls_of made, ap failures_of made),
       c.in-Err-read_text.ensures.refused,
     )

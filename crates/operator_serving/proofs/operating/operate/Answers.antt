@@ -5,7 +5,7 @@ use Rattle.operator_serving.specs.Attending.AreServed.{nobody, none_more, one_mo
 use Rattle.operator_serving.specs.Desk.{AreLooks as looks}
 use Rattle.operator_serving.specs.Doors.{stand}
 use Rattle.operator_serving.specs.Memory.{refused_of}
-use Rattle.operator_serving.proofs.Fresh.{stands_at}
+use Rattle.operator_serving.proofs.ServedOperator.{stands_at}
 use Rattle.operator_serving.proofs.operating.operate.Goals as goal
 
 pub loop-init : goal.loop-init

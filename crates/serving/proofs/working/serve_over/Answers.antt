@@ -1,10 +1,11 @@
 use Rattle.std.proofs.Common.{rules, ◌≡◌, ◌∙◌, [], true, ap, sym}
 use Rattle.std.specs.Io.KnownBytes.{append_known}
-use Rattle.counted_io.specs.Counted.{inner_of}
+use Rattle.counted_io.specs.Counted.{fresh, inner_of}
+use Rattle.timed_io.specs.Client.{unread_of, written_of}
 use Rattle.lent_io.specs.Through.{held_of, pending_of}
 use Rattle.proxy.specs.Exchanges.{told_by}
 use Rattle.proxy.specs.Made.{is_kept}
-use Rattle.serving.proofs.ServedClient.{all_left, is_fresh, nothing_held, served}
+use Rattle.serving.proofs.ServedClient.{all_left, nothing_held, served}
 use Rattle.serving.proofs.working.serve_over.Goals as goal
 
 pub returns : goal.returns
@@ -16,10 +17,8 @@ returns g c =
     let sent = c.close-left.result.is_sent in
     served _ _ _ c.exchange-served.result _ _ _ _ _ sent made.exchanged
     (record {
-      reader = is_fresh _ _ opened.reader opened.unread.calls opened.unread.flushes
-          opened.unread.failures opened.unread.unflushed;
-      writer = is_fresh _ _ opened.writer opened.unwritten.calls opened.unwritten.flushes
-          opened.unwritten.failures opened.unwritten.unflushed;
+      reader = ap (told_by (unread_of g.I.Inlet.remaining)) opened.unread ∙ ap fresh opened.reader;
+      writer = ap (told_by (written_of g.O.Outlet.contents)) opened.unwritten ∙ ap fresh opened.writer;
       looks = search rules;
     })
     (record { broken = made.written; reads = made.reads; writes = made.writes }) (

@@ -1,11 +1,10 @@
--- A reader or a writer that nobody called.
-use Rattle.std.proofs.Common.{◌≡◌, ◌∙◌, ℕ, Bool, true, false, List, [], Result, Ok, Err, ap, subst}
-use Rattle.std.proofs.Common.{sym}
+-- What an operator's client was served, over ends that nobody called before.
+use Rattle.std.proofs.Common.{◌≡◌, ℕ, Bool, true, false, List, [], Result, Ok, Err, subst, sym}
 use Rattle.std.specs.Prelude.{⊤}
 use Rattle.std.specs.Io.KnownBytes.{append_known}
 use Rattle.counted_io.specs.declared.counted.Counted.{Counted}
 use Rattle.counted_io.specs.Causes.{IsWriteCause}
-use Rattle.counted_io.specs.Counted.{calls_of, failures_of, flushes_of, inner_of, is_flushed}
+use Rattle.counted_io.specs.Counted.{fresh, inner_of}
 use Rattle.partitions.specs.Table.{Row}
 use Rattle.message_parts.specs.declared.request.Request.{Request}
 use Rattle.wire.specs.declared.fault.WireFault.{WireFault}
@@ -15,29 +14,9 @@ use Rattle.proxy.specs.Made.{counted_with, counts_of}
 use Rattle.operator_calls.specs.declared.audience.Audience.{Audience}
 use Rattle.operator_serving.specs.declared.attending.Attended.{Attended}
 use Rattle.operator_serving.specs.Attended.{reads_of, was_written, with_sent, writes_of}
-use Rattle.operator_serving.specs.Attending.{AreServed, Deals, IsAttended, IsServed, fresh}
+use Rattle.operator_serving.specs.Attending.{AreServed, Deals, IsAttended, IsServed}
 use Rattle.operator_serving.specs.Desk.{Deed, Sight}
 use Rattle.operator_serving.specs.Doors.{Stand, stand}
-
--- a reader or a writer with these bytes and counts
-counted : Bytes → ℕ → ℕ → ℕ → Bool → Counted Bytes
-counted bytes calls flushes failures flushed = record {
-  inner = bytes;
-  calls = calls;
-  flushes = flushes;
-  failures = failures;
-  is_flushed = flushed;
-}
-
-pub is_fresh : (c : Counted Bytes) (first : Bytes) → inner_of c ≡ first → calls_of c ≡ 0
-    → flushes_of c ≡ 0 → failures_of c ≡ 0 → is_flushed c ≡ false → c ≡ fresh first
-unfolding counted
-is_fresh c first inner calls flushes failures flushed =
-    ap (λ (b : Bytes). counted b (calls_of c) (flushes_of c) (failures_of c) (is_flushed c)) inner
-    ∙ ap (λ (n : ℕ). counted first n (flushes_of c) (failures_of c) (is_flushed c)) calls
-    ∙ ap (λ (n : ℕ). counted first 0 n (failures_of c) (is_flushed c)) flushes
-    ∙ ap (λ (n : ℕ). counted first 0 0 n (is_flushed c)) failures
-    ∙ ap (λ (b : Bool). counted first 0 0 0 b) flushed
 
 -- a client was served by an exchange over a reader and a writer that weren't called, whose counts
 -- at its end it has
