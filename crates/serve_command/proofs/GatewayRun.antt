@@ -81,11 +81,7 @@ module _ {L C S W : Type 0} (R T V M : Type 0) (m : Making) (gives : S → Setti
         common.per_worker (stood_at 0 0 false 0 (known_at m it 0))
         (stood_at (given_of ended.door) (failed_of ended.door) (is_closed ended.door)
         (count_of ended.backend) (known_by m ended.port)) ended.tally) empty did.run;
-    accepted = did.accepted;
-    unaccepted = did.unaccepted;
-    once = did.once;
-    turns = did.turns;
-    whole = did.whole;
+    tallied = did.tallied;
   }
 
   -- all of them: as many as there were passes

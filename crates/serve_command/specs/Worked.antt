@@ -1,5 +1,5 @@
 -- What a worker of a gateway did.
-use Rattle.std.specs.Prelude.{◌≡◌, ◌≤◌, ◌+◌, ℕ, Bool, false, List, [], ◌∷◌, map, Option, Some, None}
+use Rattle.std.specs.Prelude.{◌≡◌, ℕ, Bool, false, List, [], ◌∷◌, map, Option, Some, None}
 use Rattle.gate_ledgers.specs.Making.{Making}
 use Rattle.gate_port.specs.Log.{Known}
 use Rattle.shared_gate.specs.Calls.{Pass, pass_of}
@@ -11,7 +11,7 @@ use Rattle.ports.specs.Asked.{Shared, known_at}
 use Rattle.serving.specs.Turns.{IsRun, Place}
 use Rattle.serving.specs.declared.jobs.JobResult.{JobResult}
 use Rattle.serving.specs.declared.jobs.JobResult.TheVariants as left
-use Rattle.serving.specs.Workers.{ended_in}
+use Rattle.serving.specs.Workers.{IsTallied, ended_in}
 pub use Rattle.gate_opening.specs.Counting.{AreEnded, calls_told}
 
 -- where a worker stands: by the counts of its door and of its backend, of which sockets show
@@ -29,10 +29,9 @@ stood_at given failed closed forwarded known = record {
 abbrev pub IsBy : (Settings → Type 0) → Bool → Policy → Type 0
 IsBy Gives marks p = Gives p.settings × (p ≡ policy_of p.settings marks)
 
--- RAN: by a policy that is given, a worker took its turns, or fewer where the listener was closed,
--- from where its pass knew nothing to what that knows now; each client came where they are to come,
--- each time that one came was counted, for each there was one exchange, and no more was forwarded
--- than there were exchanges
+-- RAN: by a policy that is given, a worker took its turns, as they are tallied, from where its pass
+-- knew nothing to what that knows now; each client came where they are to come, and for each there
+-- was one exchange
 pub record HasRunTo (m : Making) (Gives : Policy → Type 0) (Came : Option (List ℕ) → Type 0)
     (most : ℕ) (pass : Pass) : Type 0 where
   pub policy : Policy
@@ -45,11 +44,7 @@ pub record HasRunTo (m : Making) (Gives : Policy → Type 0) (Came : Option (Lis
   pub tally : TurnCounts
   pub run : IsRun policy Came most (stood_at 0 0 false 0 (known_at m (pass_of 0) 0))
       (stood_at given failed closed forwarded (known_at m pass reached)) tally
-  pub accepted : given ≡ tally.accepted
-  pub unaccepted : failed ≡ tally.unaccepted
-  pub once : forwarded ≤ tally.accepted
-  pub turns : tally.accepted + tally.unaccepted ≤ most
-  pub whole : closed ≡ false → tally.accepted + tally.unaccepted ≡ most
+  pub tallied : IsTallied given failed closed forwarded most tally
 
 -- the passes of those workers who served
 abbrev pub served_by : {A B M : Type 0} → List (JobResult A (Shared M) B Pass) → List Pass

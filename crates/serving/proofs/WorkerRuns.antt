@@ -73,11 +73,13 @@ module _ {R T L C S W V P : Type 0} (gives : S → Settings → Type 0) (came : 
         settings = run.settings;
         are_given = run.are_given;
         run = run.run;
-        accepted = omega arith;
-        unaccepted = omega arith;
-        once = omega arith;
-        turns = run.turns;
-        whole = run.whole;
+        tallied = record {
+          accepted = omega arith;
+          unaccepted = omega arith;
+          once = omega arith;
+          turns = run.turns;
+          whole = run.whole;
+        };
       }
 
   pub all_ran : (address : List ℕ) (ports : List P)

@@ -128,9 +128,19 @@ pub record Begins {R T L W V C P : Type 0} (listener : L) (most : Option ℕ) (a
   pub reaches : address_of (connector_of worker.backend) ≡ address
   pub host : host_of worker.backend ≡ address
 
--- RAN: a worker of this port, by settings that the source gives, took its turns, or fewer where the
--- listener was closed; each client came to that listener, each accept was counted, for each client
--- there was one exchange, and no more was forwarded than there were clients
+-- TALLIED: what a worker tells of its turns is what its door counted, its accepts and those that
+-- failed; no more was forwarded than there were clients; and there were as many turns as asked for,
+-- or fewer where its listener was closed
+pub record IsTallied (given failed : ℕ) (closed : Bool) (forwarded most : ℕ) (tally : TurnCounts)
+    : Type 0 where
+  pub accepted : given ≡ tally.accepted
+  pub unaccepted : failed ≡ tally.unaccepted
+  pub once : forwarded ≤ tally.accepted
+  pub turns : tally.accepted + tally.unaccepted ≤ most
+  pub whole : closed ≡ false → tally.accepted + tally.unaccepted ≡ most
+
+-- RAN: a worker of this port, by settings that the source gives, took its turns, as they are
+-- tallied; each client came to that listener, and for each there was one exchange
 pub record HasRun {R T L C S W V P : Type 0} (gives : S → Settings → Type 0)
     (came : L → Bytes → Type 0) (shown : P → Option Shown) (known : P → Option Known)
     (common : WorkerSettings L C S W) (port : P)
@@ -148,9 +158,5 @@ pub record HasRun {R T L C S W V P : Type 0} (gives : S → Settings → Type 0)
       })
       (place_of given_of failed_of is_closed (λ _. None)
       (back_of shown known count_of (λ _. None)) ended.door ended.port ended.backend) ended.tally
-  pub accepted : given_of ended.door ≡ ended.tally.accepted
-  pub unaccepted : failed_of ended.door ≡ ended.tally.unaccepted
-  pub once : count_of ended.backend ≤ ended.tally.accepted
-  pub turns : ended.tally.accepted + ended.tally.unaccepted ≤ common.per_worker
-  pub whole : is_closed ended.door ≡ false
-      → ended.tally.accepted + ended.tally.unaccepted ≡ common.per_worker
+  pub tallied : IsTallied (given_of ended.door) (failed_of ended.door) (is_closed ended.door)
+      (count_of ended.backend) common.per_worker ended.tally
