@@ -203,7 +203,7 @@ NUMBERS: tuple[tuple[str, str, tuple[Callable[[], float], ...]], ...] = (
     (
         RUNBOOK,
         r"start with `--workers N`; where I is (\d+) or more",
-        (constant("startup_log/src/lines.rt", "MOST_WORKERS"),),
+        (constant("serve_command/src/startup_lines.rt", "MOST_WORKERS"),),
     ),
     (RUNBOOK, r"`admission-drain 127\.0\.0\.1:(\d+)`", (ADMIN,)),
     (RUNBOOK, r"restart admission && curl [^:]*://127\.0\.0\.1:(\d+)/health", (ADMIN,)),

@@ -11,8 +11,7 @@ use counted_io::Counted;
 use fault_lines::tell_unread_words;
 use line_explain::{Kept, LineExplainer};
 use listening::SystemAddresses;
-use log_lines::{LineStart, LogLines};
-use serve_command::serve_file;
+use serve_command::{SystemLog, serve_file};
 use std::env;
 use std::io::Error;
 use std::process::ExitCode;
@@ -78,7 +77,7 @@ fn main(rt: HostRuntime) -> ExitCode {
             )
         }
         Run::Serve(options) => {
-            let logged = LogLines::new(rt, start_of(options.log_lines));
+            let logged = SystemLog::new(rt, options.log_lines);
             serve_file(
                 &logged,
                 &mut Spawner::new(&logged),
@@ -91,13 +90,4 @@ fn main(rt: HostRuntime) -> ExitCode {
             )
         }
     })
-}
-
-/// How each line of the log is to begin.
-fn start_of(lines: commands::LogLines) -> LineStart {
-    match lines {
-        commands::LogLines::Plain => LineStart::Plain,
-        commands::LogLines::Time => LineStart::Time,
-        commands::LogLines::Journal => LineStart::Journal,
-    }
 }

@@ -1,2 +1,3 @@
+mod Reaching
 mod Behind
 mod Naming

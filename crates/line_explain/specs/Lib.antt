@@ -1,3 +1,5 @@
+pub mod Astray
+pub mod Outside
 pub mod Named
 pub mod Kept
 pub mod Lacking

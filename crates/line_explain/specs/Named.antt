@@ -6,8 +6,8 @@ use Rattle.script.specs.declared.fault_kind.FaultKind.TheVariants as Fault
 use Rattle.script.specs.declared.line_fault.LineFault.{LineFault}
 use Rattle.script.specs.Words.{words}
 use Rattle.script.specs.declared.forms.TextKind.{TextKind}
-use Rattle.line_wants.specs.Astray.{astray}
-use Rattle.line_wants.specs.Outside.{form_had, outside}
+use Rattle.line_explain.specs.Astray.{astray}
+use Rattle.line_explain.specs.Outside.{form_had, outside}
 
 -- THE PLACE THAT IS NAMED by the kind of the fault: that of the first word that no form can go on
 -- with; the line's own word, where a setting comes too late or twice; that of the first word out of

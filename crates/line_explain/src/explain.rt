@@ -3,12 +3,12 @@ ghost use Rattle.std.specs.Prelude.{◌≡◌, ◌++◌, IfOk, OnOk, string_byte
 ghost use Rattle.script.specs.Words.{words};
 ghost use Rattle.line_explain.specs.Named.{IsExplained, IsNamed, NamesWord, word_line};
 
+use crate::choices::push_choices;
+use crate::classes::{place_of, push_names, push_names_before, push_refusal, refusal_of};
+use crate::fitting::{astray, word_at};
 use crate::lines_before::line_at;
 use crate::shown::shown;
-use line_wants::{
-    astray, form_had, outside, place_of, push_choices, push_names, push_names_before, push_refusal,
-    push_wanted, refusal_of, word_at,
-};
+use crate::value::{form_had, outside, push_wanted};
 use script::{FaultKind, LineFault, TextKind, WordPlace, next_line, read_settings};
 use std::alloc::{AllocError, Global};
 

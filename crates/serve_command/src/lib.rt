@@ -3,16 +3,24 @@
 //! [`serve_file`] reads the configuration in a file, binds its address, serves clients by the
 //! workers of `serving`, and at their end writes the line of the gate's counters. Its contract pins
 //! what is written and the exit status; of sockets, threads and the log it says nothing.
+//! [`SystemLog`] is the system by which it serves, with a log on standard error.
 #![tactic(auto)]
 
 mod admin;
 mod command;
 mod config_text;
 mod context;
+mod descriptors;
 mod desk_log;
 mod fault;
 mod gateway;
+mod moment;
 mod operators;
+mod priority;
+mod runtime;
+mod startup_lines;
+mod system_log;
 
 pub use command::serve_file;
 pub use fault::ServiceFault;
+pub use system_log::SystemLog;

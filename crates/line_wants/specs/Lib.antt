@@ -1,2 +1,0 @@
-pub mod Astray
-pub mod Outside
