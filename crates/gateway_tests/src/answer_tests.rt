@@ -1,7 +1,7 @@
 // What comes of each answer of a backend: what the client gets, and what the gate learns.
 use crate::checks::check;
 use crate::devices::{KEPT, Says};
-use crate::exchanged::{Came, Case, SETTINGS, exchanged};
+use crate::exchanged::{Came, Case, exchanged};
 use limiter_core::Outcome;
 use std::alloc::Global;
 use std::process::Abort;
@@ -52,9 +52,7 @@ const FAULTS: [WireFault; 11] = [
 
 /// What came of a request to a backend that says so.
 fn answered(rt: &impl Abort, alloc: Global, says: Says) -> Came {
-    let mut case = Case::new(GET, SETTINGS);
-    case.says = says;
-    exchanged(rt, alloc, case)
+    exchanged(rt, alloc, Case::new(GET, says))
 }
 
 /// The client got this and nothing failed; the request was forwarded once, and its permit ended
@@ -64,7 +62,6 @@ fn came_so(came: &Came, first: &[u8; KEPT], status: u16, outcome: Outcome) -> bo
         && came.told.answer == Some(status)
         && came.told.written_fault.is_none()
         && came.forwards == 1
-        && came.moments.2.is_some()
         && came.learnt == Some(outcome)
         && came.told.outcome == Some(outcome)
 }
@@ -84,40 +81,5 @@ fn each_fault_behind_a_connection_is_502_and_a_drop(rt: HostRuntime) {
         check(&rt, came_so(&came, b"HTTP/1.1 502", 502, Outcome::Dropped));
         let came = answered(&rt, rt.alloc(), Says::Stale(fault));
         check(&rt, came_so(&came, b"HTTP/1.1 502", 502, Outcome::Dropped));
-    }
-}
-
-/// What came of a later request of a client, which may be kept, to a backend that says so.
-fn answered_later(rt: &impl Abort, alloc: Global, says: Says) -> Came {
-    let mut case = Case::new(GET, SETTINGS);
-    case.says = says;
-    case.keeps = true;
-    case.is_later = true;
-    exchanged(rt, alloc, case)
-}
-
-/// The client got nothing, and isn't kept; the request was forwarded once, and dropped.
-fn is_unanswered(came: &Came) -> bool {
-    came.sent == 0
-        && came.writes == 0
-        && came.told.answer.is_none()
-        && !came.told.is_own
-        && came.told.written_fault.is_none()
-        && came.is_kept == (false, false)
-        && came.forwards == 1
-        && came.learnt == Some(Outcome::Dropped)
-}
-
-#[test]
-fn a_later_request_gets_no_answer_over_a_stale_connection_alone(rt: HostRuntime) {
-    for fault in FAULTS {
-        let came = answered_later(&rt, rt.alloc(), Says::Stale(fault));
-        check(&rt, is_unanswered(&came));
-        let came = answered_later(&rt, rt.alloc(), Says::Broken(fault));
-        check(&rt, came_so(&came, b"HTTP/1.1 502", 502, Outcome::Dropped));
-    }
-    for (says, first, status, outcome) in ANSWERS {
-        let came = answered_later(&rt, rt.alloc(), says);
-        check(&rt, came_so(&came, first, status, outcome));
     }
 }

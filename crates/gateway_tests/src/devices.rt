@@ -1,13 +1,13 @@
-// A reader and a writer that fail once, a gate that keeps what it is asked, a backend that answers
-// what it was told to, and a clock.
+// A reader and a writer that fail once, a gate that has room, a backend that answers what it was
+// told to, and a clock.
 ghost use Rattle.std.specs.Prelude.{◌≡◌};
 ghost use Rattle.counted_io.specs.Count.{raised};
 
 use clocks::Clock;
-use gate_port::{Admission, GatePort, Why};
+use gate_port::{Admission, GatePort};
 use lent_io::ReadAhead;
 use limiter_core::{Outcome, PermitFacts};
-use message_parts::{Bytes, Headers, Request};
+use message_parts::{Headers, Request};
 use partitions::Part;
 use std::alloc::Global;
 use std::cell::Cell;
@@ -112,16 +112,10 @@ impl Write for Sink {
     }
 }
 
-/// When a gate is asked, until when its caller may wait, and when a permit is ended.
-pub(crate) type Moments = (Option<u64>, Option<u64>, Option<u64>);
-
-/// A gate that keeps the moments of one asking; it is full or has room, and counts nobody.
+/// A gate that has room, and keeps whether it was asked and what an ending told it.
 #[derive(Drop)]
 pub(crate) struct Watched {
-    pub(crate) is_full: bool,
-    pub(crate) asked: Option<u64>,
-    pub(crate) deadline: Option<u64>,
-    pub(crate) ended: Option<u64>,
+    pub(crate) is_asked: bool,
     pub(crate) learnt: Option<Outcome>,
 }
 
@@ -142,16 +136,12 @@ impl GatePort for Watched {
         &mut self,
         part: Part,
         bypass: bool,
-        deadline: Option<u64>,
+        _deadline: Option<u64>,
         now: u64,
     ) -> Admission<PermitFacts> {
-        self.asked = Some(now);
-        self.deadline = deadline;
+        self.is_asked = true;
         if bypass {
             return Admission::Bypassed;
-        }
-        if self.is_full {
-            return Admission::Refused(Why::Full);
         }
         Admission::Admitted(PermitFacts {
             number: 0,
@@ -165,8 +155,7 @@ impl GatePort for Watched {
         permit.start
     }
 
-    fn end(&mut self, _permit: PermitFacts, outcome: Outcome, now: u64) {
-        self.ended = Some(now);
+    fn end(&mut self, _permit: PermitFacts, outcome: Outcome, _now: u64) {
         self.learnt = Some(outcome);
     }
 }
@@ -176,8 +165,6 @@ impl GatePort for Watched {
 pub(crate) enum Says {
     /// A response of this status, without a body.
     Status(u16),
-    /// The same with a body of no bytes.
-    Whole(u16),
     NotConnected,
     Broken(WireFault),
     Stale(WireFault),
@@ -195,10 +182,10 @@ pub(crate) struct Told {
 
 impl Told {
     // A response of this status.
-    fn answered(&self, status: u16, body: Option<Bytes>) -> BackendAnswer {
+    fn answered(&self, status: u16) -> BackendAnswer {
         let headers = Headers::new(Vec::new(self.alloc));
         let status = status.clamp(100, 999);
-        BackendAnswer::Answered(Response::new(status, headers, body, Reuse::Closing))
+        BackendAnswer::Answered(Response::new(status, headers, None, Reuse::Closing))
     }
 }
 
@@ -218,11 +205,7 @@ impl Backend for Told {
     {
         self.count = self.count.saturating_add(1);
         match self.says {
-            Says::Status(status) => self.answered(status, None),
-            Says::Whole(status) => {
-                let body = Bytes::new(Vec::new(self.alloc));
-                self.answered(status, Some(body))
-            }
+            Says::Status(status) => self.answered(status),
             Says::NotConnected => BackendAnswer::NotConnected,
             Says::Broken(fault) => BackendAnswer::Broken(fault),
             Says::Stale(fault) => BackendAnswer::Stale(fault),
@@ -241,7 +224,7 @@ impl Backend for Told {
 }
 
 /// In nanoseconds.
-pub(crate) const SECOND: u64 = 1_000_000_000;
+const SECOND: u64 = 1_000_000_000;
 
 /// A clock that tells 7 seconds first, and goes on by a second at each look.
 #[derive(Drop)]

@@ -2,10 +2,9 @@
 //!
 //! Of a gate: its book, calls through the lock by worked rows and by four threads at random, what a
 //! pass has seen, when who waits is woken, how it is closed, a port over it, and the windows of its
-//! limit. Of exchanges, over devices, clocks, backends and a gate of their own: their moments, ends
-//! that fail once, and what a backend answers. Of loads over devices that fail; and of flushes, of
-//! the time of a connection, and of a clock. What clients, backends and operators see, the scripts
-//! of `tests/` try by the program.
+//! limit. Of exchanges: ends that fail once, what a backend answers, and two workers at one gate.
+//! Of loads by a clock of their own; and of flushes, and of the time of a connection. What clients,
+//! backends and operators see, the scripts of `tests/` try by the program.
 //!
 //! They are one crate, since each crate of tests reads and links all code below it.
 #![tactic(auto)]
@@ -19,8 +18,6 @@ mod callers;
 #[cfg(test)]
 mod checks;
 #[cfg(test)]
-mod clocks_tests;
-#[cfg(test)]
 mod closing;
 #[cfg(test)]
 mod devices;
@@ -31,13 +28,9 @@ mod flushing_tests;
 #[cfg(test)]
 mod gates;
 #[cfg(test)]
-mod keeping_tests;
-#[cfg(test)]
 mod limits;
 #[cfg(test)]
 mod load;
-#[cfg(test)]
-mod moment_tests;
 #[cfg(test)]
 mod once_tests;
 #[cfg(test)]

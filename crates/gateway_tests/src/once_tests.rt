@@ -1,7 +1,8 @@
 // A client's end that fails once is called no more; what was asked until then is ended, and nothing
 // else is begun.
 use crate::checks::check;
-use crate::exchanged::{Came, Case, SETTINGS, exchanged};
+use crate::devices::Says;
+use crate::exchanged::{Came, Case, exchanged};
 use limiter_core::Outcome;
 use std::alloc::Global;
 use std::process::Abort;
@@ -12,11 +13,9 @@ const GET: &[u8] = b"GET /a HTTP/1.1\r\nHost: h\r\n\r\n";
 const ASKING: &[u8] =
     b"POST /a HTTP/1.1\r\nHost: h\r\nExpect: 100-continue\r\nContent-Length: 3\r\n\r\nabc";
 
-/// A request in reads of a byte.
-fn slow(sent: &[u8]) -> Case<'_> {
-    let mut case = Case::new(sent, SETTINGS);
-    case.most = 1;
-    case
+/// A request to a backend that answers 200.
+fn unfailing(sent: &[u8]) -> Case<'_> {
+    Case::new(sent, Says::Status(200))
 }
 
 /// What a client is sent that waits to be asked for its body.
@@ -24,16 +23,12 @@ const CONTINUE: &[u8] = b"HTTP/1.1 100 Continue\r\n\r\n";
 
 /// Neither gate nor backend heard of the request.
 fn is_unasked(came: &Came) -> bool {
-    came.moments == (None, None, None)
-        && came.learnt.is_none()
-        && came.forwards == 0
-        && came.told.outcome.is_none()
+    !came.is_asked && came.learnt.is_none() && came.forwards == 0 && came.told.outcome.is_none()
 }
 
 /// The request was forwarded once, and its permit ended as the backend's answer has it.
 fn is_settled(came: &Came) -> bool {
     came.forwards == 1
-        && came.moments.2.is_some()
         && came.learnt == Some(Outcome::Success)
         && came.told.outcome == Some(Outcome::Success)
 }
@@ -95,6 +90,6 @@ fn fails_once(rt: &impl Abort, alloc: Global, case: Case, asking: u64) {
 
 #[test]
 fn an_end_of_a_client_that_failed_once_is_called_no_more(rt: HostRuntime) {
-    fails_once(&rt, rt.alloc(), slow(GET), 0);
-    fails_once(&rt, rt.alloc(), slow(ASKING), 2);
+    fails_once(&rt, rt.alloc(), unfailing(GET), 0);
+    fails_once(&rt, rt.alloc(), unfailing(ASKING), 2);
 }

@@ -1,26 +1,25 @@
-// A window of as many samples as it holds; and AIMD over windows of windows, and over a window of a
-// million samples, by worked numbers.
+// AIMD over windows of windows, by worked numbers.
 use crate::checks::check;
 use crate::limits::LEARNING;
 use aimd::{Aimd, AimdNumbers};
 use limit_laws::{Limit, Sample};
 use std::process::Abort;
-use windowed::{Window, Windowed};
+use windowed::Windowed;
 
-/// Windows of at least so many samples and this length, and of round trips of so long at least.
-fn over<L: Limit>(rt: &impl Abort, inner: L, size: u32, length: u64, min_rtt: u64) -> Windowed<L> {
-    match Windowed::new(inner, size, length, length, min_rtt) {
+/// Windows of at least two samples and of this length, in nanoseconds.
+fn over<L: Limit>(rt: &impl Abort, inner: L, length: u64) -> Windowed<L> {
+    match Windowed::new(inner, 2, length, length, 0) {
         Ok(windowed) => windowed,
         Err(_) => panic!(rt; "no windows"),
     }
 }
 
-/// AIMD 1 to 100 from 20 that takes a round trip of more than this for a drop.
-fn aimd(rt: &impl Abort, timeout_ns: u64) -> Aimd {
+/// AIMD 1 to 100 from 20 that takes a round trip of more than 50 ns for a drop.
+fn aimd(rt: &impl Abort) -> Aimd {
     let numbers = AimdNumbers {
         first: 20,
         hi: 100,
-        timeout_ns,
+        timeout_ns: 50,
         ..LEARNING
     };
     Aimd::of(numbers).expect(rt, "a limit")
@@ -48,8 +47,8 @@ fn sample(start: u64, rtt: u64) -> Sample {
 /// without the inner ones AIMD would learn of 200 ns: either way the limit falls to 18.
 #[test]
 fn windows_over_windows_hand_on_means_of_means(rt: HostRuntime) {
-    let inner = over(&rt, aimd(&rt, 50), 2, 300, 0);
-    let mut outer = over(&rt, inner, 2, 200, 0);
+    let inner = over(&rt, aimd(&rt), 300);
+    let mut outer = over(&rt, inner, 200);
     let before = [(0, 5), (5, 200), (6, 200), (396, 10), (397, 10), (597, 10)];
     for (start, rtt) in before {
         outer.on_sample(&sample(start, rtt));
@@ -57,34 +56,4 @@ fn windows_over_windows_hand_on_means_of_means(rt: HostRuntime) {
     }
     outer.on_sample(&sample(598, 10));
     check(&rt, outer.limit() == 21);
-}
-
-/// Windows of an hour that have to have a million samples, all within the hour after the first: the
-/// first sample is a window alone, and the millionth after it ends the next.
-#[test]
-fn a_window_ends_at_its_millionth_sample(rt: HostRuntime) {
-    let hour = 3_600_000_000_000;
-    let mut windowed = over(&rt, aimd(&rt, 50), 1_000_000, hour, 0);
-    for _ in 0..1_000_000 {
-        windowed.on_sample(&sample(0, 5));
-    }
-    check(&rt, windowed.limit() == 20);
-    windowed.on_sample(&sample(0, 5));
-    check(&rt, windowed.limit() == 21);
-}
-
-#[test]
-fn a_window_holds_a_million_samples_of_an_hour(rt: HostRuntime) {
-    let hour = 3_600_000_000_000;
-    let sample = Sample::of_rtt(0, hour, 1, false);
-    let mut window = Window::empty();
-    for _ in 0..1_000_000 {
-        check(&rt, window.count() < 1_000_000);
-        window.add(&sample);
-    }
-    check(
-        &rt,
-        window.count() == 1_000_000 && window.sum() == 1_000_000 * hour,
-    );
-    check(&rt, window.count() > 0 && window.mean() == hour);
 }
