@@ -3,13 +3,13 @@ ghost use Rattle.std.specs.Prelude.{◌≡◌};
 ghost use Rattle.classifier.specs.Class.{is_bypassed_by};
 
 use crate::header::has_value;
-use message_parts::{Bytes, Method, Request};
+use message_parts::{Bytes, Request};
 
 /// Which requests bypass the limit.
 #[derive(Drop)]
 pub enum Bypass {
     /// Those of this method.
-    Method(Method),
+    Method(Bytes),
     /// Those whose path begins with these bytes.
     Prefix(Bytes),
     /// Those with a header line of this name, compared without ASCII case, and exactly this value.

@@ -4,7 +4,7 @@ ghost use Rattle.classifier.specs.Class.{held_part, resolved_part};
 
 use crate::header::first_value;
 use matchit::Router;
-use message_parts::{Bytes, Method, Request};
+use message_parts::{Bytes, Request};
 use partitions::{Part, PartitionTable};
 
 /// Where a request's partition is read from.
@@ -14,7 +14,7 @@ pub enum Resolver {
     /// The name of a line is compared without ASCII case.
     Header(Bytes),
     /// This partition, for requests of this method.
-    Method(Method, Part),
+    Method(Bytes, Part),
     /// The partition of the route that the path matches.
     Route(Router<Part>),
 }
