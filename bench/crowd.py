@@ -41,7 +41,7 @@ from words import above_zero, built, reader_of
 
 BUSY, IDLE, SILENT, NEXT, NEW = 64, 1_000, 9_000, 100, 4
 # So many places for clients that are kept or silent.
-PLACES = "clients = 10000\n"
+PLACES = "clients = 10000\nbackends = 64\n"
 ASKING = b"GET / HTTP/1.1\r\nHost: h\r\n\r\n"
 CLOSING = b"GET / HTTP/1.1\r\nHost: h\r\nConnection: close\r\n\r\n"
 PATIENCE, QUICK = 20, 0.02

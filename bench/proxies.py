@@ -50,8 +50,9 @@ UNBUFFERED = f"{ANY_SIZE} proxy_buffering off; proxy_request_buffering off; prox
 READS_ALL = """client_body_buffer_size 16m; chunked_transfer_encoding off; add_header Content-Length 13;
 echo_read_request_body; echo "hello, world";"""
 ECHO = "load_module modules/ngx_http_echo_module.so;"
-# A key of version 3 with its default.
+# Connections to the backend are kept as the packaged configuration has it, and those of clients too.
 BACKENDS = "backends = 64\n"
+KEEPALIVE = "clients = 1_000\n" + BACKENDS
 # The scheduling policy of the packaged unit.
 BATCH = ("chrt", "--batch", "0")
 ONE_AT_A_TIME = "limit_conn_zone $server_port zone=all:1m; limit_conn_status 429; limit_conn_log_level info;"
@@ -240,17 +241,16 @@ class Started:
         is_kept: bool = False,
         program: str = "",
     ) -> None:
-        """A gateway; one with keys of version 3 keeps its connections to the origin, and its clients too where they
-        don't ask for an end."""
+        """A gateway, with these keys of connections that are kept."""
         own, limit = next(self.ports), 1 if self.given.refused else 64
         text = CONFIG.format(port=own, origin=self.origin, limit=limit)
-        text = text.replace("version = 1\n", f"version = 3\n{keys}", 1) if keys else text
+        text = text.replace("version = 1\n", f"version = 2\n{keys}", 1) if keys else text
         file = self.servers.written(f"admission_{own}.toml", text)
         words = (program or self.program, "serve", file, "--workers", str(count))
         self.found[name] = Target(own, self.servers.start(*policy, *words), is_kept)
 
 
-def kept_targets(it: Started, keys: str = BACKENDS) -> None:
+def kept_targets(it: Started, keys: str = KEEPALIVE) -> None:
     """Those that keep their connections on both sides."""
     it.nginx("nginx, kept", ANY_SIZE, is_kept=True)
     it.nginx("nginx, kept, batch", ANY_SIZE, policy=BATCH, is_kept=True)

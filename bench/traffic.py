@@ -33,11 +33,13 @@ share = 300
 kind = "header"
 header = "X-Class"
 """
-# A gateway of version 3 with both, where some wait, and one path is neither limited nor counted.
+# A gateway that keeps connections with both, where some wait, and one path is neither limited nor counted.
 MIXED = (
-    """version = 3
+    """version = 2
 listen = "127.0.0.1:{port}"
 backend = "127.0.0.1:{origin}"
+clients = 1_000
+backends = 64
 backlog = 8
 timeout_ms = 20
 [limit]
@@ -60,7 +62,7 @@ def allow_many_sockets() -> None:
 
 
 def tables_of(file: str) -> str:
-    """What a configuration of version 2 or 3 of the repository says below its addresses."""
+    """What a configuration of version 2 of the repository says below its addresses."""
     text = (TOP / file).read_text(encoding="utf-8")
     return re.sub(r"^(version|listen|backend) *=.*\n", "", text, flags=re.MULTILINE)
 
@@ -180,7 +182,7 @@ class Gateway(Limited):
         tables: str,
         workers: int = 64,
         report_seconds: int | None = None,
-        version: int = 3,
+        version: int = 2,
     ) -> None:
         self.room = tempfile.TemporaryDirectory(prefix="admission-")
         self.file = pathlib.Path(self.room.name) / "gateway.toml"

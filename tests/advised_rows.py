@@ -1,7 +1,35 @@
 """Rows of `tests/keys`: what `check --explain` says of configurations without a fault."""
-from config_texts import AIMD, AUTO, BY_METHOD, BY_ROUTE, BYPASS, FIXED, LIVE_OF_TWO, PLAIN, SETTABLE, VEGAS
+from config_texts import ADDRESSES, AIMD, AUTO, BY_METHOD, BY_ROUTE, BYPASS, FIXED, LIVE_OF_TWO, OF_TWO, PLAIN, SETTABLE, VEGAS
 
-# Lines behind the version and the addresses, and what it says of them.
+# What it says last of connections that aren't kept, and of which are.
+KEEPALIVE_OFF = (
+    "keepalive=off: each connection carries one request; set clients and backends of version 2 to keep them\n"
+)
+OF_KEEPALIVE = [
+    (
+        addresses,
+        f"backlog = 0\n{lines}{FIXED}",
+        "greatest limit 4, shares of it 0 and backlog 0 are 4 together\n"
+        "serve it with --workers 5 or more, at most 64\n" + words,
+    )
+    for addresses, lines, words in [
+        (ADDRESSES, "", KEEPALIVE_OFF),
+        (OF_TWO, "clients = 0\nbackends = 0\n", KEEPALIVE_OFF),
+        (OF_TWO, "client_idle_ms = 1\nbackend_idle_ms = 1\n", KEEPALIVE_OFF),
+        (
+            OF_TWO,
+            "clients = 1\n",
+            "keepalive=clients: each connection to the backend carries one request; set backends to keep them\n",
+        ),
+        (
+            OF_TWO,
+            "backends = 1\n",
+            "keepalive=backend: each connection of a client carries one request; set clients to keep them\n",
+        ),
+        (OF_TWO, "clients = 1\nbackends = 1\n", ""),
+    ]
+]
+# Lines behind the version and the addresses, and what it says of them before that.
 OF_NO_FAULT = [
     (
         "backlog = 9\n" + PLAIN + "initial = 40\n",
@@ -123,7 +151,7 @@ OF_ONE_ADDRESS = [
 ]
 FITTING = "serve it with --workers 64 or more, at most 64\n"
 WITHOUT_EFFECT = FITTING + "wait = false: nobody waits, so backlog = 10 has no effect\n"
-# Of a limit without numbers, behind the addresses of version 3.
+# Of a limit without numbers.
 OF_AUTO = [
     (
         lines,

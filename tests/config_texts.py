@@ -5,7 +5,7 @@ import re
 CRATES = pathlib.Path(__file__).resolve().parent.parent / "crates"
 ROWS = CRATES / "gate_config/specs/Rows.antt"
 OF_BOTH = 'listen = "127.0.0.1:8080"\nbackend = "127.0.0.1:9000"\n'
-ADDRESSES, OF_TWO, OF_THREE = (f"version = {version}\n{OF_BOTH}" for version in (1, 2, 3))
+ADDRESSES, OF_TWO = (f"version = {version}\n{OF_BOTH}" for version in (1, 2))
 
 
 def limit_of(kind: str) -> str:
@@ -29,8 +29,8 @@ def number_keys() -> set[str]:
 
 
 def kept_keys() -> set[str]:
-    """The keys outside all tables that versions before 3 haven't."""
-    rows = ROWS.read_text(encoding="utf-8").partition("\nkept_rows Three =")[2].partition("\n\n")[0]
+    """The keys outside all tables that version 1 lacks."""
+    rows = ROWS.read_text(encoding="utf-8").partition("\nkept_rows Two =")[2].partition("\n\n")[0]
     return {paths()[it] for it in re.findall(r"\bKey\.(\w+)", rows)}
 
 
@@ -50,7 +50,7 @@ def words_of(check_help: str) -> dict[str, str]:
         if head := re.match(r"\[+(\w+)\]", line):
             section = head[1] + "."
         elif key := re.match(r"  (\w+) {2,}(.*)", line):
-            said[section + key[1]] = re.sub(r"^(?:aimd|vegas|version \d(?: and \d)?): |\. Not .*$", "", key[2])
+            said[section + key[1]] = re.sub(r"^(?:aimd|vegas|version \d): |\. Not .*$", "", key[2])
     return said
 
 

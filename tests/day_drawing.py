@@ -145,7 +145,7 @@ class Day:
         self.held = dice.choice((0, 0, self.limit - 1, self.limit))
         self.is_fixed, self.is_busy = dice.random() < 0.8, dice.random() < 0.5
         self.promotes_all = dice.random() < 0.5
-        # By version 2, and by version 3 without places, nobody is kept, whatever the door says.
+        # Without `clients`, or by `clients = 0`, nobody is kept, whatever the door says.
         self.keeps = dice.choice((None, 0, 1, 3, 1_000, 1_000))
         self.places = self.keeps or 5
         self.drain = dice.randrange(80) if dice.random() < 0.3 else NEVER
@@ -162,8 +162,8 @@ class Day:
         kind = f'kind = "fixed"\ninitial = {self.limit}'
         if not self.is_fixed:
             kind = f'kind = "aimd"\nmin = 1\ninitial = {self.limit}\nmax = 8\ntimeout_us = 100_000'
-        version = "version = 2" if self.keeps is None else f"version = 3\nclients = {self.keeps}"
-        return f"""{version}
+        clients = "" if self.keeps is None else f"\nclients = {self.keeps}"
+        return f"""version = 2{clients}
 listen = "127.0.0.1:8080"
 backend = "127.0.0.1:9000"
 backlog = {self.backlog}

@@ -142,7 +142,7 @@ OF_FAULTS = [
         "",
         "zebra = 1\n",
         FIXED,
-        f"line 4: zebra = 1\nzebra isn't a key here; those that are: {top_keys(kept_keys())}\n",
+        f"line 4: zebra = 1\nzebra isn't a key here; those that are: {top_keys()}\n",
         "unknown zebra",
     ),
     (
@@ -296,8 +296,30 @@ OF_FAULTS += [
     )
     for code in (9, *range(0x80, 0xA0))
 ]
-# The same in version 1, whose shares are in percent.
+# The same in version 1, whose shares are in percent, and which lacks keys.
 OF_FAULTS_OF_ONE = [
+    (
+        "",
+        "zebra = 1\n",
+        FIXED,
+        f"line 4: zebra = 1\nzebra isn't a key here; those that are: {top_keys(kept_keys())}\n",
+        "unknown zebra",
+    ),
+    (
+        "",
+        "clients = 1\n",
+        FIXED,
+        f"line 4: clients = 1\nclients isn't a key here; those that are: {top_keys(kept_keys())}\n",
+        "unknown clients",
+    ),
+    (
+        FIXED,
+        '[[class]]\nname = "b"\npercent = 1\nplaces = 1\n',
+        "",
+        "class 1 of 1\nline 10: places = 1\n"
+        "class.places isn't a key here; those that are: name percent\n",
+        "unknown class.places",
+    ),
     (
         FIXED + LIVE,
         '[[class]]\nname = "b"\npercent = 41\n',
@@ -317,8 +339,8 @@ OF_FAULTS_OF_ONE = [
         "value class.percent",
     ),
 ]
-# The same behind the addresses of version 3.
-OF_FAULTS_OF_THREE = [
+# The same of keys that version 1 lacks.
+OF_FAULTS_OF_TWO = [
     (
         AUTO,
         "[window]\n",

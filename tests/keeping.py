@@ -6,7 +6,7 @@ import threading
 import time
 import typing
 
-from loopback import FIVE, Backend, Gateway, Listener
+from loopback import FIVE, Backend, Gateway, Listener, keepalive
 from operating import Operated, Operating
 from running import PATIENCE
 from wires import local, reset, whole_request
@@ -224,8 +224,8 @@ class Keeping(Operating):
     """Cases on connections to the backend that are kept."""
 
     def kept(self, backend: Listener, settings: str = PATIENT, **how: typing.Any) -> Gateway:
-        """A gateway of version 3, which keeps connections: for longer than a busy machine takes for a case."""
-        return self.gateway(backend, settings, version=3, **how)
+        """A gateway that keeps connections: for longer than a busy machine takes for a case."""
+        return self.gateway(backend, keepalive(settings), version=2, **how)
 
     def keeps_its_backends(self, _unused: Backend) -> None:
         """One connection serves one client after the other, and no request asks for its end."""
@@ -240,16 +240,37 @@ class Keeping(Operating):
         backend.close()
 
     def keeps_none_that_are_not_wanted(self, _unused: Backend) -> None:
-        """Versions 1 and 2, and `backends = 0`, ask for the end of each connection."""
-        for version, settings in ((1, ""), (2, ""), (3, "backends = 0")):
+        """Without `backends`, and by `backends = 0`, the end of each connection is asked for."""
+        for version, settings in ((1, ""), (2, ""), (2, "clients = 9"), (2, "backends = 0\nbackend_idle_ms = 9000")):
             backend = Talkative()
             gate = self.gateway(backend, settings, version=version, each=3)
             for _ in range(3):
                 gate.ask(NEXT)
-            self.judge(f"counters of version {version}", {"admitted": 3, "success": 3}, gate.ending())
-            self.judge(f"requests of each connection in version {version}", [1, 1, 1], backend.requests())
+            what = f"version {version}, {settings!r}"
+            self.judge(f"counters of {what}", {"admitted": 3, "success": 3}, gate.ending())
+            self.judge(f"requests of each connection in {what}", [1, 1, 1], backend.requests())
             told = [b"\r\nConnection: close\r\n" in it for given in backend.given for it in given]
-            self.judge(f"those of version {version} that ask for the end", [True] * 3, told)
+            self.judge(f"those of {what} that ask for the end", [True] * 3, told)
+            backend.close()
+
+    def tells_what_it_keeps(self, _unused: Backend) -> None:
+        """The line of a start names which connections are kept."""
+        auto = '\n\n[limit]\nkind = "auto"'
+        for version, settings, wanted in (
+            (1, "", "limit=fixed keepalive=off"),
+            (2, "", "limit=fixed keepalive=off"),
+            (2, "clients = 1", "limit=fixed keepalive=clients"),
+            (2, "backends = 1", "limit=fixed keepalive=backend"),
+            (2, "clients = 1\nbackends = 1", "limit=fixed keepalive=on"),
+            (2, "backlog = 1" + auto, "limit=auto max=2 keepalive=off"),
+            (2, "backlog = 1\nclients = 1\nbackends = 1" + auto, "limit=auto max=2 keepalive=on"),
+        ):
+            backend = Talkative()
+            gate = self.gateway(backend, settings, version=version, workers=4)
+            line = f"[INFO  admission] listening address=127.0.0.1:{gate.port} workers=4 {wanted}"
+            told = [it for it in gate.log if "] listening address" in it]
+            self.judge(f"the line of a start by {settings!r}", [line], told)
+            gate.process.kill()
             backend.close()
 
     def tells_answers_apart(self, _: Backend) -> None:
@@ -313,7 +334,7 @@ class Keeping(Operating):
     def counts_its_backends(self, _: Backend) -> None:
         """The metrics tell how many connections there are, and what became of those that there were."""
         backend = Talkative()
-        gate = self.operated(backend, "backend_idle_ms = 1500", workers=1, version=3)
+        gate = self.operated(backend, keepalive("backend_idle_ms = 1500"), workers=1, version=2)
         gate.ask(NEXT)
         gate.ask(NEXT)
         self.judge(

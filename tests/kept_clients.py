@@ -8,7 +8,7 @@ import time
 import typing
 
 from keeping import OTHER, PATIENT, Talkative
-from loopback import BODY, Backend, Gateway, Later, Listener, read_all
+from loopback import BODY, Backend, Gateway, Later, Listener, keepalive, read_all
 from operating import Operating
 from operator_rows import DRAINED, told
 from running import PATIENCE, until
@@ -184,13 +184,14 @@ class KeptClients(Operating):
     """Cases on clients that are kept."""
 
     def keeping(self, backend: Listener, settings: str = "", **how: typing.Any) -> Gateway:
-        """A gateway of version 3."""
-        return self.gateway(backend, settings, version=3, **how)
+        """A gateway that keeps connections."""
+        return self.gateway(backend, keepalive(settings), version=2, **how)
 
     def counts_its_clients(self, _unused: Backend) -> None:
         """The metrics tell how many clients wait, and what became of those that there were."""
         backend = Talkative()
-        gate = self.operated(backend, "clients = 2\nclient_idle_ms = 1500", workers=2, version=3)
+        settings = keepalive("clients = 2\nclient_idle_ms = 1500")
+        gate = self.operated(backend, settings, workers=2, version=2)
         with gate.connect() as client:
             for _ in range(3):
                 asked(client, GET, len(KEPT))
@@ -323,11 +324,12 @@ class KeptClients(Operating):
         backend.close()
 
     def keeps_no_client_unasked(self, _unused: Backend) -> None:
-        """Versions 1 and 2, and `clients = 0`, close each connection."""
-        for version, settings in ((1, ""), (2, ""), (3, "clients = 0")):
+        """Without `clients`, and by `clients = 0`, each connection is closed."""
+        for version, settings in ((1, ""), (2, ""), (2, "backends = 9"), (2, "clients = 0\nclient_idle_ms = 9000")):
             backend = Talkative()
             gate = self.gateway(backend, settings, version=version, each=2)
-            self.judge(f"one who asks in version {version}", [ENDED] * 2, [gate.ask(GET) for _ in range(2)])
+            what = f"one who asks in version {version}, {settings!r}"
+            self.judge(what, [ENDED] * 2, [gate.ask(GET) for _ in range(2)])
             gate.ending()
             backend.close()
 
@@ -347,7 +349,7 @@ class KeptClients(Operating):
         connection is closed; a first one gets 502. Neither is sent twice, and the metrics agree."""
         for end in ENDS:
             backend = Ending(end)
-            gate = self.operated(backend, end.settings, version=3)
+            gate = self.operated(backend, keepalive(end.settings), version=2)
             with gate.connect() as client:
                 self.judge(f"{end.what}: an answer before", KEPT, asked(client, GET, len(KEPT)))
                 if end.wanted:
@@ -370,7 +372,7 @@ class KeptClients(Operating):
 
     def drains_its_clients(self, backend: Backend) -> None:
         """A drain closes those who wait, and who is served then is told that its connection ends."""
-        gate = self.operated(backend, "backends = 0", workers=2, version=3)
+        gate = self.operated(backend, keepalive("backends = 0"), workers=2, version=2)
         with gate.connect() as idle, gate.connect() as busy:
             self.judge("one before", FIRST, asked(idle, GET, len(FIRST)))
             busy.sendall(b"GET /held HTTP/1.1\r\nHost: h\r\n\r\n")

@@ -10,7 +10,7 @@ TOP = pathlib.Path(__file__).resolve().parent.parent
 HOUR = 3_600_000_000_000
 # The kinds, as --explain lists what may follow `limit` and what `limit.kind` holds.
 BEHIND_LIMIT = "fixed, settable, auto, aimd or vegas"
-OF_THE_KEY = '"fixed", "settable", "aimd", "vegas" or, in version 3, "auto"; required'
+OF_THE_KEY = '"fixed", "settable", "aimd", "vegas" or, in version 2, "auto"; required'
 
 
 def kinds() -> list[str]:
@@ -216,8 +216,8 @@ KINDS = [
     ("auto 1 20 100", [20, 20, 20, 20]),
 ]
 
-# Tables `[limit]` of configurations: behind the addresses of any version, and behind those of version 3 and of those
-# before it. A row of ranges has the lines before a number and behind it, its key, and the ends of its range.
+# Tables `[limit]` of configurations: behind the addresses of any version, and behind those of version 2 and of version
+# 1. A row of ranges has the lines before a number and behind it, its key, and the ends of its range.
 PLAIN, SETTABLE, AIMD_TABLE, VEGAS_TABLE, AUTO_TABLE = map(limit_of, ("fixed", "settable", "aimd", "vegas", "auto"))
 OF_TABLES = [
     (PLAIN + "initial = 0\n", "value limit.initial"),
@@ -238,7 +238,7 @@ OF_TABLES = [
     (VEGAS_TABLE + "alpha = 7\n", "ok"),
     (VEGAS_TABLE + "probe_every = 1000001\n", "value limit.probe_every"),
 ]
-# A limit without numbers, which came with version 3: behind the addresses of that version.
+# A limit without numbers, behind the addresses of version 2.
 OF_NO_NUMBERS = [
     (AUTO_TABLE, "ok"),
     (AUTO_TABLE + "min = 1\nmax = 1\ninitial = 1\n", "ok"),
@@ -260,7 +260,7 @@ OF_NO_NUMBERS = [
     (PLAIN + "[window]\n", "ok"),
     (VEGAS_TABLE + "[window]\n", "ok"),
 ]
-# Under an earlier version its word names no kind.
+# In version 1 its word names no kind.
 OF_AUTO_BEFORE = [(AUTO_TABLE, "value limit.kind"), (AUTO_TABLE + "max = 0\n[window]\nsize = 0\n", "value limit.kind")]
 RANGES = [
     (PLAIN, "", "limit.initial", 1, 10_000),

@@ -26,6 +26,16 @@ WHOLE = {
 }
 
 
+# The keys of connections that are kept, as the packaged configuration has them.
+KEEPALIVE = {"clients": "1_000", "backends": "64"}
+
+
+def keepalive(settings: str) -> str:
+    """These settings with the keys of connections that are kept, but for those that they have."""
+    lines = [f"{key} = {number}" for key, number in KEEPALIVE.items() if f"{key} = " not in settings]
+    return "\n".join((*lines, settings))
+
+
 def read_all(client: socket.socket) -> bytes:
     """All that comes up to the end of a connection, or up to its reset."""
     pieces = []

@@ -8,7 +8,7 @@ from collections.abc import Callable
 from concurrent.futures import ThreadPoolExecutor
 from functools import partial
 
-from loopback import BODY, Backend, Gateway, Later, Listener, read_head
+from loopback import BODY, Backend, Gateway, Later, Listener, keepalive, read_head
 from operating import CLASSES, HELD, Operated, Operating
 from operator_rows import BOUNDS, UNMEASURED, histogram_faults
 from running import PATIENCE, closed_port, until
@@ -110,7 +110,8 @@ class Measuring(Operating):
         unknown = UNMEASURED | {"limit_set_by_hand": 0}
         vegas = '\n\n[limit]\nkind = "vegas"\ninitial = 8\nmax = 8\n'
         windows = "[window]\nsize = {}\n"
-        gate = self.operated(slow, '\n\n[limit]\nkind = "auto"\ninitial = 1\nmax = 1', workers=4, version=3)
+        one = keepalive('\n\n[limit]\nkind = "auto"\ninitial = 1\nmax = 1')
+        gate = self.operated(slow, one, workers=4, version=2)
         self.judge("a limit without answers", True, gate.shows(**unknown))
         means = [sum(self.round_trips(gate, 30, 60)) // 2, sum(self.round_trips(gate, 5, 5)) // 2]
         wanted = unknown | {"limit_window_calls": 2, "limit_window_mean_seconds": means[1], "limit_queue": 0}

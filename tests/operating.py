@@ -47,7 +47,7 @@ CLASSES = "\n".join(
 PLACED = "\n".join(
     (
         # Its backend closes behind each answer without saying so.
-        'backlog = 1\ntimeout_ms = 60_000\nclients = 0\nbackends = 0\n\n[limit]\nkind = "fixed"\ninitial = 1',
+        'backlog = 1\ntimeout_ms = 60_000\n\n[limit]\nkind = "fixed"\ninitial = 1',
         '[[class]]\nname = "live"\nshare = 1\nplaces = 2',
         '[[class]]\nname = "batch"\nshare = 1',
         '[[resolver]]\nkind = "header"\nheader = "X-Class"',
@@ -253,7 +253,7 @@ class Operating(Served):
 
     def keeps_own_places(self, backend: Backend) -> None:
         """Who finds a place of its own class waits while others fill everybody's, and each class is told by itself."""
-        gate = self.operated(backend, PLACED, workers=12, version=3)
+        gate = self.operated(backend, PLACED, workers=12, version=2)
         later: list[Later] = []
         for name, inside, wanted in (
             *(("live", 1, {}), ("batch", 2, {}), ("batch", 2, {"batch": 1})),

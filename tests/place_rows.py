@@ -2,7 +2,7 @@
 from config_texts import FIXED, LIVE_OF_TWO, PLAIN
 
 BATCH = '[[class]]\nname = "batch"\nshare = 4\n'
-# Places of a class's own, which came with version 3: what stands before the limit, and behind the class `live`.
+# Places of a class's own: what stands before the limit, and behind the class `live`.
 OF_PLACES = [
     ("", "", "ok"),
     ("", "places = 0\n", "ok"),
@@ -42,7 +42,7 @@ PLACES = [
     ("backlog = 0\n" + ONE_CLASS + "places = 10_000\n" + BATCH, "", "class.places", 0, 0),
 ]
 
-# Lines of version 3, and the backlog that the line of an accepted configuration has: all who may wait.
+# Lines of version 2, and the backlog that the line of an accepted configuration has: all who may wait.
 ACCEPTED = [
     (FIXED, 100),
     ("backlog = 5\n" + FIXED + LIVE_OF_TWO, 5),

@@ -177,10 +177,10 @@ def at_address(case: Case, port: int) -> Case:
     return dataclasses.replace(case, sent=sent, forwarded=case.forwarded and case.forwarded.replace(BACKEND, address))
 
 
-def carried_out(program: str, room: str, cases: Sequence[Case], words: Sequence[str]) -> list[Found]:
+def carried_out(program: str, room: str, cases: Sequence[Case], words: Sequence[str], version: int) -> list[Found]:
     """What each of these cases wants and what is found, by one gateway; and what it counts."""
     backend = Raw()
-    gate = Gateway(program, room, backend.port, "wait = false", each=len(cases), words=words)
+    gate = Gateway(program, room, backend.port, "wait = false", each=len(cases), words=words, version=version)
     found: list[Found] = []
     for case in (at_address(case, backend.port) for case in cases):
         backend.case = case
@@ -205,12 +205,14 @@ def carry_out(
     room: str,
     cases: Iterable[Case],
     words: Sequence[str] = (),
+    version: int = 1,
 ) -> None:
-    """Carries cases out in several lanes; a lane's cases have one outcome, so that its counters show that of each."""
+    """Carries cases out in several lanes; a lane's cases have one outcome, so that its counters show that of each. The
+    version is that of the configuration."""
     groups = [list(group) for _, group in itertools.groupby(sorted(cases, key=outcome_of), outcome_of)]
     lanes = [group[lane::LANES] for group in groups for lane in range(min(LANES, len(group)))]
     with ThreadPoolExecutor(LANES) as pool:
-        for found in pool.map(lambda lane: carried_out(program, room, lane, words), lanes):
+        for found in pool.map(lambda lane: carried_out(program, room, lane, words, version), lanes):
             for row in found:
                 judge(*row)
 

@@ -4,7 +4,7 @@ ghost use Rattle.gateway_settings.specs.Settings.{AreSound};
 use crate::callers::explain_callers;
 use crate::limits::explain_limit;
 use gate_config::{AnyLimit, Key, value_at};
-use gateway_settings::Settings;
+use gateway_settings::{Keepalive, Settings};
 use limit_kinds::LimitKind;
 use limit_laws::Limit;
 use std::alloc::AllocError;
@@ -13,7 +13,8 @@ use toml::Table;
 /// The most workers.
 pub(crate) const MOST_WORKERS: u32 = 64;
 
-/// Says how many workers it wants, what has no effect, and where the limit may not adapt.
+/// Says how many workers it wants, what has no effect, where the limit may not adapt, and which
+/// connections aren't kept.
 pub(crate) fn explain_settings(
     out: &mut String,
     table: &Table,
@@ -26,7 +27,24 @@ pub(crate) fn explain_settings(
         explain_backlog(out, table, settings)?;
     }
     explain_limit(out, table, u64::from(limit_of(settings).hi()))?;
-    explain_callers(out, table, settings)
+    explain_callers(out, table, settings)?;
+    explain_keepalive(out, settings.keepalive())
+}
+
+/// Says which connections carry a single request, and which key changes that.
+fn explain_keepalive(out: &mut String, keepalive: Keepalive) -> Result<(), AllocError> {
+    let words = match keepalive {
+        Keepalive::Off => {
+            "each connection carries one request; set clients and backends of version 2 to keep them"
+        }
+        Keepalive::Clients =>
+            "each connection to the backend carries one request; set backends to keep them",
+        Keepalive::Backend =>
+            "each connection of a client carries one request; set clients to keep them",
+        Keepalive::On => return Ok(()),
+    };
+    let word = keepalive.word();
+    write!(out, "keepalive={word}: {words}\n")
 }
 
 /// Says that places have no effect where nobody waits: everybody's, where the configuration names

@@ -4,7 +4,7 @@
 #[macro_export]
 macro_rules! key_row {
     (Version [$($row:tt)*] $($given:tt)*) => { $($row)*! { $($given)*
-        Version "  version       " "2 or 3, or 1 with the shares of classes in percent; required";
+        Version "  version       " "2, or 1 with the shares of classes in percent; required";
     } };
     (Listen [$($row:tt)*] $($given:tt)*) => { $($row)*! { $($given)*
         Listen "  listen        " "A.B.C.D:PORT, port 1 to 65535, where requests come in; required";
@@ -25,20 +25,20 @@ macro_rules! key_row {
             [1 to 3600000; default 1000];
     } };
     (Clients [$($row:tt)*] $($given:tt)*) => { $($row)*! { $($given)*
-        Clients "  clients       version 3: " "places for clients that are kept or silent, "
-            [0 to 10000; default 1000];
+        Clients "  clients       version 2: " "places for clients that are kept or silent, "
+            [0 to 10000; default 0];
     } };
     (ClientIdleMs [$($row:tt)*] $($given:tt)*) => { $($row)*! { $($given)*
-        ClientIdleMs "  client_idle_ms  version 3: "
+        ClientIdleMs "  client_idle_ms  version 2: "
             "how long a kept client may be idle, "
             [1 to 3600000; default 60000];
     } };
     (Backends [$($row:tt)*] $($given:tt)*) => { $($row)*! { $($given)*
-        Backends "  backends      version 3: " "connections to the backend that are kept, "
-            [0 to 64; default 64];
+        Backends "  backends      version 2: " "connections to the backend that are kept, "
+            [0 to 4096; default 0];
     } };
     (BackendIdleMs [$($row:tt)*] $($given:tt)*) => { $($row)*! { $($given)*
-        BackendIdleMs "  backend_idle_ms  version 3: "
+        BackendIdleMs "  backend_idle_ms  version 2: "
             "how long one may be idle and be used again, "
             [1 to 3600000; default 1000];
     } };
@@ -55,7 +55,7 @@ macro_rules! key_row {
     } };
     (LimitKind [$($row:tt)*] $($given:tt)*) => { $($row)*! { $($given)*
         LimitKind "  kind          "
-            "\"fixed\", \"settable\", \"aimd\", \"vegas\" or, in version 3, \"auto\"; required";
+            "\"fixed\", \"settable\", \"aimd\", \"vegas\" or, in version 2, \"auto\"; required";
     } };
     (LimitMin [$($row:tt)*] $($given:tt)*) => { $($row)*! { $($given)*
         LimitMin "  min           " "permits, " [1 to 10000; default 1] help ". Not of fixed";
@@ -117,7 +117,7 @@ macro_rules! key_row {
             "1 to 32 of a-z 0-9 - _, not unknown, not given before; required";
     } };
     (ClassShare [$($row:tt)*] $($given:tt)*) => { $($row)*! { $($given)*
-        ClassShare "  share         version 2 and 3: " "thousandths, "
+        ClassShare "  share         version 2: " "thousandths, "
             [1 to what the classes before leave of 1000; required];
     } };
     (ClassPercent [$($row:tt)*] $($given:tt)*) => { $($row)*! { $($given)*
@@ -125,7 +125,7 @@ macro_rules! key_row {
             [1 to what the classes before leave of 100; required];
     } };
     (ClassPlaces [$($row:tt)*] $($given:tt)*) => { $($row)*! { $($given)*
-        ClassPlaces "  places        version 3: " "own places, "
+        ClassPlaces "  places        version 2: " "own places, "
             [0 to what backlog and those before leave of 10000; default 0];
     } };
     (Resolver [$($row:tt)*] $($given:tt)*) => { $($row)*! { $($given)*

@@ -1,4 +1,5 @@
 mod MappedLists
+mod AllowedNames
 mod TableMembers
 mod Blank
 mod Documents

@@ -5,14 +5,14 @@ use Rattle.partitions.specs.Table.{Row}
 use Rattle.gate_config.specs.declared.fault.ConfigFault.{ConfigFault}
 use Rattle.gate_config.specs.Outcomes.{of_member, ◌>>=◌}
 use Rattle.gate_config.specs.declared.version.Version.{Version}
-use Rattle.gate_config.specs.declared.version.Version.TheVariants.{One}
+use Rattle.gate_config.specs.declared.version.Version.TheVariants.{One, Two}
 use Rattle.gate_config.specs.Rows.{class_rows}
 use Rattle.gate_config.specs.Section.{Values, number_at, number_is, read_each, read_row, text_at}
 
 -- the thousandths among a class's values: ten times its percentage, or its share
 abbrev pub thousandths_at : Version → Values → ℕ
 thousandths_at One values = 10 * number_at (codes "percent") values
-thousandths_at _ values = number_at (codes "share") values
+thousandths_at Two values = number_at (codes "share") values
 
 -- the row of a class's values; it has no places of its own where the version has no key for them
 abbrev pub row_from : Version → Values → Row

@@ -1,4 +1,5 @@
 pub mod Rows
+pub mod Allowed
 pub mod KeyText
 pub mod Fault
 pub mod Outcomes

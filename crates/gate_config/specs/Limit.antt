@@ -10,7 +10,7 @@ use Rattle.limit_kinds.specs.Kinds.{base_kind, first_limit, kind_named, kind_wor
 use Rattle.gate_config.specs.declared.fault.ConfigFault.{ConfigFault}
 use Rattle.gate_config.specs.Outcomes.{result_map}
 use Rattle.gate_config.specs.declared.version.Version.{Version}
-use Rattle.gate_config.specs.declared.version.Version.TheVariants.{Three}
+use Rattle.gate_config.specs.declared.version.Version.TheVariants.{Two}
 use Rattle.gate_config.specs.Rows.{Row, limit_rows, number_rows}
 use Rattle.gate_config.specs.Section.{Values, names_of, number_at, number_is, read_row, section_values, text_at, text_is}
 
@@ -68,7 +68,7 @@ limit_behind kind t = result_map limit_from (values_behind kind number_rows t)
 -- the kind
 abbrev pub limit_names : LimitSpec → List (List ℕ)
 limit_names spec =
-    names_of (limit_rows Three)
+    names_of (limit_rows Two)
     ((codes "kind", text_is (kind_word (base_kind (first_limit spec)))) ∷ [])
 
 -- the kind and the limits of a limit that moves by numbers, as values

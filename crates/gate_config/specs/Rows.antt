@@ -1,7 +1,7 @@
 -- The table of keys: what each is called, which there are, in the order in which faults are looked
--- for, and what each may hold. The share of a class is told in percent by version 1, and in
--- thousandths since version 2; a limit without numbers, the places of a class and the connections
--- that are kept came with version 3. All else is that of each version.
+-- for, and what each may hold. The share of a class is written in percent by version 1, and in
+-- thousandths by version 2; a limit without numbers, the places of a class and the connections that
+-- are kept are keys of version 2 alone, and off unless they are written. All else is that of both.
 use Rattle.std.specs.Prelude.{ℕ, Bool, true, List, [], ◌∷◌, ◌++◌, map, Option, Some, None, codes}
 use Rattle.limit_laws.specs.Algorithm.{greatest_limit}
 use Rattle.aimd.specs.AimdRules.{least_ratio, greatest_ratio}
@@ -14,7 +14,7 @@ use Rattle.gate_config.specs.declared.key.Key.{Key}
 use Rattle.gate_config.specs.declared.key.Section.{Section}
 use Rattle.gate_config.specs.declared.key.Section.TheVariants as In
 use Rattle.gate_config.specs.declared.version.Version.{Version}
-use Rattle.gate_config.specs.declared.version.Version.TheVariants.{One, Three}
+use Rattle.gate_config.specs.declared.version.Version.TheVariants.{One, Two}
 
 -- what the keys of a section begin with
 abbrev pub prefix_of : Section → List ℕ
@@ -168,8 +168,8 @@ row_for kinds key holds = record { key = key; kinds = kinds; holds = holds }
 
 -- the words of the kinds of limit in a version
 abbrev pub kinds_in : Version → List (List ℕ)
-kinds_in Three = kind_words
-kinds_in _ = map kind_word (Fixed ∷ Settable ∷ Aimd ∷ Vegas ∷ [])
+kinds_in One = map kind_word (Fixed ∷ Settable ∷ Aimd ∷ Vegas ∷ [])
+kinds_in Two = kind_words
 
 -- the words of one kind of limit, of those that move by numbers, and of those that are not fixed
 abbrev pub only : LimitKind → List (List ℕ)
@@ -203,13 +203,13 @@ front_rows =
 
 -- the connections that are kept
 abbrev pub kept_rows : Version → List Row
-kept_rows Three =
-    row Key.Clients (number (at 0) (at 10000) (Some 1000))
+kept_rows One = []
+kept_rows Two =
+    row Key.Clients (number (at 0) (at 10000) (Some 0))
     ∷ row Key.ClientIdleMs (number (at 1) (at 3600000) (Some 60000))
-    ∷ row Key.Backends (number (at 0) (at 64) (Some 64))
+    ∷ row Key.Backends (number (at 0) (at 4096) (Some 0))
     ∷ row Key.BackendIdleMs (number (at 1) (at 3600000) (Some 1000))
     ∷ []
-kept_rows _ = []
 
 -- the history, and who is promoted
 abbrev pub gate_rows : List Row
@@ -259,12 +259,12 @@ window_rows =
 
 abbrev pub share_row : Version → Row
 share_row One = row Key.ClassPercent (number (at 1) left_of_hundred None)
-share_row _ = row Key.ClassShare (number (at 1) left_of_thousand None)
+share_row Two = row Key.ClassShare (number (at 1) left_of_thousand None)
 
 -- the places of the backlog that are a class's own
 abbrev pub places_rows : Version → List Row
-places_rows Three = row Key.ClassPlaces (number (at 0) left_of_places (Some 0)) ∷ []
-places_rows _ = []
+places_rows One = []
+places_rows Two = row Key.ClassPlaces (number (at 0) left_of_places (Some 0)) ∷ []
 
 abbrev pub class_rows : Version → List Row
 class_rows version =
@@ -299,5 +299,5 @@ bypass_rows =
 -- all rows, of each version
 abbrev pub all_rows : List Row
 all_rows =
-    top_rows Three ++ limit_rows Three ++ window_rows ++ class_rows One ++ class_rows Three
+    top_rows Two ++ limit_rows Two ++ window_rows ++ class_rows One ++ class_rows Two
     ++ resolver_rows ++ bypass_rows

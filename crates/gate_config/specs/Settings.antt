@@ -13,7 +13,7 @@ use Rattle.gate_config.specs.declared.fault.ConfigFault.TheVariants as Fault
 use Rattle.gate_config.specs.Outcomes.{◌>>=◌}
 use Rattle.gate_config.specs.Unknown.{UnknownKey, least, unknown_key_text}
 use Rattle.gate_config.specs.declared.version.Version.{Version}
-use Rattle.gate_config.specs.declared.version.Version.TheVariants.{One, Two, Three}
+use Rattle.gate_config.specs.declared.version.Version.TheVariants.{One, Two}
 use Rattle.gate_config.specs.Rows.{all}
 use Rattle.gate_config.specs.Section.{flag_at, number_at, text_at}
 use Rattle.gateway_settings.specs.declared.settings.Settings.{Settings}
@@ -25,12 +25,11 @@ use Rattle.gate_config.specs.UnknownKeys.{unknown_keys_of}
 abbrev pub Reads : List ℕ → Members → Type 0
 Reads bytes t = IsUtf8 bytes × (parse_document bytes ≡ Some t)
 
--- the version of a whole number, which is 1, 2 or 3
+-- the version of a whole number, which is 1 or 2
 abbrev pub version_from : ℤ → Option Version
 version_from (pos n) =
     if n == 1 then Some One
-    else (if n == 2 then Some Two
-    else (if n == 3 then Some Three else None))
+    else (if n == 2 then Some Two else None)
 version_from _ = None
 
 -- the version of what stands at the key `version`

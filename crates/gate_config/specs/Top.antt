@@ -33,7 +33,7 @@ top_values k = front_values k.front ++ kept_values k.kept ++ gate_values k.gate
 pub record AreKept (k : KeptKeys) : Type 0 where
   pub clients_most : k.clients ≤ 10000
   pub client_idle_most : k.client_idle_ms ≤ 3600000
-  pub backends_most : k.backends ≤ 64
+  pub backends_most : k.backends ≤ 4096
   pub backend_idle_most : k.backend_idle_ms ≤ 3600000
 
 -- the numbers are in their ranges

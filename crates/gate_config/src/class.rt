@@ -9,7 +9,7 @@ ghost use Rattle.gate_config.specs.Number.{number_from};
 ghost use Rattle.gate_config.specs.Outcomes.{result_map};
 ghost use Rattle.gate_config.specs.Table.{tables_among};
 ghost use Rattle.gate_config.specs.Text.{text_from};
-ghost use Rattle.gate_config.specs.declared.version.Version.TheVariants.{One, Two, Three};
+ghost use Rattle.gate_config.specs.declared.version.Version.TheVariants.{One, Two};
 ghost use Rattle.gate_config.specs.Class.{class_after, class_from, classes_of};
 ghost use Rattle.gate_config.specs.ClassRows.{class_row, is_class, is_new_name, left_by, places_left};
 
@@ -29,8 +29,7 @@ pub fn class_keys(version: Version) -> &'static [Key]
 {
     match version {
         Version::One => &[Key::ClassName, Key::ClassPercent],
-        Version::Two => &[Key::ClassName, Key::ClassShare],
-        Version::Three => &[Key::ClassName, Key::ClassShare, Key::ClassPlaces],
+        Version::Two => &[Key::ClassName, Key::ClassShare, Key::ClassPlaces],
     }
 }
 
@@ -99,12 +98,11 @@ fn read_keys<'a>(
 {
     match version {
         Version::One => read_by_percent(before, table),
-        Version::Two => read_by_share(before, table),
-        Version::Three => read_with_places(backlog, before, table),
+        Version::Two => read_by_share(backlog, before, table),
     }
 }
 
-/// The keys of a class whose share is told in percent.
+/// The keys of a class whose share is written in percent.
 fn read_by_percent<'a>(before: &[ClassKeys], table: &'a Table) -> Result<ClassKeys<'a>, ConfigFault>
     ensures value { (backlog : ℕ) → result_map class_row result
         ≡ class_from One backlog (map class_row before.now) (table_view table.now) }
@@ -121,29 +119,14 @@ fn read_by_percent<'a>(before: &[ClassKeys], table: &'a Table) -> Result<ClassKe
     })
 }
 
-/// The keys of a class whose share is told in thousandths, as in version 2 and later.
-fn read_by_share<'a>(before: &[ClassKeys], table: &'a Table) -> Result<ClassKeys<'a>, ConfigFault>
-    ensures value { (backlog : ℕ) → result_map class_row result
-        ≡ class_from Two backlog (map class_row before.now) (table_view table.now) }
-    ensures places { IfOk result (λ class. class.places ≡ 0) }
-{
-    let name = new_name(before, table, Key::ClassName)?;
-    let thousandths = read_share(before, table)?;
-    Ok(ClassKeys {
-        name,
-        thousandths,
-        places: 0,
-    })
-}
-
-/// The keys of a class that may have places of its own, as in version 3.
-fn read_with_places<'a>(
+/// The keys of a class whose share is written in thousandths, and which may have places of its own.
+fn read_by_share<'a>(
     backlog: u32,
     before: &[ClassKeys],
     table: &'a Table,
 ) -> Result<ClassKeys<'a>, ConfigFault>
     ensures value { result_map class_row result
-        ≡ class_from Three backlog (map class_row before.now) (table_view table.now) }
+        ≡ class_from Two backlog (map class_row before.now) (table_view table.now) }
     ensures within { IfOk result (λ class.
         class.places ≤ places_left backlog (map class_row before.now)) }
 {

@@ -65,7 +65,7 @@ pub enum ConfigFault {
     Memory,
     /// The text isn't TOML, or isn't UTF-8.
     Toml,
-    /// `version` isn't the whole number 1, 2 or 3.
+    /// `version` isn't the whole number 1 or 2.
     Version,
     /// A required key is absent.
     Missing(KeyAtFault),

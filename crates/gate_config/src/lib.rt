@@ -12,6 +12,7 @@
 #![tactic(auto)]
 
 mod address;
+mod allowed;
 mod build;
 mod bypass;
 mod class;
@@ -34,6 +35,7 @@ mod version;
 mod window;
 
 pub use address::read_address;
+pub use allowed::AllowedKeys;
 pub use bypass::{BypassKeys, check_bypasses, read_bypasses};
 pub use class::{ClassKeys, class_keys, read_classes};
 pub use entry::value_at;
@@ -47,10 +49,7 @@ pub use reading::{read, settings_in, version_of};
 pub use resolver::{ResolverKeys, check_resolvers, read_resolvers};
 pub use table::{read_optional_table, read_table, read_tables};
 pub use text::{read_prefix, read_text, read_token, string_of};
-pub use top::{
-    FrontKeys, GateKeys, KeptKeys, NO_WINDOW, OLD_NO_WINDOW, OLD_TOP_KEYS, TOP_KEYS, TopKeys,
-    read_top,
-};
+pub use top::{FrontKeys, GateKeys, KeptKeys, TOP_KEYS, TopKeys, read_top};
 pub use unknown::{UnknownAtFault, UnknownKey, least_unknown};
 pub use version::Version;
 pub use window::{WINDOW_KEYS, read_window};

@@ -84,7 +84,7 @@ fn kind_named(version: Version, word: &str) -> Option<LimitKind>
         ≡ if is_among (kinds_in version) word.now then Some word.now else None }
 {
     match (version, LimitKind::named(word.as_bytes())?) {
-        (Version::One | Version::Two, LimitKind::Auto) => None,
+        (Version::One, LimitKind::Auto) => None,
         (_, kind) => Some(kind),
     }
 }

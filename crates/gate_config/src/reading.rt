@@ -34,10 +34,10 @@ use toml::Table;
 /// The nanoseconds of a millisecond.
 const MILLI: u64 = 1_000_000;
 
-/// The settings that a text of version 1, 2 or 3 holds.
+/// The settings that a text of version 1 or 2 holds.
 ///
 /// The faults, of which the first is reported: [`ConfigFault::Toml`] for a text that isn't TOML in
-/// UTF-8; [`ConfigFault::Version`] unless `version` is 1, 2 or 3; then key by key in the order of
+/// UTF-8; [`ConfigFault::Version`] unless `version` is 1 or 2; then key by key in the order of
 /// the keys, an array's members one after the other, [`ConfigFault::Missing`],
 /// [`ConfigFault::Kind`] and [`ConfigFault::Value`]; [`ConfigFault::Unknown`] for the least path
 /// that isn't allowed; [`ConfigFault::Route`] for patterns that can't stand together.
@@ -94,14 +94,13 @@ pub fn settings_in(alloc: Global, table: &Table) -> Result<Settings, ConfigFault
     }
 }
 
-/// The version of a table, where it is the whole number 1, 2 or 3.
+/// The version of a table, where it is the whole number 1 or 2.
 pub fn version_of(table: &Table) -> Option<Version>
     ensures { result ≡ version_of (get_member (codes "version") (table_view table.now)) }
 {
     match value_at(table, Key::Version)?.as_integer()? {
         1 => Some(Version::One),
         2 => Some(Version::Two),
-        3 => Some(Version::Three),
         _ => None,
     }
 }
@@ -150,7 +149,7 @@ fn made_of(alloc: Global, document: Document) -> Result<Settings, ConfigFault>
     })
 }
 
-/// The connections that are kept: none where the version keeps none.
+/// The connections that are kept: none where the version has no keys for them.
 fn kept_of(kept: Option<KeptKeys>) -> KeptKeys
     ensures most { ForSome kept AreKept → AreKept result }
     ensures clients { result.clients ≡ number_at (codes "clients") (kept_values kept) }

@@ -2,7 +2,7 @@
 ghost use Rattle.std.specs.Option.{ForSome};
 ghost use Rattle.std.specs.Prelude.{◌≡◌, ◌≤◌, ◌++◌, [], IfOk, Ok, Some, fold};
 ghost use Rattle.toml.specs.View.{table_view};
-ghost use Rattle.gate_config.specs.declared.version.Version.TheVariants.{Three};
+ghost use Rattle.gate_config.specs.declared.version.Version.TheVariants.{Two};
 ghost use Rattle.gate_config.specs.Outcomes.{result_map};
 ghost use Rattle.gate_config.specs.Rows.{front_rows, gate_rows, kept_rows, top_rows};
 ghost use Rattle.gate_config.specs.Section.{Values, read_row, section_values};
@@ -14,7 +14,7 @@ use config_words::{default_of, range_of};
 use gateway_settings::Address;
 use toml::Table;
 
-/// The keys outside all tables, in version 3.
+/// The keys outside all tables, of all versions and beside all limits.
 pub const TOP_KEYS: [Key; 17] = [
     Key::Version,
     Key::Listen,
@@ -35,64 +35,11 @@ pub const TOP_KEYS: [Key; 17] = [
     Key::Bypass,
 ];
 
-/// Those beside a limit that has windows of its own.
-pub const NO_WINDOW: [Key; 16] = [
-    Key::Version,
-    Key::Listen,
-    Key::Backend,
-    Key::Backlog,
-    Key::Wait,
-    Key::TimeoutMs,
-    Key::Clients,
-    Key::ClientIdleMs,
-    Key::Backends,
-    Key::BackendIdleMs,
-    Key::Keep,
-    Key::Promote,
-    Key::Limit,
-    Key::Class,
-    Key::Resolver,
-    Key::Bypass,
-];
-
-/// The keys outside all tables, in versions that keep no connection.
-pub const OLD_TOP_KEYS: [Key; 13] = [
-    Key::Version,
-    Key::Listen,
-    Key::Backend,
-    Key::Backlog,
-    Key::Wait,
-    Key::TimeoutMs,
-    Key::Keep,
-    Key::Promote,
-    Key::Limit,
-    Key::Window,
-    Key::Class,
-    Key::Resolver,
-    Key::Bypass,
-];
-
-/// Those of them beside a limit that has windows of its own.
-pub const OLD_NO_WINDOW: [Key; 12] = [
-    Key::Version,
-    Key::Listen,
-    Key::Backend,
-    Key::Backlog,
-    Key::Wait,
-    Key::TimeoutMs,
-    Key::Keep,
-    Key::Promote,
-    Key::Limit,
-    Key::Class,
-    Key::Resolver,
-    Key::Bypass,
-];
-
 /// What the keys outside all tables hold.
 #[derive(Drop)]
 pub struct TopKeys {
     pub front: FrontKeys,
-    /// The connections that are kept, in a version that keeps some.
+    /// The connections that are kept, in a version that has keys for them.
     pub kept: Option<KeptKeys>,
     pub gate: GateKeys,
 }
@@ -165,15 +112,15 @@ fn read_front(table: &Table) -> Result<FrontKeys, ConfigFault>
     })
 }
 
-/// The connections that are kept, behind what was read, in a version that keeps some.
+/// The connections that are kept, behind what was read, in a version that has keys for them.
 fn read_kept(version: Version, table: &Table) -> Result<Option<KeptKeys>, ConfigFault>
     ensures within { IfOk result (λ kept. ForSome kept AreKept) }
     ensures value { (before : Values) → result_map (λ kept. before ++ kept_values kept) result
         ≡ fold (read_row [] (table_view table.now)) (Ok before) (kept_rows version) }
 {
     match version {
-        Version::One | Version::Two => Ok(None),
-        Version::Three => match read_kept_keys(table) {
+        Version::One => Ok(None),
+        Version::Two => match read_kept_keys(table) {
             Ok(kept) => Ok(Some(kept)),
             Err(fault) => Err(fault),
         },
@@ -185,7 +132,7 @@ fn read_kept_keys(table: &Table) -> Result<KeptKeys, ConfigFault>
     ensures within { IfOk result AreKept }
     ensures value { (before : Values)
         → result_map (λ kept. before ++ kept_values (Some kept)) result
-        ≡ fold (read_row [] (table_view table.now)) (Ok before) (kept_rows Three) }
+        ≡ fold (read_row [] (table_view table.now)) (Ok before) (kept_rows Two) }
 {
     let clients = read_number(table, Key::Clients, range_of!(Clients))?;
     let client_idle_ms = read_number(table, Key::ClientIdleMs, range_of!(ClientIdleMs))?;

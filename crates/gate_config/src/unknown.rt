@@ -1,14 +1,14 @@
 // A table's unknown keys, and the least of them.
 ghost use Rattle.std.specs.Cmp.Lexicographic.{slice_cmp};
-ghost use Rattle.std.specs.List.{list_any};
 ghost use Rattle.std.specs.Ordering.{is_lt, nat_cmp};
-ghost use Rattle.std.specs.Prelude.{◌≡◌, IfOk, bytes_eq, fold, map, option_map};
+ghost use Rattle.std.specs.Prelude.{◌≡◌, IfOk, fold, map, option_map};
 ghost use Rattle.toml.specs.View.{table_view};
+ghost use Rattle.gate_config.specs.Allowed.{allowed_keys};
 ghost use Rattle.gate_config.specs.Rows.{name_of};
-ghost use Rattle.gate_config.specs.Text.{is_among};
 ghost use Rattle.gate_config.specs.Unknown.{lesser, unknown_key_of, unknown_key_path, unknown_key_text, unknown_keys_in};
 
-use crate::key::{Key, Section};
+use crate::AllowedKeys;
+use crate::key::Section;
 use crate::key_text::key_text;
 use message_parts::Text;
 use std::alloc::{AllocError, Global};
@@ -23,7 +23,7 @@ pub struct UnknownKey<'a> {
     pub member: Option<usize>,
     pub name: &'a str,
     /// The keys that are allowed there.
-    pub keys: &'static [Key],
+    pub keys: AllowedKeys,
 }
 
 impl UnknownKey<'_> {
@@ -63,7 +63,7 @@ pub struct UnknownAtFault {
     name: Text,
     section: Section,
     member: Option<usize>,
-    keys: &'static [Key],
+    keys: AllowedKeys,
 }
 
 impl Model for UnknownAtFault {
@@ -98,7 +98,7 @@ impl UnknownAtFault {
     }
 
     /// The keys that are allowed there.
-    pub fn keys(&self) -> &'static [Key] {
+    pub fn keys(&self) -> AllowedKeys {
         self.keys
     }
 }
@@ -108,16 +108,16 @@ pub fn least_unknown<'a>(
     least: Option<UnknownKey<'a>>,
     section: Section,
     member: Option<usize>,
-    keys: &'static [Key],
+    keys: AllowedKeys,
     table: &'a Table,
 ) -> Option<UnknownKey<'a>>
     ensures { option_map unknown_key_of result
         ≡ fold lesser (option_map unknown_key_of least.entry)
-        (unknown_keys_in section (map name_of keys.now) (table_view table.now)) }
+        (unknown_keys_in section (map name_of (allowed_keys keys)) (table_view table.now)) }
 {
     let mut least = least;
     for name in table.keys() {
-        if !is_name_of(keys, name.as_str()) {
+        if !keys.has_name(name.as_str()) {
             least = lesser(
                 least,
                 UnknownKey {
@@ -147,25 +147,4 @@ fn lesser<'a>(least: Option<UnknownKey<'a>>, key: UnknownKey<'a>) -> Option<Unkn
             }
         }
     }
-}
-
-/// Whether one of the keys has this name.
-fn is_name_of(keys: &[Key], name: &str) -> bool
-    ensures { result ≡ is_among (map name_of keys.now) name.now }
-{
-    has_name(keys, name)
-}
-
-/// Whether one of the keys is called so.
-fn has_name(keys: &[Key], name: &str) -> bool
-    ensures { result ≡ list_any (λ key. bytes_eq name.now (name_of key)) keys.now }
-{
-    keys.iter().any(|key| is_called(*key, name))
-}
-
-/// Whether the key is called so in its section.
-fn is_called(key: Key, name: &str) -> bool
-    ensures { result ≡ bytes_eq name.now (name_of key) }
-{
-    name == key.name()
 }

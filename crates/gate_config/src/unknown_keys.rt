@@ -1,9 +1,9 @@
 // The keys that aren't allowed where they stand.
 ghost use Rattle.std.specs.Prelude.{◌≡◌, flat_map, fold, map, option_map};
 ghost use Rattle.toml.specs.View.{table_view};
+ghost use Rattle.gate_config.specs.Allowed.{allowed_keys};
 ghost use Rattle.gate_config.specs.Rows.{name_of};
 ghost use Rattle.gate_config.specs.Table.{tables_among};
-ghost use Rattle.gate_config.specs.declared.version.Version.TheVariants.{One, Two, Three};
 ghost use Rattle.gate_config.specs.Unknown.{least, lesser, unknown_key_of};
 ghost use Rattle.gate_config.specs.Bypass.{bypass_member};
 ghost use Rattle.gate_config.specs.Resolver.{resolver_member};
@@ -12,8 +12,8 @@ ghost use Rattle.gate_config.specs.UnknownKeys.{bypass_unknown_keys, class_unkno
 
 use crate::document::Document;
 use crate::{
-    BypassKeys, Key, NO_WINDOW, OLD_NO_WINDOW, OLD_TOP_KEYS, ResolverKeys, Section, TOP_KEYS,
-    UnknownKey, Version, WINDOW_KEYS, class_keys, least_unknown, limit_keys,
+    AllowedKeys, BypassKeys, ResolverKeys, Section, UnknownKey, Version, WINDOW_KEYS, class_keys,
+    least_unknown, limit_keys,
 };
 use limit_kinds::LimitSpec;
 use toml::{Table, Value};
@@ -29,44 +29,24 @@ pub fn least_unknown_key<'a>(
 {
     let (limit, spec) = &document.limit;
     let mut least = least_unknown(None, Section::Top, None, top_keys(version, spec), table);
-    least = least_unknown(least, Section::Limit, None, limit_keys(spec), limit);
+    let limit_keys = AllowedKeys::Listed(limit_keys(spec));
+    least = least_unknown(least, Section::Limit, None, limit_keys, limit);
     if let Some((window, _)) = &document.window {
-        least = least_unknown(least, Section::Window, None, &WINDOW_KEYS, window);
+        let window_keys = AllowedKeys::Listed(&WINDOW_KEYS);
+        least = least_unknown(least, Section::Window, None, window_keys, window);
     }
     least = least_of_classes(version, least, document.rules.classes.0);
     least = least_of_resolvers(least, &document.rules.resolvers);
     least_of_bypasses(least, &document.rules.bypasses)
 }
 
-/// The keys outside all tables beside a limit, in a version.
-fn top_keys(version: Version, spec: &LimitSpec) -> &'static [Key]
-    ensures { map name_of result.now ≡ top_names version spec.now }
+/// The keys outside all tables that may stand beside a limit, in a version. A limit without numbers
+/// has windows of its own.
+fn top_keys(version: Version, spec: &LimitSpec) -> AllowedKeys
+    ensures { map name_of (allowed_keys result) ≡ top_names version spec.now }
 {
-    match version {
-        Version::Three => top_keys_of_three(spec),
-        Version::One | Version::Two => old_top_keys(spec),
-    }
-}
-
-/// The same in version 3.
-fn top_keys_of_three(spec: &LimitSpec) -> &'static [Key]
-    ensures { map name_of result.now ≡ top_names Three spec.now }
-{
-    match spec {
-        LimitSpec::Auto(_) => &NO_WINDOW,
-        _ => &TOP_KEYS,
-    }
-}
-
-/// The same in a version before.
-fn old_top_keys(spec: &LimitSpec) -> &'static [Key]
-    ensures one { map name_of result.now ≡ top_names One spec.now }
-    ensures two { map name_of result.now ≡ top_names Two spec.now }
-{
-    match spec {
-        LimitSpec::Auto(_) => &OLD_NO_WINDOW,
-        _ => &OLD_TOP_KEYS,
-    }
+    let windows = !matches!(spec, LimitSpec::Auto(_));
+    AllowedKeys::Top { version, windows }
 }
 
 /// The least of these classes' and one more.
@@ -83,7 +63,7 @@ fn least_of_classes<'a>(
     let mut place = 0usize;
     for item in items {
         if let Some(table) = item.as_table() {
-            let keys = class_keys(version);
+            let keys = AllowedKeys::Listed(class_keys(version));
             least = least_unknown(least, Section::Class, Some(place), keys, table);
             place = place.saturating_add(1);
         }
@@ -103,7 +83,8 @@ fn least_of_resolvers<'a>(
     let mut least = least;
     let mut place = 0usize;
     for (table, keys) in resolvers {
-        least = least_unknown(least, Section::Resolver, Some(place), keys.keys(), table);
+        let keys = AllowedKeys::Listed(keys.keys());
+        least = least_unknown(least, Section::Resolver, Some(place), keys, table);
         place = place.saturating_add(1);
     }
     least
@@ -121,7 +102,8 @@ fn least_of_bypasses<'a>(
     let mut least = least;
     let mut place = 0usize;
     for (table, keys) in rules {
-        least = least_unknown(least, Section::Bypass, Some(place), keys.keys(), table);
+        let keys = AllowedKeys::Listed(keys.keys());
+        least = least_unknown(least, Section::Bypass, Some(place), keys, table);
         place = place.saturating_add(1);
     }
     least

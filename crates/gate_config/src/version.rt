@@ -1,14 +1,12 @@
 // The versions of a configuration.
 
-/// A version of the configuration, which says how the shares of classes are told, and which keys
-/// and kinds there are: what a version brings, later ones have too.
+/// A version of the configuration, which says how the shares of classes are written, and which keys
+/// and kinds of limit there are.
 #[derive(Clone, Copy)]
 pub enum Version {
     /// Shares in percent, at `class.percent`.
     One,
-    /// Shares in thousandths, at `class.share`.
+    /// Shares in thousandths, at `class.share`. It also has optional keys that version 1 lacks: each
+    /// is off unless it is written.
     Two,
-    /// The same shares, a limit without numbers, `limit.kind = "auto"`, and places of the backlog
-    /// that are a class's own, `class.places`.
-    Three,
 }

@@ -12,7 +12,7 @@ pub record AreSound (s : Settings) : Type 0 where
   pub timeout_most : s.timeout_ns ≤ 3600000000000
   pub clients_most : s.clients ≤ 10000
   pub client_idle_most : s.client_idle_ns ≤ 3600000000000
-  pub backends_most : s.backends ≤ 64
+  pub backends_most : s.backends ≤ 4096
   pub backend_idle_most : s.backend_idle_ns ≤ 3600000000000
   pub keep_least : 1 ≤ s.keep
   pub keep_most : s.keep ≤ 1000000

@@ -19,11 +19,12 @@ pub struct Settings {
     pub wait: bool,
     /// The longest wait, in nanoseconds: a millisecond to an hour.
     pub timeout_ns: u64,
-    /// How many places there are for clients that are kept or silent, up to 10,000; 0 keeps none.
+    /// How many idle client connections there may be, up to 10,000; with 0 none is kept for a
+    /// further request.
     pub clients: u32,
     /// How long a kept client may be idle, in nanoseconds: up to an hour.
     pub client_idle_ns: u64,
-    /// How many connections to the backend are kept, up to 64.
+    /// How many idle connections to the backend are kept, up to 4,096; with 0 none is.
     pub backends: u32,
     /// How long one of them may be idle and be used again, in nanoseconds: up to an hour.
     pub backend_idle_ns: u64,

@@ -50,19 +50,21 @@ pub(crate) fn log_listening<R: Log, F: Opener>(
     log_address(rt, settings, workers);
 }
 
-/// Logs where clients are listened for, and of a limit without numbers how far it goes up.
+/// Logs where clients are listened for, which connections are kept, and of a limit without numbers
+/// how far it goes up.
 fn log_address<R: Log>(rt: &R, settings: &Settings, workers: u32)
     requires { AreSound settings.now }
 {
     let address = settings.listen.socket();
     let kind = settings.limit.kind();
     let limit = kind.word();
+    let keepalive = settings.keepalive().word();
     match kind {
         LimitKind::Auto => {
             let max = settings.limit_for(workers).hi();
-            info!(rt; target: "admission", address:%, workers, limit, max; "listening");
+            info!(rt; target: "admission", address:%, workers, limit, max, keepalive; "listening");
         }
-        _ => info!(rt; target: "admission", address:%, workers, limit; "listening"),
+        _ => info!(rt; target: "admission", address:%, workers, limit, keepalive; "listening"),
     }
 }
 

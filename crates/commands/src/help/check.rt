@@ -30,7 +30,7 @@ standard input.
 With --explain standard output first gets more, for a person. Of a fault: the line where it is, of
 a class, resolver or bypass which of them, and what the key holds, its range and its default. Of a
 configuration without fault: how many callers may be inside together, and so how many workers it
-wants, and what has no effect.
+wants, what has no effect, and which connections aren't kept.
 
 A small configuration, for 64 workers, is
 
@@ -51,10 +51,12 @@ Before the tables:
     "
 The packaged configuration is
 
-  version = 3
+  version = 2
   listen = \"127.0.0.1:8080\"
   backend = \"127.0.0.1:9000\"
   backlog = 10
+  clients = 1_000              # client connections are kept between requests
+  backends = 64                # and connections to the backend
 
   [limit]
   kind = \"auto\"                # up to what the workers leave over; no [window] beside it
@@ -100,7 +102,7 @@ the first key at fault:
   admission: config: read         no such file, no permission, a folder, or more than 1 MiB
   admission: config: toml         not TOML in UTF-8: a number with a unit, such as 5s, a text
                                   without quotes or with typographic ones, a key given twice
-  admission: config: version      version is missing or isn't the whole number 1, 2 or 3
+  admission: config: version      version is missing or isn't the whole number 1 or 2
   admission: config: missing KEY  a required key isn't there, or stands in another table
   admission: config: kind KEY     a text where a number is wanted, [class] in place of [[class]]
   admission: config: value KEY    out of the key's range, or a class that isn't there or is there

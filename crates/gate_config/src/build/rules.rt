@@ -12,7 +12,7 @@ ghost use Rattle.gate_config.specs.Rules.{Makes, bypass_from, part_named, resolv
 use crate::{BypassKeys, ClassKeys, ConfigFault, ResolverKeys, string_of};
 use classifier::{Bypass, Resolver};
 use matchit::Router;
-use message_parts::{Bytes, Method};
+use message_parts::Bytes;
 use partitions::{Part, PartitionTable};
 use std::alloc::{AllocError, Global};
 use toml::Table;
@@ -77,7 +77,7 @@ pub fn make_resolver(
     match keys {
         ResolverKeys::Header(name) => Ok(Resolver::Header(bytes_of(alloc, name)?)),
         ResolverKeys::Method { method, class } => {
-            let method = method_of(alloc, method)?;
+            let method = bytes_of(alloc, method)?;
             Ok(Resolver::Method(method, part_named(table, class)))
         }
         ResolverKeys::Route(routes) => Ok(Resolver::Route(router_of(alloc, table, routes)?)),
@@ -89,7 +89,7 @@ pub fn make_bypass(alloc: Global, keys: &BypassKeys) -> Result<Bypass, AllocErro
     ensures { IfOk result (λ rule. rule ≡ bypass_from (bypass_values keys.now)) }
 {
     match keys {
-        BypassKeys::Method(method) => Ok(Bypass::Method(method_of(alloc, method)?)),
+        BypassKeys::Method(method) => Ok(Bypass::Method(bytes_of(alloc, method)?)),
         BypassKeys::Prefix(prefix) => Ok(Bypass::Prefix(bytes_of(alloc, prefix)?)),
         BypassKeys::Header { header, equals } => {
             let name = bytes_of(alloc, header)?;
@@ -103,13 +103,6 @@ fn bytes_of(alloc: Global, text: &str) -> Result<Bytes, AllocError>
     ensures { IfOk result (λ bytes. bytes ≡ text.now) }
 {
     Bytes::from_slice(alloc, text.as_bytes())
-}
-
-/// The method of this name. Fails when out of memory.
-fn method_of(alloc: Global, text: &str) -> Result<Method, AllocError>
-    ensures { IfOk result (λ method. method ≡ text.now) }
-{
-    Method::from_slice(alloc, text.as_bytes())
 }
 
 /// The partition of this name, or unknown.
