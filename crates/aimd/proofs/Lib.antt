@@ -1,2 +1,3 @@
 pub mod Decrease
 pub mod Increase
+mod Rows

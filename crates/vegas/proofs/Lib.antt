@@ -1,3 +1,4 @@
 pub mod Least
 pub mod AtBase
 pub mod Rises
+mod Rows

@@ -3,3 +3,4 @@ pub mod Cuttings
 pub mod Steps
 pub mod InnerRuns
 pub mod Learning
+mod Rows
