@@ -40,6 +40,7 @@ pub use bypass::{BypassKeys, check_bypasses, read_bypasses};
 pub use class::{ClassKeys, class_keys, read_classes};
 pub use entry::value_at;
 pub use fault::{ConfigFault, KeyAtFault};
+pub use gateway_settings::Settings;
 pub use key::{Key, Section};
 pub use limit::{limit_keys, read_limit};
 pub use limit_kinds::{AnyLimit, BaseLimit};

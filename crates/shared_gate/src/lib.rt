@@ -29,7 +29,7 @@ pub use clocks::{Clock, MonotonicClock, ProgramClock};
 pub use closing::AuditFault;
 pub use gate::SharedGate;
 pub use gate_history::{Claimed, GaveUp, Got};
-pub use gate_port::Report;
+pub use gate_port::{Admission, GatePort, Report, Why};
 pub use laws::{
     accepted_histories_are_one_threads, receipts_of_a_pass_rise, running_gates_are_one_threads,
 };
