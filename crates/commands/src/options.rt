@@ -20,15 +20,15 @@ macro_rules! option_row {
     (Workers [$($row:tt)*] $($given:tt)*) => { $($row)*! { $($given)*
         Workers "workers" "W" [1 to 64; default 4]
             listed "How many threads work, " ""
-            told "             threads that serve, " "; " ". Each serves one connection at a
+            told "             threads that serve, " "; " ". Each serves one request at a
                           time, from its first byte to the last of its answer, also while it waits
                           for a permit: at most W requests are in flight or wait. Use 64 unless the
                           limit is small";
     } };
     (PerWorker [$($row:tt)*] $($given:tt)*) => { $($row)*! { $($given)*
         PerWorker "per-worker" "M" [1 to 1000000000; default 1000000000]
-            listed "Connections of each worker, " ""
-            told "          connections that each worker serves before it ends, " ";
+            listed "Exchanges of each worker, " ""
+            told "          exchanges that each worker carries out before it ends, " ";
                           " ". The program ends once all workers have";
     } };
     (ClientTimeoutMs [$($row:tt)*] $($given:tt)*) => { $($row)*! { $($given)*

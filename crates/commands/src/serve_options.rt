@@ -30,7 +30,7 @@ pub struct ServeOptions<'a> {
     pub path: &'a str,
     /// How many workers serve clients, each on a thread of its own.
     pub workers: u32,
-    /// How many connections each worker accepts before it ends.
+    /// How many exchanges each worker carries out before it ends.
     pub per_worker: u32,
     /// How many milliseconds a client may take for its request, and again for its answer.
     pub client_timeout_ms: u32,

@@ -94,8 +94,9 @@ pub(crate) const SERVE_HELP: &str = serve_rows!(
 Serves clients at the address `listen` of the file CONFIG and forwards to its `backend` what its
 limit admits. CONFIG is TOML text of at most 1 MiB; `admission check --help` has its keys, and
 `admission check` says whether a file is right before anything is served. A connection carries one
-request, HTTP/1.1 or 1.0, and is closed after its answer. Bodies are read whole, up to 8 MiB each
-way.
+request, HTTP/1.1 or 1.0, and is closed after its answer. With the key `clients`, connections of
+HTTP/1.1 clients are kept for further requests; with `backends`, connections to the backend are.
+Bodies are read whole, up to 8 MiB each way.
 
 ",
     "
