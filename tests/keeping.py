@@ -19,6 +19,7 @@ NEXT = b"GET /next HTTP/1.1\r\nHost: h\r\nConnection: close\r\n\r\n"
 OTHER = b"HTTP/1.1 200 OK\r\nContent-Length: 4\r\n\r\nnext"
 # What somebody would have the next client read.
 EVIL = b"HTTP/1.1 200 OK\r\nContent-Length: 4\r\n\r\nevil"
+ONE_CHUNK = b"HTTP/1.1 200 OK\r\nTransfer-Encoding: chunked\r\n\r\n3\r\nabc\r\n0\r\n\r\n"
 
 
 def passed(status: bytes, body: bytes | None, length: bytes | None = None) -> bytes:
@@ -79,6 +80,10 @@ ROWS = [
         passed(b"200 OK", b""),
         2,
     ),
+    Row("a wrong length", b"HTTP/1.1 200 OK\r\nContent-Length: +3\r\n\r\nabc", local(502), 2),
+    Row("both lengths", ONE_CHUNK.replace(b"Tr", b"Content-Length: 3\r\nTr"), local(502), 2),
+    Row("another coding", ONE_CHUNK.replace(b"chunked", b"gzip, chunked"), local(502), 2),
+    Row("chunks in HTTP/1.0", ONE_CHUNK.replace(b"HTTP/1.1", b"HTTP/1.0"), local(502), 2),
     Row("a body that is shorter", b"HTTP/1.1 200 OK\r\nContent-Length: 30\r\n\r\nabc", local(502), 2, closes=True),
     Row(
         "chunks that end early",

@@ -50,6 +50,9 @@ EXPECTING = b"POST /next HTTP/1.1\r\nHost: h\r\nExpect: 100-continue\r\nContent-
 HEAD = b"HEAD /next HTTP/1.1\r\nHost: h\r\nContent-Length: 3\r\n\r\nabc"
 BOTH = POST.replace(b"Host", b"Transfer-Encoding: chunked\r\nHost") % (3, b"abc")
 OLD = b"GET /next HTTP/1.0\r\nHost: h\r\nConnection: keep-alive\r\n\r\n"
+OLD_CHUNKS = OLD.replace(b"Host", b"Transfer-Encoding: chunked\r\nHost") + b"0\r\n\r\n"
+CODED = CHUNKED.replace(b"chunked", b"gzip, chunked") % b"0\r\n\r\n"
+WRONG = POST.replace(b"%d", b"+%d") % (3, b"abc")
 CLOSING = GET.replace(b"\r\n\r\n", b"\r\nConnection: x, Close\r\n\r\n")
 ROWS = [
     Row("one request behind the other", ((GET, KEPT), (GET, KEPT), (LAST, ENDED)), (b"", b"", b"")),
@@ -69,7 +72,10 @@ ROWS = [
     Row("a body that isn't asked for", ((EXPECTING % 99_999_999, local(413)), (LAST, b"")), ()),
     Row("no request at all", ((GET, KEPT), (b"\x16\x03\x01\r\n\r\n", local(400))), (b"",)),
     Row("both lengths", ((GET, KEPT), (BOTH, local(400))), (b"",)),
+    Row("a wrong length", ((GET, KEPT), (WRONG, local(400))), (b"",)),
+    Row("another coding", ((GET, KEPT), (CODED, local(501))), (b"",)),
     Row("HTTP/1.0", ((OLD, ENDED), (LAST, b"")), (b"",)),
+    Row("chunks in HTTP/1.0", ((GET, KEPT), (OLD_CHUNKS, local(400))), (b"",)),
     Row("close among options", ((CLOSING, ENDED), (LAST, b"")), (b"",)),
     Row("an end behind an answer", ((GET, KEPT), (b"", b"")), (b"",)),
 ]
