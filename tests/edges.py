@@ -412,7 +412,7 @@ class Edges(Beside):
                             self.judge(f"{words!r} and {len(more)} bytes, and then more", None, breaks_behind(client))
 
     def ends_before_its_operators(self, backend: Backend) -> None:
-        """Behind the last connection of its workers it ends, whoever waits at its operator's address."""
+        """Behind the last exchange of its workers it ends, whoever waits at its operator's address."""
         gate = Operated(self.program, self.room, backend.port, each=1, workers=1)
         with contextlib.ExitStack() as stack:
             for _ in range(OPERATORS):

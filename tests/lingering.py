@@ -101,7 +101,7 @@ class Lingering(Served):
         self.judge("counters of deaf clients", {"admitted": 2 * MANY, "success": 2 * MANY}, gate.ending())
 
     def rests_for_a_moment(self, backend: Backend) -> None:
-        """A connection that can't be had counts as one of a worker's, and the next is tried a moment later."""
+        """A connection that can't be had counts as an exchange of a worker, and the next is tried a moment later."""
         gate = self.gateway(backend, each=100)
         hard = resource.prlimit(gate.process.pid, resource.RLIMIT_NOFILE)[1]
         resource.prlimit(gate.process.pid, resource.RLIMIT_NOFILE, (3, hard))

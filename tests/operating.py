@@ -34,7 +34,7 @@ from telling import OF_EACH_ANSWER
 
 TOP = pathlib.Path(__file__).resolve().parent.parent
 HELD = b"GET /held HTTP/1.1\r\nHost: h\r\n\r\n"
-# More connections than any case has: workers end by a drain alone.
+# More exchanges than any case has: workers end by a drain alone.
 ALWAYS = 1_000_000
 CLASSES = "\n".join(
     (
