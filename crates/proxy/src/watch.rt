@@ -12,7 +12,7 @@ pub trait Watch {
     fn accepted(&self) -> u64;
 
     /// That worker's exchange has ended, whose client was accepted at this moment: its connection
-    /// is closed, and the worker is free for another one.
+    /// is closed or waits for its next request, and the worker is free for another client.
     fn ended(&self, exchange: &ExchangeSummary, since: u64);
 
     /// Whether a worker is free for another client at this moment.
