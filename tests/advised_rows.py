@@ -1,10 +1,21 @@
 """Rows of `tests/keys`: what `check --explain` says of configurations without a fault."""
-from config_texts import ADDRESSES, AIMD, AUTO, BY_METHOD, BY_ROUTE, BYPASS, FIXED, LIVE_OF_TWO, OF_TWO, PLAIN, SETTABLE, VEGAS
+from config_texts import (
+    ADDRESSES,
+    AIMD,
+    AUTO,
+    BY_METHOD,
+    BY_ROUTE,
+    BYPASS,
+    FIXED,
+    LIVE_OF_TWO,
+    OF_TWO,
+    PLAIN,
+    SETTABLE,
+    VEGAS,
+)
 
 # What it says last of connections that aren't kept, and of which are.
-KEEPALIVE_OFF = (
-    "keepalive=off: each connection carries one request; set clients and backends of version 2 to keep them\n"
-)
+KEEPALIVE_OFF = "keepalive=off: each connection carries one request; clients and backends of version 2 keep them\n"
 OF_KEEPALIVE = [
     (
         addresses,
@@ -19,12 +30,12 @@ OF_KEEPALIVE = [
         (
             OF_TWO,
             "clients = 1\n",
-            "keepalive=clients: each connection to the backend carries one request; set backends to keep them\n",
+            "keepalive=clients: each connection to the backend carries one request; backends keeps them\n",
         ),
         (
             OF_TWO,
             "backends = 1\n",
-            "keepalive=backend: each connection of a client carries one request; set clients to keep them\n",
+            "keepalive=backend: each connection of a client carries one request; clients keeps them\n",
         ),
         (OF_TWO, "clients = 1\nbackends = 1\n", ""),
     ]

@@ -35,12 +35,11 @@ pub(crate) fn explain_settings(
 fn explain_keepalive(out: &mut String, keepalive: Keepalive) -> Result<(), AllocError> {
     let words = match keepalive {
         Keepalive::Off => {
-            "each connection carries one request; set clients and backends of version 2 to keep them"
+            "each connection carries one request; clients and backends of version 2 keep them"
         }
         Keepalive::Clients =>
-            "each connection to the backend carries one request; set backends to keep them",
-        Keepalive::Backend =>
-            "each connection of a client carries one request; set clients to keep them",
+            "each connection to the backend carries one request; backends keeps them",
+        Keepalive::Backend => "each connection of a client carries one request; clients keeps them",
         Keepalive::On => return Ok(()),
     };
     let word = keepalive.word();

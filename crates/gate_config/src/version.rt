@@ -6,7 +6,7 @@
 pub enum Version {
     /// Shares in percent, at `class.percent`.
     One,
-    /// Shares in thousandths, at `class.share`. It also has optional keys that version 1 lacks: each
-    /// is off unless it is written.
+    /// Shares in thousandths, at `class.share`. It also has optional keys that version 1 lacks, and
+    /// each of them is off unless it is written.
     Two,
 }
