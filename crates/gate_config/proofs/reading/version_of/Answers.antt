@@ -6,6 +6,3 @@ returns-in-1 c = search rules
 
 pub returns-in-2 : goal.returns-in-2
 returns-in-2 c = search rules
-
-pub returns-in-3 : goal.returns-in-3
-returns-in-3 c = search rules
