@@ -45,7 +45,7 @@ promoted 0 timed-out 0 success 2 ignored 0 dropped 0
 ";
 
 #[test]
-fn two_workers_call_at_the_same_time(rt: HostRuntime) -> Result<(), Fail> {
+fn two_loads_overlap(rt: HostRuntime) -> Result<(), Fail> {
     let clock = Holds {
         begun: AtomicU64::new(0),
         was_met: AtomicBool::new(false),
