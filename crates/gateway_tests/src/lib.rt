@@ -3,9 +3,9 @@
 //! Of a gate: its book, calls through the lock by worked rows and by four threads at random, what a
 //! pass has seen, when each of a thousand waiters is woken, how it is closed, a port over it, and
 //! the windows of its limit. Of exchanges: ends that fail once, what a backend answers, and two
-//! workers at one gate. Of loads by a clock of their own; and of flushes, and of the time of a
-//! connection. What clients, backends and operators see, the scripts of `tests/` try by the
-//! program.
+//! workers at one gate. Of loads by a clock of their own; of shares and their copies; and of
+//! flushes, and of the time of a connection. What clients, backends and operators see, the scripts
+//! of `tests/` try by the program.
 //!
 //! They are one crate, since each crate of tests reads and links all code below it.
 #![tactic(auto)]
@@ -46,6 +46,8 @@ mod random;
 mod rolling_tests;
 #[cfg(test)]
 mod seen_tests;
+#[cfg(test)]
+mod share_tests;
 #[cfg(test)]
 mod shared_gate_tests;
 #[cfg(test)]

@@ -1,8 +1,8 @@
-// AIMD over windows of windows, by worked numbers.
+// Windows of windows, over AIMD by worked numbers and over a fixed limit.
 use crate::checks::check;
 use crate::limits::LEARNING;
 use aimd::{Aimd, AimdNumbers};
-use limit_laws::{Limit, Sample};
+use limit_laws::{Fixed, Limit, MakeFault, Sample};
 use std::process::Abort;
 use windowed::Windowed;
 
@@ -56,4 +56,16 @@ fn windows_over_windows_hand_on_means_of_means(rt: HostRuntime) {
     }
     outer.on_sample(&sample(598, 10));
     check(&rt, outer.limit() == 21);
+}
+
+/// The windows that are refused hand back windows over a fixed limit, and others take these.
+#[test]
+fn windows_of_size_0_hand_the_inner_limit_back(rt: HostRuntime) {
+    let inner = over(&rt, Fixed::new(5).expect(&rt, "a limit"), 300);
+    let Err((MakeFault::Window, inner)) = Windowed::new(inner, 0, 1, 1, 0) else {
+        rt.abort()
+    };
+    let mut outer: Windowed<Windowed<Fixed>> = over(&rt, inner, 200);
+    outer.on_sample(&sample(0, 5));
+    check(&rt, outer.limit() == 5);
 }
