@@ -1,5 +1,5 @@
-// A reader and a writer that fail once, a gate that has room, a backend that answers what it was
-// told to, and a clock.
+// A reader and a writer that fail once or from a call on, a gate that has room, a backend that
+// answers what it was told to, and a clock.
 ghost use Rattle.std.specs.Prelude.{◌≡◌};
 ghost use Rattle.counted_io.specs.Count.{raised};
 
@@ -14,13 +14,33 @@ use std::cell::Cell;
 use std::io::{BufRead, Error, ErrorKind, Read, Result, Write};
 use wire::{Backend, BackendAnswer, Response, Reuse, WireFault};
 
-/// Gives its bytes, or shows them, at most `most` in a call. One call alone fails.
+/// Which calls of a device fail, counted from 0.
+#[derive(Clone, Copy, Drop)]
+pub(crate) enum Failing {
+    Never,
+    /// This call alone.
+    Once(u64),
+    /// This call and all calls after it.
+    From(u64),
+}
+
+impl Failing {
+    fn fails(self, call: u64) -> bool {
+        match self {
+            Failing::Never => false,
+            Failing::Once(only) => call == only,
+            Failing::From(first) => first <= call,
+        }
+    }
+}
+
+/// Gives its bytes, or shows them, at most `most` in a call.
 #[derive(Drop)]
 pub(crate) struct Source<'a> {
     pub(crate) left: &'a [u8],
     pub(crate) most: usize,
     pub(crate) calls: u64,
-    pub(crate) failing: u64,
+    pub(crate) failing: Failing,
 }
 
 impl<'a> Source<'a> {
@@ -28,7 +48,7 @@ impl<'a> Source<'a> {
     fn count_call(&mut self) -> Result<()> {
         let call = self.calls;
         self.calls = call.saturating_add(1);
-        if self.failing == call {
+        if self.failing.fails(call) {
             return Err(Error::from(ErrorKind::ConnectionReset));
         }
         Ok(())
@@ -75,11 +95,11 @@ impl<'a> ReadAhead for Source<'a> {
 pub(crate) const KEPT: usize = 12;
 
 /// Takes what is written, and keeps how much it was and what it began with. Flushes are calls like
-/// writes, and one call alone fails.
+/// writes.
 #[derive(Drop)]
 pub(crate) struct Sink {
     pub(crate) calls: u64,
-    pub(crate) failing: u64,
+    pub(crate) failing: Failing,
     pub(crate) taken: usize,
     pub(crate) first: [u8; KEPT],
 }
@@ -88,7 +108,7 @@ impl Sink {
     fn next_call(&mut self) -> Result<()> {
         let call = self.calls;
         self.calls = call.saturating_add(1);
-        if self.failing == call {
+        if self.failing.fails(call) {
             return Err(Error::from(ErrorKind::BrokenPipe));
         }
         Ok(())

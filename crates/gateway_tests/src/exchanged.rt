@@ -1,8 +1,9 @@
 // One exchange over devices.
-use crate::devices::{KEPT, Says, Sink, Source, Ticking, Told, Watched};
+use crate::devices::{Failing, KEPT, Says, Sink, Source, Ticking, Told, Watched};
 use clocks::MonotonicClock;
 use counted_io::Counted;
 use gate_config::read;
+use gate_port::GatePort;
 use gateway_settings::Settings;
 use limiter_core::Outcome;
 use proxy::{ExchangePolicy, ExchangeSummary, exchange};
@@ -22,9 +23,9 @@ kind = \"fixed\"
 pub(crate) struct Case<'a> {
     pub(crate) sent: &'a [u8],
     pub(crate) says: Says,
-    /// The one read and the one write at which the client's end fails.
-    pub(crate) failing_read: u64,
-    pub(crate) failing_write: u64,
+    /// The reads and the writes at which the client's end fails.
+    pub(crate) failing_read: Failing,
+    pub(crate) failing_write: Failing,
 }
 
 impl<'a> Case<'a> {
@@ -33,8 +34,8 @@ impl<'a> Case<'a> {
         Case {
             sent,
             says,
-            failing_read: u64::MAX,
-            failing_write: u64::MAX,
+            failing_read: Failing::Never,
+            failing_write: Failing::Never,
         }
     }
 }
@@ -51,23 +52,36 @@ pub(crate) struct Came {
     pub(crate) first: [u8; KEPT],
     /// How often the backend was given the request.
     pub(crate) forwards: u64,
-    /// Whether the gate was asked, and what an ending told it.
+    /// Of a gate that is watched, whether it was asked, and what an ending told it.
     pub(crate) is_asked: bool,
     pub(crate) learnt: Option<Outcome>,
 }
 
-/// One exchange.
+/// One exchange at a gate that is watched.
 pub(crate) fn exchanged(rt: &impl Abort, alloc: Global, case: Case) -> Came {
-    let settings = read(alloc, SETTINGS.as_bytes()).expect(rt, "settings");
-    came_by(alloc, case, &settings)
-}
-
-/// One exchange by these settings.
-fn came_by(alloc: Global, case: Case, settings: &Settings) -> Came {
     let mut gate = Watched {
         is_asked: false,
         learnt: None,
     };
+    let mut came = exchanged_over(rt, alloc, &mut gate, case);
+    came.is_asked = gate.is_asked;
+    came.learnt = gate.learnt;
+    came
+}
+
+/// One exchange over any port.
+pub(crate) fn exchanged_over<P: GatePort>(
+    rt: &impl Abort,
+    alloc: Global,
+    port: &mut P,
+    case: Case,
+) -> Came {
+    let settings = read(alloc, SETTINGS.as_bytes()).expect(rt, "settings");
+    came_by(alloc, port, case, &settings)
+}
+
+/// One exchange by these settings.
+fn came_by<P: GatePort>(alloc: Global, port: &mut P, case: Case, settings: &Settings) -> Came {
     let mut backend = Told {
         alloc,
         says: case.says,
@@ -92,7 +106,7 @@ fn came_by(alloc: Global, case: Case, settings: &Settings) -> Came {
     };
     let served = exchange(
         alloc,
-        &mut gate,
+        port,
         &mut backend,
         settings,
         &policy,
@@ -107,7 +121,7 @@ fn came_by(alloc: Global, case: Case, settings: &Settings) -> Came {
         sent: sink.taken,
         first: sink.first,
         forwards: backend.count,
-        is_asked: gate.is_asked,
-        learnt: gate.learnt,
+        is_asked: false,
+        learnt: None,
     }
 }

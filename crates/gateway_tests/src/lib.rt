@@ -2,10 +2,10 @@
 //!
 //! Of a gate: its book, calls through the lock by worked rows and by four threads at random, what a
 //! pass has seen, when each of a thousand waiters is woken, how it is closed, a port over it, and
-//! the windows of its limit. Of exchanges: ends that fail once, what a backend answers, and two
-//! workers at one gate. Of loads by a clock of their own; of shares and their copies; and of
-//! flushes, and of the time of a connection. What clients, backends and operators see, the scripts
-//! of `tests/` try by the program.
+//! the windows of its limit. Of exchanges: ends that fail once or from a call on, what a backend
+//! answers, and two workers at one gate. Of loads by a clock of their own; of shares and their
+//! copies; and of flushes, and of the time of a connection. What clients, backends and operators
+//! see, the scripts of `tests/` try by the program.
 //!
 //! They are one crate, since each crate of tests reads and links all code below it.
 #![tactic(auto)]

@@ -1,7 +1,7 @@
-// A client's end that fails once is called no more; what was asked until then is ended, and nothing
-// else is begun.
+// A client's end that failed is called no more, whether it would fail again or not; what was asked
+// until then is ended, and nothing else is begun.
 use crate::checks::check;
-use crate::devices::Says;
+use crate::devices::{Failing, Says};
 use crate::exchanged::{Came, Case, exchanged};
 use limiter_core::Outcome;
 use std::alloc::Global;
@@ -33,32 +33,39 @@ fn is_settled(came: &Came) -> bool {
         && came.told.outcome == Some(Outcome::Success)
 }
 
-/// A client whose reads fail at one alone is read no more, and isn't answered: it is sent nothing,
+/// A client whose reads fail at this one is read no more, and isn't answered: it is sent nothing,
 /// unless it was asked for its body before. Nobody else hears of it.
-fn is_read_no_more(rt: &impl Abort, alloc: Global, mut case: Case, only: u64) -> bool {
-    case.failing_read = only;
+fn is_read_no_more(
+    rt: &impl Abort,
+    alloc: Global,
+    mut case: Case,
+    at: u64,
+    failing: Failing,
+) -> bool {
+    case.failing_read = failing;
     let came = exchanged(rt, alloc, case);
-    came.reads == only.saturating_add(1)
+    came.reads == at.saturating_add(1)
         && came.told.answer.is_none()
         && came.told.written_fault.is_none()
         && (came.sent == 0 || came.first == *b"HTTP/1.1 100" && came.sent == CONTINUE.len())
         && is_unasked(&came)
 }
 
-/// A client whose writes fail at one alone is written no more, and that is told. Where it was asked
+/// A client whose writes fail at this one is written no more, and that is told. Where it was asked
 /// for its body by then, nobody else hears of it; else it was settled before.
 fn is_written_no_more(
     rt: &impl Abort,
     alloc: Global,
     mut case: Case,
-    only: u64,
+    at: u64,
+    failing: Failing,
     asking: u64,
 ) -> bool {
-    case.failing_write = only;
+    case.failing_write = failing;
     let came = exchanged(rt, alloc, case);
-    came.writes == only.saturating_add(1)
+    came.writes == at.saturating_add(1)
         && came.told.written_fault == Some(WireFault::Write)
-        && if only < asking {
+        && if at < asking {
             is_unasked(&came)
         } else {
             is_settled(&came)
@@ -77,19 +84,28 @@ fn calls_of(rt: &impl Abort, alloc: Global, case: Case) -> (u64, u64) {
     (whole.reads, whole.writes)
 }
 
-/// Each read and each write fails by itself; so many of the writes ask the client for its body.
-fn fails_once(rt: &impl Abort, alloc: Global, case: Case, asking: u64) {
+/// Each read and each write fails by itself, and then with all calls after it; so many of the
+/// writes ask the client for its body.
+fn fails(rt: &impl Abort, alloc: Global, case: Case, asking: u64) {
     let (reads, writes) = calls_of(rt, alloc, case);
-    for only in 0..reads {
-        check(rt, is_read_no_more(rt, alloc, case, only));
+    for at in 0..reads {
+        check(rt, is_read_no_more(rt, alloc, case, at, Failing::Once(at)));
+        check(rt, is_read_no_more(rt, alloc, case, at, Failing::From(at)));
     }
-    for only in 0..writes {
-        check(rt, is_written_no_more(rt, alloc, case, only, asking));
+    for at in 0..writes {
+        check(
+            rt,
+            is_written_no_more(rt, alloc, case, at, Failing::Once(at), asking),
+        );
+        check(
+            rt,
+            is_written_no_more(rt, alloc, case, at, Failing::From(at), asking),
+        );
     }
 }
 
 #[test]
-fn an_end_of_a_client_that_failed_once_is_called_no_more(rt: HostRuntime) {
-    fails_once(&rt, rt.alloc(), unfailing(GET), 0);
-    fails_once(&rt, rt.alloc(), unfailing(ASKING), 2);
+fn an_end_of_a_client_that_failed_is_called_no_more(rt: HostRuntime) {
+    fails(&rt, rt.alloc(), unfailing(GET), 0);
+    fails(&rt, rt.alloc(), unfailing(ASKING), 2);
 }

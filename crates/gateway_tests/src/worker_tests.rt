@@ -13,7 +13,7 @@ ghost use Rattle.proxy.specs.Exchanges.{Policy};
 ghost use Rattle.gateway_tests.specs.Deciding.{AreBothDecided, IsServed};
 
 use crate::checks::check;
-use crate::devices::{KEPT, Sink, Source, Ticking};
+use crate::devices::{Failing, KEPT, Sink, Source, Ticking};
 use clocks::MonotonicClock;
 use counted_io::Counted;
 use gate_config::{AnyLimit, read};
@@ -142,11 +142,11 @@ fn serve_by<L: Limit, M: GateNaming, R: Wait + SystemClock>(
         left: GET,
         most: usize::MAX,
         calls: 0,
-        failing: u64::MAX,
+        failing: Failing::Never,
     };
     let mut sink = Sink {
         calls: 0,
-        failing: u64::MAX,
+        failing: Failing::Never,
         taken: 0,
         first: [0; KEPT],
     };
