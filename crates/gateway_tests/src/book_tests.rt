@@ -1,66 +1,29 @@
 // How many passes a book gives, and how many entries a journal may be asked to keep.
-ghost use Rattle.std.specs.Prelude.{◌≡◌};
-ghost use Rattle.limit_laws.specs.FixedRules.{fixed_rules};
-ghost use Rattle.gate_journal.specs.Settings.{AreInRange, begun};
-ghost use Rattle.gate_ledgers.specs.Names.{AreNamed, AreWhole};
-ghost use Rattle.gate_history.specs.Book.{made_with};
-
+use crate::books::{BookTrial, try_book};
 use crate::checks::check;
-use gate_history::{Blanks, Book, GateSettings, Journal, JournalFault, Naming};
+use gate_history::{Book, Journal, JournalFault, Naming};
 use limit_laws::{Fixed, Limit};
 use limiter_core::{Core, Promote};
 use partitions::PartitionTable;
 use std::alloc::Global;
-use std::marker::Brand;
 use std::process::Abort;
 
 #[test]
 fn a_book_gives_passes_until_it_is_sealed(rt: HostRuntime) {
-    gives::<Brand, _>(
-        &rt,
-        rt.alloc(),
-        one_permit(&rt),
-        Blanks::new(),
-        1_000_000,
-        false,
-    );
-    gives::<Brand, _>(&rt, rt.alloc(), one_permit(&rt), Blanks::new(), 0, true);
-}
-
-/// The settings of a gate of one permit, which keeps one entry.
-fn one_permit<R: Abort>(rt: &R) -> GateSettings<Fixed>
-    ensures { AreInRange result }
-{
-    GateSettings {
-        limit: Fixed::new(1).expect(rt, "a limit"),
-        table: PartitionTable::unknown_only(),
-        room: 100,
-        promote: Promote::Newest,
-        kept: 1,
-        is_rolling: false,
-    }
+    let all = BookTrial::Give {
+        count: 1_000_000,
+        is_sealed: false,
+    };
+    try_book(&rt, rt.alloc(), all);
+    let none = BookTrial::Give {
+        count: 0,
+        is_sealed: true,
+    };
+    try_book(&rt, rt.alloc(), none);
 }
 
 /// A new book, which may be sealed at once, gives so many passes and no more.
-fn gives<N: Naming, R: Abort>(
-    rt: &R,
-    alloc: Global,
-    settings: GateSettings<Fixed>,
-    blanks: Blanks,
-    count: u64,
-    is_sealed: bool,
-)
-    requires names { AreNamed N.calls N.place blanks }
-    requires parts { AreWhole blanks }
-    requires range { AreInRange settings }
-    requires making { N.making ≡ made_with fixed_rules (begun settings) }
-{
-    let begun = Book::<_, N>::begin(alloc, settings, blanks);
-    let mut book = begun.expect(rt, "memory for a book");
-    gives_passes(rt, &mut book, count, is_sealed);
-}
-
-fn gives_passes<L: Limit, N: Naming, R: Abort>(
+pub(crate) fn gives_passes<L: Limit, N: Naming, R: Abort>(
     rt: &R,
     book: &mut Book<L, N>,
     count: u64,

@@ -3,9 +3,9 @@
 //! Of a gate: its book, calls through the lock by worked rows and by four threads at random, what a
 //! pass has seen, when each of a thousand waiters is woken, how it is closed, a port over it, and
 //! the windows of its limit. Of exchanges: ends that fail once or from a call on, what a backend
-//! answers, and two workers at one gate. Of loads by a clock of their own; of shares and their
-//! copies; and of flushes, and of the time of a connection. What clients, backends and operators
-//! see, the scripts of `tests/` try by the program.
+//! answers, two workers at one gate, and what is left in a book of one thread. Of loads by a clock
+//! of their own; of shares and their copies; and of flushes, and of the time of a connection. What
+//! clients, backends and operators see, the scripts of `tests/` try by the program.
 //!
 //! They are one crate, since each crate of tests reads and links all code below it.
 #![tactic(auto)]
@@ -14,6 +14,8 @@
 mod answer_tests;
 #[cfg(test)]
 mod book_tests;
+#[cfg(test)]
+mod books;
 #[cfg(test)]
 mod callers;
 #[cfg(test)]
@@ -24,6 +26,8 @@ mod closing;
 mod crowd_tests;
 #[cfg(test)]
 mod devices;
+#[cfg(test)]
+mod entries;
 #[cfg(test)]
 mod exchanged;
 #[cfg(test)]
@@ -50,6 +54,8 @@ mod seen_tests;
 mod share_tests;
 #[cfg(test)]
 mod shared_gate_tests;
+#[cfg(test)]
+mod solo_tests;
 #[cfg(test)]
 mod test_clocks;
 #[cfg(test)]

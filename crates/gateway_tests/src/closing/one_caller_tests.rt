@@ -4,11 +4,10 @@
 use super::handing::{Handing, are_handed_back, hand_in, lists_of};
 use crate::callers::{acquire_and_end, look, no_receipts};
 use crate::checks::check;
+use crate::entries::{acquired, ended};
 use crate::gates::{Trial, first_of, fixed, try_at};
-use gate_history::{Entry, History, Naming, Receipt};
+use gate_history::{History, Naming, Receipt};
 use limit_kinds::AnyLimit;
-use limiter_core::{Event, Outcome, PermitFacts, Reply};
-use partitions::Part;
 use shared_gate::{AuditFault, Cause, GateNaming, Pass, SharedGate};
 use std::alloc::Global;
 use std::process::Abort;
@@ -112,35 +111,5 @@ fn has_calls(history: &History<AnyLimit>, handing: Handing) -> bool {
     }
     history.base == 0
         && history.opening.next_number() == 0
-        && history.entries.as_slice() == [acquired(), ended()].as_slice()
-}
-
-/// An acquire at 0 that was admitted.
-const fn acquired() -> Entry {
-    Entry::Call {
-        event: Event::Acquire {
-            part: Part::Unknown,
-            bypass: false,
-            wait: false,
-            now: 0,
-        },
-        reply: Reply::Admitted { inflight: 1 },
-    }
-}
-
-/// The ending of its permit at 5.
-const fn ended() -> Entry {
-    Entry::Call {
-        event: Event::End {
-            permit: PermitFacts {
-                number: 0,
-                part: Part::Unknown,
-                start: 0,
-                inflight: 1,
-            },
-            outcome: Outcome::Success,
-            now: 5,
-        },
-        reply: Reply::Ended { promoted: 0 },
-    }
+        && history.entries.as_slice() == [acquired(false, 0), ended(0, 5)].as_slice()
 }
