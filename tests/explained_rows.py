@@ -316,7 +316,7 @@ OF_FAULTS_OF_ONE = [
         FIXED,
         '[[class]]\nname = "b"\npercent = 1\nplaces = 1\n',
         "",
-        "class 1 of 1\nline 10: places = 1\n" "class.places isn't a key here; those that are: name percent\n",
+        "class 1 of 1\nline 10: places = 1\nclass.places isn't a key here; those that are: name percent\n",
         "unknown class.places",
     ),
     (
