@@ -16,6 +16,7 @@ ghost use Rattle.shared_gate.specs.Reported.{ArePassesMissing, IsReportOf, IsRep
 
 use crate::answers::Waited;
 use crate::closing::{AuditFault, count_calls, judge};
+use crate::conditions::NumberedConditions;
 use crate::naming::GateNaming;
 use crate::pass::{Pass, with_readers};
 use crate::resting::{pause_for, rest};
@@ -29,10 +30,10 @@ use gate_history::{
 use gate_port::Report;
 use gate_word::SharedLogLength;
 use limit_laws::Limit;
-use limiter_core::{Counters, Outcome};
+use limiter_core::{Counters, Outcome, Promotion};
 use partitions::Part;
 use std::alloc::{AllocError, Global};
-use std::sync::{Condvar, Mutex, Wait};
+use std::sync::{Mutex, Wait};
 use std::time::Clock as SystemClock;
 
 /// A gate that threads share. A call that takes the lock keeps its promise if it returns. Every
@@ -41,7 +42,7 @@ use std::time::Clock as SystemClock;
 pub struct SharedGate<L: Limit, M: GateNaming> {
     book: Mutex<Sealed<L, M>>,
     pub(crate) word: SharedLogLength<Entry>,
-    freed: Condvar,
+    conditions: NumberedConditions,
     ghost named: { word ≡ M.word },
 }
 
@@ -65,20 +66,33 @@ impl<L: Limit, M: GateNaming> SharedGate<L, M> {
         book.invariant();
         let (word, mut keeper) = word.share();
         let passes = with_readers(alloc, &word, &mut keeper, passes);
+        let conditions = NumberedConditions::new(alloc);
         let gate = SharedGate {
             book: Mutex::new(Sealed { book, keeper }),
             word,
-            freed: Condvar::new(),
+            conditions: conditions?,
         };
         Ok((gate, passes?))
     }
 
-    /// One step of the book under the lock.
+    /// One step of the book under the lock, which wakes each waiter that it promotes.
     #[inline(always)]
     fn step(&self, rt: &impl Wait, pass: &mut Pass<M>, call: Call<M>) -> Step<M>
         ensures { Tells pass.old pass.new (event_of call) result }
     {
-        self.book.lock(rt).step(&self.word, pass, call)
+        let mut sealed = self.book.lock(rt);
+        let step = sealed.step(&self.word, pass, call);
+        self.wake(sealed.promoted_by(&step));
+        step
+    }
+
+    /// Wakes promoted waiters, each at the condition of its number. The lock is held meanwhile: a
+    /// waiter that looked before the step has begun to wait by then.
+    #[inline(always)]
+    fn wake(&self, promotions: &[Promotion]) {
+        for promotion in promotions {
+            self.conditions.wake(promotion.waiter);
+        }
     }
 
     /// How many replies, promotions and outcomes of each kind there were so far.
@@ -200,12 +214,12 @@ impl<L: Limit, M: GateNaming> SharedGate<L, M> {
                 return true;
             }
             let pause = pause_for(deadline - now);
-            locked = self.freed.wait_timeout(rt, locked, pause).0;
+            locked = self.conditions.wait(rt, locked, number, pause);
         }
         unreachable!()
     }
 
-    /// Ends a permit, and wakes all who wait.
+    /// Ends a permit, and wakes the waiters that this promotes.
     #[inline(always)]
     pub fn end(
         &self,
@@ -223,16 +237,10 @@ impl<L: Limit, M: GateNaming> SharedGate<L, M> {
             now,
         };
         let step = self.step(rt, pass, call);
-        self.wake_behind(&step);
         match step.into_receipt() {
             Ok(receipt) => receipt,
             Err(_spent) => unreachable!(),
         }
-    }
-
-    /// Wakes all who wait. It wants the step that was made: one who looks before it sleeps on.
-    fn wake_behind(&self, _step: &Step<M>) {
-        self.freed.notify_all();
     }
 
     /// Asks for the permit of a waiter.
@@ -249,7 +257,7 @@ impl<L: Limit, M: GateNaming> SharedGate<L, M> {
         self.step(rt, pass, Call::GiveUp { ticket }).into_gave_up()
     }
 
-    /// Sets the limit by hand, and wakes all who wait.
+    /// Sets the limit by hand, and wakes the waiters that this promotes.
     pub fn set_limit(
         &self,
         rt: &impl Wait,
@@ -259,13 +267,11 @@ impl<L: Limit, M: GateNaming> SharedGate<L, M> {
     ) -> Result<Receipt<M>, Spent<M>>
         ensures { Changes pass.old pass.new (SetLimit n now) result }
     {
-        let receipt = self.change(rt, pass, Call::SetLimit { n, now });
-        self.freed.notify_all();
-        receipt
+        self.change(rt, pass, Call::SetLimit { n, now })
     }
 
-    /// Puts the algorithm back into its first state, and wakes all who wait. What is in flight
-    /// stays.
+    /// Puts the algorithm back into its first state, and wakes the waiters that this promotes. What
+    /// is in flight stays.
     pub fn reset(
         &self,
         rt: &impl Wait,
@@ -274,9 +280,7 @@ impl<L: Limit, M: GateNaming> SharedGate<L, M> {
     ) -> Result<Receipt<M>, Spent<M>>
         ensures { Changes pass.old pass.new (Reset now) result }
     {
-        let receipt = self.change(rt, pass, Call::Reset { now });
-        self.freed.notify_all();
-        receipt
+        self.change(rt, pass, Call::Reset { now })
     }
 
     /// Shows the state.
@@ -324,7 +328,7 @@ impl<L: Limit, M: GateNaming> SharedGate<L, M> {
         let SharedGate {
             book,
             word,
-            freed: _,
+            conditions: _,
         } = self;
         let Sealed {
             mut book,

@@ -13,6 +13,7 @@
 
 mod answers;
 mod closing;
+mod conditions;
 mod gate;
 mod laws;
 mod meeting;

@@ -16,7 +16,7 @@ use gate_journal::rolling_runs_are_legal;
 use gate_port::{Report, report_of};
 use gate_word::{Keeper, SharedLogLength};
 use limit_laws::Limit;
-use limiter_core::counters_add_up;
+use limiter_core::{Promotion, counters_add_up};
 use std::marker::{Brand, Model};
 
 /// A book that gave as many passes as its gate has, and gives no more, and the keeper of the log of
@@ -63,6 +63,19 @@ impl<L: Limit, M: GateNaming> Sealed<L, M> {
         word.raise::<Journal<L>, Brand>(&mut self.keeper, &mut pass.reader, journal, next);
         pass.seen = next;
         step
+    }
+
+    /// Returns the promotions of the step that was just made: none if the history was exhausted.
+    #[inline(always)]
+    pub(crate) fn promoted_by(&self, step: &Step<M>) -> &[Promotion] {
+        match step {
+            Step::Done(_) | Step::Permit(..) | Step::Ticket(..) => self
+                .book
+                .journal()
+                .core()
+                .promotions(),
+            Step::Exhausted(_) | Step::Returned(..) => &[],
+        }
     }
 
     /// Takes passes back, by which no more calls are made, and tells how many calls there were and
