@@ -7,15 +7,14 @@ ghost use Rattle.gate_history.specs.Book.{made_with};
 ghost use Rattle.shared_gate.specs.Log.{CallsAllLegal};
 
 use crate::closing::{Handing, one_closes, two_threads_close};
+use crate::crowd_tests::all_others_wait;
 use crate::port_tests::refuses;
-use crate::raised_limit_tests::raises_the_limit;
 use crate::random::told_by_four;
 use crate::rolling_tests::{is_reset, is_seen};
 use crate::seen_tests::{both_work, one_looks_and_is_told, tells_under_the_lock};
 use crate::shared_gate_tests::{one_waits_for_another, promotes_the_newest};
 use crate::test_clocks::Waiting;
 use crate::waiting_tests::{answers_what_is_owed, waits_in_vain};
-use crate::waking_tests::two_wait_for_a_third;
 use gate_history::{Blanks, Book, GateSettings};
 use limit_kinds::{AnyLimit, BaseLimit};
 use limit_laws::{Fixed, Settable};
@@ -55,10 +54,8 @@ pub(crate) enum Trial<'t, R> {
     Work,
     /// One thread waits for the permit that another one ends.
     Wait,
-    /// Two wait again and again for the permit that a third one ends.
-    WaitOften,
-    /// One waits until another one raises the limit, by hand or by a reset.
-    Raise { is_reset: bool },
+    /// All but one wait, and are promoted.
+    Crowd,
     /// A port asks a full gate, at once and by a deadline.
     RefuseByADeadline,
     /// Four make random calls, at a gate that promotes so.
@@ -184,8 +181,7 @@ fn try_lent<M: GateNaming + Send + Sync, R: Threads + Wait + SystemClock + Abort
         Trial::TellUnderTheLock => tells_under_the_lock(rt, gate, passes),
         Trial::Work => both_work(rt, alloc, gate, passes),
         Trial::Wait => one_waits_for_another(rt, gate, passes),
-        Trial::WaitOften => two_wait_for_a_third(rt, gate, passes),
-        Trial::Raise { is_reset } => raises_the_limit(rt, gate, passes, is_reset),
+        Trial::Crowd => all_others_wait(rt, gate, passes),
         Trial::RefuseByADeadline => refuses(rt, gate, next_of(rt, passes)),
         Trial::CallAtRandom(promote) => told_by_four(rt, alloc, promote, gate, passes),
         _ => rt.abort(),

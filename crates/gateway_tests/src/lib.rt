@@ -1,10 +1,11 @@
 //! Tests by public calls, of what no script can ask the program.
 //!
 //! Of a gate: its book, calls through the lock by worked rows and by four threads at random, what a
-//! pass has seen, when who waits is woken, how it is closed, a port over it, and the windows of its
-//! limit. Of exchanges: ends that fail once, what a backend answers, and two workers at one gate.
-//! Of loads by a clock of their own; and of flushes, and of the time of a connection. What clients,
-//! backends and operators see, the scripts of `tests/` try by the program.
+//! pass has seen, when each of a thousand waiters is woken, how it is closed, a port over it, and
+//! the windows of its limit. Of exchanges: ends that fail once, what a backend answers, and two
+//! workers at one gate. Of loads by a clock of their own; and of flushes, and of the time of a
+//! connection. What clients, backends and operators see, the scripts of `tests/` try by the
+//! program.
 //!
 //! They are one crate, since each crate of tests reads and links all code below it.
 #![tactic(auto)]
@@ -20,6 +21,8 @@ mod checks;
 #[cfg(test)]
 mod closing;
 #[cfg(test)]
+mod crowd_tests;
+#[cfg(test)]
 mod devices;
 #[cfg(test)]
 mod exchanged;
@@ -32,11 +35,11 @@ mod limits;
 #[cfg(test)]
 mod load;
 #[cfg(test)]
+mod looking_tests;
+#[cfg(test)]
 mod once_tests;
 #[cfg(test)]
 mod port_tests;
-#[cfg(test)]
-mod raised_limit_tests;
 #[cfg(test)]
 mod random;
 #[cfg(test)]
@@ -51,8 +54,6 @@ mod test_clocks;
 mod timed_io_tests;
 #[cfg(test)]
 mod waiting_tests;
-#[cfg(test)]
-mod waking_tests;
 #[cfg(test)]
 mod window_tests;
 #[cfg(test)]

@@ -131,7 +131,7 @@ fn holds<M: GateNaming, R: Wait + Abort>(
 }
 
 /// Looks until one waits.
-pub(crate) fn until_one_waits<M: GateNaming, R: Wait + Abort>(
+fn until_one_waits<M: GateNaming, R: Wait + Abort>(
     rt: &R,
     gate: &SharedGate<AnyLimit, M>,
     pass: &mut Pass<M>,
@@ -152,7 +152,7 @@ fn shows_waiter<M: Naming>(looked: Result<Receipt<M>, Spent<M>>) -> bool {
 }
 
 /// Waits for a permit, once the only one is held. Tells how many calls the pass has made.
-pub(crate) fn waits<M: GateNaming, R: Wait + SystemClock + Abort>(
+fn waits<M: GateNaming, R: Wait + SystemClock + Abort>(
     rt: &R,
     gate: &SharedGate<AnyLimit, M>,
     pass: &mut Pass<M>,

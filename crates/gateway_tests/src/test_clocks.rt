@@ -24,6 +24,21 @@ pub(crate) struct Counts<'r, R> {
     pub(crate) then: u64,
 }
 
+impl<'r, R> Counts<'r, R> {
+    /// A clock that stands at 0 for good.
+    pub(crate) fn still(rt: &'r R) -> Counts<'r, R> {
+        Counts {
+            rt,
+            start: 0,
+            looks: AtomicU64::new(0),
+            most_looks: 0,
+            most_time: 0,
+            first: 0,
+            then: 0,
+        }
+    }
+}
+
 /// A clock of a test.
 #[derive(Drop)]
 pub(crate) enum TestClock<'r, R> {
@@ -50,6 +65,14 @@ impl<'r, R: SystemClock> Clock for TestClock<'r, R> {
                 }
             }
         }
+    }
+}
+
+/// How often a clock was looked at that counts it.
+pub(crate) fn looks_at<R>(clock: &TestClock<'_, R>) -> u64 {
+    match clock {
+        TestClock::Counts(counts) => counts.looks.load(Ordering::SeqCst),
+        _ => 0,
     }
 }
 
