@@ -25,7 +25,8 @@ sample rtt = record { start = 0; rtt = rtt; inflight = 8; dropped = false }
 -- 10, with thresholds up to 6
 abbrev after : ℕ → ℕ → ℕ → List ℕ → ℕ
 after lo alpha probe_every rtts =
-    (fold (λ s rtt. vegas_next s (sample rtt)) (vegas_from lo 10 100 alpha 6 probe_every) rtts).limit
+    (fold (λ s rtt. vegas_next s (sample rtt))
+    (vegas_from lo 10 100 alpha 6 probe_every) rtts).limit
 
 -- of 10 requests 2 wait: 250 / 125
 vegas_raises_below_alpha : after 1 3 0 (100 ∷ 125 ∷ []) ≡ 11

@@ -11,4 +11,5 @@ invariant-loop-name l =
     fold lesser (option_map unknown_key_of l.initial.least)
     (unknown_keys_in l.section (map name_of (allowed_keys l.keys)) (table_view l.table))
     ≡ fold lesser (option_map unknown_key_of l.least)
-    (unknown_keys_among l.section (map name_of (allowed_keys l.keys)) (map string_bytes l.name-iterator))
+    (unknown_keys_among l.section (map name_of (allowed_keys l.keys))
+    (map string_bytes l.name-iterator))
