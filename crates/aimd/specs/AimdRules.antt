@@ -77,6 +77,12 @@ abbrev pub aimd_made : AimdNumbers → Result AimdState MakeFault
 aimd_made n =
     if is_in_range n then (if is_ratio n then Ok (aimd_of n) else Err Ratio) else Err Range
 
+-- the first state under another greatest limit, which is brought between lo and 10,000
+abbrev pub with_greatest : ℕ → AimdState → AimdState
+with_greatest most s =
+    let hi = max (min most greatest_limit) s.lo in
+    aimd_from s.lo (min s.first hi) hi s.ratio s.timeout
+
 -- what a drop leaves of a limit: the greatest m with 1000 * m ≤ limit * ratio
 unfoldable pub decreased : ℕ → ℕ → ℕ
 decreased limit ratio = greatest (λ m. nat_le (1000 * m) (limit * ratio)) (limit * ratio)

@@ -2,7 +2,7 @@
 ghost use Rattle.std.specs.Prelude.{◌≡◌, ◌≤◌, ◌↔◌, IfOk, IsOk};
 ghost use Rattle.limit_laws.specs.Algorithm.{greatest_limit};
 ghost use Rattle.aimd.specs.AimdRules.{IsDecrease, IsInRange, IsRatio, aimd_from, aimd_made, aimd_of};
-ghost use Rattle.aimd.specs.AimdRules.{aimd_rules, decreased, greatest_ratio};
+ghost use Rattle.aimd.specs.AimdRules.{aimd_rules, decreased, greatest_ratio, with_greatest};
 ghost use Rattle.aimd.specs.AimdLaws.{IsLawful-aimd};
 
 use crate::numbers::{AimdNumbers, GREATEST_RATIO, LEAST_RATIO};
@@ -102,6 +102,23 @@ impl Aimd {
             ratio,
             timeout,
         })
+    }
+
+    /// The same limit in its first state with a greatest limit of `hi`, brought between its least
+    /// and 10,000 permits. It begins at no more than that.
+    pub fn with_greatest(&self, hi: u32) -> Aimd
+        ensures { result ≡ with_greatest hi self.now }
+    {
+        let hi = hi.min(GREATEST_LIMIT).max(self.lo);
+        let first = self.first.min(hi);
+        Aimd {
+            lo: self.lo,
+            limit: first,
+            hi,
+            first,
+            ratio: self.ratio,
+            timeout: self.timeout,
+        }
     }
 }
 

@@ -10,7 +10,7 @@ use Rattle.limit_kinds.specs.declared.kinds.LimitKind.{LimitKind}
 use Rattle.limit_kinds.specs.declared.kinds.BaseLimit.{BaseLimit}
 use Rattle.limit_kinds.specs.declared.kinds.AnyLimit.{AnyLimit}
 use Rattle.limit_kinds.specs.declared.kinds.AnyLimit.TheVariants.{Plain, Windowed}
-use Rattle.limit_kinds.specs.Kinds.{set_in, base_kind, base_rules}
+use Rattle.limit_kinds.specs.Kinds.{set_in, base_kind, base_rules, base_with_greatest}
 
 -- the rule over windows
 abbrev pub window_rules : Algorithm (WindowedState BaseLimit)
@@ -48,6 +48,12 @@ any_first (Windowed s) = Windowed (window_rules.first s)
 abbrev pub any_kind : AnyLimit → LimitKind
 any_kind (Plain s) = base_kind s
 any_kind (Windowed s) = base_kind s.inner
+
+-- a limit under another greatest limit; over windows, of the same numbers, before their first sample
+abbrev pub any_with_greatest : ℕ → AnyLimit → AnyLimit
+any_with_greatest hi (Plain s) = Plain (base_with_greatest hi s)
+any_with_greatest hi (Windowed s) =
+    Windowed (opened s.settings (base_with_greatest hi s.inner))
 
 -- the rule that a limit has
 abbrev pub any_rules : Algorithm AnyLimit

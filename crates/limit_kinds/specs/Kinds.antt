@@ -9,9 +9,9 @@ use Rattle.limit_laws.specs.Facts.{SampleFacts}
 use Rattle.limit_laws.specs.Algorithm.{Algorithm, greatest_limit}
 use Rattle.limit_laws.specs.FixedRules.{fixed_rules}
 use Rattle.limit_laws.specs.SettableRules.{settable_from, settable_rules}
-use Rattle.aimd.specs.AimdRules.{aimd_made, aimd_of, aimd_rules}
-use Rattle.vegas.specs.VegasRules.{vegas_made, vegas_of, vegas_rules}
-use Rattle.auto.specs.AutoRules.{auto_from, auto_rules}
+use Rattle.aimd.specs.AimdRules.{aimd_made, aimd_of, aimd_rules, with_greatest as aimd_with_greatest}
+use Rattle.vegas.specs.VegasRules.{vegas_made, vegas_of, vegas_rules, with_greatest as vegas_with_greatest}
+use Rattle.auto.specs.AutoRules.{auto_from, auto_rules, up_to}
 use Rattle.limit_kinds.specs.declared.kinds.LimitKind.{LimitKind}
 use Rattle.limit_kinds.specs.declared.kinds.LimitKind.TheVariants as kind
 use Rattle.limit_kinds.specs.declared.kinds.BaseLimit.{BaseLimit}
@@ -93,6 +93,14 @@ base_first (Settable s) = Settable (settable_rules.first s)
 base_first (Aimd s) = Aimd (aimd_rules.first s)
 base_first (Vegas s) = Vegas (vegas_rules.first s)
 base_first (Auto s) = Auto (auto_rules.first s)
+
+-- a limit in its first state under another greatest limit, where its samples move it: one that
+-- finds itself goes no further than by its own. Others stay
+abbrev pub base_with_greatest : ℕ → BaseLimit → BaseLimit
+base_with_greatest hi (Aimd s) = Aimd (aimd_with_greatest hi s)
+base_with_greatest hi (Vegas s) = Vegas (vegas_with_greatest hi s)
+base_with_greatest hi (Auto s) = Auto (up_to hi s)
+base_with_greatest hi limit = limit
 
 -- the kind of a limit
 abbrev pub base_kind : BaseLimit → LimitKind

@@ -2,9 +2,9 @@
 ghost use Rattle.std.specs.List.{list_any};
 ghost use Rattle.std.specs.Prelude.{◌≡◌, IfOk, None, Some, bytes_eq, option_map};
 ghost use Rattle.std.specs.Prelude.{if◌then◌else◌};
-ghost use Rattle.limit_kinds.specs.AnyKinds.{any_from, any_kind};
-ghost use Rattle.limit_kinds.specs.Kinds.{base_kind, first_limit, kind_named, kind_word};
-ghost use Rattle.limit_kinds.specs.Kinds.{kind_words, limit_made};
+ghost use Rattle.limit_kinds.specs.AnyKinds.{any_from, any_kind, any_with_greatest};
+ghost use Rattle.limit_kinds.specs.Kinds.{base_kind, base_with_greatest, first_limit, kind_named};
+ghost use Rattle.limit_kinds.specs.Kinds.{kind_word, kind_words, limit_made};
 
 use aimd::{Aimd, AimdNumbers};
 use auto::Auto;
@@ -88,6 +88,20 @@ impl BaseLimit {
             BaseLimit::Aimd(_) => LimitKind::Aimd,
             BaseLimit::Vegas(_) => LimitKind::Vegas,
             BaseLimit::Auto(_) => LimitKind::Auto,
+        }
+    }
+
+    /// The limit in its first state with a greatest limit of `hi` permits, by
+    /// [`Aimd::with_greatest`], [`Vegas::with_greatest`] and [`Auto::up_to`]. A limit that no
+    /// sample moves stays as it is.
+    pub fn with_greatest(&self, hi: u32) -> BaseLimit
+        ensures { result ≡ base_with_greatest hi self.now }
+    {
+        match self {
+            BaseLimit::Fixed(_) | BaseLimit::Settable(_) => *self,
+            BaseLimit::Aimd(limit) => BaseLimit::Aimd(limit.with_greatest(hi)),
+            BaseLimit::Vegas(limit) => BaseLimit::Vegas(limit.with_greatest(hi)),
+            BaseLimit::Auto(limit) => BaseLimit::Auto(limit.up_to(hi)),
         }
     }
 }
@@ -246,6 +260,20 @@ impl AnyLimit {
         match self {
             AnyLimit::Plain(limit) => limit.kind(),
             AnyLimit::Windowed(limit) => limit.inner().kind(),
+        }
+    }
+
+    /// The limit in its first state with a greatest limit of `hi` permits, by
+    /// [`BaseLimit::with_greatest`]; over windows of the same numbers, before their first sample.
+    pub fn with_greatest(&self, hi: u32) -> AnyLimit
+        ensures { result ≡ any_with_greatest hi self.now }
+    {
+        match self {
+            AnyLimit::Plain(limit) => AnyLimit::Plain(limit.with_greatest(hi)),
+            AnyLimit::Windowed(limit) => {
+                let base = limit.inner().with_greatest(hi);
+                AnyLimit::Windowed(Windowed::with_settings(base, limit.settings()))
+            }
         }
     }
 }

@@ -91,6 +91,12 @@ abbrev pub vegas_made : VegasNumbers → Result VegasState MakeFault
 vegas_made n =
     if is_in_range n then (if are_thresholds n then Ok (vegas_of n) else Err Alpha) else Err Range
 
+-- the first state under another greatest limit, which is brought between lo and 10,000
+abbrev pub with_greatest : ℕ → VegasState → VegasState
+with_greatest most s =
+    let hi = max (min most greatest_limit) s.lo in
+    vegas_from s.lo (min s.first hi) hi s.alpha s.beta s.probe_every
+
 -- whether the next sample is a probe: the count reaches its end with it
 abbrev pub probes : VegasState → Bool
 probes s = if nat_eq s.probe_every 0 then false else nat_le s.probe_every (s.count + 1)

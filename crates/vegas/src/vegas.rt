@@ -4,7 +4,7 @@ ghost use Rattle.limit_laws.specs.Facts.{hour};
 ghost use Rattle.limit_laws.specs.Algorithm.{greatest_limit};
 ghost use Rattle.vegas.specs.VegasRules.{AreThresholds, IsInRange, count_after, measured, probes};
 ghost use Rattle.vegas.specs.VegasRules.{queue as queue_lem, queue_now, vegas_from, vegas_made};
-ghost use Rattle.vegas.specs.VegasRules.{vegas_of, vegas_rules};
+ghost use Rattle.vegas.specs.VegasRules.{vegas_of, vegas_rules, with_greatest};
 ghost use Rattle.vegas.specs.VegasLaws.{IsLawful-vegas};
 
 use crate::numbers::{MOST_PROBE, MOST_QUEUE, VegasNumbers};
@@ -143,6 +143,27 @@ impl Vegas {
             last: 0,
             count: 0,
         })
+    }
+
+    /// The same limit in its first state with a greatest limit of `hi`, brought between its least
+    /// and 10,000 permits. It begins at no more than that.
+    pub fn with_greatest(&self, hi: u32) -> Vegas
+        ensures { result ≡ with_greatest hi self.now }
+    {
+        let hi = hi.min(GREATEST_LIMIT).max(self.lo);
+        let first = self.first.min(hi);
+        Vegas {
+            lo: self.lo,
+            limit: first,
+            hi,
+            first,
+            alpha: self.alpha,
+            beta: self.beta,
+            probe_every: self.probe_every,
+            base: None,
+            last: 0,
+            count: 0,
+        }
     }
 
     /// Counts a sample, and says whether the base is to be measured anew by it.

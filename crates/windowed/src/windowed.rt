@@ -82,6 +82,13 @@ impl<L: Limit> Windowed<L> {
     {
         &self.inner
     }
+
+    /// How its samples are gathered into windows.
+    pub fn settings(&self) -> WindowSettings
+        ensures { result ≡ self.now.settings }
+    {
+        self.settings
+    }
 }
 
 impl<L: Limit> Limit for Windowed<L> {
