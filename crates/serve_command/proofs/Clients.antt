@@ -110,19 +110,19 @@ module _ {S : Type 0} (g : Gate S) (one : ExchangesAreOneThreads g) (p : Policy)
       decided_more new.known known first.0 first.1 _ _ first.3 first.4
       (decided_behind turns are.0 new first.0 most (first.3.same ∙ from_there) are.3 first.2)
 
-module _ {S : Type 0} (rules : Algorithm S) (m : Making) (Gives : Policy → Type 0)
+module _ {S : Type 0} (rules : Algorithm S) (m : Making) (p : Policy)
     (Came : Option (List ℕ) → Type 0) (most : ℕ) (passes beside : List Pass) (counters : Counters)
     (one : (g : Gate S) → ExchangesAreOneThreads g)
     (behind : AreCountersOfAll rules m (passes ++ beside) counters) where
   abbrev pub RanIn : Pass → Type 0
-  RanIn = HasRunIn (limiter_of rules m) (image_of behind.after.origin) behind.log m Gives Came most
+  RanIn = HasRunIn (limiter_of rules m) (image_of behind.after.origin) behind.log m p Came most
 
-  ran_in : (pass : Pass) → HasRunTo m Gives Came most pass → IsPrefix pass.log behind.log
+  ran_in : (pass : Pass) → HasRunTo m p Came most pass → IsPrefix pass.log behind.log
       → RanIn pass
   ran_in pass ran begun =
       let g = limiter_of rules m in
       let o = image_of behind.after.origin in
-      let all = decided_behind g (one g) ran.policy Came ran.run.turns _ _
+      let all = decided_behind g (one g) p Came ran.run.turns _ _
       (known_at m (pass_of 0) 0) (exhausted_from m) refl ran.run.taken.exchanges refl in
       let ends : known_at m pass ran.reached ≡ all.0 = same_Some _ all.0 all.2 in
       let numbers : all.1 ≡ pass.own =
@@ -131,21 +131,21 @@ module _ {S : Type 0} (rules : Algorithm S) (m : Making) (Gives : Policy → Typ
         ran = ran;
         decided =
             subst (λ (ns : List ℕ). AreDecided g o behind.log (exhausted_from m)
-            ran.policy.settings ran.run.turns ns) numbers
+            p.settings ran.run.turns ns) numbers
             (all.4 o behind.log behind.after.unasked.nobody behind.after.legal
             (subst (λ (known : Known). IsPrefix known.log behind.log) ends begun));
       }
 
-  all_ran : (own : List Pass) → All (HasRunTo m Gives Came most) own
+  all_ran : (own : List Pass) → All (HasRunTo m p Came most) own
       → All (λ pass. IsPrefix pass.log behind.log) (own ++ beside) → All RanIn own
   all_ran [] ran begun = All-nil RanIn
-  all_ran (p ∷ ps) ran begun =
+  all_ran (q ∷ qs) ran begun =
       let Begun : Pass → Type 0 = λ pass. IsPrefix pass.log behind.log in
-      let Ran = HasRunTo m Gives Came most in
-      All-cons RanIn p ps
-      (ran_in p (All-head Ran p ps ran) (All-head Begun p (ps ++ beside) begun))
-      (all_ran ps (All-tail Ran p ps ran) (All-tail Begun p (ps ++ beside) begun))
+      let Ran = HasRunTo m p Came most in
+      All-cons RanIn q qs
+      (ran_in q (All-head Ran q qs ran) (All-head Begun q (qs ++ beside) begun))
+      (all_ran qs (All-tail Ran q qs ran) (All-tail Begun q (qs ++ beside) begun))
 
   -- ALL OF THEM RAN IN THE LOG whose counters are told
-  pub all_ran_in : All (HasRunTo m Gives Came most) passes → All RanIn passes
+  pub all_ran_in : All (HasRunTo m p Came most) passes → All RanIn passes
   all_ran_in all = all_ran passes all behind.begun

@@ -19,7 +19,6 @@ use Rattle.shared_gate.specs.Closing.{calls_by}
 use Rattle.shared_gate.specs.Reported.{AreCountersOfAll, ArePassesMissing}
 use Rattle.ports.specs.declared.asked.Receipts.TheVariants.{Nothing}
 use Rattle.ports.specs.Asked.{Shared, known_at, known_by, port_in}
-use Rattle.gateway_settings.specs.declared.settings.Settings.{Settings}
 use Rattle.proxy.specs.Exchanges.{Policy}
 use Rattle.tcp_backend.specs.declared.connecting.TcpBackend.{TcpBackend}
 use Rattle.tcp_backend.specs.declared.dialing.Dialer.{Dialer}
@@ -41,20 +40,20 @@ use Rattle.gate_desk.specs.State.{DeskState}
 use Rattle.serve_command.specs.declared.admin.SideAddresses.{SideAddresses}
 use Rattle.serve_command.specs.Beside.{AreServedBeside, IsUnused}
 use Rattle.serve_command.specs.GatewayRun.{AreCountersOfRuns, AreEnded, AreMiscounted, AreOff}
-use Rattle.serve_command.specs.GatewayRun.{HasRunTo, HasServedAll, IsBy, calls_told}
+use Rattle.serve_command.specs.GatewayRun.{HasRunTo, HasServedAll, calls_told}
 use Rattle.serve_command.specs.GatewayRun.{passes_in, served_by, stood_at}
 use Rattle.serve_command.proofs.Clients.{all_ran_in}
 
-module _ {L C S W : Type 0} (R T V M : Type 0) (m : Making) (gives : S → Settings → Type 0)
-    (came : L → Option (List ℕ) → Type 0) (common : WorkerSettings L C S W) where
+module _ {L C W : Type 0} (R T V M : Type 0) (m : Making) (came : L → Option (List ℕ) → Type 0)
+    (common : WorkerSettings L C W) where
   abbrev End : Type 0
   End = WorkerExit (Door L W) (Shared M) (TcpBackend (Dialer R T) T V C)
 
   abbrev Ran : Shared M → End → Type 0
-  Ran = HasRun gives came (λ port. None) (λ port. Some (known_by m port)) common
+  Ran = HasRun came (λ port. None) (λ port. Some (known_by m port)) common
 
   abbrev RanTo : Pass → Type 0
-  RanTo = HasRunTo m (IsBy (gives common.source.now) common.marks) (came common.listener.now)
+  RanTo = HasRunTo m (policy_of common.settings.now common.marks) (came common.listener.now)
       common.per_worker
 
   abbrev pass_in : End → Pass
@@ -67,8 +66,6 @@ module _ {L C S W : Type 0} (R T V M : Type 0) (m : Making) (gives : S → Setti
   ran_to : (pass : Pass) (ended : End) → IsUnused pass → Ran (port_of pass) ended
       → RanTo (pass_in ended)
   ran_to pass ended empty did = record {
-    policy = policy_of did.settings common.marks;
-    is_given = (did.are_given, refl);
     given = given_of ended.door;
     failed = failed_of ended.door;
     closed = is_closed ended.door;
@@ -77,7 +74,7 @@ module _ {L C S W : Type 0} (R T V M : Type 0) (m : Making) (gives : S → Setti
     tally = ended.tally;
     run =
         subst (λ (it : Pass). IsRun
-        (policy_of did.settings common.marks) (came common.listener.now)
+        (policy_of common.settings.now common.marks) (came common.listener.now)
         common.per_worker (stood_at 0 0 false 0 (known_at m it 0))
         (stood_at (given_of ended.door) (failed_of ended.door) (is_closed ended.door)
         (count_of ended.backend) (known_by m ended.port)) ended.tally) empty did.run;
@@ -103,7 +100,6 @@ pub passes_more : {A B M : Type 0} (lefts : List (JobResult A (Shared M) B Pass)
     (l : JobResult A (Shared M) B Pass)
     → passes_in (lefts ++ l ∷ []) ≡ passes_in lefts ++ passes_in (l ∷ [])
 passes_more [] l = refl
-passes_more (left.Unbegun ∷ lefts) l = passes_more lefts l
 passes_more (left.SideTask pass ∷ lefts) l =
     ap (λ (ps : List Pass). pass ∷ ps) (passes_more lefts l)
 passes_more (left.Worked ended ∷ lefts) l =
@@ -118,7 +114,6 @@ pub calls_more : {A B M : Type 0} (lefts : List (JobResult A (Shared M) B Pass))
     → calls_by (served_by (lefts ++ l ∷ []))
     ≡ calls_by (served_by lefts) + calls_by (served_by (l ∷ []))
 calls_more [] l = none_before (calls_by (served_by (l ∷ [])))
-calls_more (left.Unbegun ∷ lefts) l = calls_more lefts l
 calls_more (left.SideTask pass ∷ lefts) l = calls_more lefts l
 calls_more (left.Worked ended ∷ lefts) l =
     let count : Pass → ℕ = λ pass. pass.count in
@@ -149,7 +144,6 @@ pub all_apart : {A B M : Type 0} (P : Pass → Type 0)
     (lefts : List (JobResult A (Shared M) B Pass)) → All P (passes_in lefts)
     → All P (served_by lefts) × All P (made_in lefts)
 all_apart P [] all = (All-nil P, All-nil P)
-all_apart P (left.Unbegun ∷ lefts) all = all_apart P lefts all
 all_apart P (left.SideTask pass ∷ lefts) all =
     let rest = all_apart P lefts (All-tail P pass (passes_in lefts) all) in (
       rest.0,
@@ -166,7 +160,6 @@ all_apart P (left.Worked ended ∷ lefts) all =
 sums_apart : {A B M : Type 0} (count : Pass → ℕ) (lefts : List (JobResult A (Shared M) B Pass))
     → sum_by count (passes_in lefts) ≡ sum_by count (served_by lefts) + sum_by count (made_in lefts)
 sums_apart count [] = refl
-sums_apart count (left.Unbegun ∷ lefts) = sums_apart count lefts
 sums_apart count (left.SideTask pass ∷ lefts) =
     omega (
       arith,
@@ -257,19 +250,19 @@ module _ {S A B M : Type 0} (rules : Algorithm S) (m : Making)
       (subst (λ (it : Result Counters Calls). IfOk it (AreCountersOfAll rules m passes)) is behind))
 
   -- the counters of runs, where they tell of just as many calls as the workers made
-  pub counted_runs : (Gives : Policy → Type 0) (Came : Option (List ℕ) → Type 0) (most : ℕ)
+  pub counted_runs : (p : Policy) (Came : Option (List ℕ) → Type 0) (most : ℕ)
       (told : Option Counters) → ((g : Gate S) → ExchangesAreOneThreads g) → ReportsBalance rules
-      → All (HasRunTo m Gives Came most) (served_by lefts)
+      → All (HasRunTo m p Came most) (served_by lefts)
       → IfSome told (λ it. (counted ≡ Ok it) × (calls_told it ≡ calls) × AreEnded it)
-      → IfSome told (AreCountersOfRuns rules m Gives Came workers most (made_in lefts))
-  counted_runs Gives Came most None one balances ran some = tt
-  counted_runs Gives Came most (Some it) one balances ran some =
+      → IfSome told (AreCountersOfRuns rules m p Came workers most (made_in lefts))
+  counted_runs p Came most None one balances ran some = tt
+  counted_runs p Came most (Some it) one balances ran some =
       let own = of_all it some.0 in
       record {
         passes = served_by lefts;
         all = all;
         behind = own;
-        ran = all_ran_in rules m Gives Came most (served_by lefts) (made_in lefts) it one own ran;
+        ran = all_ran_in rules m p Came most (served_by lefts) (made_in lefts) it one own ran;
         balance = some.1 ∙ made;
         ended = none_left own.report it own.told (balances m own.log own.report own.after) some.2;
       }
@@ -304,12 +297,12 @@ module _ {S A B M : Type 0} (rules : Algorithm S) (m : Making)
 
 -- with whoever was served beside the workers
 pub served_all : {S L C : Type 0} (rules : Algorithm S) (m : Making) (closed : L → Type 0)
-    (came : L → Option (List ℕ) → Type 0) (found : L → Bool → Type 0) (Gives : Policy → Type 0)
+    (came : L → Option (List ℕ) → Type 0) (found : L → Bool → Type 0) (p : Policy)
     (begin : DeskState L) (side : SideAddresses L C) (workers most : ℕ) (beside : List Pass)
     (told : Option Counters)
     → AreServedBeside (IsDone rules m closed) came found begin side beside
-    → IfSome told (AreCountersOfRuns rules m Gives (came begin.front) workers most beside)
-    → IfSome told (HasServedAll rules m closed came found Gives begin side workers most)
-served_all rules m closed came found Gives begin side workers most beside None served counted = tt
-served_all rules m closed came found Gives begin side workers most beside (Some it) served counted =
+    → IfSome told (AreCountersOfRuns rules m p (came begin.front) workers most beside)
+    → IfSome told (HasServedAll rules m closed came found p begin side workers most)
+served_all rules m closed came found p begin side workers most beside None served counted = tt
+served_all rules m closed came found p begin side workers most beside (Some it) served counted =
     record { beside = beside; served = served; counted = counted }

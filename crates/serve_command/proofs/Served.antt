@@ -20,22 +20,22 @@ on_ok (Ok v) f p = f v p
 on_ok (Err e) f p = tt
 
 module _ {S L C : Type 0} (rules : Algorithm S) (m : Making) (closed : L → Type 0)
-    (came : L → Option (List ℕ) → Type 0) (found : L → Bool → Type 0) (Gives : Policy → Type 0)
+    (came : L → Option (List ℕ) → Type 0) (found : L → Bool → Type 0) (p : Policy)
     (begin : DeskState L) (admin : Option (AdminAddress L)) (status : Option L)
     (side : SideAddresses L C) (workers most : ℕ) where
   abbrev AllServed : Counters → Type 0
-  AllServed = HasServedAll rules m closed came found Gives begin side workers most
+  AllServed = HasServedAll rules m closed came found p begin side workers most
 
   at : (counters : Counters) → IsOperatingAt admin side.admin → IsLookingAt status side.status
       → AllServed counters
-      → HasServedAt rules m closed came found Gives begin admin status workers most counters
+      → HasServedAt rules m closed came found p begin admin status workers most counters
   at counters operating looking all =
       let served = all.served in
       record {
         by_lookers = served.lookers;
         by_admins = served.admins;
         counted =
-            subst (λ (passes : List Pass). AreCountersOfRuns rules m Gives (came begin.front)
+            subst (λ (passes : List Pass). AreCountersOfRuns rules m p (came begin.front)
             workers most passes counters) served.all all.counted;
         admins =
             admin_there (IsDone rules m closed) came found begin admin side.admin served.admins
@@ -47,6 +47,6 @@ module _ {S L C : Type 0} (rules : Algorithm S) (m : Making) (closed : L → Typ
 
   pub served_at : (told : Option Counters) → IsOperatingAt admin side.admin
       → IsLookingAt status side.status → IfSome told AllServed
-      → IfSome told (HasServedAt rules m closed came found Gives begin admin status workers most)
+      → IfSome told (HasServedAt rules m closed came found p begin admin status workers most)
   served_at None operating looking all = tt
   served_at (Some counters) operating looking all = at counters operating looking all

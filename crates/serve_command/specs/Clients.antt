@@ -36,10 +36,9 @@ AreDecided g o log most s (Keeping before behind told ∷ turns) numbers =
 -- RAN IN A LOG of a gate that is made so: a worker that ran, with requests each of which was
 -- decided there, by calls of its own, which are all that were made by the worker's pass
 pub record HasRunIn {S : Type 0} (g : Gate S) (o : Image S) (log : List Entry) (m : Making)
-    (Gives : Policy → Type 0) (Came : Option (List ℕ) → Type 0) (most : ℕ) (pass : Pass)
-    : Type 0 where
-  pub ran : HasRunTo m Gives Came most pass
-  pub decided : AreDecided g o log (exhausted_from m) ran.policy.settings ran.run.turns pass.own
+    (p : Policy) (Came : Option (List ℕ) → Type 0) (most : ℕ) (pass : Pass) : Type 0 where
+  pub ran : HasRunTo m p Came most pass
+  pub decided : AreDecided g o log (exhausted_from m) p.settings ran.run.turns pass.own
 
 -- THE COUNTERS OF RUNS: there is one log of the gate, legal since nothing was asked, after which
 -- these are its counters. It begins with what the passes of so many workers know, each of which ran
@@ -48,12 +47,12 @@ pub record HasRunIn {S : Type 0} (g : Gate S) (o : Image S) (log : List Entry) (
 -- The counters tell of just as many calls as the workers made; and at its end nothing is in flight,
 -- and nobody waits
 pub record AreCountersOfRuns {S : Type 0} (rules : Algorithm S) (m : Making)
-    (Gives : Policy → Type 0) (Came : Option (List ℕ) → Type 0) (workers most : ℕ)
-    (beside : List Pass) (counters : Counters) : Type 0 where
+    (p : Policy) (Came : Option (List ℕ) → Type 0) (workers most : ℕ) (beside : List Pass)
+    (counters : Counters) : Type 0 where
   pub passes : List Pass
   pub all : length passes ≡ workers
   pub behind : AreCountersOfAll rules m (passes ++ beside) counters
-  pub ran : All (HasRunIn (limiter_of rules m) (image_of behind.after.origin) behind.log m Gives
+  pub ran : All (HasRunIn (limiter_of rules m) (image_of behind.after.origin) behind.log m p
       Came most) passes
   pub balance : calls_told counters ≡ calls_by passes
   pub ended : (behind.report.inflight ≡ 0) × (behind.report.waiters ≡ 0)

@@ -11,8 +11,8 @@ use Rattle.limit_kinds.specs.AnyKinds.{any_rules}
 use Rattle.limiter_core.specs.declared.counters.Counters.{Counters}
 use Rattle.gateway_settings.specs.declared.settings.Settings.{Settings}
 use Rattle.shared_gate.specs.Calls.{Pass}
-use Rattle.proxy.specs.Exchanges.{Policy}
 use Rattle.gate_opening.specs.Opening.{making_of}
+use Rattle.serving.specs.Served.{policy_of}
 use Rattle.config_file.specs.Reading.{Held, IsUnset, Says}
 use Rattle.config_file.specs.declared.file_fault.FileFault.TheVariants as File
 use Rattle.serve_reports.specs.CountersLine.{counters_line}
@@ -21,7 +21,7 @@ use Rattle.serve_command.specs.declared.fault.ServiceFault.TheVariants as Servic
 use Rattle.gate_desk.specs.Desk.{IsDone}
 use Rattle.gate_desk.specs.State.{new_desk}
 use Rattle.serve_command.specs.Beside.{IsAdminServed, IsStatusServed}
-use Rattle.serve_command.specs.GatewayRun.{AreCountersOfRuns, IsBy}
+use Rattle.serve_command.specs.GatewayRun.{AreCountersOfRuns}
 
 -- THE SETTINGS of a file that was opened as it says: its text was read whole, and holds them
 abbrev pub AreOfFile : {F : Type 0} → (F → Type 0) → (F → Option (List ℕ)) → Settings → Type 0
@@ -42,19 +42,20 @@ IsUnboundToo Unbound None = ⊥
 IsUnboundToo Unbound (Some address) = Unbound (socket_v4_text address)
 
 -- SERVED BY SETTINGS, at their address, the operator's and that of whoever looks: a listener was
--- bound at each. So many workers took their turns with clients who came to the first, and these are
--- the counters of their runs; at the others those were served who came there, at desks of the same
--- gate, by whose passes nobody had called, and which close the listener of clients
+-- bound at each. So many workers took their turns, each by these settings, with marks or without,
+-- with clients who came to the first, and these are the counters of their runs; at the others those
+-- were served who came there, at desks of the same gate, by whose passes nobody had called, and
+-- which close the listener of clients
 pub record IsServedBy {L : Type 0} (Bound : List ℕ → L → Type 0)
     (came : L → Option (List ℕ) → Type 0) (found : L → Bool → Type 0) (closed : L → Type 0)
-    (Gives : Policy → Type 0) (s : Settings) (admin status : Option SocketAddrV4)
-    (workers most : ℕ) (counters : Counters) : Type 0 where
+    (marks : Bool) (s : Settings) (admin status : Option SocketAddrV4) (workers most : ℕ)
+    (counters : Counters) : Type 0 where
   pub listener : L
   pub bound : Bound s.listen listener
   pub by_lookers : List Pass
   pub by_admins : List Pass
-  pub ran : AreCountersOfRuns any_rules (making_of workers s) Gives (came listener) workers most
-      (by_lookers ++ by_admins) counters
+  pub ran : AreCountersOfRuns any_rules (making_of workers s) (policy_of s marks) (came listener)
+      workers most (by_lookers ++ by_admins) counters
   pub operator : IsAdminServed (IsDone any_rules (making_of workers s) closed) came found
       (new_desk s.table listener) Bound admin by_admins
   pub lookers : IsStatusServed (IsDone any_rules (making_of workers s) closed) came found
@@ -74,8 +75,7 @@ pub record HasServed {F L W : Type 0} (Opened : F → Type 0) (remaining : F →
   pub held : Held remaining file bytes
   pub says : Says bytes (Ok settings)
   pub counters : Counters
-  pub served : IsServedBy Bound came found closed (IsBy (λ own. Says bytes (Ok own)) marks)
-      settings admin status workers most counters
+  pub served : IsServedBy Bound came found closed marks settings admin status workers most counters
   pub written : Wrote contents old new (counters_line counters)
   pub unfailing : failures_of new ≡ failures_of old
   pub flushed : is_flushed new ≡ true

@@ -14,7 +14,7 @@ use Rattle.gate_desk.specs.State.{DeskState}
 use Rattle.serve_command.specs.declared.admin.AdminAddress.{AdminAddress}
 use Rattle.serve_command.specs.declared.admin.SideAddresses.{SideAddresses}
 use Rattle.serve_command.specs.Beside.{AreServedBeside, IsServedThere, LeavesAt}
-pub use Rattle.serve_command.specs.Worked.{AreEnded, HasRunTo, IsBy, calls_told}
+pub use Rattle.serve_command.specs.Worked.{AreEnded, HasRunTo, calls_told}
 pub use Rattle.serve_command.specs.Worked.{passes_in, served_by, stood_at}
 pub use Rattle.serve_command.specs.Clients.{AreCountersOfRuns}
 
@@ -37,21 +37,21 @@ pub record AreMiscounted {S : Type 0} (rules : Algorithm S) (m : Making) (worker
 -- SERVED, by one gate, the clients of so many workers and whoever came to the addresses beside:
 -- the counters are those of the workers' runs and of the desks there, and nobody else called
 pub record HasServedAll {S L C : Type 0} (rules : Algorithm S) (m : Making) (closed : L → Type 0)
-    (came : L → Option (List ℕ) → Type 0) (found : L → Bool → Type 0) (Gives : Policy → Type 0)
+    (came : L → Option (List ℕ) → Type 0) (found : L → Bool → Type 0) (p : Policy)
     (begin : DeskState L) (side : SideAddresses L C) (workers most : ℕ) (counters : Counters)
     : Type 0 where
   pub beside : List Pass
   pub served : AreServedBeside (IsDone rules m closed) came found begin side beside
-  pub counted : AreCountersOfRuns rules m Gives (came begin.front) workers most beside counters
+  pub counted : AreCountersOfRuns rules m p (came begin.front) workers most beside counters
 
 -- the same by what listens at those addresses
 pub record HasServedAt {S L : Type 0} (rules : Algorithm S) (m : Making) (closed : L → Type 0)
-    (came : L → Option (List ℕ) → Type 0) (found : L → Bool → Type 0) (Gives : Policy → Type 0)
+    (came : L → Option (List ℕ) → Type 0) (found : L → Bool → Type 0) (p : Policy)
     (begin : DeskState L) (admin : Option (AdminAddress L)) (status : Option L)
     (workers most : ℕ) (counters : Counters) : Type 0 where
   pub by_lookers : List Pass
   pub by_admins : List Pass
-  pub counted : AreCountersOfRuns rules m Gives (came begin.front) workers most
+  pub counted : AreCountersOfRuns rules m p (came begin.front) workers most
       (by_lookers ++ by_admins) counters
   pub admins : LeavesAt admin (λ at. IsServedThere (IsDone rules m closed) came found begin
       (Some (string_bytes at.host)) at.listener) by_admins

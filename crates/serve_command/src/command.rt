@@ -1,5 +1,5 @@
 // The gateway of a configuration, from its file to its counters.
-ghost use Rattle.std.specs.Prelude.{◌≡◌, ◌≤◌, ◌⊎◌, IfErr, IfOk, Ok, OnOk};
+ghost use Rattle.std.specs.Prelude.{◌≡◌, ◌≤◌, ◌⊎◌, IfErr, IfOk, OnOk};
 ghost use Rattle.std.specs.Net.Text.{socket_v4_text};
 ghost use Rattle.counted_io.specs.declared.counted.Counted.{Counted as CountedValue};
 ghost use Rattle.counted_io.specs.Counted.{failures_of, inner_of};
@@ -7,17 +7,16 @@ ghost use Rattle.tasks.specs.Refused.{refused_of};
 ghost use Rattle.limit_kinds.specs.AnyKinds.{any_rules};
 ghost use Rattle.gateway_settings.specs.Settings.{AreSound};
 ghost use Rattle.fault_lines.specs.FaultLine.{IsTold, fault_line};
-ghost use Rattle.config_file.specs.Reading.{Held, IsUnreadFile, Says};
+ghost use Rattle.config_file.specs.Reading.{Held, IsUnreadFile};
 ghost use Rattle.serve_command.specs.declared.fault.ServiceFault.TheVariants.{Listen, Memory};
 ghost use Rattle.serve_command.specs.Beside.{IsAdminBound, IsStatusBound};
 ghost use Rattle.serve_command.specs.Command.{HasServed, IsOfAdmin, IsOfServing, IsServedBy};
 ghost use Rattle.serve_command.specs.Command.{IsUnboundToo, IsWhyOfService};
 ghost use Rattle.gate_opening.specs.Opening.{making_of};
-ghost use Rattle.serve_command.specs.GatewayRun.{AreMiscounted, IsBy};
+ghost use Rattle.serve_command.specs.GatewayRun.{AreMiscounted};
 ghost use Rattle.serve_command.specs.ServiceFault.{service_fault_text};
 
 use crate::admin::AdminAddress;
-use crate::config_text::ConfigText;
 use crate::context::{ServeContext, serve_in};
 use crate::fault::{ServiceFault, report_service_fault};
 use crate::startup_lines::{log_admin, log_listening, log_status, log_unbound, log_unread};
@@ -133,10 +132,7 @@ where
 {
     let text = read_config(rt, files, alloc, service.path)?;
     let settings = read_bytes(alloc, &text)?;
-    let text = ConfigText::new(text);
-    let counters = serve_settings(
-        rt, spawner, files, addresses, alloc, &text, &settings, service,
-    )?;
+    let counters = serve_settings(rt, spawner, files, addresses, alloc, &settings, service)?;
     write_counters(writer, &counters)?;
     Ok(())
 }
@@ -173,14 +169,13 @@ fn log_fault<R: Log, F: Opener>(rt: &R, files: &F, alloc: Global, path: &str, fa
     }
 }
 
-/// Serves by these settings, which are those of the text.
+/// Serves by these settings.
 fn serve_settings<R, F, B>(
     rt: &R,
     spawner: &mut Spawner<'_, R>,
     files: &F,
     addresses: &B,
     alloc: Global,
-    text: &ConfigText,
     settings: &Settings,
     service: &ServeOptions<'_>,
 ) -> Result<Counters, ServiceFault>
@@ -194,13 +189,12 @@ where
     <B::Bound as Listener>::To: Send + Sync,
     R::Stream: Send + Sync,
     R::Listener: Send + Sync,
-    requires says { Says text.now.bytes.items (Ok settings.now) }
     requires sound { AreSound settings.now }
     requires some { 1 ≤ service.now.workers }
     requires few { service.now.workers ≤ 64 }
     ensures served { IfOk result (IsServedBy B.bound B.Bound.came B.Bound.found B.Bound.closed
-        (IsBy (λ own. Says text.now.bytes.items (Ok own)) service.now.marks) settings.now
-        service.now.admin service.now.status service.now.workers service.now.per_worker) }
+        service.now.marks settings.now service.now.admin service.now.status service.now.workers
+        service.now.per_worker) }
     ensures refused { IfErr result (IsOfServing B.bound B.unbound settings.now.listen
         service.now.admin service.now.status
         (refused_of spawner.old) (refused_of spawner.new)
@@ -217,13 +211,13 @@ where
         front: &front,
         admin: &admin,
         status: &status,
-        text,
+        settings,
         clock: &clock,
         lame_duck: &LameDuck::new(),
         watch: &watch,
         alloc,
     };
-    match serve_in(rt, spawner, &context, settings, service)? {
+    match serve_in(rt, spawner, &context, service)? {
         Some(counters) => Ok(counters),
         None => Err(ServiceFault::Miscounted),
     }

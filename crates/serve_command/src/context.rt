@@ -1,16 +1,15 @@
 // What a gateway stands on while it serves.
-ghost use Rattle.std.specs.Prelude.{◌≡◌, ◌≤◌, IfNone, IfOk, IfSome, IsErrOf, Ok};
+ghost use Rattle.std.specs.Prelude.{◌≡◌, ◌≤◌, IfNone, IfOk, IfSome, IsErrOf};
 ghost use Rattle.counted_io.specs.Count.{raised};
 ghost use Rattle.tasks.specs.Refused.{refused_of};
 ghost use Rattle.limit_kinds.specs.AnyKinds.{any_rules};
 ghost use Rattle.gateway_settings.specs.Settings.{AreSound};
-ghost use Rattle.config_file.specs.Reading.{Says};
 ghost use Rattle.gate_opening.specs.Opening.{making_of};
+ghost use Rattle.serving.specs.Served.{policy_of};
 ghost use Rattle.gate_desk.specs.State.{new_desk};
-ghost use Rattle.serve_command.specs.GatewayRun.{AreMiscounted, HasServedAt, IsBy};
+ghost use Rattle.serve_command.specs.GatewayRun.{AreMiscounted, HasServedAt};
 
 use crate::admin::{AdminAddress, SideAddresses};
-use crate::config_text::ConfigText;
 use crate::gateway::{Gateway, serve_gateway};
 use clocks::ProgramClock;
 use commands::ServeOptions;
@@ -43,8 +42,8 @@ pub(crate) struct ServeContext<'a, R: SystemClock, L> {
     pub(crate) admin: &'a Option<AdminAddress<L>>,
     /// Where whoever looks comes from, where there is an address for that.
     pub(crate) status: &'a Option<L>,
-    /// The text of the configuration.
-    pub(crate) text: &'a ConfigText,
+    /// What the configuration says.
+    pub(crate) settings: &'a Settings,
     /// The clock of the gate's moments and of deadlines.
     pub(crate) clock: &'a ProgramClock<&'a R>,
     /// When the gateway is to be drained.
@@ -54,14 +53,13 @@ pub(crate) struct ServeContext<'a, R: SystemClock, L> {
     pub(crate) alloc: Global,
 }
 
-/// Serves by these settings, which are those of the text, and tells the gate's counters; or none,
-/// where it has calls that nobody made who served, or where these tell of others than the workers
-/// made, or of permits that weren't ended.
+/// Serves by the settings, and tells the gate's counters; or none, where it has calls that nobody
+/// made who served, or where these tell of others than the workers made, or of permits that weren't
+/// ended.
 pub(crate) fn serve_in<'c, R, L>(
     rt: &'c R,
     spawner: &mut Spawner<'_, R>,
     context: &ServeContext<'c, R, L>,
-    settings: &'c Settings,
     service: &ServeOptions<'_>,
 ) -> Result<Option<Counters>, ServeFault>
 where
@@ -72,16 +70,15 @@ where
     L::To: Send + Sync,
     R::Stream: Send + Sync,
     R::Listener: Send + Sync,
-    requires says { Says context.now.text.now.bytes.items (Ok settings.now) }
-    requires sound { AreSound settings.now }
+    requires sound { AreSound context.now.settings.now }
     requires few { service.now.workers ≤ 64 }
     ensures served { IfOk result (λ told. IfSome told (HasServedAt any_rules
-        (making_of service.now.workers settings.now) L.closed L.came L.found
-        (IsBy (λ own. Says context.now.text.now.bytes.items (Ok own)) service.now.marks)
-        (new_desk settings.now.table context.now.front.now) context.now.admin.now
+        (making_of service.now.workers context.now.settings.now) L.closed L.came L.found
+        (policy_of context.now.settings.now service.now.marks)
+        (new_desk context.now.settings.now.table context.now.front.now) context.now.admin.now
         context.now.status.now service.now.workers service.now.per_worker)) }
     ensures miscounted { IfOk result (λ told. IfNone told (AreMiscounted any_rules
-        (making_of service.now.workers settings.now) service.now.workers)) }
+        (making_of service.now.workers context.now.settings.now) service.now.workers)) }
     ensures thread { IsErrOf result ServeFault.Thread →
         refused_of spawner.new ≡ raised (refused_of spawner.old) }
 {
@@ -91,7 +88,7 @@ where
     let side = SideAddresses::new(alloc, admin, status, clock, context.lame_duck);
     let common = WorkerSettings {
         listener: context.front,
-        source: context.text,
+        settings: context.settings,
         clock,
         per_worker: u64::from(service.per_worker),
         client_timeout_ns,
@@ -106,7 +103,6 @@ where
     let gateway = Gateway {
         rt,
         common: &common,
-        settings,
         workers: service.workers,
         side: &side,
     };

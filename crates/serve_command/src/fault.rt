@@ -15,8 +15,7 @@ pub enum ServiceFault {
     Config(FileFault),
     /// The address can't be bound.
     Listen,
-    /// A growth was refused: before any worker was started, or to one that was, for its settings.
-    /// The workers that were started have ended.
+    /// A growth was refused, before any worker was started.
     Memory,
     /// A thread couldn't be started; the workers that were have ended.
     Thread,

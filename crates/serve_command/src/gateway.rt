@@ -12,9 +12,10 @@ ghost use Rattle.shared_gate.specs.Log.{CallsLegal};
 ghost use Rattle.gate_opening.specs.Opening.{journal_of, making_of};
 ghost use Rattle.ports.specs.declared.asked.Receipts.TheVariants.{Nothing};
 ghost use Rattle.ports.specs.Asked.{port_in};
+ghost use Rattle.serving.specs.Served.{policy_of};
 ghost use Rattle.gate_desk.specs.State.{new_desk};
 ghost use Rattle.serve_command.specs.Beside.{IsUnused, count_beside};
-ghost use Rattle.serve_command.specs.GatewayRun.{AreMiscounted, HasServedAll, IsBy};
+ghost use Rattle.serve_command.specs.GatewayRun.{AreMiscounted, HasServedAll};
 ghost use Rattle.serve_command.specs.GatewayRun.{passes_in, served_by};
 
 use crate::admin::SideAddresses;
@@ -23,14 +24,13 @@ use clocks::Clock;
 use gate_history::Blanks;
 use gate_laws::{exchanges_are_one_threads, reports_balance};
 use gate_opening::{balanced, open_gate};
-use gateway_settings::Settings;
 use limit_laws::Limit;
 use limiter_core::Counters;
 use listening::Closable;
 use log::Log;
 use ports::{Port, View};
 use serve_reports::Watcher;
-use serving::{JobResult, ServeFault, Source, WorkerSettings, serve};
+use serving::{JobResult, ServeFault, WorkerSettings, serve};
 use shared_gate::{GateNaming, LogLength, Pass, SharedGate};
 use std::alloc::AllocError;
 use std::marker::Brand;
@@ -42,13 +42,11 @@ use tasks::Spawner;
 
 /// A gateway that is to serve.
 #[derive(Drop)]
-pub(crate) struct Gateway<'g, R: SystemClock, L, C, S> {
+pub(crate) struct Gateway<'g, R: SystemClock, L, C> {
     /// The system that it runs on.
     pub(crate) rt: &'g R,
-    /// What its workers share, and what each of them is asked to do.
-    pub(crate) common: &'g WorkerSettings<'g, L, C, S, Watcher<'g, R>>,
-    /// Settings that the workers' source gives.
-    pub(crate) settings: &'g Settings,
+    /// What its workers share, its settings among that, and what each of them is asked to do.
+    pub(crate) common: &'g WorkerSettings<'g, L, C, Watcher<'g, R>>,
     /// How many workers it has: 1 to 64.
     pub(crate) workers: u32,
     /// What serves beside them.
@@ -58,44 +56,42 @@ pub(crate) struct Gateway<'g, R: SystemClock, L, C, S> {
 /// Serves clients through the gate of the gateway's settings, by its workers, and tells the gate's
 /// counters once all have ended; or none, where it has calls that nobody made who served, or where
 /// these tell of others than the workers made.
-pub(crate) fn serve_gateway<R, L, C, S>(
+pub(crate) fn serve_gateway<R, L, C>(
     spawner: &mut Spawner<'_, R>,
-    gateway: &Gateway<'_, R, L, C, S>,
+    gateway: &Gateway<'_, R, L, C>,
 ) -> Result<Option<Counters>, ServeFault>
 where
     R: Net + Threads + Wait + SystemClock + Log + Sync,
     L: Closable + Sync,
     C: Clock + Sync,
-    S: Source + Sync,
     L::Stream: Send + Sync + Drop,
     L::From: Send + Sync,
     L::To: Send + Sync,
     R::Stream: Send + Sync,
     R::Listener: Send + Sync,
-    requires given { S.gives gateway.now.common.now.source.now gateway.now.settings.now }
-    requires sound { AreSound gateway.now.settings.now }
+    requires sound { AreSound gateway.now.common.now.settings.now }
     requires few { gateway.now.workers ≤ 64 }
     ensures served { IfOk result (λ told. IfSome told (HasServedAll any_rules
-        (making_of gateway.now.workers gateway.now.settings.now) L.closed L.came L.found
-        (IsBy (S.gives gateway.now.common.now.source.now) gateway.now.common.now.marks)
-        (new_desk gateway.now.settings.now.table gateway.now.common.now.listener.now)
+        (making_of gateway.now.workers gateway.now.common.now.settings.now) L.closed L.came L.found
+        (policy_of gateway.now.common.now.settings.now gateway.now.common.now.marks)
+        (new_desk gateway.now.common.now.settings.now.table gateway.now.common.now.listener.now)
         gateway.now.side.now gateway.now.workers gateway.now.common.now.per_worker)) }
     ensures miscounted { IfOk result (λ told. IfNone told (AreMiscounted any_rules
-        (making_of gateway.now.workers gateway.now.settings.now) gateway.now.workers)) }
+        (making_of gateway.now.workers gateway.now.common.now.settings.now) gateway.now.workers)) }
     ensures thread { IsErrOf result ServeFault.Thread →
         refused_of spawner.new ≡ raised (refused_of spawner.old) }
 {
     let word = LogLength::new(gateway.common.alloc)?;
     let blanks = Blanks::new();
     let others = gateway.side.count() + 1;
-    serve_named::<Brand, R, L, C, S>(spawner, gateway, blanks, word, others)
+    serve_named::<Brand, R, L, C>(spawner, gateway, blanks, word, others)
 }
 
 /// Serves clients through the gate of the gateway's settings, which has these names, with so many
 /// passes beside those of its workers: one for each who serves beside them, and one for reports.
-fn serve_named<M, R, L, C, S>(
+fn serve_named<M, R, L, C>(
     spawner: &mut Spawner<'_, R>,
-    gateway: &Gateway<'_, R, L, C, S>,
+    gateway: &Gateway<'_, R, L, C>,
     blanks: Blanks,
     word: LogLength,
     others: usize,
@@ -105,7 +101,6 @@ where
     R: Net + Threads + Wait + SystemClock + Log + Sync,
     L: Closable + Sync,
     C: Clock + Sync,
-    S: Source + Sync,
     L::Stream: Send + Sync + Drop,
     L::From: Send + Sync,
     L::To: Send + Sync,
@@ -117,25 +112,25 @@ where
     requires passes { M.passes ≡ gateway.now.workers + others }
     requires beside { others ≡ count_beside gateway.now.side.now + 1 }
     requires few_beside { others ≤ 9 }
-    requires making { M.making ≡ making_of gateway.now.workers gateway.now.settings.now }
-    requires sound { AreSound gateway.now.settings.now }
+    requires making { M.making ≡ making_of gateway.now.workers gateway.now.common.now.settings.now }
+    requires sound { AreSound gateway.now.common.now.settings.now }
     requires legal { CallsLegal any_rules
-        (journal_of gateway.now.workers gateway.now.settings.now) M.legal }
+        (journal_of gateway.now.workers gateway.now.common.now.settings.now) M.legal }
     requires few { gateway.now.workers ≤ 64 }
     ensures served { IfOk result (λ told. IfSome told (HasServedAll any_rules
-        (making_of gateway.now.workers gateway.now.settings.now) L.closed L.came L.found
-        (IsBy (S.gives gateway.now.common.now.source.now) gateway.now.common.now.marks)
-        (new_desk gateway.now.settings.now.table gateway.now.common.now.listener.now)
+        (making_of gateway.now.workers gateway.now.common.now.settings.now) L.closed L.came L.found
+        (policy_of gateway.now.common.now.settings.now gateway.now.common.now.marks)
+        (new_desk gateway.now.common.now.settings.now.table gateway.now.common.now.listener.now)
         gateway.now.side.now gateway.now.workers gateway.now.common.now.per_worker)) }
     ensures miscounted { IfOk result (λ told. IfNone told (AreMiscounted any_rules
-        (making_of gateway.now.workers gateway.now.settings.now) gateway.now.workers)) }
+        (making_of gateway.now.workers gateway.now.common.now.settings.now) gateway.now.workers)) }
     ensures thread { IsErrOf result ServeFault.Thread →
         refused_of spawner.new ≡ raised (refused_of spawner.old) }
 {
     let workers = gateway.workers as usize;
     let (gate, mut passes) = open_gate::<M>(
         gateway.common.alloc,
-        gateway.settings,
+        gateway.common.settings,
         gateway.workers,
         blanks,
         word,
@@ -148,9 +143,9 @@ where
 /// Serves clients through a gate, by one worker for each pass, and those at the addresses beside
 /// theirs by passes of their own, the last of which is for reports. Nobody has called by any of
 /// these. Which limit the gate has isn't told apart here.
-fn serve_through<M, R, G, L, C, S>(
+fn serve_through<M, R, G, L, C>(
     spawner: &mut Spawner<'_, R>,
-    gateway: &Gateway<'_, R, L, C, S>,
+    gateway: &Gateway<'_, R, L, C>,
     gate: &SharedGate<G, M>,
     passes: Vec<Pass<M>>,
     mut own: Vec<Pass<M>>,
@@ -161,7 +156,6 @@ where
     G: Limit + Send,
     L: Closable + Sync,
     C: Clock + Sync,
-    S: Source + Sync,
     L::Stream: Send + Sync + Drop,
     L::From: Send + Sync,
     L::To: Send + Sync,
@@ -172,8 +166,8 @@ where
     requires beside { vec_len own ≡ count_beside gateway.now.side.now + 1 }
     ensures served { IfOk result (λ told. IfSome told (HasServedAll G.rules M.making
         L.closed L.came L.found
-        (IsBy (S.gives gateway.now.common.now.source.now) gateway.now.common.now.marks)
-        (new_desk gateway.now.settings.now.table gateway.now.common.now.listener.now)
+        (policy_of gateway.now.common.now.settings.now gateway.now.common.now.marks)
+        (new_desk gateway.now.common.now.settings.now.table gateway.now.common.now.listener.now)
         gateway.now.side.now (vec_len passes) gateway.now.common.now.per_worker)) }
     ensures miscounted { IfOk result (λ told. IfNone told
         (AreMiscounted G.rules M.making (vec_len passes))) }
@@ -192,7 +186,6 @@ where
         rt,
         spawner,
         common,
-        gateway.settings,
         view,
         ports,
         operators,
@@ -220,8 +213,8 @@ fn take_own<M: GateNaming>(
 }
 
 /// A port for each pass.
-fn make_ports<'g, M: GateNaming, R: SystemClock, G: Limit, L, C, S>(
-    gateway: &Gateway<'g, R, L, C, S>,
+fn make_ports<'g, M: GateNaming, R: SystemClock, G: Limit, L, C>(
+    gateway: &Gateway<'g, R, L, C>,
     gate: &'g SharedGate<G, M>,
     passes: Vec<Pass<M>>,
 ) -> Result<Vec<Port<'g, G, M, R, C>>, AllocError>
@@ -271,30 +264,26 @@ fn passes_of<M: GateNaming, R, G: Limit, C, A: Drop, B: Drop>(
 {
     let mut calls = 0;
     for left in lefts {
-        if let Some((pass, made)) = pass_in(left) {
-            passes.push(pass)?;
-            calls += u128::from(made);
-        }
+        let (pass, made) = pass_in(left);
+        passes.push(pass)?;
+        calls += u128::from(made);
     }
     Ok(PassesBack { passes, calls })
 }
 
-/// The pass of whoever left this, if it served; and how many calls a worker made by it.
+/// The pass of whoever left this, and how many calls a worker made by it.
 fn pass_in<M: GateNaming, R, G: Limit, C, A: Drop, B: Drop>(
     left: JobResult<A, Port<'_, G, M, R, C>, B, Pass<M>>,
-) -> Option<(Pass<M>, u64)>
-    ensures pass { IfSome result (λ own. passes_in (left.entry ∷ []) ≡ own.0 ∷ []) }
-    ensures calls { IfSome result (λ own. own.1 ≡ calls_by (served_by (left.entry ∷ []))) }
-    ensures none { IfNone result ((passes_in (left.entry ∷ []) ≡ [])
-        × (served_by (left.entry ∷ []) ≡ [])) }
+) -> (Pass<M>, u64)
+    ensures pass { passes_in (left.entry ∷ []) ≡ result.0 ∷ [] }
+    ensures calls { result.1 ≡ calls_by (served_by (left.entry ∷ [])) }
 {
     match left {
         JobResult::Worked(ended) => {
             let pass = ended.port.into_pass();
             let calls = pass.count();
-            Some((pass, calls))
+            (pass, calls)
         }
-        JobResult::SideTask(pass) => Some((pass, 0)),
-        JobResult::Unbegun => None,
+        JobResult::SideTask(pass) => (pass, 0),
     }
 }

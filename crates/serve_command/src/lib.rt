@@ -8,7 +8,6 @@
 
 mod admin;
 mod command;
-mod config_text;
 mod context;
 mod descriptors;
 mod desk_log;

@@ -19,15 +19,15 @@ use std::time::{Clock as SystemClock, Duration};
 /// the listener of the former as they end. So where a thread is refused to one of the latter, none
 /// of the former has begun: the last is begun first. There is a pass for each who serves there, and
 /// nobody has called by any of them. It fails only out of memory.
-pub(crate) fn make_operators<'g, M: GateNaming, R: SystemClock, G: Limit, L, C, S>(
-    gateway: &Gateway<'g, R, L, C, S>,
+pub(crate) fn make_operators<'g, M: GateNaming, R: SystemClock, G: Limit, L, C>(
+    gateway: &Gateway<'g, R, L, C>,
     gate: &'g SharedGate<G, M>,
     mut passes: Vec<Pass<M>>,
 ) -> Result<Vec<Operator<'g, G, M, R, L, C, DeskLog<'g, R>>>, AllocError>
     requires unused { All IsUnused passes.items }
     requires count { vec_len passes ≡ count_beside gateway.now.side.now }
     ensures { IfOk result (λ made. AreBeside
-        (new_desk gateway.now.settings.now.table gateway.now.common.now.listener.now)
+        (new_desk gateway.now.common.now.settings.now.table gateway.now.common.now.listener.now)
         gateway.now.side.now made.items) }
 {
     let side = gateway.side;
@@ -39,8 +39,8 @@ pub(crate) fn make_operators<'g, M: GateNaming, R: SystemClock, G: Limit, L, C, 
 }
 
 /// Those at an address, where there is one. It fails only out of memory.
-fn make_at<'g, M: GateNaming, R: SystemClock, G: Limit, L, C, S>(
-    gateway: &Gateway<'g, R, L, C, S>,
+fn make_at<'g, M: GateNaming, R: SystemClock, G: Limit, L, C>(
+    gateway: &Gateway<'g, R, L, C>,
     gate: &'g SharedGate<G, M>,
     address: &'g Option<Operating<'g, L, C>>,
     also: Option<&'g L>,
@@ -49,8 +49,8 @@ fn make_at<'g, M: GateNaming, R: SystemClock, G: Limit, L, C, S>(
     requires unused { All IsUnused passes.items }
     requires count { vec_len passes ≡ count_at address.now }
     ensures { IfOk result (λ made. AreAt
-        (new_desk gateway.now.settings.now.table gateway.now.common.now.listener.now) address.now
-        made.items) }
+        (new_desk gateway.now.common.now.settings.now.table gateway.now.common.now.listener.now)
+        address.now made.items) }
 {
     match address {
         Some(operating) => make_each(gateway, gate, operating, also, passes),
@@ -59,8 +59,8 @@ fn make_at<'g, M: GateNaming, R: SystemClock, G: Limit, L, C, S>(
 }
 
 /// One for each pass, each at a desk of its own. It fails only out of memory.
-fn make_each<'g, M: GateNaming, R: SystemClock, G: Limit, L, C, S>(
-    gateway: &Gateway<'g, R, L, C, S>,
+fn make_each<'g, M: GateNaming, R: SystemClock, G: Limit, L, C>(
+    gateway: &Gateway<'g, R, L, C>,
     gate: &'g SharedGate<G, M>,
     operating: &'g Operating<'g, L, C>,
     also: Option<&'g L>,
@@ -69,7 +69,7 @@ fn make_each<'g, M: GateNaming, R: SystemClock, G: Limit, L, C, S>(
     requires { All IsUnused passes.items }
     ensures count { IfOk result (λ made. vec_len made ≡ vec_len passes) }
     ensures begin { IfOk result (λ made. All (StandsAt
-        (new_desk gateway.now.settings.now.table gateway.now.common.now.listener.now)
+        (new_desk gateway.now.common.now.settings.now.table gateway.now.common.now.listener.now)
         operating.now) made.items) }
 {
     let mut operators = Vec::with_capacity(gateway.common.alloc, passes.len())?;
@@ -90,20 +90,20 @@ fn listener_at<'a, L, C>(operating: &Option<Operating<'a, L, C>>) -> Option<&'a 
 }
 
 /// The desk of one who serves at an address, by a pass. It fails only out of memory.
-fn make_desk<'g, M: GateNaming, R: SystemClock, G: Limit, L, C, S>(
-    gateway: &Gateway<'g, R, L, C, S>,
+fn make_desk<'g, M: GateNaming, R: SystemClock, G: Limit, L, C>(
+    gateway: &Gateway<'g, R, L, C>,
     gate: &'g SharedGate<G, M>,
     operating: &Operating<'g, L, C>,
     pass: Pass<M>,
 ) -> Result<GateDesk<'g, G, M, R, L, C, DeskLog<'g, R>>, AllocError>
     ensures pass { IfOk result (λ desk. desk.pass ≡ pass) }
     ensures state { IfOk result (λ desk. pass ≡ pass_of 0 → state_of desk
-        ≡ new_desk gateway.now.settings.now.table gateway.now.common.now.listener.now) }
+        ≡ new_desk gateway.now.common.now.settings.now.table gateway.now.common.now.listener.now) }
 {
-    let Ok(table) = gateway.settings.table.copy() else {
+    let common = gateway.common;
+    let Ok(table) = common.settings.table.copy() else {
         return Err(AllocError);
     };
-    let common = gateway.common;
     Ok(GateDesk {
         rt: gateway.rt,
         gate,

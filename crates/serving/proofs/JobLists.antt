@@ -1,15 +1,13 @@
 -- Lists of jobs, and of what they leave.
-use Rattle.std.proofs.Common.{◌≡◌, true, List, [], ◌∷◌, ◌++◌, ap, sym, subst, arith, length}
-use Rattle.std.proofs.Common.{true≢false}
-use Rattle.std.specs.List.{AllZip, list_all}
+use Rattle.std.proofs.Common.{◌≡◌, List, [], ◌∷◌, ◌++◌, ap, subst, arith, length}
+use Rattle.std.specs.List.{AllZip}
 use Rattle.serving.specs.declared.jobs.WorkerExit.{WorkerExit}
 use Rattle.serving.specs.declared.jobs.Job.{Job}
 use Rattle.serving.specs.declared.jobs.Job.TheVariants as job
 use Rattle.serving.specs.declared.jobs.JobResult.{JobResult}
 use Rattle.serving.specs.declared.jobs.JobResult.TheVariants as left
 use Rattle.serving.specs.declared.jobs.Worker.{Worker}
-use Rattle.serving.specs.Workers.{AreWithin, Makes, ended_in, has_begun, made_in, tasks_in}
-use Rattle.serving.specs.Workers.{workers_in}
+use Rattle.serving.specs.Workers.{AreWithin, Makes, ended_in, made_in, tasks_in, workers_in}
 
 -- one more worker among some jobs
 pub one_worker : {A P B T X : Type 0} (jobs : List (Job A P B T X)) (h : Job A P B T X)
@@ -59,59 +57,48 @@ one_within x (job.SideTask task ∷ jobs) h all own = one_within x jobs h all ow
 one_within x (job.Worker context worker ∷ jobs) h all own =
     (all.0, one_within x jobs h all.1 own)
 
--- what jobs leave that all began
-module _ {A P B T D X : Type 0} (lacks : X → Type 0)
-    (works : X → Worker A P B → WorkerExit A P B → Type 0) (makes : T → D → Type 0) where
+-- what jobs leave
+module _ {A P B T D X : Type 0} (works : X → Worker A P B → WorkerExit A P B → Type 0)
+    (makes : T → D → Type 0) where
   abbrev AllDone : List (Job A P B T X) → List (JobResult A P B D) → Type 0
-  AllDone = AllZip (Makes lacks works makes)
+  AllDone = AllZip (Makes works makes)
 
   made_by : (jobs : List (Job A P B T X)) (lefts : List (JobResult A P B D))
-      → AllDone jobs lefts → list_all has_begun lefts ≡ true
-      → AllZip makes (tasks_in jobs) (made_in lefts)
-  made_by [] [] all begun = tt
-  made_by [] (l ∷ ls) all begun = absurd all
-  made_by (h ∷ hs) [] all begun = absurd all
-  made_by (job.SideTask task ∷ hs) (left.Unbegun ∷ ls) all begun = absurd all.0
-  made_by (job.SideTask task ∷ hs) (left.SideTask made ∷ ls) all begun =
-      (all.0, made_by hs ls all.1 begun)
-  made_by (job.SideTask task ∷ hs) (left.Worked ended ∷ ls) all begun = absurd all.0
-  made_by (job.Worker context worker ∷ hs) (left.Unbegun ∷ ls) all begun =
-      absurd (true≢false (sym begun))
-  made_by (job.Worker context worker ∷ hs) (left.SideTask made ∷ ls) all begun = absurd all.0
-  made_by (job.Worker context worker ∷ hs) (left.Worked ended ∷ ls) all begun =
-      made_by hs ls all.1 begun
+      → AllDone jobs lefts → AllZip makes (tasks_in jobs) (made_in lefts)
+  made_by [] [] all = tt
+  made_by [] (l ∷ ls) all = absurd all
+  made_by (h ∷ hs) [] all = absurd all
+  made_by (job.SideTask task ∷ hs) (left.SideTask made ∷ ls) all = (all.0, made_by hs ls all.1)
+  made_by (job.SideTask task ∷ hs) (left.Worked ended ∷ ls) all = absurd all.0
+  made_by (job.Worker context worker ∷ hs) (left.SideTask made ∷ ls) all = absurd all.0
+  made_by (job.Worker context worker ∷ hs) (left.Worked ended ∷ ls) all = made_by hs ls all.1
 
   -- what the tasks beside the workers made
   pub all_made : (tasks : List T) (jobs : List (Job A P B T X))
       (lefts : List (JobResult A P B D)) → tasks_in jobs ≡ tasks → AllDone jobs lefts
-      → list_all has_begun lefts ≡ true → AllZip makes tasks (made_in lefts)
-  all_made tasks jobs lefts same all begun =
-      subst (λ (ts : List T). AllZip makes ts (made_in lefts)) same (made_by jobs lefts all begun)
+      → AllZip makes tasks (made_in lefts)
+  all_made tasks jobs lefts same all =
+      subst (λ (ts : List T). AllZip makes ts (made_in lefts)) same (made_by jobs lefts all)
 
   worked_in : (x : X) (jobs : List (Job A P B T X)) (lefts : List (JobResult A P B D))
-      → AllDone jobs lefts → AreWithin x jobs → list_all has_begun lefts ≡ true
+      → AllDone jobs lefts → AreWithin x jobs
       → AllZip (works x) (workers_in jobs) (ended_in lefts)
-  worked_in x [] [] all within begun = tt
-  worked_in x [] (l ∷ ls) all within begun = absurd all
-  worked_in x (h ∷ hs) [] all within begun = absurd all
-  worked_in x (job.SideTask task ∷ hs) (left.Unbegun ∷ ls) all within begun = absurd all.0
-  worked_in x (job.SideTask task ∷ hs) (left.SideTask made ∷ ls) all within begun =
-      worked_in x hs ls all.1 within begun
-  worked_in x (job.SideTask task ∷ hs) (left.Worked ended ∷ ls) all within begun = absurd all.0
-  worked_in x (job.Worker context worker ∷ hs) (left.Unbegun ∷ ls) all within begun =
-      absurd (true≢false (sym begun))
-  worked_in x (job.Worker context worker ∷ hs) (left.SideTask made ∷ ls) all within begun =
-      absurd all.0
-  worked_in x (job.Worker context worker ∷ hs) (left.Worked ended ∷ ls) all within begun = (
+  worked_in x [] [] all within = tt
+  worked_in x [] (l ∷ ls) all within = absurd all
+  worked_in x (h ∷ hs) [] all within = absurd all
+  worked_in x (job.SideTask task ∷ hs) (left.SideTask made ∷ ls) all within =
+      worked_in x hs ls all.1 within
+  worked_in x (job.SideTask task ∷ hs) (left.Worked ended ∷ ls) all within = absurd all.0
+  worked_in x (job.Worker context worker ∷ hs) (left.SideTask made ∷ ls) all within = absurd all.0
+  worked_in x (job.Worker context worker ∷ hs) (left.Worked ended ∷ ls) all within = (
     subst (λ (c : X). works c worker ended) within.0 all.0,
-    worked_in x hs ls all.1 within.1 begun,
+    worked_in x hs ls all.1 within.1,
   )
 
-  -- what the workers leave, where all jobs began in the same context
+  -- what the workers leave, where all are in the same context
   pub all_worked : (x : X) (workers : List (Worker A P B)) (jobs : List (Job A P B T X))
       (lefts : List (JobResult A P B D)) → workers_in jobs ≡ workers → AllDone jobs lefts
-      → AreWithin x jobs → list_all has_begun lefts ≡ true
-      → AllZip (works x) workers (ended_in lefts)
-  all_worked x workers jobs lefts same all within begun =
+      → AreWithin x jobs → AllZip (works x) workers (ended_in lefts)
+  all_worked x workers jobs lefts same all within =
       subst (λ (ws : List (Worker A P B)). AllZip (works x) ws (ended_in lefts)) same
-      (worked_in x jobs lefts all within begun)
+      (worked_in x jobs lefts all within)

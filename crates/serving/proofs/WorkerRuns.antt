@@ -1,7 +1,6 @@
 -- Runs of new workers.
 use Rattle.std.proofs.Common.{◌≡◌, ◌≤◌, ◌+◌, ℕ, Bool, false, List, [], ◌∷◌, Option, None, subst, arith}
 use Rattle.std.specs.List.{AllZip}
-use Rattle.gateway_settings.specs.declared.settings.Settings.{Settings}
 use Rattle.gate_port.specs.Log.{Known}
 use Rattle.gate_port.specs.Shown.{Shown}
 use Rattle.tcp_backend.specs.declared.connecting.TcpBackend.{TcpBackend}
@@ -14,7 +13,7 @@ use Rattle.serving.specs.declared.working.WorkerSettings.{WorkerSettings}
 use Rattle.listening.specs.Accepted.{listener_of}
 use Rattle.proxy.specs.Exchanges.{Bytes}
 use Rattle.serving.specs.Doors.{counted_in, failed_of, given_of, is_closed}
-use Rattle.serving.specs.Served.{back_of}
+use Rattle.serving.specs.Served.{back_of, policy_of}
 use Rattle.serving.specs.Turns.{Place, place_of}
 use Rattle.serving.specs.Workers.{Begins, HasRun, HasWorked, IsWork}
 
@@ -29,21 +28,21 @@ from shown known given failed closed port count = record {
   back = record { shown = shown port; known = known port; count = count; log = None };
 }
 
-module _ {R T L C S W V P : Type 0} (gives : S → Settings → Type 0) (came : L → Bytes → Type 0)
-    (shown : P → Option Shown) (known : P → Option Known) (common : WorkerSettings L C S W) where
+module _ {R T L C W V P : Type 0} (came : L → Bytes → Type 0) (shown : P → Option Shown)
+    (known : P → Option Known) (common : WorkerSettings L C W) where
   abbrev place : Door L W → P → TcpBackend (Dialer R T) T V C → Place
   place = place_of given_of failed_of is_closed (λ _. None)
       (back_of shown known count_of (λ _. None))
 
   abbrev Did : Worker (Door L W) P (TcpBackend (Dialer R T) T V C)
       → WorkerExit (Door L W) P (TcpBackend (Dialer R T) T V C) → Type 0
-  Did = HasWorked place (λ door. came (listener_of (counted_in door))) (gives common.source.now)
-      common.marks common.per_worker
+  Did = HasWorked place (λ door. came (listener_of (counted_in door)))
+      (policy_of common.settings.now common.marks) common.per_worker
 
   ran : (address : List ℕ) (port : P) (worker : Worker (Door L W) P (TcpBackend (Dialer R T) T V C))
       (ended : WorkerExit (Door L W) P (TcpBackend (Dialer R T) T V C))
       → Begins common.listener.now common.backend_timeout_ns address port worker
-      → Did worker ended → HasRun gives came shown known common port ended
+      → Did worker ended → HasRun came shown known common port ended
   ran address port worker ended begins did =
       let given = given_of worker.door in
       let failed = failed_of worker.door in
@@ -51,7 +50,7 @@ module _ {R T L C S W V P : Type 0} (gives : S → Settings → Type 0) (came : 
       let count = count_of worker.backend in
       let end : Place = place ended.door ended.port ended.backend in
       let Ran : L → Place → Type 0 = λ l start.
-      IsWork (gives common.source.now) common.marks common.per_worker (came l) start end
+      IsWork (policy_of common.settings.now common.marks) common.per_worker (came l) start end
       ended.tally in
       let here = common.listener.now in
       let run : Ran here (from shown known 0 0 false port 0) =
@@ -70,8 +69,6 @@ module _ {R T L C S W V P : Type 0} (gives : S → Settings → Type 0) (came : 
       run.unaccepted (omega arith) in
       let once : count_of ended.backend ≤ 0 + ended.tally.accepted = run.once in
       record {
-        settings = run.settings;
-        are_given = run.are_given;
         run = run.run;
         tallied = record {
           accepted = omega arith;
@@ -86,7 +83,7 @@ module _ {R T L C S W V P : Type 0} (gives : S → Settings → Type 0) (came : 
       (workers : List (Worker (Door L W) P (TcpBackend (Dialer R T) T V C)))
       (ended : List (WorkerExit (Door L W) P (TcpBackend (Dialer R T) T V C)))
       → AllZip (Begins common.listener.now common.backend_timeout_ns address) ports workers
-      → AllZip Did workers ended → AllZip (HasRun gives came shown known common) ports ended
+      → AllZip Did workers ended → AllZip (HasRun came shown known common) ports ended
   all_ran address [] [] [] p q = tt
   all_ran address [] [] (e ∷ es) p q = absurd q
   all_ran address [] (w ∷ ws) es p q = absurd p

@@ -1,7 +1,6 @@
 -- Workers on threads, and what they leave.
-use Rattle.std.specs.Prelude.{◌≡◌, ◌≤◌, ◌+◌, ℕ, Bool, true, false, List, [], ◌∷◌, Option, None, ⊤}
+use Rattle.std.specs.Prelude.{◌≡◌, ◌≤◌, ◌+◌, ℕ, Bool, false, List, [], ◌∷◌, Option, None, ⊤}
 use Rattle.counted_io.specs.Count.{count_end}
-use Rattle.gateway_settings.specs.declared.settings.Settings.{Settings}
 use Rattle.gate_port.specs.Log.{Known}
 use Rattle.gate_port.specs.Shown.{Shown}
 use Rattle.tcp_backend.specs.declared.connecting.TcpBackend.{TcpBackend}
@@ -18,7 +17,7 @@ use Rattle.serving.specs.declared.jobs.Worker.{Worker}
 use Rattle.serving.specs.declared.working.TurnCounts.{TurnCounts}
 use Rattle.serving.specs.declared.working.WorkerSettings.{WorkerSettings}
 use Rattle.listening.specs.Accepted.{listener_of}
-use Rattle.proxy.specs.Exchanges.{Bytes}
+use Rattle.proxy.specs.Exchanges.{Bytes, Policy}
 use Rattle.serving.specs.Doors.{counted_in, failed_of, given_of, is_closed}
 use Rattle.serving.specs.Served.{back_of, policy_of}
 use Rattle.serving.specs.Turns.{IsRun, Place, place_of}
@@ -44,31 +43,21 @@ AreWithin x (job.Worker context worker ∷ jobs) = (context.now ≡ x) × AreWit
 -- what the workers among them left
 abbrev pub ended_in : {A P B D : Type 0} → List (JobResult A P B D) → List (WorkerExit A P B)
 ended_in [] = []
-ended_in (left.Unbegun ∷ lefts) = ended_in lefts
 ended_in (left.SideTask made ∷ lefts) = ended_in lefts
 ended_in (left.Worked ended ∷ lefts) = ended ∷ ended_in lefts
 
 -- what the tasks beside them made
 abbrev pub made_in : {A P B D : Type 0} → List (JobResult A P B D) → List D
 made_in [] = []
-made_in (left.Unbegun ∷ lefts) = made_in lefts
 made_in (left.SideTask made ∷ lefts) = made ∷ made_in lefts
 made_in (left.Worked ended ∷ lefts) = made_in lefts
 
--- whether it had the memory to begin
-abbrev pub has_begun : {A P B D : Type 0} → JobResult A P B D → Bool
-has_begun left.Unbegun = false
-has_begun (left.SideTask made) = true
-has_begun (left.Worked ended) = true
-
--- WORKED: by settings that are given, with marks or without, somebody took turns from one place to
--- another, each with a client who came or with none, and forwarded no more than there were clients
-pub record IsWork (gives : Settings → Type 0) (marks : Bool) (most : ℕ) (came : Bytes → Type 0)
-    (old new : Place) (tally : TurnCounts) : Type 0 where
+-- WORKED: by this policy somebody took turns from one place to another, each with a client who came
+-- or with none, and forwarded no more than there were clients
+pub record IsWork (p : Policy) (most : ℕ) (came : Bytes → Type 0) (old new : Place)
+    (tally : TurnCounts) : Type 0 where
   pub bounded : most ≤ count_end
-  pub settings : Settings
-  pub are_given : gives settings
-  pub run : IsRun (policy_of settings marks) came most old new tally
+  pub run : IsRun p came most old new tally
   pub turns : tally.accepted + tally.unaccepted ≤ most
   pub whole : new.closed ≡ false → tally.accepted + tally.unaccepted ≡ most
   pub once : new.back.count ≤ old.back.count + tally.accepted
@@ -76,43 +65,34 @@ pub record IsWork (gives : Settings → Type 0) (marks : Bool) (most : ℕ) (cam
   pub unaccepted : old.failed + most ≤ count_end → new.failed ≡ old.failed + tally.unaccepted
 
 -- and so a worker did, by the place where it stands and by who comes to its door
-abbrev pub HasWorked : {A P B : Type 0} → (A → P → B → Place) → (A → Bytes → Type 0)
-    → (Settings → Type 0) → Bool → ℕ → Worker A P B → WorkerExit A P B → Type 0
-HasWorked place came gives marks most worker ended =
-    IsWork gives marks most (came worker.door) (place worker.door worker.port worker.backend)
+abbrev pub HasWorked : {A P B : Type 0} → (A → P → B → Place) → (A → Bytes → Type 0) → Policy → ℕ
+    → Worker A P B → WorkerExit A P B → Type 0
+HasWorked place came p most worker ended =
+    IsWork p most (came worker.door) (place worker.door worker.port worker.backend)
     (place ended.door ended.port ended.backend) ended.tally
 
--- in a context: by settings that its source gives, as many turns as are asked for there
-abbrev pub WorksIn : {A P B R L E C S W : Type 0} → (A → P → B → Place) → (A → Bytes → Type 0)
-    → (S → Settings → Type 0) → Context R L E C S W → Worker A P B → WorkerExit A P B → Type 0
-WorksIn place came gives context =
-    HasWorked place came (gives context.common.now.source.now) context.common.now.marks
+-- in a context: by the settings there, with marks or without, as many turns as are asked for
+abbrev pub WorksIn : {A P B R L E C W : Type 0} → (A → P → B → Place) → (A → Bytes → Type 0)
+    → Context R L E C W → Worker A P B → WorkerExit A P B → Type 0
+WorksIn place came context =
+    HasWorked place came (policy_of context.common.now.settings.now context.common.now.marks)
     context.common.now.per_worker
 
--- the source of a context lacks settings
-abbrev pub LacksIn : {R L E C S W : Type 0} → (S → Type 0) → Context R L E C S W → Type 0
-LacksIn lacks context = lacks context.common.now.source.now
-
--- what a worker leaves, by what it does; who didn't begin had no settings
-abbrev pub Leaves : {A P B D : Type 0} → Type 0 → (WorkerExit A P B → Type 0)
-    → JobResult A P B D → Type 0
-Leaves lacking works left.Unbegun = lacking
-Leaves lacking works (left.SideTask made) = ⊥
-Leaves lacking works (left.Worked ended) = works ended
+-- what a worker leaves, by what it does
+abbrev pub Leaves : {A P B D : Type 0} → (WorkerExit A P B → Type 0) → JobResult A P B D → Type 0
+Leaves works (left.SideTask made) = ⊥
+Leaves works (left.Worked ended) = works ended
 
 -- what a task beside the workers leaves, which may make this
 abbrev pub IsMade : {A P B D : Type 0} → (D → Type 0) → JobResult A P B D → Type 0
-IsMade makes left.Unbegun = ⊥
 IsMade makes (left.SideTask made) = makes made
 IsMade makes (left.Worked ended) = ⊥
 
--- what each job leaves, by what a context lacks, what a worker does there, and what a task makes
-abbrev pub Makes : {A P B T D X : Type 0} → (X → Type 0)
-    → (X → Worker A P B → WorkerExit A P B → Type 0) → (T → D → Type 0) → Job A P B T X
-    → JobResult A P B D → Type 0
-Makes lacks works makes (job.SideTask task) left = IsMade (makes task) left
-Makes lacks works makes (job.Worker context worker) left =
-    Leaves (lacks context.now) (works context.now worker) left
+-- what each job leaves, by what a worker does in its context, and what a task makes
+abbrev pub Makes : {A P B T D X : Type 0} → (X → Worker A P B → WorkerExit A P B → Type 0)
+    → (T → D → Type 0) → Job A P B T X → JobResult A P B D → Type 0
+Makes works makes (job.SideTask task) left = IsMade (makes task) left
+Makes works makes (job.Worker context worker) left = Leaves (works context.now worker) left
 
 -- a new worker, with this port, a backend at an address that was given nothing and whose calls may
 -- take so many nanoseconds, where that is limited, and a door to a listener, without a visit
@@ -139,15 +119,12 @@ pub record IsTallied (given failed : ℕ) (closed : Bool) (forwarded most : ℕ)
   pub turns : tally.accepted + tally.unaccepted ≤ most
   pub whole : closed ≡ false → tally.accepted + tally.unaccepted ≡ most
 
--- RAN: a worker of this port, by settings that the source gives, took its turns, as they are
--- tallied; each client came to that listener, and for each there was one exchange
-pub record HasRun {R T L C S W V P : Type 0} (gives : S → Settings → Type 0)
-    (came : L → Bytes → Type 0) (shown : P → Option Shown) (known : P → Option Known)
-    (common : WorkerSettings L C S W) (port : P)
+-- RAN: a worker of this port, by the settings that all share, took its turns, as they are tallied;
+-- each client came to that listener, and for each there was one exchange
+pub record HasRun {R T L C W V P : Type 0} (came : L → Bytes → Type 0) (shown : P → Option Shown)
+    (known : P → Option Known) (common : WorkerSettings L C W) (port : P)
     (ended : WorkerExit (Door L W) P (TcpBackend (Dialer R T) T V C)) : Type 0 where
-  pub settings : Settings
-  pub are_given : gives common.source.now settings
-  pub run : IsRun (policy_of settings common.marks)
+  pub run : IsRun (policy_of common.settings.now common.marks)
       (came common.listener.now) common.per_worker
       (record {
         given = 0;

@@ -7,8 +7,7 @@ use tcp_backend::BackendFault;
 /// Why a gateway stopped, or didn't begin.
 #[derive(Clone, Copy, Drop)]
 pub enum ServeFault {
-    /// A growth was refused: before any worker was started, or to one that was, for its settings.
-    /// The workers that were started have ended.
+    /// A growth was refused, before any worker was started.
     Memory = 1,
     /// A thread couldn't be started. The workers that were started have ended.
     Thread = 2,

@@ -2,11 +2,11 @@
 ghost use Rattle.std.specs.Prelude.{◌≡◌, ◌≤◌, ◌+◌, false};
 ghost use Rattle.serving.specs.Served.{back_of};
 ghost use Rattle.serving.specs.Turns.{place_of};
-ghost use Rattle.serving.specs.Workers.{LacksIn, Leaves, WorksIn};
+ghost use Rattle.serving.specs.Workers.{WorksIn};
 
 use crate::doors::Accepts;
 use crate::reporting::ActiveWorkers;
-use crate::working::{Source, TurnCounts, WorkerSettings, work};
+use crate::working::{TurnCounts, WorkerSettings, work};
 use clocks::Clock;
 use gate_port::GatePort;
 use listening::{Closable, Listener};
@@ -41,9 +41,9 @@ pub struct WorkerExit<A, P, B> {
 
 /// What all workers have in common.
 #[derive(Drop)]
-pub(crate) struct Context<'a, R, L, E, C, S, W> {
+pub(crate) struct Context<'a, R, L, E, C, W> {
     pub(crate) rt: &'a R,
-    pub(crate) common: &'a WorkerSettings<'a, L, C, S, W>,
+    pub(crate) common: &'a WorkerSettings<'a, L, C, W>,
     pub(crate) active: &'a ActiveWorkers,
     /// The listener of the task beside them, where there is one.
     pub(crate) side_listener: Option<&'a E>,
@@ -59,15 +59,13 @@ pub(crate) enum Job<'a, A, P, B, T, X> {
 /// What is left of a job.
 #[derive(Drop)]
 pub enum JobResult<A, P, B, D> {
-    /// It had no memory to begin.
-    Unbegun,
     /// It was a task beside the workers, which made this.
     SideTask(D),
     /// It served.
     Worked(WorkerExit<A, P, B>),
 }
 
-impl<'a, R, A, P, B, T, L, E, C, S, W> Task for Job<'a, A, P, B, T, Context<'a, R, L, E, C, S, W>>
+impl<'a, R, A, P, B, T, L, E, C, W> Task for Job<'a, A, P, B, T, Context<'a, R, L, E, C, W>>
 where
     R: Wait + SystemClock + Sync,
     A: Accepts + Send + Drop,
@@ -77,18 +75,16 @@ where
     L: Listener + Sync,
     E: Closable + Sync,
     C: Clock + Sync,
-    S: Source + Sync,
     W: Watch + Sync,
 {
     type Done = JobResult<A, P, B, T::Done>;
 
     ghost use Rattle.serving.specs.Served.{back_of};
     ghost use Rattle.serving.specs.Turns.{place_of};
-    ghost use Rattle.serving.specs.Workers.{LacksIn, Makes, WorksIn};
+    ghost use Rattle.serving.specs.Workers.{Makes, WorksIn};
 
-    ghost makes = { Makes (LacksIn S.lacks)
-        (WorksIn (place_of A.given A.failed A.closed A.visits
-        (back_of P.shown P.known B.forwarded B.shown)) A.came S.gives) T.makes };
+    ghost makes = { Makes (WorksIn (place_of A.given A.failed A.closed A.visits
+        (back_of P.shown P.known B.forwarded B.shown)) A.came) T.makes };
 
     fn run(self) -> JobResult<A, P, B, T::Done> {
         match self {
@@ -96,14 +92,14 @@ where
             Job::Worker(context, worker) => {
                 let left = run_one(context, worker);
                 leave(context);
-                left
+                JobResult::Worked(left)
             }
         }
     }
 }
 
 /// One worker ends. The last one closes the listener of the task beside the workers.
-fn leave<R, L, E, C, S, W>(context: &Context<'_, R, L, E, C, S, W>)
+fn leave<R, L, E, C, W>(context: &Context<'_, R, L, E, C, W>)
 where
     R: Wait + SystemClock,
     E: Closable,
@@ -115,27 +111,22 @@ where
     }
 }
 
-/// One worker's whole run, over settings of its own.
-fn run_one<R, A, P, B, D, L, E, C, S, W>(
-    context: &Context<'_, R, L, E, C, S, W>,
+/// One worker's whole run.
+fn run_one<R, A, P, B, L, E, C, W>(
+    context: &Context<'_, R, L, E, C, W>,
     worker: Worker<A, P, B>,
-) -> JobResult<A, P, B, D>
+) -> WorkerExit<A, P, B>
 where
     R: SystemClock,
     A: Accepts + Drop,
     P: GatePort + Drop,
     B: Backend + Drop,
     C: Clock,
-    S: Source,
     W: Watch,
-    ensures { Leaves (LacksIn S.lacks context.now)
-        (WorksIn (place_of A.given A.failed A.closed A.visits
-        (back_of P.shown P.known B.forwarded B.shown)) A.came S.gives context.now worker) result }
+    ensures { WorksIn (place_of A.given A.failed A.closed A.visits
+        (back_of P.shown P.known B.forwarded B.shown)) A.came context.now worker result }
 {
     let common = context.common;
-    let Ok(settings) = common.source.settings(common.alloc) else {
-        return JobResult::Unbegun;
-    };
     let Worker {
         mut door,
         mut port,
@@ -145,16 +136,15 @@ where
     let tally = work(
         context.rt,
         common,
-        &settings,
         &mut door,
         &mut port,
         &mut backend,
         buffers,
     );
-    JobResult::Worked(WorkerExit {
+    WorkerExit {
         door,
         port,
         backend,
         tally,
-    })
+    }
 }

@@ -28,4 +28,4 @@ pub use fault::ServeFault;
 pub use jobs::{JobResult, WorkerExit};
 pub use laws::a_visit_reads_each_byte_once;
 pub use workers::serve;
-pub use working::{Source, TurnCounts, WorkerSettings, work};
+pub use working::{TurnCounts, WorkerSettings, work};

@@ -1,18 +1,18 @@
 // Workers that serve through one gate.
 ghost use Rattle.std.specs.Prelude.{◌≡◌, [], IfOk, IsErrOf, OnErr};
-ghost use Rattle.std.specs.List.{AllZip, list_all};
+ghost use Rattle.std.specs.List.{AllZip};
 ghost use Rattle.counted_io.specs.Count.{raised};
 ghost use Rattle.tasks.specs.Refused.{refused_of};
-ghost use Rattle.serving.specs.Served.{back_of};
+ghost use Rattle.serving.specs.Served.{back_of, policy_of};
 ghost use Rattle.serving.specs.Turns.{place_of};
 ghost use Rattle.serving.specs.Workers.{AreWithin, Begins, HasRun, HasWorked};
-ghost use Rattle.serving.specs.Workers.{ended_in, has_begun, made_in, tasks_in, workers_in};
+ghost use Rattle.serving.specs.Workers.{ended_in, made_in, tasks_in, workers_in};
 
 use crate::doors::{Accepts, Door};
 use crate::fault::ServeFault;
 use crate::jobs::{Context, Job, JobResult, Worker};
 use crate::reporting::{ActiveWorkers, Reporter};
-use crate::working::{Source, WorkerSettings};
+use crate::working::WorkerSettings;
 use clocks::Clock;
 use gate_port::{GatePort, GateView};
 use gateway_settings::Settings;
@@ -45,14 +45,12 @@ const OTHER_DESCRIPTORS: u64 = 24;
 /// end once the last worker has closed their listener, and no other can be closed here. Where
 /// reports are wanted, the thread of the caller makes them once all others were started.
 ///
-/// The settings are those that the workers' source gives. `Memory` comes before any worker is
-/// started, or where one had none for its settings, once all have ended; `Thread` once those that
-/// were started have.
-pub fn serve<'l, R, G, P, T, L, E, C, S, W>(
+/// All of them share one value of the settings. `Memory` comes before any worker is started, and
+/// `Thread` once those that were started have ended.
+pub fn serve<'l, R, G, P, T, L, E, C, W>(
     rt: &'l R,
     spawner: &mut Spawner<'_, R>,
-    common: &WorkerSettings<'l, L, C, S, W>,
-    settings: &Settings,
+    common: &WorkerSettings<'l, L, C, W>,
     gate: G,
     ports: Vec<P>,
     side_tasks: Vec<T>,
@@ -76,7 +74,6 @@ where
     L: Listener + Sync,
     E: Closable + Sync,
     C: Clock + Sync,
-    S: Source + Sync,
     W: Watch + BackendWatch + Sync,
     P::Permit: Send,
     P::Receipt: Send,
@@ -89,7 +86,7 @@ where
     R::Stream: Send + Sync,
     R::Listener: Send + Sync,
     ensures ran { IfOk result (λ lefts.
-        AllZip (HasRun S.gives L.came P.shown P.known common.now) ports.items
+        AllZip (HasRun L.came P.shown P.known common.now) ports.items
         (ended_in lefts.items)) }
     ensures side_tasks { IfOk result (λ lefts.
         AllZip T.makes side_tasks.items (made_in lefts.items)) }
@@ -100,12 +97,10 @@ where
     ensures started { ¬ IsErrOf result ServeFault.Thread →
         refused_of spawner.new ≡ refused_of spawner.old }
 {
-    let workers = make_workers(rt, common, settings, ports)?;
-    prepare(
-        common,
-        settings,
-        wanted_descriptors(workers.len(), settings.backends),
-    )?;
+    let settings = common.settings;
+    let workers = make_workers(rt, common, ports)?;
+    let wanted = wanted_descriptors(workers.len(), settings.backends);
+    prepare(common, wanted)?;
     let active = ActiveWorkers::new(workers.len());
     let reporter = Reporter {
         rt,
@@ -142,11 +137,11 @@ fn wanted_descriptors(workers: usize, backends: u32) -> u64 {
 /// Has the listener keep clients who have sent nothing, and those who were served where the
 /// settings keep some, as far as there are descriptors for them beside so many that are wanted, and
 /// end those who take nothing. It fails only out of memory for their places.
-fn prepare<L: Listener, C, S, W>(
-    common: &WorkerSettings<'_, L, C, S, W>,
-    settings: &Settings,
+fn prepare<L: Listener, C, W>(
+    common: &WorkerSettings<'_, L, C, W>,
     wanted: u64,
 ) -> Result<(), AllocError> {
+    let settings = common.settings;
     let most_ns = common.client_timeout_ns;
     let asked = match settings.clients {
         0 => common.client_places,
@@ -166,21 +161,20 @@ fn prepare<L: Listener, C, S, W>(
 }
 
 /// A worker for each port, with a door, and with a backend at the address of the settings.
-fn make_workers<'l, R: Net + Wait, P: Drop, L, C, S, W>(
+fn make_workers<'l, R: Net + Wait, P: Drop, L, C, W>(
     rt: &'l R,
-    common: &WorkerSettings<'l, L, C, S, W>,
-    settings: &Settings,
+    common: &WorkerSettings<'l, L, C, W>,
     ports: Vec<P>,
 ) -> Result<
     Vec<Worker<Door<'l, L, W>, P, TcpBackend<'l, Dialer<&'l R, R::Stream>, R::Stream, &'l W, C>>>,
     ServeFault,
 >
     ensures workers { IfOk result (λ workers.
-        AllZip (Begins common.now.listener.now common.now.backend_timeout_ns settings.now.backend)
-        ports.items workers.items) }
+        AllZip (Begins common.now.listener.now common.now.backend_timeout_ns
+        common.now.settings.now.backend) ports.items workers.items) }
     ensures lacking { OnErr result (IsErrOf result ServeFault.Memory) }
 {
-    let (alloc, watch) = (common.alloc, common.watch);
+    let (alloc, watch, settings) = (common.alloc, common.watch, common.settings);
     let (clock, most_ns) = (common.clock, common.backend_timeout_ns);
     let address = settings.backend.socket();
     let pool = make_pool(alloc, settings)?;
@@ -223,10 +217,11 @@ fn share<S: Drop>(
 
 /// Serves clients by these workers, with tasks beside them and a reporter on this thread. Which
 /// doors and backends they have isn't told apart here.
-fn serve_by<R, O, A, P, B, T, L, E, C, S, W>(
+#[tactic(auto, using(crate::proofs::SharedSettings::settings_sync))]
+fn serve_by<R, O, A, P, B, T, L, E, C, W>(
     rt: &R,
     spawner: &mut Spawner<'_, R>,
-    common: &WorkerSettings<'_, L, C, S, W>,
+    common: &WorkerSettings<'_, L, C, W>,
     active: &ActiveWorkers,
     reporter: O,
     workers: Vec<Worker<A, P, B>>,
@@ -243,7 +238,6 @@ where
     L: Listener + Sync,
     E: Closable + Sync,
     C: Clock + Sync,
-    S: Source + Sync,
     W: Watch + Sync,
     P::Permit: Send,
     P::Receipt: Send,
@@ -259,7 +253,7 @@ where
     ensures worked { IfOk result (λ lefts. AllZip
         (HasWorked (place_of A.given A.failed A.closed A.visits
         (back_of P.shown P.known B.forwarded B.shown)) A.came
-        (S.gives common.now.source.now) common.now.marks common.now.per_worker)
+        (policy_of common.now.settings.now common.now.marks) common.now.per_worker)
         workers.items (ended_in lefts.items)) }
     ensures side_tasks { IfOk result (λ lefts.
         AllZip T.makes side_tasks.items (made_in lefts.items)) }
@@ -276,9 +270,6 @@ where
     };
     let jobs = make_jobs(common.alloc, &context, side_tasks, workers)?;
     let lefts = run_tasks_beside(spawner, common.alloc, reporter, jobs)?;
-    if !have_begun(&lefts) {
-        return Err(ServeFault::Memory);
-    }
     Ok(lefts)
 }
 
@@ -314,21 +305,4 @@ fn make_others<'a, A: Drop, P: Drop, B: Drop, T: Drop, X>(
         jobs.push_reserved(Job::SideTask(task));
     }
     Ok(jobs)
-}
-
-/// Whether all who had a thread had the memory to begin.
-fn have_begun<A, P, B, D>(lefts: &[JobResult<A, P, B, D>]) -> bool
-    ensures { result ≡ list_all has_begun lefts.now }
-{
-    lefts.iter().all(|left| has_begun(left))
-}
-
-/// Whether one had.
-fn has_begun<A, P, B, D>(left: &JobResult<A, P, B, D>) -> bool
-    ensures { result ≡ has_begun left.now }
-{
-    match left {
-        JobResult::Unbegun => false,
-        JobResult::SideTask(_) | JobResult::Worked(_) => true,
-    }
 }

@@ -1,7 +1,6 @@
 // What one worker does.
-ghost use Rattle.std.specs.Prelude.{◌≡◌, ◌≤◌, ◌+◌, true, false, IfOk, OnErr};
+ghost use Rattle.std.specs.Prelude.{◌≡◌, ◌≤◌, ◌+◌, true, false};
 ghost use Rattle.counted_io.specs.Count.{count_end};
-ghost use Rattle.gateway_settings.specs.declared.settings.Settings.{Settings as SettingsValue};
 ghost use Rattle.proxy.specs.Made.{is_kept};
 ghost use Rattle.serving.specs.Served.{IsServed, back_of, policy_of};
 ghost use Rattle.serving.specs.Turns.{IsRun, place_of};
@@ -13,7 +12,7 @@ use gate_port::GatePort;
 use gateway_settings::Settings;
 use listening::AcceptedClient;
 use proxy::{Exchange, ExchangePolicy, Keeper, Watch, exchange};
-use std::alloc::{AllocError, Global};
+use std::alloc::Global;
 use std::thread;
 use std::time::{Clock as SystemClock, Duration};
 use timed_io::{
@@ -25,29 +24,13 @@ use wire::Backend;
 /// How long a worker rests that could have no connection, in milliseconds.
 const WITHOUT_A_CLIENT_MS: u64 = 10;
 
-/// Where a worker has its settings from: something that threads may share, such as the text of a
-/// configuration. Each worker makes settings of its own of it: they hold counted pointers, which
-/// threads may not share.
-pub trait Source {
-    // Settings that it gives.
-    ghost gives: { Self → SettingsValue → Type 0 };
-
-    // What it is that it had no memory for them.
-    ghost lacks: { Self → Type 0 };
-
-    /// Settings of one's own. It fails only out of memory.
-    fn settings(&self, alloc: Global) -> Result<Settings, AllocError>
-        ensures given { IfOk result (gives self.now) }
-        ensures lacking { OnErr result (lacks self.now) };
-}
-
 /// What all workers of a gateway share, and what each of them is asked to do.
 #[derive(Drop)]
-pub struct WorkerSettings<'a, L, C, S, W> {
+pub struct WorkerSettings<'a, L, C, W> {
     /// Where clients come from.
     pub listener: &'a L,
-    /// Where a worker has its settings from.
-    pub source: &'a S,
+    /// What the gateway was told by its configuration.
+    pub settings: &'a Settings,
     /// The clock of deadlines.
     pub clock: &'a C,
     /// How many exchanges a worker carries out, or tries to, one after the other.
@@ -87,11 +70,9 @@ pub struct TurnCounts {
 /// where it was told so; or none was to be had, and then nothing is forwarded, and the next turn
 /// comes a while later: what was missing, such as a free descriptor, isn't there at once. What the
 /// backend's answer left is waited for once the client was left.
-/// The settings are some that the workers' source gives.
-pub fn work<R, A, P, B, C, L, S, W>(
+pub fn work<R, A, P, B, C, L, W>(
     rt: &R,
-    common: &WorkerSettings<'_, L, C, S, W>,
-    settings: &Settings,
+    common: &WorkerSettings<'_, L, C, W>,
     door: &mut A,
     port: &mut P,
     backend: &mut B,
@@ -103,10 +84,8 @@ where
     P: GatePort,
     B: Backend,
     C: Clock,
-    S: Source,
     W: Watch,
-    requires settings { S.gives common.now.source.now settings.now }
-    ensures run { IsRun (policy_of settings.now common.now.marks)
+    ensures run { IsRun (policy_of common.now.settings.now common.now.marks)
         (A.came door.old) common.now.per_worker
         (place_of A.given A.failed A.closed A.visits (back_of P.shown P.known B.forwarded B.shown)
         door.old port.old backend.old)
@@ -133,10 +112,10 @@ where
             Ok(client) => {
                 let keeper = DoorKeeper {
                     door: &*door,
-                    places: settings.clients,
+                    places: common.settings.clients,
                 };
                 let (client, served, used) = serve_client(
-                    common, settings, client, &keeper, port, backend, buffers,
+                    common, client, &keeper, port, backend, buffers,
                 );
                 buffers = used;
                 door.leave(client, served);
@@ -160,9 +139,8 @@ where
 /// kept, and is answered before its whole request was read, or has sent more than that, what it
 /// still sends is dropped, so that it gets to read the answer. A signal that cuts a read or a write
 /// short changes nothing. Of a client that was kept the request is a later one of its connection.
-fn serve_client<T, I, O, P, B, C, L, S, W, K>(
-    common: &WorkerSettings<'_, L, C, S, W>,
-    settings: &Settings,
+fn serve_client<T, I, O, P, B, C, L, W, K>(
+    common: &WorkerSettings<'_, L, C, W>,
     client: AcceptedClient<T, I, O>,
     keeper: &K,
     port: &mut P,
@@ -180,7 +158,7 @@ where
     K: Keeper,
     ensures { IsServed
         (record {
-          settings = settings.now;
+          settings = common.now.settings.now;
           marks = common.now.marks;
           keeps = K.tells keeper.now;
           later = client.is_kept;
@@ -206,7 +184,7 @@ where
         is_later: is_kept,
     };
     let (ends, served, buffers) = serve_over(
-        common, settings, &policy, &stream, ends, &patience, port, backend, buffers,
+        common, &policy, &stream, ends, &patience, port, backend, buffers,
     );
     let client = AcceptedClient {
         stream,
@@ -217,9 +195,8 @@ where
 }
 
 /// The same over a connection and its ends, by somebody's patience with who is slow.
-fn serve_over<'s, T, I, O, P, B, C, L, S, W, A, K>(
-    common: &WorkerSettings<'_, L, C, S, W>,
-    settings: &Settings,
+fn serve_over<'s, T, I, O, P, B, C, L, W, A, K>(
+    common: &WorkerSettings<'_, L, C, W>,
     policy: &ExchangePolicy<'_, K>,
     stream: &'s T,
     ends: ClientEnds<I, O>,
@@ -239,7 +216,7 @@ where
     K: Keeper,
     ensures { IsServed
         (record {
-          settings = settings.now;
+          settings = common.now.settings.now;
           marks = policy.now.marks;
           keeps = K.tells policy.now.keeper.now;
           later = policy.now.is_later;
@@ -264,7 +241,7 @@ where
         common.alloc,
         port,
         backend,
-        settings,
+        common.settings,
         policy,
         &mut looks,
         &mut reader,

@@ -3,8 +3,8 @@ use Rattle.tasks.specs.Refused.{refused_of}
 use Rattle.limit_kinds.specs.AnyKinds.{any_rules}
 use Rattle.config_file.specs.Reading.{IsFaultOf, Says}
 use Rattle.gate_opening.specs.Opening.{making_of}
-use Rattle.serve_command.specs.Command.{IsOfServing, IsServedBy}
-use Rattle.serve_command.specs.GatewayRun.{AreMiscounted, IsBy}
+use Rattle.serve_command.specs.Command.{IsOfServing}
+use Rattle.serve_command.specs.GatewayRun.{AreMiscounted}
 use Rattle.serve_command.specs.declared.fault.ServiceFault.TheVariants as Service
 use Rattle.serve_command.proofs.WhyUnserved.{serving_is, why_unread, why_unserved, why_unset}
 use Rattle.serve_command.proofs.WhyUnserved.{why_unwritten}
@@ -84,7 +84,6 @@ returns-clause-served g c =
     let had = c.in_ok-text.ensures.text in
     let bytes = c.in_ok-text.text.items in
     let s = c.in_ok-settings.settings in
-    let same : c.new-text.result.bytes.items ≡ bytes = search rules in
     let says : Says bytes (Ok s) = search rules in record {
       settings = s;
       file = had.0;
@@ -93,13 +92,7 @@ returns-clause-served g c =
       held = had.3;
       says = says;
       counters = c.in_ok-counters.counters;
-      served =
-          subst (λ (xs : List ℕ). IsServedBy g.B.Binder.bound g.B.Bound.Listener.came
-          g.B.Bound.Listener.found g.B.Bound.Closable.closed
-          (IsBy (λ own. Says xs (Ok own)) c.args.service.now.marks) s c.args.service.now.admin
-          c.args.service.now.status c.args.service.now.workers c.args.service.now.per_worker
-          c.in_ok-counters.counters) same
-          c.in_ok-counters.ensures.served;
+      served = c.in_ok-counters.ensures.served;
       written = c.in_ok-write_counters.ensures.all;
       unfailing = c.in_ok-write_counters.ensures.unfailing;
       flushed = c.in_ok-write_counters.ensures.flushed;

@@ -7,9 +7,9 @@ use Rattle.gate_opening.specs.Opening.{making_of}
 use Rattle.gate_desk.specs.Desk.{IsDone}
 use Rattle.gate_desk.specs.State.{new_desk}
 use Rattle.limiter_core.specs.declared.counters.Counters.{Counters}
-use Rattle.config_file.specs.Reading.{Says}
+use Rattle.serving.specs.Served.{policy_of}
 use Rattle.serving.specs.declared.fault.ServeFault.{ServeFault}
-use Rattle.serve_command.specs.GatewayRun.{AreMiscounted, HasServedAt, IsBy}
+use Rattle.serve_command.specs.GatewayRun.{AreMiscounted, HasServedAt}
 use Rattle.serve_command.specs.ServiceFault.{of_workers}
 use Rattle.serve_command.proofs.Beside.{admin_served, bound_too, status_served}
 use Rattle.serve_command.proofs.WhyUnserved.{bound_at, lacks_admin, lacks_front, lacks_status}
@@ -100,17 +100,14 @@ returns-in-Some-clause-served g c =
     let begin = new_desk c.args.settings.now.table c.in_ok-front.front in
     let made = making_of c.args.service.now.workers c.args.settings.now in
     let was : c.serve_in.result ≡ Ok (Some c.in-Some.counters) = search rules in
+    let policy = policy_of c.args.settings.now c.args.service.now.marks in
     let served : HasServedAt any_rules made g.B.Bound.Closable.closed g.B.Bound.Listener.came
-    g.B.Bound.Listener.found
-    (IsBy (λ own. Says c.args.text.now.bytes.items (Ok own)) c.args.service.now.marks) begin
-    c.in_ok-admin.admin c.in_ok-status.status c.args.service.now.workers
-    c.args.service.now.per_worker c.in-Some.counters =
+    g.B.Bound.Listener.found policy begin c.in_ok-admin.admin c.in_ok-status.status
+    c.args.service.now.workers c.args.service.now.per_worker c.in-Some.counters =
     subst (λ (it : Result (Option Counters) ServeFault). IfOk it (λ told. IfSome told
     (HasServedAt any_rules made g.B.Bound.Closable.closed g.B.Bound.Listener.came
-    g.B.Bound.Listener.found
-    (IsBy (λ own. Says c.args.text.now.bytes.items (Ok own)) c.args.service.now.marks) begin
-    c.in_ok-admin.admin c.in_ok-status.status c.args.service.now.workers
-    c.args.service.now.per_worker))) was c.serve_in.ensures.served in
+    g.B.Bound.Listener.found policy begin c.in_ok-admin.admin c.in_ok-status.status
+    c.args.service.now.workers c.args.service.now.per_worker))) was c.serve_in.ensures.served in
     record {
       listener = c.in_ok-front.front;
       bound = subst (λ (address : List ℕ). g.B.Binder.bound address c.in_ok-front.front) same

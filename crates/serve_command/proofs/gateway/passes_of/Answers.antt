@@ -1,4 +1,4 @@
-use Rattle.std.proofs.Common.{rules, ◌≡◌, ◌++◌, ◌∷◌, ◌∙◌, ◌+◌, [], append-nil, ap, subst, sym}
+use Rattle.std.proofs.Common.{rules, ◌≡◌, ◌++◌, ◌∷◌, ◌∙◌, ◌+◌, [], subst, sym}
 use Rattle.std.proofs.lemmas.Iterator.Adapters.{YieldsList-from_vec}
 use Rattle.std.proofs.lemmas.Iterator.Consumers.{YieldsList-end}
 use Rattle.std.proofs.lemmas.List.{map-id}
@@ -7,33 +7,19 @@ use Rattle.serve_command.specs.GatewayRun.{passes_in, served_by}
 use Rattle.serve_command.proofs.GatewayRun.{one_call_more, one_pass_more}
 use Rattle.serve_command.proofs.gateway.passes_of.Goals as goal
 
-pub loop-left-preserved-in-Some-pass_in : goal.loop-left-preserved-in-Some-pass_in
-loop-left-preserved-in-Some-pass_in g c =
+pub loop-left-preserved : goal.loop-left-preserved
+loop-left-preserved g c =
     let old = c.loop-left.passes.items in
-    let pass = c.in-Some-pass_in.pass in
-    let made = c.in-Some-pass_in.made in
+    let pass = c.pass_in-pass.result.0 in
+    let made = c.pass_in-pass.result.1 in
     let own : c.push.new.self.items ≡ old ++ pass ∷ [] = search rules in
     let calls : c.loop-left.calls + c.from-calls.result ≡ c.loop-left.calls + made = search rules in
     record {
       passes = one_pass_more c.loop-left.yielded c.in-Some.left old c.push.new.self.items
-          (pass ∷ []) c.loop-left.invariant.passes c.in-Some-pass_in.ensures.pass own;
+          (pass ∷ []) c.loop-left.invariant.passes c.pass_in-pass.ensures.pass own;
       calls = one_call_more c.loop-left.yielded c.in-Some.left c.loop-left.calls
           (c.loop-left.calls + c.from-calls.result) made c.loop-left.invariant.calls
-          c.in-Some-pass_in.ensures.calls calls;
-      few = search rules;
-    }
-
-pub loop-left-preserved : goal.loop-left-preserved
-loop-left-preserved g c =
-    let old = c.loop-left.passes.items in
-    let calls = c.loop-left.calls in
-    let none = c.in_default.ensures.none in
-    let same : calls ≡ calls + 0 = search rules in
-    record {
-      passes = one_pass_more c.loop-left.yielded c.in-Some.left old old []
-          c.loop-left.invariant.passes none.0 (sym (append-nil old));
-      calls = one_call_more c.loop-left.yielded c.in-Some.left calls calls 0
-          c.loop-left.invariant.calls (sym (ap calls_by none.1)) same;
+          c.pass_in-pass.ensures.calls calls;
       few = search rules;
     }
 

@@ -5,8 +5,8 @@ use Rattle.shared_gate.specs.Closing.{calls_by}
 use Rattle.serve_command.specs.GatewayRun.{passes_in, served_by}
 use Rattle.serve_command.proofs.gateway.passes_of.Given as goal
 
--- the passes of those so far who served, and the calls of the workers among them, to each of whom
--- fewer than 2^64 are counted
+-- the passes so far, and the calls of the workers among them, to each of whom fewer than 2^64 are
+-- counted
 abbrev pub invariant-loop-left : goal.invariant-loop-left
 invariant-loop-left g l = record {
   passes : l.passes.items ≡ passes_in l.yielded;

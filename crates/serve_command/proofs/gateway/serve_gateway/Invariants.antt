@@ -10,7 +10,7 @@ abbrev pub ghosts-serve_named-M-Naming : goal.ghosts-serve_named-M-Naming
 ghosts-serve_named-M-Naming g a = record {
   calls = a.blanks.calls.name;
   place = places_of a.blanks;
-  making = making_of a.gateway.now.workers a.gateway.now.settings.now;
+  making = making_of a.gateway.now.workers a.gateway.now.common.now.settings.now;
 }
 
 -- and the table of its word; each worker has a pass, and so has each who serves beside them; legal
@@ -20,5 +20,5 @@ ghosts-serve_named-M-GateNaming g a = record {
   word = a.word;
   passes = a.gateway.now.workers + a.others;
   legal = IsLegalFrom any_rules
-      (journal_of a.gateway.now.workers a.gateway.now.settings.now);
+      (journal_of a.gateway.now.workers a.gateway.now.common.now.settings.now);
 }

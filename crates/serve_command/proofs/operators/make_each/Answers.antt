@@ -9,7 +9,7 @@ use Rattle.serve_command.proofs.operators.make_each.Goals as goal
 -- one operator more, and one pass less
 pub loop-pass-preserved : goal.loop-pass-preserved
 loop-pass-preserved g c =
-    let gateway = c.args.gateway.now in
+    let common = c.args.gateway.now.common.now in
     let rest = into_iter_items c.next.new.self in
     let stepped : into_iter_items c.loop-pass.pass-iterator ≡ c.in-Some.pass ∷ rest =
     search rules in
@@ -17,7 +17,7 @@ loop-pass-preserved g c =
     subst (λ (passes : List Pass). All IsUnused passes) stepped c.loop-pass.invariant.unused in
     let pushed : c.push.new.self.items ≡ c.loop-pass.operators.items
     ++ c.in_ok-operator.operator ∷ [] = search rules in
-    let begin = new_desk gateway.settings.now.table gateway.common.now.listener.now in
+    let begin = new_desk common.settings.now.table common.listener.now in
     let own : StandsAt begin c.args.operating.now c.in_ok-operator.operator = (
       c.in_ok-operator.ensures.desk
           ∙ c.in_ok-desk.ensures.state (All-head IsUnused c.in-Some.pass rest unused),

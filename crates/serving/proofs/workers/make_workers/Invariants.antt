@@ -9,6 +9,6 @@ use Rattle.serving.proofs.workers.make_workers.Given as goal
 abbrev pub invariant-loop-port : goal.invariant-loop-port
 invariant-loop-port g l = record {
   all : AllZip (Begins l.fn.common.listener.now l.fn.common.backend_timeout_ns
-      l.fn.settings.backend) l.yielded l.workers.items;
+      l.fn.common.settings.now.backend) l.yielded l.workers.items;
   room : vec_len l.workers + length (into_iter_items l.port-iterator) ≤ vec_capacity l.workers;
 }

@@ -7,7 +7,7 @@ use Rattle.serving.proofs.working.work.Given as goal
 -- so many turns so far
 abbrev pub invariant-loop : goal.invariant-loop
 invariant-loop g l = record {
-  took : Took (policy_of l.settings l.common.marks)
+  took : Took (policy_of l.common.settings.now l.common.marks)
       (g.A.Accepts.came l.fn.door) l.counter
       (place_of g.A.Accepts.given g.A.Accepts.failed g.A.Accepts.closed g.A.Accepts.visits
       (back_of g.P.GatePort.shown g.P.GatePort.known g.B.Backend.forwarded g.B.Backend.shown)
