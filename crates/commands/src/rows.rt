@@ -124,6 +124,15 @@ pub(crate) const LIMIT: OptionRow = option_row! { Limit [value_of_row] };
 /// `--workers W`.
 pub(crate) const WORKERS: OptionRow = option_row! { Workers [value_of_row] };
 
+/// `--exchanges N` of `serve`.
+const EXCHANGES: OptionRow = option_row! { Exchanges [value_of_row] };
+
+/// `--exchanges N` of `check`.
+pub(crate) const CHECKED_EXCHANGES: OptionRow = OptionRow {
+    help: "Checks that CONFIG fits into N exchanges at once, 1 to 4096, as serve --exchanges N does",
+    ..EXCHANGES
+};
+
 /// The options of `serve`.
 pub(crate) const SERVE_ROWS: [OptionRow; SERVE_OPTIONS] = serve_rows!(values_of_rows);
 
