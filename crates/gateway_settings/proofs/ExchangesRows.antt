@@ -1,5 +1,5 @@
 -- Worked rows of settings for a number of exchanges, by computation over the definitions.
-use Rattle.std.proofs.Common.{◌≡◌, ℕ, true, false, max, List, [], ◌∷◌, codes, refl}
+use Rattle.std.proofs.Common.{◌≡◌, ℕ, true, false, max, List, [], ◌∷◌, codes, refl, None}
 use Rattle.lemmas.specs.Extremes.{greatest, least}
 use Rattle.auto.specs.AutoRules.{auto_from}
 use Rattle.limit_kinds.specs.AnyKinds.{any_rules}
@@ -31,6 +31,7 @@ left_out rows limit = record {
   table = rows;
   rules = record { resolvers = []; bypass = [] };
   omitted = record { backlog = true; limit_max = true };
+  exchanges = None;
 }
 
 abbrev fixed : ℕ → AnyLimit

@@ -1,5 +1,5 @@
 -- The settings for a number of exchanges at once.
-use Rattle.std.specs.Prelude.{ℕ, ◌+◌, ◌/◌, ◌≤◌, Bool, true, false, min, nat_le, if◌then◌else◌}
+use Rattle.std.specs.Prelude.{ℕ, ◌+◌, ◌/◌, ◌≤◌, Bool, true, false, min, nat_le, if◌then◌else◌, Option, None, Some, ⊤}
 use Rattle.lemmas.specs.Extremes.{greatest}
 use Rattle.limit_laws.specs.Algorithm.{greatest_limit}
 use Rattle.limit_kinds.specs.AnyKinds.{any_kind, any_rules, any_with_greatest}
@@ -54,4 +54,22 @@ abbrev pub settings_for : ℕ → Settings → Settings
 settings_for n s = record s {
   backlog = backlog_for n s;
   limit = if gives_way s then any_with_greatest (greatest_hi n s) s.limit else s.limit;
+  exchanges = Some n;
 }
+
+-- the settings by which clients are served: those of the configuration, or what they are for the
+-- number of exchanges where one is given
+abbrev pub settings_by : Option ℕ → Settings → Settings
+settings_by None s = s
+settings_by (Some n) s = settings_for n s
+
+-- that number is enough, where one is given
+abbrev pub AreEnoughFor : Option ℕ → Settings → Type 0
+AreEnoughFor None s = ⊤
+AreEnoughFor (Some n) s = AreEnough n s
+
+-- a number is given that isn't enough, and this is the least one that is
+abbrev pub AreTooFew : Option ℕ → Settings → ℕ → Type 0
+AreTooFew None s least = ⊥
+AreTooFew (Some n) s least =
+    (¬ AreEnough n s) × AreEnough least s × ((m : ℕ) → AreEnough m s → least ≤ m)

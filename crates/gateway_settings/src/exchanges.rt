@@ -4,7 +4,8 @@ ghost use Rattle.limit_laws.specs.Algorithm.{IsWithin, greatest_limit};
 ghost use Rattle.limit_kinds.specs.AnyKinds.{any_rules, any_with_greatest};
 ghost use Rattle.partitions.specs.Table.{bound};
 ghost use Rattle.gateway_settings.specs.Exchanges.{AreEnough, backlog_for, gives_way, greatest_hi};
-ghost use Rattle.gateway_settings.specs.Exchanges.{least_hi, settings_for, waiting_for};
+ghost use Rattle.gateway_settings.specs.Exchanges.{AreEnoughFor, AreTooFew, least_hi, settings_by};
+ghost use Rattle.gateway_settings.specs.Exchanges.{settings_for, waiting_for};
 ghost use Rattle.gateway_settings.specs.Settings.{AreSound};
 ghost use Rattle.gateway_settings.specs.Workers.{waiting};
 
@@ -45,8 +46,24 @@ impl Settings {
         Ok(Settings {
             backlog,
             limit,
+            exchanges: Some(exchanges),
             ..self
         })
+    }
+
+    /// The settings by which clients are served: those of [`Settings::for_exchanges`] where a
+    /// number of exchanges is given, and otherwise these.
+    pub fn by_exchanges(self, exchanges: Option<u32>) -> Result<Settings, TooFewExchanges>
+        requires { AreSound self }
+        ensures settings { IfOk result (λ settings. settings ≡ settings_by exchanges self) }
+        ensures enough { IfOk result (λ _. AreEnoughFor exchanges self) }
+        ensures sound { IfOk result AreSound }
+        ensures too_few { IfErr result (λ few. AreTooFew exchanges self few.wanted) }
+    {
+        match exchanges {
+            Some(exchanges) => self.for_exchanges(exchanges),
+            None => Ok(self),
+        }
     }
 
     /// The least number of exchanges that is enough.

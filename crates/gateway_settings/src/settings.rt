@@ -41,4 +41,7 @@ pub struct Settings {
     pub rules: Rules,
     /// Which of these numbers are defaults.
     pub omitted: OmittedKeys,
+    /// The number of exchanges at once that the backlog and the limit were made for, where one was
+    /// given.
+    pub exchanges: Option<u32>,
 }
