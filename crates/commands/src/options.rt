@@ -27,7 +27,7 @@ macro_rules! option_row {
     } };
     (Exchanges [$($row:tt)*] $($given:tt)*) => { $($row)*! { $($given)*
         Exchanges "exchanges" "N" [1 to 4096]
-            listed "Exchanges at once, one thread for each, " "; without it, --workers applies"
+            listed "Exchanges at once, one thread each, " "; without it --workers"
             told "           exchanges at once, " ", one thread for each. Use it in place of
                           --workers: both together are an error, and without it --workers applies.
                           The limit, the shares and the backlog must fit into N, and omitted ones

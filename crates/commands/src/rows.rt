@@ -129,7 +129,7 @@ const EXCHANGES: OptionRow = option_row! { Exchanges [value_of_row] };
 
 /// `--exchanges N` of `check`.
 pub(crate) const CHECKED_EXCHANGES: OptionRow = OptionRow {
-    help: "Checks that CONFIG fits into N exchanges at once, 1 to 4096, as serve --exchanges N does",
+    help: "Exchanges at once that the configuration must fit into, 1 to 4096",
     ..EXCHANGES
 };
 
