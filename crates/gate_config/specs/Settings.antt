@@ -70,6 +70,7 @@ settings_with t d resolvers = record {
   table = d.classes.1;
   rules = record { resolvers = resolvers; bypass = map (λ rule. bypass_from rule.1) d.bypasses };
   omitted = omitted_from t d.limit.0;
+  exchanges = None;
 }
 
 -- the settings that keys make, if the patterns of each resolver can stand together

@@ -150,6 +150,7 @@ fn made_of(alloc: Global, top_table: &Table, document: Document) -> Result<Setti
         table,
         rules,
         omitted,
+        exchanges: None,
     })
 }
 
