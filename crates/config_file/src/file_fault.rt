@@ -60,7 +60,10 @@ pub fn report_too_few<E: Write>(errors: &mut Counted<E>, few: TooFewExchanges)
     ensures { IsTold E.contents errors.old errors.new (fault_line (too_few_text few)) }
 {
     let mut wanted = Buffer::new();
-    report_fault(errors, &["exchanges: ", wanted.format(few.wanted), " are wanted"]);
+    report_fault(
+        errors,
+        &["exchanges: ", wanted.format(few.wanted), " are wanted"],
+    );
 }
 
 /// Tells the fault of a configuration's bytes.
