@@ -47,7 +47,7 @@ fn main(rt: HostRuntime) -> ExitCode {
                 &mut errors,
             )
         }
-        Run::Check { path, explain } => check_file(
+        Run::Check { path, explain, .. } => check_file(
             &files,
             &mut Explainer::new(alloc),
             alloc,

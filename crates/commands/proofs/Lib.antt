@@ -1,4 +1,5 @@
 mod GivenAddresses
 mod GivenNumbers
+mod GivenOptions
 mod OptionValues
 mod NoRun

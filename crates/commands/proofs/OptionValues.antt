@@ -54,7 +54,7 @@ pub no_address : (rows : List Row) (id : List ℕ) (t : List ℕ) → first_of i
 no_address rows id t is none some = no_address_of rows id t is none some.value some.has
 
 -- a value that the rows have is in the range of its option
-kept : (rows : List Row) (id : List ℕ) (holds : Holds) (value : Value holds)
+pub kept : (rows : List Row) (id : List ℕ) (holds : Holds) (value : Value holds)
     → HasValue rows id holds value → IsWithin holds value
 kept rows id (number low high) n has = (has.4, has.5)
 kept rows id (number_if_given low high) None has = tt
@@ -87,6 +87,7 @@ given rows o are = record {
   path = o.path.now;
   path_is = are.path;
   values = each_given rows o serve_rows are.values;
+  once = are.once;
 }
 
 -- without a word there is no form

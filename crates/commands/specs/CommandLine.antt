@@ -5,14 +5,16 @@ use Rattle.clap.specs.Words.{with_subcommand}
 use Rattle.clap.specs.declared.builder.command.Command.{Command}
 use Rattle.clap.specs.declared.builder.command.Command.TheViews.{out-Command}
 use Rattle.clap.specs.declared.error.Error.{Error}
-use Rattle.clap.specs.declared.error.kind.ErrorKind.TheVariants.{MissingSubcommand, ValueValidation}
+use Rattle.clap.specs.declared.error.kind.ErrorKind.TheVariants.{ArgumentConflict, MissingSubcommand}
+use Rattle.clap.specs.declared.error.kind.ErrorKind.TheVariants.{ValueValidation}
 use Rattle.commands.specs.declared.command_line.Run.{Run}
 use Rattle.commands.specs.declared.command_line.Run.TheVariants.{Text as OfText, Load, Check, Serve}
 use Rattle.commands.specs.declared.command_line.TextTask.{TextTask}
 use Rattle.commands.specs.declared.command_line.TextTask.TheVariants.{Replay, Simulate}
-use Rattle.commands.specs.Options.{limit, workers}
-use Rattle.commands.specs.Rules.{config_rule, explain_rule, limit_rule, serve_rules, workers_rule}
-use Rattle.commands.specs.ServeOptions.{AreServeOptions, AreWithinRanges}
+use Rattle.commands.specs.Options.{exchanges, limit, workers}
+use Rattle.commands.specs.Rules.{config_rule, exchanges_rule, explain_rule, limit_rule, serve_rules}
+use Rattle.commands.specs.Rules.{workers_rule}
+use Rattle.commands.specs.ServeOptions.{AreServeOptions, AreWithinRanges, gives_both}
 use Rattle.commands.specs.Values.{Has, IsWithin, is_set}
 
 -- a command over a script or a trace
@@ -29,7 +31,9 @@ abbrev pub load_app : App
 load_app = with_rule (limited_app (codes "load")) workers_rule
 
 abbrev pub check_app : App
-check_app = with_rule (with_rule (new_app (codes "check")) config_rule) explain_rule
+check_app =
+    with_rule (with_rule (with_rule (new_app (codes "check")) config_rule) explain_rule)
+    exchanges_rule
 
 -- the one with the options of the table, one behind the other
 abbrev pub serve_app : App
@@ -71,9 +75,9 @@ IsCommandOf name rows (OfText task explain) =
 IsCommandOf name rows (Load permits threads explain) =
     (name ≡ codes "load") × Has rows limit permits × Has rows workers threads
     × (explain ≡ is_set (codes "explain") rows)
-IsCommandOf name rows (Check path explain) =
+IsCommandOf name rows (Check path explain at_once) =
     (name ≡ codes "check") × (first_of (codes "config") rows ≡ Some path.now)
-    × (explain ≡ is_set (codes "explain") rows)
+    × (explain ≡ is_set (codes "explain") rows) × Has rows exchanges at_once
 IsCommandOf name rows (Serve options) = (name ≡ codes "serve") × AreServeOptions rows options
 
 -- the run is that of the subcommand which the words name
@@ -85,10 +89,16 @@ IsRunOf (Some named) run = IsCommandOf named.0 named.1 run
 abbrev pub NamesNoRun : Option (Text × List Row) → Type 0
 NamesNoRun named = (run : Run) → IsRunOf named run → ⊥
 
+-- the words name `serve`, and give it both options that say how many threads serve
+abbrev pub NamesBoth : Option (Text × List Row) → Type 0
+NamesBoth None = ⊥
+NamesBoth (Some named) = (named.0 ≡ codes "serve") × (gives_both named.1 ≡ true)
+
 -- the error is that of a mistake in words that the parser took: a value that isn't what its option
--- takes, or no command; or memory ran out. Its status is 2, and never that of help
+-- takes, two options that exclude each other, or no command; or memory ran out. Its status is 2,
+-- and never that of help
 abbrev pub IsMistake : Error → Type 0
-IsMistake = HasKind (ValueValidation ∷ MissingSubcommand ∷ [])
+IsMistake = HasKind (ValueValidation ∷ ArgumentConflict ∷ MissingSubcommand ∷ [])
 
 -- the limit of a text without a limit line
 abbrev pub limit_of : TextTask → ℕ
@@ -100,5 +110,5 @@ abbrev pub KeepsRanges : Run → Type 0
 KeepsRanges (OfText task explain) = IsWithin limit.holds (limit_of task)
 KeepsRanges (Load permits threads explain) =
     IsWithin limit.holds permits × IsWithin workers.holds threads
-KeepsRanges (Check path explain) = Unit {0}
+KeepsRanges (Check path explain at_once) = IsWithin exchanges.holds at_once
 KeepsRanges (Serve options) = AreWithinRanges options

@@ -52,10 +52,14 @@ limit = option (codes "limit") (number 1 greatest_limit) (Some (codes "20"))
 abbrev pub workers : Entry
 workers = option (codes "workers") (number 1 64) (Some (codes "4"))
 
+abbrev pub exchanges : Entry
+exchanges = option (codes "exchanges") (number_if_given 1 4096) None
+
 -- THE OPTIONS of `serve`, in the order of its help
 abbrev pub serve_rows : List ServeRow
 serve_rows =
     row workers (λ o. o.workers)
+    ∷ row exchanges (λ o. o.exchanges)
     ∷ row (option (codes "per-worker") (number 1 1000000000) (Some (codes "1000000000")))
     (λ o. o.per_worker)
     ∷ row (option (codes "client-timeout-ms") (number 1 3600000) (Some (codes "10000")))

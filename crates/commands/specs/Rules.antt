@@ -5,8 +5,8 @@ use Rattle.clap.specs.Words.{Rule, Text, new_rule}
 use Rattle.clap.specs.declared.builder.action.ArgAction.TheVariants.{SetTrue}
 use Rattle.clap.specs.declared.builder.value_parser.ValueParser.{ValueParser}
 use Rattle.clap.specs.declared.builder.value_parser.ValueParser.TheVariants as Parser
-use Rattle.commands.specs.Options.{Entry, Holds, address, flag, limit, log_lines, loopback, number}
-use Rattle.commands.specs.Options.{number_if_given, serve_rows, workers}
+use Rattle.commands.specs.Options.{Entry, Holds, address, exchanges, flag, limit, log_lines}
+use Rattle.commands.specs.Options.{loopback, number, number_if_given, serve_rows, workers}
 
 -- an option of this name, with one value that this parser reads, and its default
 abbrev pub option_rule : Text → Option Text → ValueParser → Rule
@@ -44,6 +44,9 @@ limit_rule = rule_for limit
 
 abbrev pub workers_rule : Rule
 workers_rule = rule_for workers
+
+abbrev pub exchanges_rule : Rule
+exchanges_rule = rule_for exchanges
 
 -- the options of `serve`
 abbrev pub serve_rules : List Rule

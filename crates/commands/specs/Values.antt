@@ -1,5 +1,6 @@
 -- What the words give for an option.
-use Rattle.std.specs.Prelude.{◌≡◌, ◌≤◌, ℕ, List, Option, Some, None, IfSome, Bool, false, codes}
+use Rattle.std.specs.Prelude.{◌≡◌, ◌≤◌, ℕ, List, Option, Some, None, IfSome, Bool, true, false, codes}
+use Rattle.std.specs.Prelude.{find, option_and_then}
 use Rattle.std.specs.Option.{option_map_or}
 use Rattle.std.specs.Str.{bytes_eq}
 use Rattle.std.specs.Net.Addr.{IsLoopbackV4}
@@ -8,6 +9,8 @@ use Rattle.std.specs.Net.Socket.{v4_ip, v4_port}
 use Rattle.std.specs.declared.net.socket_addr.SocketAddrV4.{SocketAddrV4}
 use Rattle.std.specs.Str.Parse.{IsNumeral, digits_value, without_leading_plus}
 use Rattle.clap.specs.Words.{Row, Text, first_of, one_of}
+use Rattle.clap.specs.declared.parser.matches.ValueSource.{ValueSource}
+use Rattle.clap.specs.declared.parser.matches.ValueSource.TheVariants.{DefaultValue, CommandLine}
 use Rattle.commands.specs.declared.serve_options.LogLines.{LogLines}
 use Rattle.commands.specs.declared.serve_options.LogLines.TheVariants.{Plain, Time, Journal}
 use Rattle.commands.specs.Options.{Entry, Holds, Value, address, flag, log_lines, loopback, number}
@@ -56,6 +59,19 @@ HasLogLines rows id lines = first_of id rows ≡ Some (log_lines_word lines)
 -- the rows have a flag
 abbrev pub is_set : Text → List Row → Bool
 is_set id rows = option_map_or (λ text. bytes_eq text (codes "true")) (first_of id rows) false
+
+-- a value comes from the words, and not from a default
+abbrev pub is_of_words : ValueSource → Bool
+is_of_words CommandLine = true
+is_of_words DefaultValue = false
+
+-- where what the rows have for an option comes from
+abbrev pub source_of : Text → List Row → Option ValueSource
+source_of id rows = option_and_then (λ row. row.source) (find (λ row. bytes_eq row.id id) rows)
+
+-- the words give an option: what the rows have for it isn't its default
+abbrev pub is_given : Text → List Row → Bool
+is_given id rows = option_map_or is_of_words (source_of id rows) false
 
 -- the rows have this value for an option that holds this, in its range
 abbrev pub HasValue : List Row → Text → (holds : Holds) → Value holds → Type 0

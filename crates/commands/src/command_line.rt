@@ -3,20 +3,18 @@ ghost use Rattle.std.specs.Prelude.{◌≡◌, ◌⊎◌, map, codes, string_byt
 ghost use Rattle.std.specs.Prelude.{IsErr, IsNone, OnOk};
 ghost use Rattle.clap.specs.Words.{HasKind, fault_of, found_of, rows_of, subcommand_of, subcommand_rows_of};
 ghost use Rattle.commands.specs.CommandLine.{IsCommandOf, IsMistake, IsRunOf, KeepsRanges};
-ghost use Rattle.commands.specs.CommandLine.{NamesNoRun};
+ghost use Rattle.commands.specs.CommandLine.{NamesBoth, NamesNoRun};
 ghost use Rattle.commands.specs.CommandLine.{admission_app};
 ghost use Rattle.commands.specs.Values.{is_set};
 ghost use Rattle.commands.specs.declared.command_line.Run.{Run as RunValue};
 
-use super::addresses::{optional_address, optional_loopback};
-use super::interface::{command, serve_command};
-use super::numbers::number;
+use super::interface::command;
+use super::mistakes::{Mistake, mistake_error, mistake_in};
+use super::numbers::{number, optional_number};
 use super::options::{option_row, read, read_by_row};
-use super::rows::{OptionRow, SERVE_ROWS, Takes};
-use super::serve_options::{ServeOptions, log_lines, serve_options};
-use clap::error::ErrorKind;
+use super::serve_options::{ServeOptions, serve_options};
 use clap::{ArgMatches, Error};
-use std::alloc::{AllocError, Global};
+use std::alloc::Global;
 
 /// What the words ask for: a command, with its path and its numbers.
 #[derive(Clone, Copy)]
@@ -36,9 +34,11 @@ pub enum Run<'a> {
         explain: bool,
     },
     /// The configuration in the file of this path is checked, and where `explain` is set explained.
+    /// Where `exchanges` is given it has to fit into so many exchanges at once, 1 to 4,096.
     Check {
         path: &'a str,
         explain: bool,
+        exchanges: Option<u32>,
     },
     /// Clients are served by the configuration in the file of the options.
     Serve(ServeOptions<'a>),
@@ -113,7 +113,12 @@ fn check_run<'a>(matches: &ArgMatches<'a>) -> Option<Run<'a>>
 {
     let path = matches.get_str("config")?;
     let explain = is_set(matches, "explain");
-    Some(Run::Check { path, explain })
+    let exchanges = read!(matches, Exchanges)?;
+    Some(Run::Check {
+        path,
+        explain,
+        exchanges,
+    })
 }
 
 /// The run of `serve`.
@@ -157,19 +162,8 @@ fn named_run<'a>(matches: &ArgMatches<'a>) -> Option<Run<'a>>
     run_of(name, found)
 }
 
-/// A value that an option of `serve` can't take, and that the parser let pass.
-struct WrongValue<'a> {
-    text: &'a str,
-    /// The option.
-    row: OptionRow,
-}
-
-/// The run of the words, where the subcommand that they name has one; else the value that is
-/// wrong, where they name a subcommand.
-fn run_among<'a>(
-    alloc: Global,
-    list: &'a [String],
-) -> Result<Result<Run<'a>, Option<WrongValue<'a>>>, Error>
+/// The run of the words, where the subcommand that they name has one; else their mistake.
+fn run_among<'a>(alloc: Global, list: &'a [String]) -> Result<Result<Run<'a>, Mistake<'a>>, Error>
     ensures run { IfOk result (λ run.
         IfOk run (IsRunOf (subcommand_of admission_app (map string_bytes list.now)))) }
     ensures none { IfOk result (λ run. IsErr run
@@ -180,50 +174,8 @@ fn run_among<'a>(
     let matches = command(alloc)?.try_get_matches_from(list)?;
     match named_run(&matches) {
         Some(run) => Ok(Ok(run)),
-        None => Ok(Err(wrong_value(&matches))),
+        None => Ok(Err(mistake_in(&matches))),
     }
-}
-
-/// Which value is wrong, where a subcommand is named that has no run: the parser took all its
-/// other words.
-fn wrong_value<'a>(matches: &ArgMatches<'a>) -> Option<WrongValue<'a>> {
-    let (_, found) = matches.subcommand()?;
-    for row in &SERVE_ROWS {
-        if is_wrong(found, row) {
-            let text = found.get_str(row.word)?;
-            return Some(WrongValue { text, row: *row });
-        }
-    }
-    None
-}
-
-/// Whether the text of an option isn't a value of it.
-fn is_wrong(matches: &ArgMatches<'_>, row: &OptionRow) -> bool {
-    match row.takes {
-        Takes::Number { .. } => false,
-        Takes::Address => optional_address(matches, row.word).is_none(),
-        Takes::Loopback => optional_loopback(matches, row.word).is_none(),
-        Takes::LogLines => log_lines(matches, row.word).is_none(),
-        Takes::Flag => false,
-    }
-}
-
-/// The error of words that name no run: a value that isn't what an option wants, or no command.
-fn unnamed(alloc: Global, wrong: Option<WrongValue<'_>>) -> Result<Error, AllocError>
-    ensures { IfOk result IsMistake }
-{
-    let Some(WrongValue { text, row }) = wrong else {
-        return command(alloc)?.error(ErrorKind::MissingSubcommand, "no command is named");
-    };
-    let fault = format!(in alloc;
-        "invalid value '{}' for '--{} <{}>': {}",
-        text,
-        row.word,
-        row.value_name,
-        row.takes.wanted()
-    )?;
-    let mut serve = serve_command(alloc)?.bin_name("admission serve")?;
-    serve.error(ErrorKind::ValueValidation, fault.as_str())
 }
 
 /// Reads the words, the program's name first.
@@ -235,6 +187,10 @@ pub fn parse_args<'a>(alloc: Global, list: &'a [String]) -> Result<Run<'a>, Erro
     ensures faultless { OnOk result (fault_of admission_app (map string_bytes list.now) ≡ []) }
     ensures ranges { IfOk result KeepsRanges }
 
+    // With both `--workers` and `--exchanges`, nothing is served.
+    ensures once { NamesBoth (subcommand_of admission_app (map string_bytes list.now))
+        → IsErr result }
+
     // An error is of a kind that the words are at fault by, or says out of memory; or the parser
     // took the words, they name no run, and it is that of a mistake.
     ensures refused { IfErr result (λ error.
@@ -244,6 +200,6 @@ pub fn parse_args<'a>(alloc: Global, list: &'a [String]) -> Result<Run<'a>, Erro
 {
     match run_among(alloc, list)? {
         Ok(run) => Ok(run),
-        Err(wrong) => Err(unnamed(alloc, wrong)?),
+        Err(mistake) => Err(mistake_error(alloc, mistake)?),
     }
 }

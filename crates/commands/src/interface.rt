@@ -11,7 +11,7 @@ use super::help::{
     ABOUT, CHECK_ABOUT, CHECK_HELP, LOAD_ABOUT, LOAD_HELP, REPLAY_ABOUT, REPLAY_HELP, SERVE_ABOUT,
     SERVE_HELP, SIMULATE_ABOUT, SIMULATE_HELP,
 };
-use super::rows::{LIMIT, OptionRow, SERVE_ROWS, WORKERS};
+use super::rows::{CHECKED_EXCHANGES, LIMIT, OptionRow, SERVE_ROWS, WORKERS};
 use clap::{Arg, ArgAction, Command};
 use release::version;
 use std::alloc::{AllocError, Global};
@@ -129,13 +129,14 @@ fn load_command<'a>(alloc: Global) -> Result<Command<'a>, AllocError>
     with_argument(load, WORKERS.argument(alloc))
 }
 
-/// `check CONFIG [--explain]`.
+/// `check CONFIG [--explain] [--exchanges N]`.
 fn check_command<'a>(alloc: Global) -> Result<Command<'a>, AllocError>
     ensures { IfOk result (IsWithoutGlobals check_app) }
 {
     let check = configured(alloc, "check", CHECK_ABOUT, CHECK_HELP);
     let help = "Says more before: where the first fault is, and what is wanted there";
-    with_argument(check, explain_flag(alloc, help))
+    let check = with_argument(check, explain_flag(alloc, help));
+    with_argument(check, CHECKED_EXCHANGES.argument(alloc))
 }
 
 /// The command, where it was made, with the options of these rows, one behind the other.

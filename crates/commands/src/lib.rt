@@ -8,6 +8,7 @@ mod addresses;
 mod command_line;
 mod help;
 mod interface;
+mod mistakes;
 mod numbers;
 mod options;
 mod rows;

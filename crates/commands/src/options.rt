@@ -25,6 +25,14 @@ macro_rules! option_row {
                           for a permit: at most W requests are in flight or wait. Use 64 unless the
                           limit is small";
     } };
+    (Exchanges [$($row:tt)*] $($given:tt)*) => { $($row)*! { $($given)*
+        Exchanges "exchanges" "N" [1 to 4096]
+            listed "Exchanges at once, one thread each, " "; without it --workers"
+            told "           exchanges at once, " ", one thread for each. Use it in place of
+                          --workers: both together are an error, and without it --workers applies.
+                          The limit, the shares and the backlog must fit into N, and omitted ones
+                          are derived from N: see `admission check --help`";
+    } };
     (PerWorker [$($row:tt)*] $($given:tt)*) => { $($row)*! { $($given)*
         PerWorker "per-worker" "M" [1 to 1000000000; default 1000000000]
             listed "Exchanges of each worker, " ""
@@ -105,6 +113,7 @@ macro_rules! serve_rows {
         option_rows! {
             [
                 Workers
+                Exchanges
                 PerWorker
                 ClientTimeoutMs
                 HeadTimeoutMs
@@ -121,7 +130,7 @@ macro_rules! serve_rows {
 }
 
 /// How many these are.
-pub(crate) const SERVE_OPTIONS: usize = 10;
+pub(crate) const SERVE_OPTIONS: usize = 11;
 
 /// The value of an option, by its row. The caller has the functions that read in scope.
 macro_rules! read {

@@ -124,6 +124,15 @@ pub(crate) const LIMIT: OptionRow = option_row! { Limit [value_of_row] };
 /// `--workers W`.
 pub(crate) const WORKERS: OptionRow = option_row! { Workers [value_of_row] };
 
+/// `--exchanges N` of `serve`.
+const EXCHANGES: OptionRow = option_row! { Exchanges [value_of_row] };
+
+/// `--exchanges N` of `check`.
+pub(crate) const CHECKED_EXCHANGES: OptionRow = OptionRow {
+    help: "Exchanges at once that the configuration must fit into, 1 to 4096",
+    ..EXCHANGES
+};
+
 /// The options of `serve`.
 pub(crate) const SERVE_ROWS: [OptionRow; SERVE_OPTIONS] = serve_rows!(values_of_rows);
 

@@ -1,15 +1,16 @@
 // The words of `serve`.
-ghost use Rattle.std.specs.Prelude.{IfSome, IsNone};
+ghost use Rattle.std.specs.Prelude.{◌≡◌, IfSome, IsNone};
 ghost use Rattle.clap.specs.Words.{found_of, rows_of};
 ghost use Rattle.commands.specs.Options.{log_lines as any_form};
-ghost use Rattle.commands.specs.ServeOptions.{AreGiven, AreServeOptions};
-ghost use Rattle.commands.specs.Values.{HasLogLines, Lacks};
+ghost use Rattle.commands.specs.ServeOptions.{AreGiven, AreServeOptions, gives_both, threads_of};
+ghost use Rattle.commands.specs.Values.{HasLogLines, Lacks, is_given};
 
 use super::addresses::{optional_address, optional_loopback};
 use super::command_line::is_set;
 use super::numbers::{number, optional_number};
 use super::options::{option_row, read, read_by_row};
 use clap::ArgMatches;
+use clap::parser::ValueSource;
 use std::net::SocketAddrV4;
 
 /// How each line of the log begins.
@@ -28,8 +29,11 @@ pub enum LogLines {
 pub struct ServeOptions<'a> {
     /// The path of its configuration.
     pub path: &'a str,
-    /// How many workers serve clients, each on a thread of its own.
+    /// How many workers serve clients where `exchanges` isn't given, each on a thread of its own.
     pub workers: u32,
+    /// How many exchanges are served at once, 1 to 4,096, each on a thread of its own. Without it
+    /// the workers serve.
+    pub exchanges: Option<u32>,
     /// How many exchanges each worker carries out before it ends.
     pub per_worker: u32,
     /// How many milliseconds a client may take for its request, and again for its answer.
@@ -55,6 +59,34 @@ pub struct ServeOptions<'a> {
     pub marks: bool,
 }
 
+impl ServeOptions<'_> {
+    /// Returns how many threads serve clients: the exchanges at once, 1 to 4,096, where they are
+    /// given, and otherwise the workers, 1 to 64.
+    pub fn threads(&self) -> u32
+        ensures { result ≡ threads_of self.now }
+    {
+        self.exchanges.unwrap_or(self.workers)
+    }
+}
+
+/// Whether the words give an option: its value isn't the default.
+fn is_given(matches: &ArgMatches<'_>, id: &str) -> bool
+    ensures { result ≡ is_given id.now (rows_of (found_of matches.now)) }
+{
+    match matches.value_source(id) {
+        Some(ValueSource::CommandLine) => true,
+        Some(ValueSource::DefaultValue) => false,
+        None => false,
+    }
+}
+
+/// Whether the words give both options that say how many threads serve.
+pub(crate) fn gives_both(matches: &ArgMatches<'_>) -> bool
+    ensures { result ≡ gives_both (rows_of (found_of matches.now)) }
+{
+    is_given(matches, "workers") && is_given(matches, "exchanges")
+}
+
 /// How lines of the log are to begin.
 pub(crate) fn log_lines(matches: &ArgMatches<'_>, id: &str) -> Option<LogLines>
     ensures value { IfSome result (HasLogLines (rows_of (found_of matches.now)) id.now) }
@@ -68,13 +100,14 @@ pub(crate) fn log_lines(matches: &ArgMatches<'_>, id: &str) -> Option<LogLines>
     }
 }
 
-/// The options of `serve`, where each is in its range.
+/// The options of `serve`, where each is in its range, and one alone says how many threads serve.
 pub(crate) fn serve_options<'a>(matches: &ArgMatches<'a>) -> Option<ServeOptions<'a>>
     ensures value { IfSome result (AreServeOptions (rows_of (found_of matches.now))) }
     ensures none { IsNone result → AreGiven (rows_of (found_of matches.now)) → ⊥ }
 {
     let path = matches.get_str("config")?;
     let workers = read!(matches, Workers)?;
+    let exchanges = read!(matches, Exchanges)?;
     let per_worker = read!(matches, PerWorker)?;
     let client_timeout_ms = read!(matches, ClientTimeoutMs)?;
     let head_timeout_ms = read!(matches, HeadTimeoutMs)?;
@@ -84,9 +117,13 @@ pub(crate) fn serve_options<'a>(matches: &ArgMatches<'a>) -> Option<ServeOptions
     let status = read!(matches, Status)?;
     let log_lines = read!(matches, LogLines)?;
     let marks = read!(matches, Mark);
+    if gives_both(matches) {
+        return None;
+    }
     Some(ServeOptions {
         path,
         workers,
+        exchanges,
         per_worker,
         client_timeout_ms,
         head_timeout_ms,

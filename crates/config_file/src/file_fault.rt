@@ -1,10 +1,12 @@
 // Why a file gives no settings, and the line that says so.
-ghost use Rattle.config_file.specs.FileFault.{config_fault_text, file_fault_text};
+ghost use Rattle.config_file.specs.FileFault.{config_fault_text, file_fault_text, too_few_text};
 ghost use Rattle.fault_lines.specs.FaultLine.{IsTold, fault_line};
 
 use counted_io::{Counted, ReadFault};
 use fault_lines::report_fault;
 use gate_config::ConfigFault;
+use gateway_settings::TooFewExchanges;
+use itoa::Buffer;
 use std::io::Write;
 
 /// Why a file gives no settings.
@@ -50,6 +52,18 @@ pub fn report_file_fault<E: Write>(errors: &mut Counted<E>, fault: &FileFault)
         FileFault::Read => report_fault(errors, &["config: read"]),
         FileFault::Config(fault) => report_config_fault(errors, fault),
     }
+}
+
+/// Reports that settings want more exchanges at once than are given, in one line that is flushed. A
+/// line that can't be written is dropped. It takes no memory.
+pub fn report_too_few<E: Write>(errors: &mut Counted<E>, few: TooFewExchanges)
+    ensures { IsTold E.contents errors.old errors.new (fault_line (too_few_text few)) }
+{
+    let mut wanted = Buffer::new();
+    report_fault(
+        errors,
+        &["exchanges: ", wanted.format(few.wanted), " are wanted"],
+    );
 }
 
 /// Tells the fault of a configuration's bytes.

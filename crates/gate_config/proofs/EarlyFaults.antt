@@ -23,15 +23,16 @@ not_made : (o : Option Settings) → ¬ (IsEarly (ok_or o Fault.Route))
 not_made None h = h
 not_made (Some settings) h = h
 
-not_known : (d : DocumentValues) (key : Option UnknownKey) → ¬ (IsEarly (known d key))
-not_known d None = not_made (made_of d)
-not_known d (Some key) = λ h. h
+not_known : (t : Members) (d : DocumentValues) (key : Option UnknownKey) →
+    ¬ (IsEarly (known t d key))
+not_known t d None = not_made (made_of t d)
+not_known t d (Some key) = λ h. h
 
 -- a key's fault is that of the document
 pub of_document : (v : Version) (t : Members) (r : Result DocumentValues ConfigFault)
     (fault : ConfigFault) → IsOfKey fault →
-    (r >>= λ d. known d (least (unknown_keys_of v t d))) ≡ Err fault → r ≡ Err fault
+    (r >>= λ d. known t d (least (unknown_keys_of v t d))) ≡ Err fault → r ≡ Err fault
 of_document v t (Err e) fault of_a_key said = cc
 of_document v t (Ok d) fault of_a_key said =
-    absurd (not_known d (least (unknown_keys_of v t d))
-    (early (known d (least (unknown_keys_of v t d))) fault of_a_key said))
+    absurd (not_known t d (least (unknown_keys_of v t d))
+    (early (known t d (least (unknown_keys_of v t d))) fault of_a_key said))

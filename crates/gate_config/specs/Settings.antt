@@ -1,5 +1,5 @@
 -- The settings that a text holds.
-use Rattle.std.specs.Prelude.{◌≡◌, ◌≤◌, ℕ, ◌+◌, ◌*◌, ℤ, pos, ◌==◌, List, [], map, Option, Some, None, option_map, ok_or, Result, Err, bytes_eq, codes, IsUtf8, if◌then◌else◌}
+use Rattle.std.specs.Prelude.{◌≡◌, ◌≤◌, ℕ, ◌+◌, ◌*◌, ℤ, pos, ◌==◌, List, [], map, Option, Some, None, option_map, ok_or, is_none, Result, Err, bytes_eq, codes, IsUtf8, if◌then◌else◌}
 use Rattle.toml.specs.Data.{Data, Members, get_member, integer}
 use Rattle.toml.specs.Parse.{parse_document}
 use Rattle.partitions.specs.Table.{placed}
@@ -16,6 +16,7 @@ use Rattle.gate_config.specs.declared.version.Version.{Version}
 use Rattle.gate_config.specs.declared.version.Version.TheVariants.{One, Two}
 use Rattle.gate_config.specs.Rows.{all}
 use Rattle.gate_config.specs.Section.{flag_at, number_at, text_at}
+use Rattle.gateway_settings.specs.declared.omitted.OmittedKeys.{OmittedKeys}
 use Rattle.gateway_settings.specs.declared.settings.Settings.{Settings}
 use Rattle.gate_config.specs.Document.{DocumentValues, document_of}
 use Rattle.gate_config.specs.Rules.{bypass_from, resolvers_after}
@@ -41,10 +42,18 @@ version_of _ = None
 abbrev pub promote_named : List ℕ → Promote
 promote_named word = if bytes_eq word all then All else Newest
 
--- the settings that keys make with these resolvers: everybody's places and the classes' own are one
--- backlog, times are in nanoseconds, and a version without keys of connections keeps none
-abbrev pub settings_with : DocumentValues → List Resolver → Settings
-settings_with d resolvers = record {
+-- which keys are left out of a table and of its table `limit`
+abbrev pub omitted_from : Members → Members → OmittedKeys
+omitted_from t limit = record {
+  backlog = is_none (get_member (codes "backlog") t);
+  limit_max = is_none (get_member (codes "max") limit);
+}
+
+-- the settings that the keys of a table make with these resolvers: everybody's places and the
+-- classes' own are one backlog, times are in nanoseconds, and a version without keys of connections
+-- keeps none
+abbrev pub settings_with : Members → DocumentValues → List Resolver → Settings
+settings_with t d resolvers = record {
   listen = text_at (codes "listen") d.top;
   backend = text_at (codes "backend") d.top;
   backlog = number_at (codes "backlog") d.top + placed d.classes.1;
@@ -60,23 +69,25 @@ settings_with d resolvers = record {
       any_from (first_limit d.limit.1) (option_map (λ window. window.1) d.window);
   table = d.classes.1;
   rules = record { resolvers = resolvers; bypass = map (λ rule. bypass_from rule.1) d.bypasses };
+  omitted = omitted_from t d.limit.0;
+  exchanges = None;
 }
 
 -- the settings that keys make, if the patterns of each resolver can stand together
-abbrev pub made_of : DocumentValues → Option Settings
-made_of d = option_map (settings_with d) (resolvers_after d.classes.1 [] d.resolvers)
+abbrev pub made_of : Members → DocumentValues → Option Settings
+made_of t d = option_map (settings_with t d) (resolvers_after d.classes.1 [] d.resolvers)
 
 -- the settings that keys make, or the first fault: of the least unknown key, of a route
-abbrev pub known : DocumentValues → Option UnknownKey → Result Settings ConfigFault
-known d None = ok_or (made_of d) Fault.Route
-known d (Some key) = Err (Fault.Unknown (unknown_key_text key))
+abbrev pub known : Members → DocumentValues → Option UnknownKey → Result Settings ConfigFault
+known t d None = ok_or (made_of t d) Fault.Route
+known t d (Some key) = Err (Fault.Unknown (unknown_key_text key))
 
 -- the settings that a table of a version holds, or the first fault: of the version where it is
 -- none, of a key, of an unknown key, of a route
 abbrev pub settings_in_version : Members → Option Version → Result Settings ConfigFault
 settings_in_version t None = Err Fault.Version
 settings_in_version t (Some version) =
-    document_of version t >>= λ d. known d (least (unknown_keys_of version t d))
+    document_of version t >>= λ d. known t d (least (unknown_keys_of version t d))
 
 -- the settings that a table holds
 abbrev pub settings_of : Members → Result Settings ConfigFault

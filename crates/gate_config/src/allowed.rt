@@ -18,7 +18,7 @@ pub enum AllowedKeys {
 }
 
 impl AllowedKeys {
-    /// The keys among which those stand that are allowed.
+    /// All keys of the list; [`AllowedKeys::allows`] says which of them are allowed.
     pub fn listed(self) -> &'static [Key]
         ensures { result.now ≡ listed_keys self }
     {

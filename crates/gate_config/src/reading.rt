@@ -16,7 +16,8 @@ ghost use Rattle.gate_config.specs.Section.{number_at};
 ghost use Rattle.gate_config.specs.Top.{AreKept, IsTop, kept_values};
 ghost use Rattle.gate_config.specs.Document.{document_values, rule_values};
 ghost use Rattle.gate_config.specs.Rules.{Makes, bypass_from, resolvers_after};
-ghost use Rattle.gate_config.specs.Settings.{IsOfKey, Reads, made_of, settings_of, version_of};
+ghost use Rattle.gate_config.specs.Settings.{IsOfKey, Reads, made_of, omitted_from, settings_of};
+ghost use Rattle.gate_config.specs.Settings.{version_of};
 ghost use Rattle.gateway_settings.specs.Settings.{AreSound};
 
 use crate::build::limit::any_limit;
@@ -26,7 +27,7 @@ use crate::document::{Document, RuleKeys, read_document};
 use crate::unknown_keys::least_unknown_key;
 use crate::{BypassKeys, ConfigFault, KeptKeys, Key, ResolverKeys, TopKeys, Version, value_at};
 use classifier::{Bypass, Resolver, Rules};
-use gateway_settings::Settings;
+use gateway_settings::{OmittedKeys, Settings};
 use partitions::PartitionTable;
 use std::alloc::{AllocError, Global};
 use toml::Table;
@@ -90,7 +91,7 @@ pub fn settings_in(alloc: Global, table: &Table) -> Result<Settings, ConfigFault
     let document = read_document(alloc, version, table)?;
     match least_unknown_key(version, table, &document) {
         Some(key) => Err(ConfigFault::Unknown(key.at_fault(alloc)?)),
-        None => made_of(alloc, document),
+        None => made_of(alloc, table, document),
     }
 }
 
@@ -105,16 +106,18 @@ pub fn version_of(table: &Table) -> Option<Version>
     }
 }
 
-/// The settings that keys make.
-fn made_of(alloc: Global, document: Document) -> Result<Settings, ConfigFault>
+/// The settings that the keys of a document make, which its table holds.
+fn made_of(alloc: Global, top_table: &Table, document: Document) -> Result<Settings, ConfigFault>
     requires top { IsTop document.top }
     requires limit { IsOk (limit_made document.limit.1) }
     requires window { ForSome document.window (λ window. IsOk (windows_made window.1)) }
     requires places { document.top.front.backlog
         + placed (map class_row document.rules.classes.1.items) ≤ 10000 }
     ensures sound { IfOk result AreSound }
-    ensures said { Makes (λ settings. settings) (made_of (document_values document.entry)) result }
+    ensures said { Makes (λ settings. settings)
+        (made_of (table_view top_table.now) (document_values document.entry)) result }
 {
+    let omitted = omitted_from(top_table, document.limit.0);
     let (table, rules) = rules_made(alloc, &document.rules)?;
     let Document {
         top,
@@ -146,7 +149,19 @@ fn made_of(alloc: Global, document: Document) -> Result<Settings, ConfigFault>
         limit,
         table,
         rules,
+        omitted,
+        exchanges: None,
     })
+}
+
+/// Which keys are left out of a table and of its table `limit`.
+fn omitted_from(table: &Table, limit: &Table) -> OmittedKeys
+    ensures { result ≡ omitted_from (table_view table.now) (table_view limit.now) }
+{
+    OmittedKeys {
+        backlog: value_at(table, Key::Backlog).is_none(),
+        limit_max: value_at(limit, Key::LimitMax).is_none(),
+    }
 }
 
 /// The connections that are kept: none where the version has no keys for them.

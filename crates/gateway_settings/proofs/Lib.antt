@@ -1,1 +1,4 @@
 mod Addresses
+mod ExchangesRows
+mod Greatest
+mod Rest

@@ -1,3 +1,4 @@
 pub mod Address
+pub mod Exchanges
 pub mod Settings
 pub mod Workers

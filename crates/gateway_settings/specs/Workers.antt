@@ -1,5 +1,5 @@
 -- The limit that workers can serve.
-use Rattle.std.specs.Prelude.{ℕ, ◌+◌, ◌-◌, ◌*◌, ◌/◌, min, max, length, if◌then◌else◌}
+use Rattle.std.specs.Prelude.{ℕ, ◌+◌, ◌-◌, ◌*◌, ◌/◌, min, max, length, is_some, if◌then◌else◌}
 use Rattle.auto.specs.AutoRules.{up_to}
 use Rattle.limit_kinds.specs.declared.kinds.AnyLimit.{AnyLimit}
 use Rattle.limit_kinds.specs.declared.kinds.AnyLimit.TheVariants.{Plain}
@@ -24,6 +24,7 @@ abbrev pub going_to : ℕ → AnyLimit → AnyLimit
 going_to most (Plain (Auto state)) = Plain (Auto (up_to most state))
 going_to most limit = limit
 
--- THE LIMIT BEFORE SO MANY WORKERS
+-- THE LIMIT BEFORE SO MANY WORKERS; one that was made for a number of exchanges stays
 abbrev pub limit_for : ℕ → Settings → AnyLimit
-limit_for workers s = going_to (left_over workers s) s.limit
+limit_for workers s =
+    if is_some s.exchanges then s.limit else going_to (left_over workers s) s.limit

@@ -1,5 +1,6 @@
 // What a configuration says.
 use crate::address::Address;
+use crate::omitted::OmittedKeys;
 use classifier::Rules;
 use limit_kinds::AnyLimit;
 use limiter_core::Promote;
@@ -38,4 +39,9 @@ pub struct Settings {
     pub table: PartitionTable,
     /// How a request's class is told.
     pub rules: Rules,
+    /// Which of these numbers are defaults.
+    pub omitted: OmittedKeys,
+    /// The number of exchanges at once that the backlog and the limit were made for, where one was
+    /// given.
+    pub exchanges: Option<u32>,
 }

@@ -32,11 +32,15 @@ impl Settings {
     }
 
     /// The limit before so many workers, in its first state: one that finds itself goes up to what
-    /// they leave over, unless its own greatest limit is less.
+    /// they leave over, unless its own greatest limit is less. A limit that was made for a number
+    /// of exchanges stays.
     pub fn limit_for(&self, workers: u32) -> AnyLimit
         requires { AreSound self.now }
         ensures { result ≡ limit_for workers self.now }
     {
+        if self.exchanges.is_some() {
+            return self.limit.copy();
+        }
         match &self.limit {
             AnyLimit::Plain(BaseLimit::Auto(auto)) => {
                 AnyLimit::Plain(BaseLimit::Auto(auto.up_to(self.left_over(workers))))

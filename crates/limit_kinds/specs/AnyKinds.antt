@@ -49,7 +49,7 @@ abbrev pub any_kind : AnyLimit → LimitKind
 any_kind (Plain s) = base_kind s
 any_kind (Windowed s) = base_kind s.inner
 
--- a limit under another greatest limit; over windows, of the same numbers, before their first sample
+-- a limit under another greatest one; over windows, of the same numbers before their first sample
 abbrev pub any_with_greatest : ℕ → AnyLimit → AnyLimit
 any_with_greatest hi (Plain s) = Plain (base_with_greatest hi s)
 any_with_greatest hi (Windowed s) =

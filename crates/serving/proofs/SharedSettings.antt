@@ -17,13 +17,27 @@ use Rattle.gateway_settings.specs.contracts.settings.Settings as settings
 
 resolver_sync : IsSync resolver.the_row
 resolver_sync =
-    search (sendable, crosses, sync-Node, route.the_sync, bytes.the_sync, part.the_field_sync,
-    part.the_sync) depth 60 fits 100000
+    search (
+      sendable,
+      crosses,
+      sync-Node,
+      route.the_sync,
+      bytes.the_sync,
+      part.the_field_sync,
+      part.the_sync,
+    ) depth 60 fits 100000
 
 rules_sync : IsSync rules.the_row
 rules_sync = search (sendable, crosses, resolver_sync, bypass.the_sync) depth 60 fits 100000
 
 pub settings_sync : IsSync settings.the_row
 settings_sync =
-    search (sendable, crosses, rules_sync, address.the_sync, table.the_sync, limit.the_field_sync,
-    promote.the_field_sync) depth 60 fits 100000
+    search (
+      sendable,
+      crosses,
+      rules_sync,
+      address.the_sync,
+      table.the_sync,
+      limit.the_field_sync,
+      promote.the_field_sync,
+    ) depth 60 fits 100000

@@ -32,6 +32,16 @@ a class, resolver or bypass which of them, and what the key holds, its range and
 configuration without fault: how many callers may be inside together, and so how many workers it
 wants, what has no effect, and which connections aren't kept.
 
+With --exchanges N the configuration must fit into N exchanges at once, as `admission serve
+--exchanges N` requires: the greatest limit with what the shares add, the backlog with the places of
+the classes, and one more. Omitted keys are derived from N:
+
+- `backlog` becomes N / 4, at most 100. With `wait = false` the backlog counts as 0.
+- `max` of aimd, vegas and auto becomes what is left, and a greater `max` of auto is lowered to it.
+- `initial` is lowered to `max`. A `min` above `max` doesn't fit.
+
+The line on standard output then ends with ` exchanges N max M`, where M is the greatest limit.
+
 A small configuration, for 64 workers, is
 
   version = 2
@@ -111,5 +121,8 @@ the first key at fault:
                                   kind of limit, resolver or rule
   admission: config: route        a pattern that can't be read, or two that can't stand together
   admission: config: memory       out of memory: lower the memory that other programs take
+  admission: exchanges: E are wanted
+                                  the configuration needs E exchanges at once: give so many, or
+                                  lower the limit, the shares, `backlog` or `places`
   admission: write                standard output can't be written: a full disk, a closed pipe"
 );

@@ -177,6 +177,9 @@ Exits with status 0 once all workers have ended, with 2 for a wrong command line
 1 and one line on standard error:
 
   admission: config: ..    the file can't be read or isn't right: see `admission check --help`
+  admission: exchanges: E are wanted
+                           the configuration needs E exchanges at once: give so many, or lower the
+                           limit, the shares, `backlog` or `places`
   admission: listen        the address can't be bound: another program has it, it isn't one of this
                            machine's, or its port is below 1024, which needs more rights
   admission: memory        out of memory: lower the workers, the limit, `backlog` or `keep`

@@ -16,4 +16,5 @@ returns-clause-value c = record {
   path = sym (first_value-rows (found_of c.args.matches.now) (codes "config"))
       ∙ sym c.get_str.ensures ∙ search rules;
   values = search rules;
+  once = search rules;
 }
