@@ -23,7 +23,7 @@ PROGRAM = "admission"
 OUT = TOP / "crates" / PROGRAM / "out"
 PROVED, UNPROVED = (OUT, "proof"), (OUT / "unproved", "sources")
 # As docs/GATE.md has them.
-TIME = "some 30 minutes on 4 slow processors"
+TIME = "30 to 50 minutes on 4 slow processors"
 COMPILING = 67
 
 
@@ -241,7 +241,7 @@ def build(is_proved: bool, out: Path, named: str) -> None:
                 say(f"proving {len(rows)} crates and building the program: {TIME}; later starts take none")
                 told, program = prove(here, log, rows)
             else:
-                say("compiling the program without its proofs: about a minute; later starts take none")
+                say("compiling the program without its proofs: one to three minutes; later starts take none")
                 told, program = compile_unproved(here, log)
             if not program.exists():
                 fail("the program couldn't be " + ("built" if is_proved else "compiled"), log)

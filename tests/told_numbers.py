@@ -35,6 +35,7 @@ def packaged(pattern: str, file: str = UNIT) -> Callable[[], float]:
 
 
 OPERATING, FORMATS, RUNBOOK = "docs/OPERATING.md", "docs/FORMATS.md", "docs/RUNBOOK.md"
+KUBERNETES = "docs/KUBERNETES.md"
 BODY = constant("message_fields/src/length.rt", "MOST_BODY", 2**20)
 HEAD = constant("message_reading/src/head_cut.rt", "MOST_HEAD")
 LINES = constant("message_reading/src/head_lines.rt", "MOST_LINES")
@@ -52,7 +53,11 @@ ADMIN, STATUS = packaged(r"ADMIN=127\.0\.0\.1:(\d+)"), packaged(r"STATUS=127\.0\
 LISTEN, BACKEND = (
     packaged(rf'(?m)^{it} = "127\.0\.0\.1:(\d+)"', "packaging/admission.toml") for it in ("listen", "backend")
 )
+CLIENTS, BACKENDS = (packaged(rf"(?m)^{it} = ([\d_]+)", "packaging/admission.toml") for it in ("clients", "backends"))
+STARTUP = "crates/serve_command/src/startup_lines.rt"
 WORKERS, LIMIT_MS = packaged(r"--workers (\d+)"), packaged(r"BACKEND_MS=(\d+)")
+CONTAINER = "packaging/Containerfile"
+LAME, PATIENCE = packaged(r'"--after", "(\d+)"', CONTAINER), packaged(r'"--wait", "(\d+)"', CONTAINER)
 
 
 def minutes_kept() -> float:
@@ -74,6 +79,32 @@ def days_of_the_default() -> float:
 def slowest_upload() -> float:
     """The kB a second of the largest body in the default time of a client, in tens."""
     return -(-BODY() * 2**20 // 10_000 // 10) * 10
+
+
+def descriptors_without_kept() -> float:
+    """The descriptors that the log's warning wants for the packaged workers, where no connection is kept."""
+    own = packaged(r"2 \* u64::from\(workers\) \+ u64::from\(backends\) \+ (\d+);", STARTUP)
+    return 2 * WORKERS() + own()
+
+
+def descriptors_wanted() -> float:
+    """The same with the packaged number of connections to the backend."""
+    return descriptors_without_kept() + BACKENDS()
+
+
+def descriptors_of_clients() -> float:
+    """The descriptors with which the packaged number of idle clients is kept too."""
+    return 2 * WORKERS() + BACKENDS() + OTHERS() + CLIENTS()
+
+
+def threads() -> float:
+    """The threads of the program with both addresses, and `admission-run`."""
+    return 1 + WORKERS() + 2 * AT_ONCE() + 1
+
+
+def least_memory() -> float:
+    """The GiB that the bodies of all workers take."""
+    return WORKERS() * 2 * BODY() / 1024
 
 
 def number_of_body() -> int:
@@ -227,4 +258,21 @@ NUMBERS: tuple[tuple[str, str, tuple[Callable[[], float], ...]], ...] = (
     (OPERATING, r"`--status 0\.0\.0\.0:(\d+)`", (STATUS,)),
     (FORMATS, r"So for `localhost:(\d+)`", (ADMIN,)),
     (RUNBOOK, r"With (\d+) descriptors the clients of (\d+) workers take them all", (WORKERS, WORKERS)),
+    (
+        KUBERNETES,
+        r"With (\d+) workers and `backends = (\d+)` the gateway needs (\d+) descriptors, or (\d+) without",
+        (WORKERS, BACKENDS, descriptors_wanted, descriptors_without_kept),
+    ),
+    (KUBERNETES, r"To\s+keep ([\d,]+) idle clients open as well, it needs ([\d,]+)", (CLIENTS, descriptors_of_clients)),
+    (KUBERNETES, r"(\d+) workers need (\d+) threads", (WORKERS, threads)),
+    (
+        KUBERNETES,
+        r"Each of the (\d+) workers may hold a request and an answer of (\d+) MiB each: (\d+) GiB together",
+        (WORKERS, BODY, least_memory),
+    ),
+    (KUBERNETES, r"`--after (\d+) --wait (\d+) /etc", (LAME, PATIENCE)),
+    (KUBERNETES, r"- `--after (\d+)` is enough where endpoints come through in (\w+) seconds", (LAME, LAME)),
+    (KUBERNETES, r"- `--wait (\d+)` bounds the whole", (PATIENCE,)),
+    (KUBERNETES, r"at 127\.0\.0\.1:(\d+)\. Mount another one", (BACKEND,)),
+    (KUBERNETES, r"ports \| (\d+) for requests, (\d+) for health checks and metrics; (\d+),", (LISTEN, STATUS, ADMIN)),
 )
