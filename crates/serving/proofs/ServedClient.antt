@@ -1,12 +1,11 @@
 -- An exchange, told by the bytes of a client's two ends.
-use Rattle.std.proofs.Common.{◌≡◌, ◌∙◌, ◌<◌, ◌⊎◌, ◌==◌, ℕ, Bool, true, false, List, [], ◌∷◌, Option}
+use Rattle.std.proofs.Common.{◌≡◌, ◌∙◌, ◌==◌, ℕ, Bool, true, false, List, [], ◌∷◌, Option}
 use Rattle.std.proofs.Common.{Some, None, IfSome, Result, Ok, Err, if◌then◌else◌, ap, sym, subst}
 use Rattle.std.proofs.Common.{refl, length, ◌&&◌, is_none, zero, suc, arith}
 use Rattle.std.proofs.lemmas.Bool.{eqb-true, false≢true}
 use Rattle.std.specs.Io.KnownBytes.{prepend_known}
 use Rattle.clocks.specs.Looks.{Looked, unlooked}
 use Rattle.counted_io.specs.declared.counted.Counted.{Counted}
-use Rattle.counted_io.specs.Count.{count_end}
 use Rattle.counted_io.specs.Causes.{IsWriteCause}
 use Rattle.counted_io.specs.Counted.{fresh, inner_of}
 use Rattle.message_parts.specs.declared.request.Request.{Request}

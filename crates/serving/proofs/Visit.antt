@@ -1,8 +1,7 @@
 -- What a visit read.
 use Rattle.std.proofs.Common.{◌≡◌, ◌∙◌, ℕ, Bool, true, List, [], ◌∷◌, Option, Some, None, ap, sym}
-use Rattle.std.proofs.Common.{Result, Ok, Err, refl, subst, length, arith, ◌&&◌, is_none}
+use Rattle.std.proofs.Common.{Result, Ok, Err, refl, subst, arith, ◌&&◌, is_none}
 use Rattle.std.proofs.lemmas.Bool.{false≢true}
-use Rattle.std.proofs.lemmas.Option.{same_Some}
 use Rattle.message_parts.specs.declared.request.Request.{Request}
 use Rattle.message_reading.specs.Laws.{IsOne}
 use Rattle.message_reading.specs.Reading.{Reading}
@@ -14,8 +13,7 @@ use Rattle.wire.specs.Messages.{IsRequest}
 use Rattle.proxy.specs.Exchanges.{Bytes, Policy}
 use Rattle.proxy.specs.Keeping.{Persists}
 use Rattle.proxy.specs.Made.{is_all_sent, is_kept, keeps_if, summary_of}
-use Rattle.serving.specs.Visit.{AreCut, CutsAreOne, IsReadOnce, IsVisit, Step, VisitsReadOnce}
-use Rattle.serving.specs.Visits.{Client}
+use Rattle.serving.specs.Visit.{AreCut, CutsAreOne, Step, VisitsReadOnce}
 
 -- whoever is kept sent a request, and what is left comes behind it
 record IsReadOf (bytes : List ℕ) (left : Bytes) (read : Result Request WireFault) : Type 0 where

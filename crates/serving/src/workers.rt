@@ -217,7 +217,6 @@ fn share<S: Drop>(
 
 /// Serves clients by these workers, with tasks beside them and a reporter on this thread. Which
 /// doors and backends they have isn't told apart here.
-#[tactic(auto, using(crate::proofs::SharedSettings::settings_sync))]
 fn serve_by<R, O, A, P, B, T, L, E, C, W>(
     rt: &R,
     spawner: &mut Spawner<'_, R>,
