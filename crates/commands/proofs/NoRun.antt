@@ -18,7 +18,8 @@ ranges_kept None run is = absurd is
 ranges_kept (Some named) (OfText (Replay permits) explain) is = (is.0.1.4, is.0.1.5)
 ranges_kept (Some named) (OfText (Simulate permits) explain) is = (is.0.1.4, is.0.1.5)
 ranges_kept (Some named) (Load permits threads explain) is = ((is.1.4, is.1.5), (is.2.4, is.2.5))
-ranges_kept (Some named) (Check path explain at_once) is = kept named.1 _ exchanges.holds at_once is.3
+ranges_kept (Some named) (Check path explain at_once) is =
+    kept named.1 _ exchanges.holds at_once is.3
 ranges_kept (Some named) (Serve options) is = each_kept named.1 options serve_rows is.1.values
 
 pub no_replay : (rows : List Row) (run : Run)
