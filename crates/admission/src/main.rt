@@ -4,7 +4,7 @@
 #![tactic(auto)]
 
 use commands::{Run, parse_args};
-use config_check::check_file;
+use config_check::{CheckOptions, check_file};
 use config_explain::Explainer;
 use config_file::SystemFiles;
 use counted_io::Counted;
@@ -47,12 +47,16 @@ fn main(rt: HostRuntime) -> ExitCode {
                 &mut errors,
             )
         }
-        Run::Check { path, explain, .. } => check_file(
+        Run::Check {
+            path,
+            explain,
+            exchanges,
+        } => check_file(
             &files,
             &mut Explainer::new(alloc),
             alloc,
             path,
-            explain,
+            CheckOptions { explain, exchanges },
             &mut writer,
             &mut errors,
         ),

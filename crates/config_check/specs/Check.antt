@@ -5,6 +5,7 @@ use Rattle.counted_io.specs.Causes.{IsWriteCause}
 use Rattle.counted_io.specs.Counted.{failures_of, inner_of, is_flushed}
 use Rattle.counted_io.specs.Effects.{Wrote}
 use Rattle.gateway_settings.specs.declared.settings.Settings.{Settings}
+use Rattle.gateway_settings.specs.Exchanges.{AreEnoughFor, AreTooFew, settings_by}
 use Rattle.config_check.specs.declared.check_fault.CheckFault.{CheckFault}
 use Rattle.config_check.specs.declared.check_fault.CheckFault.TheVariants as Check
 use Rattle.config_check.specs.Accepted.{accepted_line}
@@ -14,18 +15,22 @@ use Rattle.config_file.specs.declared.file_fault.FileFault.{FileFault}
 use Rattle.config_file.specs.Reading.{Held, IsFaultOf, IsUnreadFile, Says}
 use Rattle.fault_lines.specs.FaultLine.{IsTold, fault_line}
 
--- the line of the settings that the bytes hold is written and flushed, and no write failed
-abbrev pub IsAccepted : {W : Type 0} → (W → Option (List ℕ)) → Counted W → Counted W → List ℕ
-    → Type 0
-IsAccepted contents old new bytes = (s : Settings) × Says bytes (Ok s)
-    × Wrote contents old new (accepted_line s)
+-- the bytes hold settings, for which the number of exchanges is enough where one is given; the line
+-- of what they are for that number is written and flushed, and no write failed
+abbrev pub IsAccepted : {W : Type 0} → Option ℕ → (W → Option (List ℕ)) → Counted W → Counted W
+    → List ℕ → Type 0
+IsAccepted exchanges contents old new bytes = (s : Settings) × Says bytes (Ok s)
+    × AreEnoughFor exchanges s × Wrote contents old new (accepted_line (settings_by exchanges s))
     × (failures_of new ≡ failures_of old) × (is_flushed new ≡ true)
 
--- the fault is that of the bytes, and then nothing is written; or the line of their settings
--- couldn't be written
-abbrev pub IsWhy : {W : Type 0} → Counted W → Counted W → List ℕ → CheckFault → Type 0
-IsWhy old new bytes (Check.File fault) = (new ≡ old) × IsFaultOf bytes fault
-IsWhy old new bytes Check.Write = IsWriteCause old new × (s : Settings) × Says bytes (Ok s)
+-- the fault is that of the bytes, and then nothing is written; or the exchanges are too few for
+-- their settings, and then nothing is written either; or the line of these couldn't be written
+abbrev pub IsWhy : {W : Type 0} → Option ℕ → Counted W → Counted W → List ℕ → CheckFault → Type 0
+IsWhy exchanges old new bytes (Check.File fault) = (new ≡ old) × IsFaultOf bytes fault
+IsWhy exchanges old new bytes (Check.Exchanges few) =
+    (new ≡ old) × (s : Settings) × Says bytes (Ok s) × AreTooFew exchanges s few.wanted
+IsWhy exchanges old new bytes Check.Write = IsWriteCause old new × (s : Settings)
+    × Says bytes (Ok s) × AreEnoughFor exchanges s
 
 -- the words explain these bytes; or there are none, for this lack of memory
 abbrev pub AreWordsOn : Type 0 → List ℕ → List ℕ → Type 0
@@ -40,30 +45,32 @@ AfterWords true Lacked contents bytes old P = (between : Counted _) × (words : 
     × AreWordsOn Lacked bytes words × Wrote contents old between words × P between
 
 -- ACCEPTED: the line of the settings is written, behind the words
-abbrev pub IsAcceptedAfter : {W : Type 0} → Bool → Type 0 → (W → Option (List ℕ)) → Counted W
-    → Counted W → List ℕ → Type 0
-IsAcceptedAfter explain Lacked contents old new bytes =
-    AfterWords explain Lacked contents bytes old (λ between. IsAccepted contents between new bytes)
+abbrev pub IsAcceptedAfter : {W : Type 0} → Bool → Option ℕ → Type 0 → (W → Option (List ℕ))
+    → Counted W → Counted W → List ℕ → Type 0
+IsAcceptedAfter explain exchanges Lacked contents old new bytes =
+    AfterWords explain Lacked contents bytes old (λ between.
+    IsAccepted exchanges contents between new bytes)
 
 -- WHY NOT: behind the words it is why the bytes aren't accepted; or the words weren't written
-abbrev pub IsWhyAfter : {W : Type 0} → Bool → Type 0 → (W → Option (List ℕ)) → Counted W
+abbrev pub IsWhyAfter : {W : Type 0} → Bool → Option ℕ → Type 0 → (W → Option (List ℕ)) → Counted W
     → Counted W → List ℕ → CheckFault → Type 0
-IsWhyAfter false Lacked contents old new bytes fault = IsWhy old new bytes fault
-IsWhyAfter true Lacked contents old new bytes fault =
+IsWhyAfter false exchanges Lacked contents old new bytes fault = IsWhy exchanges old new bytes fault
+IsWhyAfter true exchanges Lacked contents old new bytes fault =
     ((fault ≡ Check.Write) × IsWriteCause old new)
-    ⊎ AfterWords true Lacked contents bytes old (λ between. IsWhy between new bytes fault)
+    ⊎ AfterWords true Lacked contents bytes old (λ between. IsWhy exchanges between new bytes fault)
 
 -- why the configuration of a file isn't accepted, which couldn't be opened, or was: its bytes were
 -- not had, and then nothing but an explanation is written; or no read failed, and it is why its
 -- bytes aren't accepted
-abbrev pub IsWhyOfFile : {F W : Type 0} → Bool → Type 0 → Type 0 → (F → Type 0)
+abbrev pub IsWhyOfFile : {F W : Type 0} → Bool → Option ℕ → Type 0 → Type 0 → (F → Type 0)
     → (F → Option (List ℕ)) → (W → Option (List ℕ)) → Counted W → Counted W → CheckFault → Type 0
-IsWhyOfFile {F} explain Lacked Unopened Opened remaining contents old new fault =
+IsWhyOfFile {F} explain exchanges Lacked Unopened Opened remaining contents old new fault =
     ((unread : FileFault) × (fault ≡ Check.File unread)
     × IsUnreadFile Unopened Opened remaining unread × (explain ≡ false → new ≡ old))
     ⊎ ((before : Counted F) × (after : Counted F) × (bytes : List ℕ)
     × Opened (inner_of before) × (failures_of after ≡ failures_of before)
-    × Held remaining before bytes × IsWhyAfter explain Lacked contents old new bytes fault)
+    × Held remaining before bytes
+    × IsWhyAfter explain exchanges Lacked contents old new bytes fault)
 
 -- REFUSED: the line of a fault is reported, and this fault is why
 abbrev pub IsRefused : {E : Type 0} → (E → Option (List ℕ)) → Counted E → Counted E

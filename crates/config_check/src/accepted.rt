@@ -12,6 +12,33 @@ use itoa::Buffer;
 use limit_laws::Limit;
 use std::io::Write;
 
+/// Writes the line of settings, with these pieces at its end.
+macro_rules! write_settings {
+    ($writer:ident, $settings:ident $(, $more:expr)*) => {{
+        let mut initial = Buffer::new();
+        let mut classes = Buffer::new();
+        let mut resolvers = Buffer::new();
+        let mut bypass = Buffer::new();
+        let mut backlog = Buffer::new();
+        let pieces = [
+            "ok ",
+            $settings.limit.kind().word(),
+            " ",
+            initial.format($settings.limit.limit()),
+            " classes ",
+            classes.format($settings.table.len()),
+            " resolvers ",
+            resolvers.format($settings.rules.resolvers().len()),
+            " bypass ",
+            bypass.format($settings.rules.bypass().len()),
+            " backlog ",
+            backlog.format($settings.backlog),
+            $($more,)*
+        ];
+        write_line($writer, &pieces)
+    }};
+}
+
 /// Writes the line of settings, and flushes. It takes no memory.
 pub(crate) fn write_accepted<W: Write>(
     writer: &mut Counted<W>,
@@ -23,24 +50,17 @@ pub(crate) fn write_accepted<W: Write>(
     ensures flushed { OnOk result (is_flushed writer.new ≡ true) }
     ensures failed { OnErr result (IsWriteCause writer.old writer.new) }
 {
-    let mut initial = Buffer::new();
-    let mut classes = Buffer::new();
-    let mut resolvers = Buffer::new();
-    let mut bypass = Buffer::new();
-    let mut backlog = Buffer::new();
-    let pieces = [
-        "ok ",
-        settings.limit.kind().word(),
-        " ",
-        initial.format(settings.limit.limit()),
-        " classes ",
-        classes.format(settings.table.len()),
-        " resolvers ",
-        resolvers.format(settings.rules.resolvers().len()),
-        " bypass ",
-        bypass.format(settings.rules.bypass().len()),
-        " backlog ",
-        backlog.format(settings.backlog),
-    ];
-    write_line(writer, &pieces)
+    let Some(n) = settings.exchanges else {
+        return write_settings!(writer, settings);
+    };
+    let mut exchanges = Buffer::new();
+    let mut greatest = Buffer::new();
+    write_settings!(
+        writer,
+        settings,
+        " exchanges ",
+        exchanges.format(n),
+        " max ",
+        greatest.format(settings.limit.hi())
+    )
 }

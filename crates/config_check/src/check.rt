@@ -11,6 +11,7 @@ ghost use Rattle.fault_lines.specs.FaultLine.{IsTold, fault_line};
 use super::accepted::write_accepted;
 use super::check_fault::{CheckFault, report_check_fault};
 use super::explained::{write_explanation, write_why_unread};
+use super::options::CheckOptions;
 use config_explain::Explainer;
 use config_file::{Opener, read_bytes, read_file_text};
 use counted_io::Counted;
@@ -29,26 +30,27 @@ pub fn check_file<F: Opener, W: Write, E: Write>(
     explainer: &mut Explainer,
     alloc: Global,
     path: &str,
-    explain: bool,
+    options: CheckOptions,
     writer: &mut Counted<W>,
     errors: &mut Counted<E>,
 ) -> u8
     ensures status { (result ≡ 0) ⊎ (result ≡ 1) }
     ensures accepted { result ≡ 0 → (file : CountedValue F.File) × (bytes : List ℕ)
         × F.opened path.now (inner_of file) × Held F.File.remaining file bytes
-        × IsAcceptedAfter explain (HasLacked explainer.old explainer.new) W.contents writer.old
-        writer.new bytes }
+        × IsAcceptedAfter options.explain options.exchanges
+        (HasLacked explainer.old explainer.new) W.contents writer.old writer.new bytes }
     ensures quiet { result ≡ 0 → errors.new ≡ errors.old }
 
     // The first fault is reported: of a file whose bytes were not had, or of its bytes.
     ensures refused { result ≡ 1 → IsRefused E.contents errors.old errors.new
-        (IsWhyOfFile explain (HasLacked explainer.old explainer.new) (F.unopened path.now)
-        (F.opened path.now) F.File.remaining W.contents writer.old writer.new) }
+        (IsWhyOfFile options.explain options.exchanges (HasLacked explainer.old explainer.new)
+        (F.unopened path.now) (F.opened path.now) F.File.remaining W.contents writer.old
+        writer.new) }
 {
     match read_file_text(files, alloc, path) {
-        Ok(text) => check_text(explainer, alloc, &text, explain, writer, errors),
+        Ok(text) => check_text(explainer, alloc, &text, options, writer, errors),
         Err(unread) => {
-            write_why_unread(files, alloc, path, explain, writer);
+            write_why_unread(files, alloc, path, options.explain, writer);
             report(errors, CheckFault::File(unread.into_fault()))
         }
     }
@@ -61,13 +63,16 @@ pub fn check_file<F: Opener, W: Write, E: Write>(
 /// stands and what is wanted there, or what is worth knowing of settings without fault. Where the
 /// explainer is out of memory for the words, there are none, and it counts that.
 ///
+/// If a number of exchanges is given, the line shows the settings for that number. If they don't
+/// fit, that is reported as a fault, after all faults of the bytes.
+///
 /// Either line is flushed and takes no memory. Where the line of a fault can't be written itself,
 /// it is dropped.
 pub fn check_text<W: Write, E: Write>(
     explainer: &mut Explainer,
     alloc: Global,
     bytes: &[u8],
-    explain: bool,
+    options: CheckOptions,
     writer: &mut Counted<W>,
     errors: &mut Counted<E>,
 ) -> u8
@@ -76,16 +81,16 @@ pub fn check_text<W: Write, E: Write>(
     // The line of the settings is written, behind the words if they are asked for, and nothing
     // else.
     ensures accepted { result ≡ 0 →
-        IsAcceptedAfter explain (HasLacked explainer.old explainer.new) W.contents writer.old
-        writer.new bytes.now }
+        IsAcceptedAfter options.explain options.exchanges
+        (HasLacked explainer.old explainer.new) W.contents writer.old writer.new bytes.now }
     ensures quiet { result ≡ 0 → errors.new ≡ errors.old }
 
     // The first fault is reported.
     ensures refused { result ≡ 1 → IsRefused E.contents errors.old errors.new
-        (IsWhyAfter explain (HasLacked explainer.old explainer.new) W.contents writer.old
-        writer.new bytes.now) }
+        (IsWhyAfter options.explain options.exchanges (HasLacked explainer.old explainer.new)
+        W.contents writer.old writer.new bytes.now) }
 {
-    match check(explainer, alloc, bytes, explain, writer) {
+    match check(explainer, alloc, bytes, options, writer) {
         Ok(()) => DONE,
         Err(fault) => report(errors, fault),
     }
@@ -96,20 +101,20 @@ fn check<W: Write>(
     explainer: &mut Explainer,
     alloc: Global,
     bytes: &[u8],
-    explain: bool,
+    options: CheckOptions,
     writer: &mut Counted<W>,
 ) -> Result<(), CheckFault>
     ensures accepted { OnOk result
-        (IsAcceptedAfter explain (HasLacked explainer.old explainer.new) W.contents writer.old
-        writer.new bytes.now) }
+        (IsAcceptedAfter options.explain options.exchanges
+        (HasLacked explainer.old explainer.new) W.contents writer.old writer.new bytes.now) }
     ensures refused { IfErr result
-        (IsWhyAfter explain (HasLacked explainer.old explainer.new) W.contents writer.old
-        writer.new bytes.now) }
+        (IsWhyAfter options.explain options.exchanges (HasLacked explainer.old explainer.new)
+        W.contents writer.old writer.new bytes.now) }
 {
-    if explain {
-        check_after_words(explainer, alloc, bytes, writer)
+    if options.explain {
+        check_after_words(explainer, alloc, bytes, options.exchanges, writer)
     } else {
-        check_bytes(alloc, bytes, writer)
+        check_bytes(alloc, bytes, options.exchanges, writer)
     }
 }
 
@@ -118,31 +123,35 @@ fn check_after_words<W: Write>(
     explainer: &mut Explainer,
     alloc: Global,
     bytes: &[u8],
+    exchanges: Option<u32>,
     writer: &mut Counted<W>,
 ) -> Result<(), CheckFault>
     ensures accepted { OnOk result
-        (IsAcceptedAfter true (HasLacked explainer.old explainer.new) W.contents writer.old
-        writer.new bytes.now) }
+        (IsAcceptedAfter true exchanges (HasLacked explainer.old explainer.new) W.contents
+        writer.old writer.new bytes.now) }
     ensures refused { IfErr result
-        (IsWhyAfter true (HasLacked explainer.old explainer.new) W.contents writer.old writer.new
-        bytes.now) }
+        (IsWhyAfter true exchanges (HasLacked explainer.old explainer.new) W.contents writer.old
+        writer.new bytes.now) }
 {
-    match write_explanation(explainer, alloc, bytes, writer) {
-        Ok(()) => check_bytes(alloc, bytes, writer),
+    match write_explanation(explainer, alloc, bytes, exchanges, writer) {
+        Ok(()) => check_bytes(alloc, bytes, exchanges, writer),
         Err(_) => Err(CheckFault::Write),
     }
 }
 
-/// Writes the line of the settings that the bytes hold.
+/// Writes the line of the settings that the bytes hold, for so many exchanges where a number is
+/// given.
 fn check_bytes<W: Write>(
     alloc: Global,
     bytes: &[u8],
+    exchanges: Option<u32>,
     writer: &mut Counted<W>,
 ) -> Result<(), CheckFault>
-    ensures accepted { OnOk result (IsAccepted W.contents writer.old writer.new bytes.now) }
-    ensures refused { IfErr result (IsWhy writer.old writer.new bytes.now) }
+    ensures accepted { OnOk result
+        (IsAccepted exchanges W.contents writer.old writer.new bytes.now) }
+    ensures refused { IfErr result (IsWhy exchanges writer.old writer.new bytes.now) }
 {
-    let settings = read_bytes(alloc, bytes)?;
+    let settings = read_bytes(alloc, bytes)?.by_exchanges(exchanges)?;
     write_accepted(writer, &settings)?;
     Ok(())
 }

@@ -2,9 +2,10 @@
 ghost use Rattle.config_check.specs.CheckFault.{check_fault_text};
 ghost use Rattle.fault_lines.specs.FaultLine.{IsTold, fault_line};
 
-use config_file::{FileFault, report_file_fault};
+use config_file::{FileFault, report_file_fault, report_too_few};
 use counted_io::{Counted, WriteFault};
 use fault_lines::report_fault;
+use gateway_settings::TooFewExchanges;
 use std::io::Write;
 
 /// Why a configuration isn't accepted.
@@ -12,6 +13,8 @@ use std::io::Write;
 pub enum CheckFault {
     /// Its file gives no settings.
     File(FileFault),
+    /// The settings don't fit into the number of exchanges that was given.
+    Exchanges(TooFewExchanges),
     /// The line on standard output can't be written.
     Write,
 }
@@ -24,6 +27,17 @@ impl From<FileFault> for CheckFault {
 
     fn from(fault: FileFault) -> CheckFault {
         CheckFault::File(fault)
+    }
+}
+
+impl From<TooFewExchanges> for CheckFault {
+    ghost use Rattle.std.specs.Prelude.{◌≡◌};
+    ghost use Rattle.config_check.specs.declared.check_fault.CheckFault.TheVariants.{Exchanges};
+
+    ghost from_gives = { λ few given. given ≡ Exchanges few };
+
+    fn from(few: TooFewExchanges) -> CheckFault {
+        CheckFault::Exchanges(few)
     }
 }
 
@@ -45,6 +59,7 @@ pub(crate) fn report_check_fault<E: Write>(errors: &mut Counted<E>, fault: &Chec
 {
     match fault {
         CheckFault::File(fault) => report_file_fault(errors, fault),
+        CheckFault::Exchanges(few) => report_too_few(errors, *few),
         CheckFault::Write => report_fault(errors, &["write"]),
     }
 }

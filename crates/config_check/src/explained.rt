@@ -16,6 +16,7 @@ pub(crate) fn write_explanation<W: Write>(
     explainer: &mut Explainer,
     alloc: Global,
     bytes: &[u8],
+    exchanges: Option<u32>,
     writer: &mut Counted<W>,
 ) -> Result<(), WriteFault>
     ensures all { OnOk result ((words : List ℕ)
@@ -23,15 +24,20 @@ pub(crate) fn write_explanation<W: Write>(
         × Wrote W.contents writer.old writer.new words) }
     ensures failed { OnErr result (IsWriteCause writer.old writer.new) }
 {
-    let words = words_on(explainer, alloc, bytes);
+    let words = words_on(explainer, alloc, bytes, exchanges);
     write_and_flush(writer, words.as_bytes())
 }
 
 /// What there is to say of the bytes of a configuration; nothing where it is out of memory.
-fn words_on(explainer: &mut Explainer, alloc: Global, bytes: &[u8]) -> String
+fn words_on(
+    explainer: &mut Explainer,
+    alloc: Global,
+    bytes: &[u8],
+    exchanges: Option<u32>,
+) -> String
     ensures { AreWordsOn (HasLacked explainer.old explainer.new) bytes.now (string_bytes result) }
 {
-    match explainer.explain(bytes) {
+    match explainer.explain(bytes, exchanges) {
         Ok(words) => words,
         Err(_) => String::new(alloc),
     }

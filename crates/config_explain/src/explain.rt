@@ -5,15 +5,18 @@ ghost use Rattle.gate_config.specs.declared.fault.ConfigFault.{ConfigFault as Fa
 ghost use Rattle.gate_config.specs.Settings.{IsOfKey, settings_of};
 ghost use Rattle.config_explain.specs.Explained.{ExplainsFault, IsExplained};
 
+use crate::exchanges::explain_served;
 use crate::faults::{Source, explain_fault};
 use crate::place::line_at;
-use crate::settings::explain_settings;
 use gate_config::settings_in;
 use std::alloc::{AllocError, Global};
-use toml::Table;
 
 /// What is said of a configuration, a line or more. Fails where it is out of memory.
-pub(crate) fn explanation(alloc: Global, bytes: &[u8]) -> Result<String, AllocError>
+pub(crate) fn explanation(
+    alloc: Global,
+    bytes: &[u8],
+    exchanges: Option<u32>,
+) -> Result<String, AllocError>
     // Of a key at fault: which table of its array has it, its path, and what it was judged by.
     ensures { IfOk result (λ words. IsExplained bytes.now (string_bytes words)) }
 {
@@ -23,7 +26,14 @@ pub(crate) fn explanation(alloc: Global, bytes: &[u8]) -> Result<String, AllocEr
         return Ok(out);
     };
     match toml::table_from_slice(alloc, bytes) {
-        Ok(table) => explain_table(&mut out, text, &table)?,
+        Ok(table) => explain_table(
+            &mut out,
+            Source {
+                text,
+                table: &table,
+            },
+            exchanges,
+        )?,
         Err(error) => {
             if error.is_memory() {
                 return Err(AllocError);
@@ -35,14 +45,18 @@ pub(crate) fn explanation(alloc: Global, bytes: &[u8]) -> Result<String, AllocEr
 }
 
 /// Says what there is to say of the table that a text holds.
-fn explain_table(out: &mut String, text: &str, table: &Table) -> Result<(), AllocError>
+fn explain_table(
+    out: &mut String,
+    source: Source<'_>,
+    exchanges: Option<u32>,
+) -> Result<(), AllocError>
     ensures { (fault : FaultValue) → IsOfKey fault
-        → settings_of (table_view table.now) ≡ Err fault
+        → settings_of (table_view source.entry.table.now) ≡ Err fault
         → OnOk result (ExplainsFault fault (string_bytes out.old) (string_bytes out.new)) }
 {
-    match settings_in(*out.allocator(), table) {
-        Ok(settings) => explain_settings(out, table, &settings),
-        Err(fault) => explain_fault(out, Source { text, table }, &fault),
+    match settings_in(*out.allocator(), source.table) {
+        Ok(settings) => explain_served(out, source.table, settings, exchanges),
+        Err(fault) => explain_fault(out, source, &fault),
     }
 }
 

@@ -23,13 +23,14 @@ impl Explainer {
         Explainer { alloc, lacked: 0 }
     }
 
-    /// What is said of a configuration, a line or more. It fails only out of memory.
-    pub fn explain(&mut self, bytes: &[u8]) -> Result<String, AllocError>
+    /// What is said of a configuration, a line or more: of one without fault also how it fits into
+    /// this number of exchanges at once, where one is given. It fails only out of memory.
+    pub fn explain(&mut self, bytes: &[u8], exchanges: Option<u32>) -> Result<String, AllocError>
         // Of a key at fault: which table of its array has it, its path, and what it was judged by.
         ensures words { IfOk result (λ words. IsExplained bytes.now (string_bytes words)) }
         ensures lacked { lacked_by self.new ≡ raised_by_err result (lacked_by self.old) }
     {
-        let words = explanation(self.alloc, bytes);
+        let words = explanation(self.alloc, bytes, exchanges);
         if words.is_err() {
             self.lacked = self.lacked.saturating_add(1);
         }

@@ -8,6 +8,7 @@
 
 mod about;
 mod callers;
+mod exchanges;
 mod explain;
 mod explainer;
 mod faults;

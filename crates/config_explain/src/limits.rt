@@ -1,5 +1,4 @@
 // What is worth knowing of a limit that learns.
-use crate::settings::MOST_WORKERS;
 use gate_config::{Key, read_limit, read_table, read_window, version_of};
 use limit_kinds::LimitSpec;
 use std::alloc::AllocError;
@@ -12,16 +11,18 @@ const SECOND: u64 = 1_000_000_000;
 /// The nanoseconds of a microsecond.
 const MICRO: u64 = 1_000;
 
-/// Says where a limit can stay where it is for good, and where it is never reached.
+/// Says where a limit can stay where it is for good, and where it is never reached by so many
+/// threads.
 pub(crate) fn explain_limit(
     out: &mut String,
     table: &Table,
     greatest: u64,
+    threads: u32,
 ) -> Result<(), AllocError> {
-    if greatest > u64::from(MOST_WORKERS) {
+    if greatest > u64::from(threads) {
         write!(
             out,
-            "a limit above {MOST_WORKERS} is never reached: there are at most as many workers\n"
+            "a limit above {threads} is never reached: there are at most as many workers\n"
         )?;
     }
     let least = match limit_in(table) {

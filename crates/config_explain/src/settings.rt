@@ -11,7 +11,7 @@ use std::alloc::AllocError;
 use toml::Table;
 
 /// The most workers.
-pub(crate) const MOST_WORKERS: u32 = 64;
+const MOST_WORKERS: u32 = 64;
 
 /// Says how many workers it wants, what has no effect, where the limit may not adapt, and which
 /// connections aren't kept.
@@ -22,11 +22,18 @@ pub(crate) fn explain_settings(
 ) -> Result<(), AllocError>
     requires { AreSound settings.now }
 {
-    explain_workers(out, settings)?;
+    match settings.exchanges {
+        Some(exchanges) => {
+            let inside = say_together(out, settings)?;
+            say_left_over(out, exchanges, inside)?;
+        }
+        None => explain_workers(out, settings)?,
+    }
     if !settings.wait {
         explain_backlog(out, table, settings)?;
     }
-    explain_limit(out, table, u64::from(limit_of(settings).hi()))?;
+    let threads = settings.exchanges.unwrap_or(MOST_WORKERS);
+    explain_limit(out, table, u64::from(limit_of(settings).hi()), threads)?;
     explain_callers(out, table, settings)?;
     explain_keepalive(out, settings.keepalive())
 }
@@ -74,19 +81,28 @@ fn limit_of(settings: &Settings) -> AnyLimit
 fn explain_workers(out: &mut String, settings: &Settings) -> Result<(), AllocError>
     requires { AreSound settings.now }
 {
-    let Most {
-        limit,
-        shares,
-        backlog,
-        places,
-    } = most_of(settings);
     if let LimitKind::Auto = settings.limit.kind() {
+        let limit = limit_of(settings).hi();
         write!(
             out,
             "limit.kind = \"auto\": it goes up to what the workers leave over, at most limit.max; \
              with --workers {MOST_WORKERS} to {limit}\n"
         )?;
     }
+    let inside = say_together(out, settings)?;
+    say_workers(out, inside)
+}
+
+/// Says how many may be inside together, and answers that.
+fn say_together(out: &mut String, settings: &Settings) -> Result<u64, AllocError>
+    requires { AreSound settings.now }
+{
+    let Most {
+        limit,
+        shares,
+        backlog,
+        places,
+    } = most_of(settings);
     let inside = limit
         .saturating_add(shares)
         .saturating_add(backlog)
@@ -104,7 +120,7 @@ fn explain_workers(out: &mut String, settings: &Settings) -> Result<(), AllocErr
              are {inside} together\n"
         )?;
     }
-    say_workers(out, inside)
+    Ok(inside)
 }
 
 /// The most who may be inside.
@@ -150,4 +166,16 @@ fn say_workers(out: &mut String, inside: u64) -> Result<(), AllocError> {
              lower the limit or the backlog\n"
         )
     }
+}
+
+/// Says how many of so many exchanges are left over where so many may be inside together, and who
+/// holds threads besides.
+fn say_left_over(out: &mut String, exchanges: u32, inside: u64) -> Result<(), AllocError> {
+    let left = u64::from(exchanges).saturating_sub(inside);
+    write!(
+        out,
+        "left over of --exchanges {exchanges}: {left}, for requests that are refused\n\
+         bypassed requests and slow clients hold threads too: if you expect them, write these \
+         numbers into the configuration, and take more exchanges\n"
+    )
 }

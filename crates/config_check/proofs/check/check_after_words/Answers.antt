@@ -7,7 +7,8 @@ use Rattle.config_check.proofs.check.check_after_words.Goals as goal
 pub returns-in-Ok-clause-accepted : goal.returns-in-Ok-clause-accepted
 returns-in-Ok-clause-accepted g c =
     let words = c.in-Ok.ensures.all in
-    accepted_behind (HasLacked c.args.explainer.now c.write_explanation.new.explainer)
+    accepted_behind c.args.exchanges
+    (HasLacked c.args.explainer.now c.write_explanation.new.explainer)
     g.W.Write.contents c.args.writer.now c.write_explanation.new.writer
     c.check_bytes.new.writer words.0 c.args.bytes.now c.check_bytes.result words.1 words.2
     c.check_bytes.ensures.accepted
@@ -15,7 +16,7 @@ returns-in-Ok-clause-accepted g c =
 pub returns-in-Ok-clause-refused : goal.returns-in-Ok-clause-refused
 returns-in-Ok-clause-refused g c =
     let words = c.in-Ok.ensures.all in
-    why_behind (HasLacked c.args.explainer.now c.write_explanation.new.explainer)
+    why_behind c.args.exchanges (HasLacked c.args.explainer.now c.write_explanation.new.explainer)
     g.W.Write.contents c.args.writer.now c.write_explanation.new.writer
     c.check_bytes.new.writer words.0 c.args.bytes.now c.check_bytes.result words.1 words.2
     c.check_bytes.ensures.refused

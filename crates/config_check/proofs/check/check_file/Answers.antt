@@ -14,8 +14,9 @@ returns-in-Ok-clause-accepted g c is =
       bytes,
       had.2,
       had.3,
-      subst (λ (xs : List ℕ). IsAcceptedAfter c.args.explain
-          (HasLacked c.args.explainer.now c.check_text.new.explainer) g.W.Write.contents
+      subst (λ (xs : List ℕ). IsAcceptedAfter c.args.options.explain
+          c.args.options.exchanges (HasLacked c.args.explainer.now c.check_text.new.explainer)
+          g.W.Write.contents
           c.args.writer.now c.check_text.new.writer xs) same (c.check_text.ensures.accepted is),
     )
 
@@ -34,8 +35,9 @@ returns-in-Ok-clause-refused g c is =
         had.2,
         had.4,
         had.3,
-        subst (λ (xs : List ℕ). IsWhyAfter c.args.explain
-            (HasLacked c.args.explainer.now c.check_text.new.explainer) g.W.Write.contents
+        subst (λ (xs : List ℕ). IsWhyAfter c.args.options.explain
+            c.args.options.exchanges (HasLacked c.args.explainer.now c.check_text.new.explainer)
+            g.W.Write.contents
             c.args.writer.now c.check_text.new.writer xs why.0) same why.2,
       ),
     )
