@@ -204,3 +204,65 @@ OF_AUTO += [
         "wait = false: nobody waits, so the places of classes have no effect\n",
     ),
 ]
+# What fits into a number of exchanges: the number, lines behind the version and the addresses, what the line tells from
+# the backlog on, and the limit at the start.
+OF_EXCHANGES = [
+    (4096, AUTO, 100, 3995, 4),
+    (1024, AUTO, 100, 923, 4),
+    (4, AUTO, 1, 2, 2),
+    (2, AUTO, 0, 1, 1),
+    (267, PLAIN + "initial = 200\n", 66, 200, 200),
+    (5, "backlog = 9\nwait = false\n" + FIXED, 9, 4, 4),
+    (1024, "backlog = 10\n" + AUTO + "max = 20\n", 10, 20, 4),
+    (30, "backlog = 10\n" + AUTO + "max = 20\n", 10, 19, 4),
+    (64, "backlog = 10\n" + AUTO + LIVE_OF_TWO, 10, 33, 4),
+    (64, "backlog = 5\n" + AUTO + LIVE_OF_TWO + "places = 5\n", 10, 33, 4),
+    (1024, "backlog = 10\n" + AIMD, 10, 1013, 20),
+    (20, "backlog = 10\n" + AIMD, 10, 9, 9),
+    (20, "backlog = 10\n" + VEGAS, 10, 9, 9),
+    (211, "backlog = 10\n" + AIMD + "max = 200\n", 10, 200, 20),
+    (211, "backlog = 10\n" + SETTABLE, 10, 200, 20),
+]
+# What doesn't fit: the number, the lines, and how many are wanted.
+OF_TOO_FEW = [
+    (1, AUTO, 2),
+    (64, PLAIN + "initial = 200\n", 267),
+    (266, PLAIN + "initial = 200\n", 267),
+    (4, "backlog = 9\nwait = false\n" + FIXED, 5),
+    (64, "backlog = 10\n" + AUTO + "min = 60\n", 71),
+    (210, "backlog = 10\n" + AIMD + "max = 200\n", 211),
+    (210, "backlog = 10\n" + SETTABLE, 211),
+    (4096, PLAIN + "initial = 10_000\n", 10_101),
+]
+# What is said of a configuration that is to fit.
+OTHERS_HOLD = (
+    "left over of --exchanges {}: {}, for requests that are refused\n"
+    "bypassed requests and slow clients hold threads too: if you expect them, write these numbers into the "
+    "configuration, and take more exchanges\n"
+)
+OF_ADVISED_EXCHANGES = [
+    (
+        1024,
+        AUTO,
+        "backlog = 100, derived from --exchanges 1024\nlimit.max = 923, derived from --exchanges 1024\n"
+        "greatest limit 923, shares of it 0 and backlog 100 are 1023 together\n" + OTHERS_HOLD.format(1024, 1),
+    ),
+    (
+        20,
+        "backlog = 10\n" + AIMD + "timeout_us = 1_000_000\n",
+        "limit.max = 9, derived from --exchanges 20\nlimit.initial = 9, lowered to limit.max\n"
+        "greatest limit 9, shares of it 0 and backlog 10 are 19 together\n" + OTHERS_HOLD.format(20, 1),
+    ),
+    (
+        100,
+        "backlog = 10\n" + AUTO + "max = 20\n",
+        "greatest limit 20, shares of it 0 and backlog 10 are 30 together\n" + OTHERS_HOLD.format(100, 70),
+    ),
+    (
+        64,
+        PLAIN + "initial = 200\n",
+        "too few exchanges: 267 are wanted; with --exchanges 267:\n"
+        "backlog = 66, derived from --exchanges 267\n"
+        "greatest limit 200, shares of it 0 and backlog 66 are 266 together\n" + OTHERS_HOLD.format(267, 1),
+    ),
+]
