@@ -50,7 +50,7 @@ from collections.abc import Mapping, Sequence
 from proxies import Servers, Target, first_port, held, in_turns, numbers, table_of, targets_of, words_of
 from traffic import percentile
 from visits import Figures, by_wrk, calls_at, family, resident, told
-from words import built, reader_of
+from words import built, given_to, reader_with_results
 
 TICK = os.sysconf("SC_CLK_TCK")
 PACKAGES = {"nginx": "nginx-light", "haproxy": "haproxy", "wrk": "wrk", "taskset": "util-linux", "rustc": "rustc"}
@@ -290,8 +290,7 @@ def parts(text: str) -> list[float]:
 
 
 def given_words() -> argparse.Namespace:
-    reader = reader_of(__doc__)
-    reader.add_argument("program", type=built, nargs="?", metavar="PROGRAM")
+    reader = reader_with_results(__doc__)
     reader.add_argument("--seconds", type=int, default=3)
     reader.add_argument("--rounds", type=int, default=8)
     reader.add_argument("--workers", type=numbers, default=[64])
@@ -300,17 +299,12 @@ def given_words() -> argparse.Namespace:
     reader.add_argument("--further", type=built)
     reader.add_argument("--before", type=built)
     reader.add_argument("--only", type=words_of, default=[""])
-    reader.add_argument("--results", type=pathlib.Path)
-    reader.add_argument("--from", type=pathlib.Path, dest="earlier")
     one_of = reader.add_mutually_exclusive_group()
     one_of.add_argument("--answer", type=int, default=0)
     one_of.add_argument("--upload", type=int, default=0)
     one_of.add_argument("--refused", action="store_true")
     reader.add_argument("clients", type=int, nargs="*", default=[16, 64, 256])
-    given = reader.parse_intermixed_args()
-    if not given.program and not given.earlier:
-        reader.error("PROGRAM is missing")
-    return given
+    return given_to(reader)
 
 
 def main() -> None:
