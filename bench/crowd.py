@@ -37,7 +37,7 @@ from collections.abc import Iterator, Sequence
 
 from proxies import Servers, Started, Target, first_port, in_turns, kept_targets, milliseconds, numbers, placed
 from proxies import table_of, words_of
-from words import above_zero, built, reader_of
+from words import above_zero, built, given_to, reader_with_results
 
 BUSY, IDLE, SILENT, NEXT, NEW = 64, 1_000, 9_000, 100, 4
 # So many places for clients that are kept or silent.
@@ -203,19 +203,13 @@ def measure(servers: Servers, given: argparse.Namespace, found: dict[str, list[F
 
 
 def given_words() -> argparse.Namespace:
-    reader = reader_of(__doc__)
-    reader.add_argument("program", type=built, nargs="?", metavar="PROGRAM")
+    reader = reader_with_results(__doc__)
     reader.add_argument("--seconds", type=above_zero(int), default=3)
     reader.add_argument("--rounds", type=above_zero(int), default=4)
     reader.add_argument("--workers", type=numbers, default=[16, 64])
-    reader.add_argument("--results", type=pathlib.Path)
     reader.add_argument("--further", type=built)
     reader.add_argument("--only", type=words_of, default=[""])
-    reader.add_argument("--from", type=pathlib.Path, dest="earlier")
-    given = reader.parse_args()
-    if not given.program and not given.earlier:
-        reader.error("PROGRAM is missing")
-    return given
+    return given_to(reader)
 
 
 def main() -> None:

@@ -11,7 +11,7 @@ import subprocess
 import sys
 import threading
 import time
-from collections.abc import Iterator, Sequence
+from collections.abc import Callable, Iterator, Sequence
 
 from one_worker import CONFIG
 from programs import stop
@@ -30,12 +30,13 @@ defaults
   timeout client 30s
   timeout server 30s
   {option}
+  {queue}
 frontend clients
   bind 127.0.0.1:{port} backlog 4096
   default_backend origin
 backend origin
   {reuse}
-  server origin 127.0.0.1:{origin} maxconn 400
+  server origin 127.0.0.1:{origin} maxconn {most}
 """
 CLOSES, KEEPS = ("option httpclose", ""), ("option http-keep-alive", "http-reuse always")
 # What an nginx passes on with, over a connection for each request and over kept ones.
@@ -199,14 +200,20 @@ def start_origin(servers: Servers, port: int, given: argparse.Namespace) -> dict
     return {"origin alone": Target(port, servers.started[-1])}
 
 
+# What starts an origin at a port, and what of it is timed alone.
+Origin = Callable[[Servers, int, argparse.Namespace], dict[str, Target]]
+
+
 class Started:
     """The proxies by name, as they are started one after the other before an origin."""
 
-    def __init__(self, servers: Servers, program: str, port: int, given: argparse.Namespace) -> None:
+    def __init__(
+        self, servers: Servers, program: str, port: int, given: argparse.Namespace, start: Origin = start_origin
+    ) -> None:
         self.servers, self.program, self.given = servers, program, given
         self.ports = itertools.count(port)
         self.origin = next(self.ports)
-        self.found = start_origin(servers, self.origin, given)
+        self.found = start(servers, self.origin, given)
 
     def nginx(self, name: str, server: str, http: str = "", policy: Sequence[str] = (), is_kept: bool = False) -> None:
         own = next(self.ports)
@@ -216,10 +223,14 @@ class Started:
         process = self.servers.nginx(f"proxy_{own}", own, server, http, policy=policy)
         self.found[name] = Target(own, process, is_kept)
 
-    def haproxy(self, name: str, policy: Sequence[str] = (), is_kept: bool = False) -> None:
+    def haproxy(
+        self, name: str, policy: Sequence[str] = (), is_kept: bool = False, most: int = 400, queue: str = ""
+    ) -> None:
+        """An HAProxy that has so many requests at the origin at once, with this line on those that wait."""
         own, count = next(self.ports), len(self.servers.processors)
         option, reuse = KEEPS if is_kept else CLOSES
-        text = HAPROXY.format(port=own, origin=self.origin, count=count, option=option, reuse=reuse)
+        numbers_of = {"port": own, "origin": self.origin, "count": count, "most": most}
+        text = HAPROXY.format(option=option, reuse=reuse, queue=queue, **numbers_of)
         process = self.servers.start(*policy, "haproxy", "-f", self.servers.written(f"haproxy_{own}", text), "-db")
         self.found[name] = Target(own, process, is_kept)
 
@@ -241,13 +252,25 @@ class Started:
         is_kept: bool = False,
         program: str = "",
     ) -> None:
-        """A gateway, with these keys of connections that are kept."""
-        own, limit = next(self.ports), 1 if self.given.refused else 64
-        text = CONFIG.format(port=own, origin=self.origin, limit=limit)
+        """A gateway of so many workers, with these keys of connections that are kept."""
+        text = CONFIG.replace("{limit}", "1" if self.given.refused else "64")
         text = text.replace("version = 1\n", f"version = 2\n{keys}", 1) if keys else text
-        file = self.servers.written(f"admission_{own}.toml", text)
-        words = (program or self.program, "serve", file, "--workers", str(count))
-        self.found[name] = Target(own, self.servers.start(*policy, *words), is_kept)
+        self.gateway(name, text, ("--workers", str(count)), policy, is_kept, program)
+
+    def gateway(
+        self,
+        name: str,
+        text: str,
+        words: Sequence[str],
+        policy: Sequence[str] = BATCH,
+        is_kept: bool = True,
+        program: str = "",
+    ) -> None:
+        """A gateway with this configuration, in which the ports are filled in, and these words of `serve`."""
+        own = next(self.ports)
+        file = self.servers.written(f"admission_{own}.toml", text.format(port=own, origin=self.origin))
+        process = self.servers.start(*policy, program or self.program, "serve", file, *words)
+        self.found[name] = Target(own, process, is_kept)
 
 
 def kept_targets(it: Started, keys: str = KEEPALIVE) -> None:

@@ -47,20 +47,10 @@ import time
 import typing
 from collections.abc import Mapping, Sequence
 
-from proxies import (
-    Servers,
-    Target,
-    first_port,
-    held,
-    in_turns,
-    milliseconds,
-    numbers,
-    placed,
-    table_of,
-    targets_of,
-    words_of,
-)
-from words import built, reader_of
+from proxies import Servers, Target, first_port, held, in_turns, numbers, table_of, targets_of, words_of
+from traffic import percentile
+from visits import Figures, by_wrk, calls_at, family, resident, told
+from words import built, given_to, reader_with_results
 
 TICK = os.sysconf("SC_CLK_TCK")
 PACKAGES = {"nginx": "nginx-light", "haproxy": "haproxy", "wrk": "wrk", "taskset": "util-linux", "rustc": "rustc"}
@@ -76,32 +66,6 @@ PEERS = {
     "admission before, 64 workers, batch": "of the earlier one's, batch",
 }
 
-# The figures of a visit; what was visited, and how; and all visits of a proxy.
-Figures = dict[str, typing.Any]
-
-
-def family(pid: int) -> list[int]:
-    """A process with its children."""
-    found = [pid]
-    for entry in filter(str.isdigit, os.listdir("/proc")):
-        try:
-            stat = pathlib.Path(f"/proc/{entry}/stat").read_text(encoding="utf-8")
-        except OSError:
-            continue
-        if int(stat.rpartition(")")[2].split()[1]) == pid:
-            found.append(int(entry))
-    return found
-
-
-def told(pid: int | str, *names: str) -> list[int]:
-    """Numbers of a process or a thread, by their names in its status; 0 where it is gone."""
-    try:
-        lines = pathlib.Path(f"/proc/{pid}/status").read_text(encoding="utf-8").splitlines()
-    except OSError:
-        return [0 for _ in names]
-    found = {line.partition(":")[0]: line.split()[1] for line in lines if len(line.split()) > 1}
-    return [int(found.get(name, 0)) for name in names]
-
 
 def spent(pid: int) -> tuple[float, float, int]:
     """The user and the system seconds of a process and its children, and their voluntary switches."""
@@ -112,11 +76,6 @@ def spent(pid: int) -> tuple[float, float, int]:
         threads = os.listdir(f"/proc/{one}/task")
         switches += sum(told(f"{one}/task/{thread}", "voluntary_ctxt_switches")[0] for thread in threads)
     return user / TICK, system / TICK, switches
-
-
-def resident(pid: int) -> float:
-    """The megabytes that a process and its children have in memory."""
-    return sum(told(one, "VmRSS")[0] for one in family(pid)) / 1024
 
 
 def overflows() -> int:
@@ -131,42 +90,16 @@ def stolen() -> int:
     return int(pathlib.Path("/proc/stat").read_text(encoding="ascii").split()[8])
 
 
-def group_of(pattern: str, said: str) -> str:
-    """What the group of a pattern is in a text."""
-    return re.findall(pattern, said)[0]
-
-
-def by_wrk(servers: Servers, target: Target, clients: int, seconds: int, asking: Sequence[str]) -> Figures:
-    """What so many clients get, each of whom asks once it is answered."""
-    threads = min(clients, len(servers.processors))
-    wrk = placed(servers.processors, "wrk", f"-t{threads}", f"-c{clients}", f"-d{seconds}s", "--latency", *asking)
-    closing = [] if target.is_kept else ["-H", "Connection: close"]
-    words = [*wrk, *closing, f"http://127.0.0.1:{target.port}/"]
-    said = subprocess.run(words, capture_output=True, text=True, check=True).stdout
-    wrong = re.search(r"Non-2xx or 3xx responses: (\d+)", said)
-    faults = re.search(r"Socket errors: (.*)", said)
-    return {
-        "rate": float(group_of(r"Requests/sec:\s+([\d.]+)", said)),
-        "p50": milliseconds(group_of(r"\n\s+50%\s+(\S+)", said)),
-        "p99": milliseconds(group_of(r"\n\s+99%\s+(\S+)", said)),
-        "requests": max(1, int(group_of(r"(\d+) requests in", said))),
-        "wrong": int(wrong[1]) if wrong else 0,
-        "faults": faults[1] if faults else "",
-    }
-
-
 def by_moments(servers: Servers, target: Target, rate: float, seconds: int) -> Figures:
     """What so many calls a second get, whether or not those before them are answered."""
-    words = [str(target.port), f"{rate:.3f}", str(seconds), "kept" if target.is_kept else "closed"]
-    words = placed(servers.others or servers.processors, servers.built("open_loop"), *words)
-    said = subprocess.run(words, capture_output=True, text=True, check=True).stdout.split()
-    took, answered, failed, p50, p99 = (int(it) for it in said[1::2])
+    calls, _ = calls_at(servers, target, rate, seconds)
+    took = [it.seconds * 1000 for it in calls if it.status == 200]
     return {
-        "rate": answered / took * 1e6,
-        "p50": p50 / 1000,
-        "p99": p99 / 1000,
-        "requests": max(1, answered),
-        "wrong": failed,
+        "rate": len(took) / max(it.at + it.seconds for it in calls),
+        "p50": percentile(took or [0.0], 0.5),
+        "p99": percentile(took or [0.0], 0.99),
+        "requests": max(1, len(took)),
+        "wrong": len(calls) - len(took),
         "faults": "",
     }
 
@@ -357,8 +290,7 @@ def parts(text: str) -> list[float]:
 
 
 def given_words() -> argparse.Namespace:
-    reader = reader_of(__doc__)
-    reader.add_argument("program", type=built, nargs="?", metavar="PROGRAM")
+    reader = reader_with_results(__doc__)
     reader.add_argument("--seconds", type=int, default=3)
     reader.add_argument("--rounds", type=int, default=8)
     reader.add_argument("--workers", type=numbers, default=[64])
@@ -367,17 +299,12 @@ def given_words() -> argparse.Namespace:
     reader.add_argument("--further", type=built)
     reader.add_argument("--before", type=built)
     reader.add_argument("--only", type=words_of, default=[""])
-    reader.add_argument("--results", type=pathlib.Path)
-    reader.add_argument("--from", type=pathlib.Path, dest="earlier")
     one_of = reader.add_mutually_exclusive_group()
     one_of.add_argument("--answer", type=int, default=0)
     one_of.add_argument("--upload", type=int, default=0)
     one_of.add_argument("--refused", action="store_true")
     reader.add_argument("clients", type=int, nargs="*", default=[16, 64, 256])
-    given = reader.parse_intermixed_args()
-    if not given.program and not given.earlier:
-        reader.error("PROGRAM is missing")
-    return given
+    return given_to(reader)
 
 
 def main() -> None:

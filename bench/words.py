@@ -22,6 +22,24 @@ def reader_with_program(text: str | None) -> argparse.ArgumentParser:
     return reader
 
 
+def reader_with_results(text: str | None) -> argparse.ArgumentParser:
+    """A reader of PROGRAM, of the file that a line of figures goes to for each visit, and of one whose tables are
+    printed in place of a run."""
+    reader = reader_of(text)
+    reader.add_argument("program", type=built, nargs="?", metavar="PROGRAM")
+    reader.add_argument("--results", type=pathlib.Path)
+    reader.add_argument("--from", type=pathlib.Path, dest="earlier")
+    return reader
+
+
+def given_to(reader: argparse.ArgumentParser) -> argparse.Namespace:
+    """What such a reader is given: PROGRAM, or the file of an earlier run."""
+    given = reader.parse_intermixed_args()
+    if not given.program and not given.earlier:
+        reader.error("PROGRAM is missing")
+    return given
+
+
 def built(word: str) -> str:
     """The path of a built program."""
     path = pathlib.Path(word).resolve()
