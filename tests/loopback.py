@@ -217,9 +217,11 @@ class Gateway:
         behind: str = "127.0.0.1",
         log_to: int | None = None,
         variables: dict[str, str] | None = None,
+        exchanges: int | None = None,
     ) -> None:
         """`backend` is its port at the address `behind`, or nothing for a gateway that forwards to itself; `front` runs
-        the words behind it. With `log_to` its log goes there, and isn't read."""
+        the words behind it. With `log_to` its log goes there, and isn't read. With `exchanges` it has so many at once,
+        in place of workers."""
         self.port, self.is_listening = free_port(), threading.Event()
         self.log: list[str] = []
         self.host = "127.0.0.1" if listen == "0.0.0.0" else listen
@@ -230,7 +232,8 @@ class Gateway:
             f'backend = "{behind}:{backend or self.port}"\n'
             f"{top}\n{tables or '[limit]' + chr(10) + 'kind = ' + chr(34) + 'fixed' + chr(34)}\n"
         )
-        given = ["serve", str(path), "--workers", str(workers), "--per-worker", str(each), *words]
+        at_once = ("--workers", workers) if exchanges is None else ("--exchanges", exchanges)
+        given = ["serve", str(path), *map(str, at_once), "--per-worker", str(each), *words]
         self.process = subprocess.Popen(
             [*front, program, *given],
             stdout=subprocess.PIPE,
