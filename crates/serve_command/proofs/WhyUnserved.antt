@@ -14,6 +14,8 @@ use Rattle.config_file.specs.Reading.{Held, IsFaultOf, IsUnreadFile, IsWhyUnread
 use Rattle.serve_command.specs.declared.fault.ServiceFault.{ServiceFault}
 use Rattle.serve_command.specs.declared.fault.ServiceFault.TheVariants as Service
 use Rattle.gateway_settings.specs.declared.settings.Settings.{Settings}
+use Rattle.gateway_settings.specs.declared.exchanges.TooFewExchanges.{TooFewExchanges}
+use Rattle.gateway_settings.specs.Exchanges.{AreTooFew, settings_by}
 use Rattle.serving.specs.declared.fault.ServeFault.{ServeFault}
 use Rattle.serving.specs.declared.fault.ServeFault.TheVariants as Serve
 use Rattle.serve_command.specs.ServiceFault.{of_workers}
@@ -23,6 +25,7 @@ use Rattle.serve_command.specs.Command.{IsUnboundToo, IsWhyOfService}
 -- a fault that isn't one of the configuration or of writing the counters
 abbrev IsServing : ServiceFault → Type 0
 IsServing (Service.Config fault) = ⊥
+IsServing (Service.Exchanges few) = ⊥
 IsServing Service.Listen = Unit {0}
 IsServing Service.Memory = Unit {0}
 IsServing Service.Thread = Unit {0}
@@ -35,6 +38,7 @@ pub serving_is : {L : Type 0} (Bound : List ℕ → L → Type 0) (Unbound : Lis
     (f : ServiceFault) → IsOfServing Bound Unbound listen admin status before after Miscounts f
     → IsServing f
 serving_is Bound Unbound listen admin status before after M (Service.Config fault) of = absurd of
+serving_is Bound Unbound listen admin status before after M (Service.Exchanges few) of = absurd of
 serving_is Bound Unbound listen admin status before after M Service.Listen of = tt
 serving_is Bound Unbound listen admin status before after M Service.Memory of = tt
 serving_is Bound Unbound listen admin status before after M Service.Thread of = tt
@@ -42,10 +46,10 @@ serving_is Bound Unbound listen admin status before after M Service.Miscounted o
 serving_is Bound Unbound listen admin status before after M Service.Write of = absurd of
 
 module _ {F W X : Type 0} (Unopened : Type 0) (Opened : F → Type 0)
-    (remaining : F → Option (List ℕ)) (OfServing : Settings → ServiceFault → Type 0)
-    (w : Counted W) (r : Result X ServiceFault) where
+    (remaining : F → Option (List ℕ)) (exchanges : Option ℕ)
+    (OfServing : Settings → ServiceFault → Type 0) (w : Counted W) (r : Result X ServiceFault) where
   abbrev Why : ServiceFault → Type 0
-  Why = IsWhyOfService Unopened Opened remaining OfServing w w
+  Why = IsWhyOfService Unopened Opened remaining exchanges OfServing w w
 
   why : (fault : ServiceFault) → r ≡ Err fault → Why fault → IfErr r Why
   why fault is = subst (λ (x : Result X ServiceFault). IfErr x Why) (sym is)
@@ -71,13 +75,20 @@ module _ {F W X : Type 0} (Unopened : Type 0) (Opened : F → Type 0)
       why (Service.Config fault) is
       (refl, inr (had.0, had.1, had.2, inr (had.4, (bytes, had.3, of_bytes))))
 
+  -- too few exchanges are given for its settings
+  pub why_too_few : (few : TooFewExchanges) → r ≡ Err (Service.Exchanges few) → (s : Settings)
+      → AreOfFile Opened remaining s → AreTooFew exchanges s few.wanted → IfErr r Why
+  why_too_few few is s had wanted = why (Service.Exchanges few) is (refl, (s, had, wanted))
+
   -- serving itself failed, once settings were had
   pub why_unserved : (fault : ServiceFault) → r ≡ Err fault → (s : Settings)
-      → AreOfFile Opened remaining s → OfServing s fault → IsServing fault → IfErr r Why
+      → AreOfFile Opened remaining s → OfServing (settings_by exchanges s) fault
+      → IsServing fault → IfErr r Why
   why_unserved fault is s had of served = why fault is (go fault of served)
     where
-      go : (f : ServiceFault) → OfServing s f → IsServing f → Why f
+      go : (f : ServiceFault) → OfServing (settings_by exchanges s) f → IsServing f → Why f
       go (Service.Config fault) of served = absurd served
+      go (Service.Exchanges few) of served = absurd served
       go Service.Listen of served = (refl, (s, had, of))
       go Service.Memory of served = (refl, (s, had, of))
       go Service.Thread of served = (refl, (s, had, of))
@@ -86,14 +97,15 @@ module _ {F W X : Type 0} (Unopened : Type 0) (Opened : F → Type 0)
 
 -- its counters weren't written
 pub why_unwritten : {F W X : Type 0} (Unopened : Type 0) (Opened : F → Type 0)
-    (remaining : F → Option (List ℕ)) (OfServing : Settings → ServiceFault → Type 0)
-    (old new : Counted W) (r : Result X ServiceFault)
+    (remaining : F → Option (List ℕ)) (exchanges : Option ℕ)
+    (OfServing : Settings → ServiceFault → Type 0) (old new : Counted W) (r : Result X ServiceFault)
     → r ≡ Err Service.Write → IsWriteCause old new → (s : Settings)
     → AreOfFile Opened remaining s
-    → IfErr r (IsWhyOfService Unopened Opened remaining OfServing old new)
-why_unwritten {F} {W} {X} Unopened Opened remaining OfServing old new r is cause s had =
+    → IfErr r (IsWhyOfService Unopened Opened remaining exchanges OfServing old new)
+why_unwritten {F} {W} {X} Unopened Opened remaining exchanges OfServing old new r is cause s had =
     subst (λ (x : Result X ServiceFault). IfErr x
-    (IsWhyOfService Unopened Opened remaining OfServing old new)) (sym is) (cause, (s, had, tt))
+    (IsWhyOfService Unopened Opened remaining exchanges OfServing old new)) (sym is)
+    (cause, (s, had, tt))
 
 -- bound at an address, by its text
 pub bound_at : {L : Type 0} (Bound : List ℕ → L → Type 0) (text listen : List ℕ) (listener : L)
@@ -124,6 +136,7 @@ module _ {L X : Type 0} (Bound : List ℕ → L → Type 0) (Unbound : List ℕ 
     where
       go : (f : ServiceFault) → IsOfAdmin Unbound admin f → Of f
       go (Service.Config fault) why = absurd why
+      go (Service.Exchanges few) why = absurd why
       go Service.Listen why = inr (inl (bound, why))
       go Service.Memory why = bound
       go Service.Thread why = absurd why

@@ -10,6 +10,9 @@ use Rattle.counted_io.specs.Effects.{Wrote}
 use Rattle.limit_kinds.specs.AnyKinds.{any_rules}
 use Rattle.limiter_core.specs.declared.counters.Counters.{Counters}
 use Rattle.gateway_settings.specs.declared.settings.Settings.{Settings}
+use Rattle.gateway_settings.specs.Exchanges.{AreEnoughFor, AreTooFew, settings_by}
+use Rattle.commands.specs.declared.serve_options.ServeOptions.{ServeOptions}
+use Rattle.commands.specs.ServeOptions.{threads_of}
 use Rattle.shared_gate.specs.Calls.{Pass}
 use Rattle.gate_opening.specs.Opening.{making_of}
 use Rattle.serving.specs.Served.{policy_of}
@@ -42,40 +45,40 @@ IsUnboundToo Unbound None = ⊥
 IsUnboundToo Unbound (Some address) = Unbound (socket_v4_text address)
 
 -- SERVED BY SETTINGS, at their address, the operator's and that of whoever looks: a listener was
--- bound at each. So many workers took their turns, each by these settings, with marks or without,
--- with clients who came to the first, and these are the counters of their runs; at the others those
--- were served who came there, at desks of the same gate, by whose passes nobody had called, and
--- which close the listener of clients
+-- bound at each. As many workers as the options say took their turns, each by these settings, with
+-- marks or without, with clients who came to the first, and these are the counters of their runs; at
+-- the others those were served who came there, at desks of the same gate, by whose passes nobody had
+-- called, and which close the listener of clients
 pub record IsServedBy {L : Type 0} (Bound : List ℕ → L → Type 0)
     (came : L → Option (List ℕ) → Type 0) (found : L → Bool → Type 0) (closed : L → Type 0)
-    (marks : Bool) (s : Settings) (admin status : Option SocketAddrV4) (workers most : ℕ)
-    (counters : Counters) : Type 0 where
+    (o : ServeOptions) (s : Settings) (counters : Counters) : Type 0 where
   pub listener : L
   pub bound : Bound s.listen listener
   pub by_lookers : List Pass
   pub by_admins : List Pass
-  pub ran : AreCountersOfRuns any_rules (making_of workers s) (policy_of s marks) (came listener)
-      workers most (by_lookers ++ by_admins) counters
-  pub operator : IsAdminServed (IsDone any_rules (making_of workers s) closed) came found
-      (new_desk s.table listener) Bound admin by_admins
-  pub lookers : IsStatusServed (IsDone any_rules (making_of workers s) closed) came found
-      (new_desk s.table listener) Bound status by_lookers
+  pub ran : AreCountersOfRuns any_rules (making_of (threads_of o) s) (policy_of s o.marks)
+      (came listener) (threads_of o) o.per_worker (by_lookers ++ by_admins) counters
+  pub operator : IsAdminServed (IsDone any_rules (making_of (threads_of o) s) closed) came found
+      (new_desk s.table listener) Bound o.admin by_admins
+  pub lookers : IsStatusServed (IsDone any_rules (making_of (threads_of o) s) closed) came found
+      (new_desk s.table listener) Bound o.status by_lookers
 
--- SERVED: by settings of the file, with marks or without, and the line of the counters of the
--- workers' runs is written and flushed, and no write failed
+-- SERVED: by settings of the file, or what they are for the number of exchanges that is given, which
+-- is enough for them; and the line of the counters of the workers' runs is written and flushed, and
+-- no write failed
 pub record HasServed {F L W : Type 0} (Opened : F → Type 0) (remaining : F → Option (List ℕ))
     (Bound : List ℕ → L → Type 0) (came : L → Option (List ℕ) → Type 0)
     (found : L → Bool → Type 0) (closed : L → Type 0) (contents : W → Option (List ℕ))
-    (admin status : Option SocketAddrV4) (marks : Bool) (workers most : ℕ)
-    (old new : Counted W) : Type 0 where
+    (o : ServeOptions) (old new : Counted W) : Type 0 where
   pub settings : Settings
   pub file : Counted F
   pub bytes : List ℕ
   pub opened : Opened (inner_of file)
   pub held : Held remaining file bytes
   pub says : Says bytes (Ok settings)
+  pub enough : AreEnoughFor o.exchanges settings
   pub counters : Counters
-  pub served : IsServedBy Bound came found closed marks settings admin status workers most counters
+  pub served : IsServedBy Bound came found closed o (settings_by o.exchanges settings) counters
   pub written : Wrote contents old new (counters_line counters)
   pub unfailing : failures_of new ≡ failures_of old
   pub flushed : is_flushed new ≡ true
@@ -87,6 +90,7 @@ pub record HasServed {F L W : Type 0} (Opened : F → Type 0) (remaining : F →
 abbrev pub IsOfServing : {L : Type 0} → (List ℕ → L → Type 0) → (List ℕ → Type 0)
     → List ℕ → Option SocketAddrV4 → Option SocketAddrV4 → ℕ → ℕ → Type 0 → ServiceFault → Type 0
 IsOfServing Bound Unbound listen admin status before after Miscounts (Service.Config fault) = ⊥
+IsOfServing Bound Unbound listen admin status before after Miscounts (Service.Exchanges few) = ⊥
 IsOfServing Bound Unbound listen admin status before after Miscounts Service.Listen =
     Unbound listen ⊎ (IsBound Bound listen × IsUnboundToo Unbound admin)
     ⊎ (IsBound Bound listen × IsBoundToo Bound admin × IsUnboundToo Unbound status)
@@ -101,6 +105,7 @@ IsOfServing Bound Unbound listen admin status before after Miscounts Service.Wri
 -- why an operator's address isn't had
 abbrev pub IsOfAdmin : (List ℕ → Type 0) → Option SocketAddrV4 → ServiceFault → Type 0
 IsOfAdmin Unbound admin (Service.Config fault) = ⊥
+IsOfAdmin Unbound admin (Service.Exchanges few) = ⊥
 IsOfAdmin Unbound admin Service.Listen = IsUnboundToo Unbound admin
 IsOfAdmin Unbound admin Service.Memory = Unit {0}
 IsOfAdmin Unbound admin Service.Thread = ⊥
@@ -112,16 +117,19 @@ abbrev pub HadSettings : {F : Type 0} → (F → Type 0) → (F → Option (List
     → (Settings → Type 0) → Type 0
 HadSettings Opened remaining Holds = (s : Settings) × AreOfFile Opened remaining s × Holds s
 
--- WHY NOT: the file couldn't be opened, or its settings weren't had; or they were had, and serving
--- failed for its own cause, or the counters of those who served couldn't be written. Before that
--- nothing is written
+-- WHY NOT: the file couldn't be opened, or its settings weren't had; or they were had, and the number
+-- of exchanges that is given, if any, isn't enough for them, which is told with the least that is; or
+-- serving by what they are for that number failed for its own cause, or the counters of those who
+-- served couldn't be written. Before that nothing is written
 abbrev pub IsWhyOfService : {F W : Type 0} → Type 0 → (F → Type 0) → (F → Option (List ℕ))
-    → (Settings → ServiceFault → Type 0) → Counted W → Counted W → ServiceFault → Type 0
-IsWhyOfService {F} Unopened Opened remaining OfServing old new (Service.Config fault) =
+    → Option ℕ → (Settings → ServiceFault → Type 0) → Counted W → Counted W → ServiceFault → Type 0
+IsWhyOfService {F} Unopened Opened remaining exchanges OfServing old new (Service.Config fault) =
     (new ≡ old) × (((fault ≡ File.Read) × Unopened)
     ⊎ (before : Counted F) × (after : Counted F) × Opened (inner_of before)
     × IsUnset remaining before after fault)
-IsWhyOfService Unopened Opened remaining OfServing old new Service.Write =
+IsWhyOfService Unopened Opened remaining exchanges OfServing old new (Service.Exchanges few) =
+    (new ≡ old) × HadSettings Opened remaining (λ s. AreTooFew exchanges s few.wanted)
+IsWhyOfService Unopened Opened remaining exchanges OfServing old new Service.Write =
     IsWriteCause old new × HadSettings Opened remaining (λ _. Unit {0})
-IsWhyOfService Unopened Opened remaining OfServing old new fault =
-    (new ≡ old) × HadSettings Opened remaining (λ s. OfServing s fault)
+IsWhyOfService Unopened Opened remaining exchanges OfServing old new fault =
+    (new ≡ old) × HadSettings Opened remaining (λ s. OfServing (settings_by exchanges s) fault)

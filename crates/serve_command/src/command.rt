@@ -9,6 +9,7 @@ ghost use Rattle.gateway_settings.specs.Settings.{AreSound};
 ghost use Rattle.fault_lines.specs.FaultLine.{IsTold, fault_line};
 ghost use Rattle.config_file.specs.Reading.{Held, IsUnreadFile};
 ghost use Rattle.serve_command.specs.declared.fault.ServiceFault.TheVariants.{Listen, Memory};
+ghost use Rattle.commands.specs.ServeOptions.{threads_of};
 ghost use Rattle.serve_command.specs.Beside.{IsAdminBound, IsStatusBound};
 ghost use Rattle.serve_command.specs.Command.{HasServed, IsOfAdmin, IsOfServing, IsServedBy};
 ghost use Rattle.serve_command.specs.Command.{IsUnboundToo, IsWhyOfService};
@@ -69,14 +70,13 @@ where
     <B::Bound as Listener>::To: Send + Sync,
     R::Stream: Send + Sync,
     R::Listener: Send + Sync,
-    requires some { 1 ≤ service.now.workers }
-    requires few { service.now.workers ≤ 64 }
+    requires some { 1 ≤ threads_of service.now }
+    requires few { threads_of service.now ≤ 4096 }
     ensures status { (result ≡ 0) ⊎ (result ≡ 1) }
 
     // The line of counters is written, and nothing else.
     ensures served { result ≡ 0 → HasServed (F.opened service.now.path.now) F.File.remaining
-        B.bound B.Bound.came B.Bound.found B.Bound.closed W.contents service.now.admin
-        service.now.status service.now.marks service.now.workers service.now.per_worker writer.old
+        B.bound B.Bound.came B.Bound.found B.Bound.closed W.contents service.now writer.old
         writer.new }
     ensures quiet { result ≡ 0 → errors.new ≡ errors.old }
 
@@ -84,10 +84,11 @@ where
     ensures refused { result ≡ 1 → (fault : ServiceFault)
         × IsTold E.contents errors.old errors.new (fault_line (service_fault_text fault))
         × IsWhyOfService (F.unopened service.now.path.now)
-        (F.opened service.now.path.now) F.File.remaining
+        (F.opened service.now.path.now) F.File.remaining service.now.exchanges
         (λ s. IsOfServing B.bound B.unbound s.listen service.now.admin service.now.status
         (refused_of spawner.old) (refused_of spawner.new)
-        (AreMiscounted any_rules (making_of service.now.workers s) service.now.workers))
+        (AreMiscounted any_rules (making_of (threads_of service.now) s)
+        (threads_of service.now)))
         writer.old writer.new fault }
 {
     match serve_and_count(rt, spawner, files, addresses, alloc, service, writer) {
@@ -117,21 +118,22 @@ where
     <B::Bound as Listener>::To: Send + Sync,
     R::Stream: Send + Sync,
     R::Listener: Send + Sync,
-    requires some { 1 ≤ service.now.workers }
-    requires few { service.now.workers ≤ 64 }
+    requires some { 1 ≤ threads_of service.now }
+    requires few { threads_of service.now ≤ 4096 }
     ensures served { OnOk result (HasServed (F.opened service.now.path.now) F.File.remaining
-        B.bound B.Bound.came B.Bound.found B.Bound.closed W.contents service.now.admin
-        service.now.status service.now.marks service.now.workers service.now.per_worker writer.old
+        B.bound B.Bound.came B.Bound.found B.Bound.closed W.contents service.now writer.old
         writer.new) }
     ensures refused { IfErr result (IsWhyOfService (F.unopened service.now.path.now)
-        (F.opened service.now.path.now) F.File.remaining
+        (F.opened service.now.path.now) F.File.remaining service.now.exchanges
         (λ s. IsOfServing B.bound B.unbound s.listen service.now.admin service.now.status
         (refused_of spawner.old) (refused_of spawner.new)
-        (AreMiscounted any_rules (making_of service.now.workers s) service.now.workers))
+        (AreMiscounted any_rules (making_of (threads_of service.now) s)
+        (threads_of service.now)))
         writer.old writer.new) }
 {
     let text = read_config(rt, files, alloc, service.path)?;
-    let settings = read_bytes(alloc, &text)?;
+    let read = read_bytes(alloc, &text)?;
+    let settings = read.by_exchanges(service.exchanges)?;
     let counters = serve_settings(rt, spawner, files, addresses, alloc, &settings, service)?;
     write_counters(writer, &counters)?;
     Ok(())
@@ -190,21 +192,20 @@ where
     R::Stream: Send + Sync,
     R::Listener: Send + Sync,
     requires sound { AreSound settings.now }
-    requires some { 1 ≤ service.now.workers }
-    requires few { service.now.workers ≤ 64 }
+    requires some { 1 ≤ threads_of service.now }
+    requires few { threads_of service.now ≤ 4096 }
     ensures served { IfOk result (IsServedBy B.bound B.Bound.came B.Bound.found B.Bound.closed
-        service.now.marks settings.now service.now.admin service.now.status service.now.workers
-        service.now.per_worker) }
+        service.now settings.now) }
     ensures refused { IfErr result (IsOfServing B.bound B.unbound settings.now.listen
         service.now.admin service.now.status
         (refused_of spawner.old) (refused_of spawner.new)
-        (AreMiscounted any_rules (making_of service.now.workers settings.now)
-        service.now.workers)) }
+        (AreMiscounted any_rules (making_of (threads_of service.now) settings.now)
+        (threads_of service.now))) }
 {
     let front = bind(rt, addresses, settings.listen.socket())?;
     let admin = bind_admin(rt, addresses, alloc, service.admin)?;
     let status = bind_status(rt, addresses, service.status)?;
-    log_listening(rt, files, alloc, settings, service.workers);
+    log_listening(rt, files, alloc, settings, service);
     let clock = ProgramClock::start(rt);
     let watch = make_watch(rt, alloc, &clock, settings, service)?;
     let context = ServeContext {
@@ -234,7 +235,7 @@ fn make_watch<'a, R: SystemClock>(
     requires sound { AreSound settings.now }
     ensures lacking { IfErr result (λ fault. fault ≡ Memory) }
 {
-    let workers = service.workers;
+    let workers = service.threads();
     let limit = settings.limit_for(workers);
     let range = LimitRange {
         kind: settings.limit.kind().word(),

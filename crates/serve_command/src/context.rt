@@ -4,6 +4,7 @@ ghost use Rattle.counted_io.specs.Count.{raised};
 ghost use Rattle.tasks.specs.Refused.{refused_of};
 ghost use Rattle.limit_kinds.specs.AnyKinds.{any_rules};
 ghost use Rattle.gateway_settings.specs.Settings.{AreSound};
+ghost use Rattle.commands.specs.ServeOptions.{threads_of};
 ghost use Rattle.gate_opening.specs.Opening.{making_of};
 ghost use Rattle.serving.specs.Served.{policy_of};
 ghost use Rattle.gate_desk.specs.State.{new_desk};
@@ -71,14 +72,14 @@ where
     R::Stream: Send + Sync,
     R::Listener: Send + Sync,
     requires sound { AreSound context.now.settings.now }
-    requires few { service.now.workers ≤ 64 }
+    requires few { threads_of service.now ≤ 4096 }
     ensures served { IfOk result (λ told. IfSome told (HasServedAt any_rules
-        (making_of service.now.workers context.now.settings.now) L.closed L.came L.found
+        (making_of (threads_of service.now) context.now.settings.now) L.closed L.came L.found
         (policy_of context.now.settings.now service.now.marks)
         (new_desk context.now.settings.now.table context.now.front.now) context.now.admin.now
-        context.now.status.now service.now.workers service.now.per_worker)) }
+        context.now.status.now (threads_of service.now) service.now.per_worker)) }
     ensures miscounted { IfOk result (λ told. IfNone told (AreMiscounted any_rules
-        (making_of service.now.workers context.now.settings.now) service.now.workers)) }
+        (making_of (threads_of service.now) context.now.settings.now) (threads_of service.now))) }
     ensures thread { IsErrOf result ServeFault.Thread →
         refused_of spawner.new ≡ raised (refused_of spawner.old) }
 {
@@ -103,7 +104,7 @@ where
     let gateway = Gateway {
         rt,
         common: &common,
-        workers: service.workers,
+        workers: service.threads(),
         side: &side,
     };
     serve_gateway(spawner, &gateway)

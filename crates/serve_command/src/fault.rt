@@ -2,9 +2,10 @@
 ghost use Rattle.fault_lines.specs.FaultLine.{IsTold, fault_line};
 ghost use Rattle.serve_command.specs.ServiceFault.{service_fault_text};
 
-use config_file::{FileFault, report_file_fault};
+use config_file::{FileFault, report_file_fault, report_too_few};
 use counted_io::{Counted, WriteFault};
 use fault_lines::report_fault;
+use gateway_settings::TooFewExchanges;
 use serving::ServeFault;
 use std::io::Write;
 
@@ -13,6 +14,8 @@ use std::io::Write;
 pub enum ServiceFault {
     /// The configuration can't be read, or isn't one.
     Config(FileFault),
+    /// The settings want more exchanges at once than are given.
+    Exchanges(TooFewExchanges),
     /// The address can't be bound.
     Listen,
     /// A growth was refused, before any worker was started.
@@ -34,6 +37,17 @@ impl From<FileFault> for ServiceFault {
 
     fn from(fault: FileFault) -> ServiceFault {
         ServiceFault::Config(fault)
+    }
+}
+
+impl From<TooFewExchanges> for ServiceFault {
+    ghost use Rattle.std.specs.Prelude.{◌≡◌};
+    ghost use Rattle.serve_command.specs.declared.fault.ServiceFault.TheVariants.{Exchanges};
+
+    ghost from_gives = { λ fault given. given ≡ Exchanges fault };
+
+    fn from(fault: TooFewExchanges) -> ServiceFault {
+        ServiceFault::Exchanges(fault)
     }
 }
 
@@ -69,6 +83,7 @@ pub(crate) fn report_service_fault<E: Write>(errors: &mut Counted<E>, fault: &Se
 {
     match fault {
         ServiceFault::Config(fault) => report_file_fault(errors, fault),
+        ServiceFault::Exchanges(few) => report_too_few(errors, *few),
         ServiceFault::Listen => report_fault(errors, &["listen"]),
         ServiceFault::Memory => report_fault(errors, &["memory"]),
         ServiceFault::Thread => report_fault(errors, &["thread"]),

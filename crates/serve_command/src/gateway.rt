@@ -47,7 +47,7 @@ pub(crate) struct Gateway<'g, R: SystemClock, L, C> {
     pub(crate) rt: &'g R,
     /// What its workers share, its settings among that, and what each of them is asked to do.
     pub(crate) common: &'g WorkerSettings<'g, L, C, Watcher<'g, R>>,
-    /// How many workers it has: 1 to 64.
+    /// How many workers it has: 1 to 4,096.
     pub(crate) workers: u32,
     /// What serves beside them.
     pub(crate) side: &'g SideAddresses<'g, L, C>,
@@ -70,7 +70,7 @@ where
     R::Stream: Send + Sync,
     R::Listener: Send + Sync,
     requires sound { AreSound gateway.now.common.now.settings.now }
-    requires few { gateway.now.workers ≤ 64 }
+    requires few { gateway.now.workers ≤ 4096 }
     ensures served { IfOk result (λ told. IfSome told (HasServedAll any_rules
         (making_of gateway.now.workers gateway.now.common.now.settings.now) L.closed L.came L.found
         (policy_of gateway.now.common.now.settings.now gateway.now.common.now.marks)
@@ -116,7 +116,7 @@ where
     requires sound { AreSound gateway.now.common.now.settings.now }
     requires legal { CallsLegal any_rules
         (journal_of gateway.now.workers gateway.now.common.now.settings.now) M.legal }
-    requires few { gateway.now.workers ≤ 64 }
+    requires few { gateway.now.workers ≤ 4096 }
     ensures served { IfOk result (λ told. IfSome told (HasServedAll any_rules
         (making_of gateway.now.workers gateway.now.common.now.settings.now) L.closed L.came L.found
         (policy_of gateway.now.common.now.settings.now gateway.now.common.now.marks)

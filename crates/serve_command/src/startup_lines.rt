@@ -6,6 +6,7 @@ ghost use Rattle.gateway_settings.specs.Settings.{AreSound};
 ghost use Rattle.serve_command.specs.Inside.{most_inside};
 
 use crate::descriptors::most_descriptors;
+use commands::ServeOptions;
 use config_file::{Opener, why_unread};
 use gateway_settings::Settings;
 use limit_kinds::LimitKind;
@@ -18,7 +19,8 @@ use std::net::SocketAddrV4;
 /// The most workers.
 const MOST_WORKERS: u64 = 64;
 
-/// Logs where clients are listened for, by how many workers, 1 to 64, and the kind of limit.
+/// Logs where clients are listened for, by how many workers or exchanges at once, and the kind of
+/// limit.
 ///
 /// Three warnings may stand before it: where as many as may be in flight or wait exceed the
 /// workers, with how many are wanted, since who comes while all workers are taken waits unseen in
@@ -30,10 +32,11 @@ pub(crate) fn log_listening<R: Log, F: Opener>(
     files: &F,
     alloc: Global,
     settings: &Settings,
-    workers: u32,
+    service: &ServeOptions<'_>,
 )
     requires { AreSound settings.now }
 {
+    let workers = service.threads();
     let inside = most_inside(settings, workers);
     if inside > u64::from(workers) {
         let wanted = inside.saturating_add(1).min(MOST_WORKERS);
@@ -47,12 +50,27 @@ pub(crate) fn log_listening<R: Log, F: Opener>(
         warn!(rt; target: "admission", backend:%;
             "the backend is this gateway itself: each request comes back to it");
     }
-    log_address(rt, settings, workers);
+    match service.exchanges {
+        Some(exchanges) => log_exchanges(rt, settings, exchanges),
+        None => log_workers(rt, settings, workers),
+    }
 }
 
-/// Logs where clients are listened for, which connections are kept, and of a limit without numbers
-/// how far it goes up.
-fn log_address<R: Log>(rt: &R, settings: &Settings, workers: u32)
+/// Logs where clients are listened for, by how many exchanges at once, and what follows from their
+/// number: the greatest limit and the backlog.
+fn log_exchanges<R: Log>(rt: &R, settings: &Settings, exchanges: u32) {
+    let address = settings.listen.socket();
+    let limit = settings.limit.kind().word();
+    let max = settings.limit.hi();
+    let backlog = settings.waiting();
+    let keepalive = settings.keepalive().word();
+    info!(rt; target: "admission", address:%, exchanges, limit, max, backlog, keepalive;
+        "listening");
+}
+
+/// Logs where clients are listened for, by how many workers, which connections are kept, and of a
+/// limit without numbers how far it goes up.
+fn log_workers<R: Log>(rt: &R, settings: &Settings, workers: u32)
     requires { AreSound settings.now }
 {
     let address = settings.listen.socket();

@@ -3,6 +3,7 @@ use Rattle.std.proofs.Common.{Result, Ok, Err, IfOk, IfSome}
 use Rattle.std.specs.Net.Text.{socket_v4_text}
 use Rattle.tasks.specs.Refused.{refused_of}
 use Rattle.limit_kinds.specs.AnyKinds.{any_rules}
+use Rattle.commands.specs.ServeOptions.{threads_of}
 use Rattle.gate_opening.specs.Opening.{making_of}
 use Rattle.gate_desk.specs.Desk.{IsDone}
 use Rattle.gate_desk.specs.State.{new_desk}
@@ -24,8 +25,8 @@ returns-in_err-front-clause-refused g c =
     let same : socket_v4_text c.socket.result ≡ c.args.settings.now.listen = search rules in
     lacks_front g.B.Binder.bound g.B.Binder.unbound c.args.settings.now.listen
     c.args.service.now.admin c.args.service.now.status before before
-    (AreMiscounted any_rules (making_of c.args.service.now.workers c.args.settings.now)
-    c.args.service.now.workers)
+    (AreMiscounted any_rules (making_of (threads_of c.args.service.now) c.args.settings.now)
+    (threads_of c.args.service.now))
     c.from_residual.result fault is
     (socket_v4_text c.socket.result) same c.in_err-front.ensures.unbound
 
@@ -37,8 +38,8 @@ returns-in_err-admin-clause-refused g c =
     let same : socket_v4_text c.socket.result ≡ c.args.settings.now.listen = search rules in
     lacks_admin g.B.Binder.bound g.B.Binder.unbound c.args.settings.now.listen
     c.args.service.now.admin c.args.service.now.status before before
-    (AreMiscounted any_rules (making_of c.args.service.now.workers c.args.settings.now)
-    c.args.service.now.workers)
+    (AreMiscounted any_rules (making_of (threads_of c.args.service.now) c.args.settings.now)
+    (threads_of c.args.service.now))
     c.from_residual-in_err-admin.result fault is
     (bound_at g.B.Binder.bound (socket_v4_text c.socket.result) c.args.settings.now.listen
     c.in_ok-front.front same c.in_ok-front.ensures.bound) c.in_err-admin.ensures.unbound
@@ -51,8 +52,8 @@ returns-in_err-status-clause-refused g c =
     let same : socket_v4_text c.socket.result ≡ c.args.settings.now.listen = search rules in
     lacks_status g.B.Binder.bound g.B.Binder.unbound c.args.settings.now.listen
     c.args.service.now.admin c.args.service.now.status before before
-    (AreMiscounted any_rules (making_of c.args.service.now.workers c.args.settings.now)
-    c.args.service.now.workers)
+    (AreMiscounted any_rules (making_of (threads_of c.args.service.now) c.args.settings.now)
+    (threads_of c.args.service.now))
     c.from_residual-in_err-status.result fault is
     (bound_at g.B.Binder.bound (socket_v4_text c.socket.result) c.args.settings.now.listen
     c.in_ok-front.front same c.in_ok-front.ensures.bound)
@@ -68,8 +69,8 @@ returns-in_err-watch-clause-refused g c =
     let same : socket_v4_text c.socket.result ≡ c.args.settings.now.listen = search rules in
     lacks_memory g.B.Binder.bound g.B.Binder.unbound c.args.settings.now.listen
     c.args.service.now.admin c.args.service.now.status before before
-    (AreMiscounted any_rules (making_of c.args.service.now.workers c.args.settings.now)
-    c.args.service.now.workers)
+    (AreMiscounted any_rules (making_of (threads_of c.args.service.now) c.args.settings.now)
+    (threads_of c.args.service.now))
     c.from_residual-in_err-watch.result fault is
     (bound_at g.B.Binder.bound (socket_v4_text c.socket.result) c.args.settings.now.listen
     c.in_ok-front.front same c.in_ok-front.ensures.bound) c.in_err-watch.ensures.lacking
@@ -85,8 +86,8 @@ returns-in_err-counters-clause-refused g c =
     lacks_workers g.B.Binder.bound g.B.Binder.unbound c.args.settings.now.listen
     c.args.service.now.admin c.args.service.now.status (refused_of c.args.spawner.now)
     (refused_of c.serve_in.new.spawner)
-    (AreMiscounted any_rules (making_of c.args.service.now.workers c.args.settings.now)
-    c.args.service.now.workers)
+    (AreMiscounted any_rules (making_of (threads_of c.args.service.now) c.args.settings.now)
+    (threads_of c.args.service.now))
     c.from_residual-in_err-counters.result
     c.serve_in.result fault was is
     (bound_at g.B.Binder.bound (socket_v4_text c.socket.result) c.args.settings.now.listen
@@ -95,19 +96,19 @@ returns-in_err-counters-clause-refused g c =
 pub returns-in-Some-clause-served : goal.returns-in-Some-clause-served
 returns-in-Some-clause-served g c =
     let same : socket_v4_text c.socket.result ≡ c.args.settings.now.listen = search rules in
-    let does = IsDone any_rules (making_of c.args.service.now.workers c.args.settings.now)
+    let does = IsDone any_rules (making_of (threads_of c.args.service.now) c.args.settings.now)
     g.B.Bound.Closable.closed in
     let begin = new_desk c.args.settings.now.table c.in_ok-front.front in
-    let made = making_of c.args.service.now.workers c.args.settings.now in
+    let made = making_of (threads_of c.args.service.now) c.args.settings.now in
     let was : c.serve_in.result ≡ Ok (Some c.in-Some.counters) = search rules in
     let policy = policy_of c.args.settings.now c.args.service.now.marks in
     let served : HasServedAt any_rules made g.B.Bound.Closable.closed g.B.Bound.Listener.came
     g.B.Bound.Listener.found policy begin c.in_ok-admin.admin c.in_ok-status.status
-    c.args.service.now.workers c.args.service.now.per_worker c.in-Some.counters =
+    (threads_of c.args.service.now) c.args.service.now.per_worker c.in-Some.counters =
     subst (λ (it : Result (Option Counters) ServeFault). IfOk it (λ told. IfSome told
     (HasServedAt any_rules made g.B.Bound.Closable.closed g.B.Bound.Listener.came
     g.B.Bound.Listener.found policy begin c.in_ok-admin.admin c.in_ok-status.status
-    c.args.service.now.workers c.args.service.now.per_worker))) was c.serve_in.ensures.served in
+    (threads_of c.args.service.now) c.args.service.now.per_worker))) was c.serve_in.ensures.served in
     record {
       listener = c.in_ok-front.front;
       bound = subst (λ (address : List ℕ). g.B.Binder.bound address c.in_ok-front.front) same
