@@ -46,9 +46,9 @@ IsUnboundToo Unbound (Some address) = Unbound (socket_v4_text address)
 
 -- SERVED BY SETTINGS, at their address, the operator's and that of whoever looks: a listener was
 -- bound at each. As many workers as the options say took their turns, each by these settings, with
--- marks or without, with clients who came to the first, and these are the counters of their runs; at
--- the others those were served who came there, at desks of the same gate, by whose passes nobody had
--- called, and which close the listener of clients
+-- marks or without, with clients who came to the first, and these are the counters of their runs;
+-- at the others those were served who came there, at desks of the same gate, by whose passes nobody
+-- had called, and which close the listener of clients
 pub record IsServedBy {L : Type 0} (Bound : List ℕ → L → Type 0)
     (came : L → Option (List ℕ) → Type 0) (found : L → Bool → Type 0) (closed : L → Type 0)
     (o : ServeOptions) (s : Settings) (counters : Counters) : Type 0 where
@@ -63,9 +63,9 @@ pub record IsServedBy {L : Type 0} (Bound : List ℕ → L → Type 0)
   pub lookers : IsStatusServed (IsDone any_rules (making_of (threads_of o) s) closed) came found
       (new_desk s.table listener) Bound o.status by_lookers
 
--- SERVED: by settings of the file, or what they are for the number of exchanges that is given, which
--- is enough for them; and the line of the counters of the workers' runs is written and flushed, and
--- no write failed
+-- SERVED: by settings of the file, or what they are for the number of exchanges that is given,
+-- which is enough for them; and the line of the counters of the workers' runs is written and
+-- flushed, and no write failed
 pub record HasServed {F L W : Type 0} (Opened : F → Type 0) (remaining : F → Option (List ℕ))
     (Bound : List ℕ → L → Type 0) (came : L → Option (List ℕ) → Type 0)
     (found : L → Bool → Type 0) (closed : L → Type 0) (contents : W → Option (List ℕ))
@@ -117,8 +117,8 @@ abbrev pub HadSettings : {F : Type 0} → (F → Type 0) → (F → Option (List
     → (Settings → Type 0) → Type 0
 HadSettings Opened remaining Holds = (s : Settings) × AreOfFile Opened remaining s × Holds s
 
--- WHY NOT: the file couldn't be opened, or its settings weren't had; or they were had, and the number
--- of exchanges that is given, if any, isn't enough for them, which is told with the least that is; or
+-- WHY NOT: the file couldn't be opened, or its settings weren't had; or they were had, and the
+-- number of exchanges that is given isn't enough for them, which is told with the least that is; or
 -- serving by what they are for that number failed for its own cause, or the counters of those who
 -- served couldn't be written. Before that nothing is written
 abbrev pub IsWhyOfService : {F W : Type 0} → Type 0 → (F → Type 0) → (F → Option (List ℕ))
