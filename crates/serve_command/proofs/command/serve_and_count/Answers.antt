@@ -20,9 +20,11 @@ returns-in_err-text-clause-refused g c =
     let is : c.from_residual.result ≡ Err (Service.Config fault) = search rules in
     let path = c.args.service.now.path.now in
     why_unread (g.F.Opener.unopened path) (g.F.Opener.opened path) g.F.File.Read.remaining
-    c.args.service.now.exchanges (λ s. IsOfServing g.B.Binder.bound g.B.Binder.unbound s.listen c.args.service.now.admin
-    c.args.service.now.status (refused_of c.args.spawner.now) (refused_of c.args.spawner.now)
-    (AreMiscounted any_rules (making_of (threads_of c.args.service.now) s) (threads_of c.args.service.now)))
+    c.args.service.now.exchanges (λ s. IsOfServing g.B.Binder.bound g.B.Binder.unbound s.listen
+    c.args.service.now.admin c.args.service.now.status (refused_of c.args.spawner.now)
+    (refused_of c.args.spawner.now)
+    (AreMiscounted any_rules (making_of (threads_of c.args.service.now) s)
+    (threads_of c.args.service.now)))
     c.args.writer.now c.from_residual.result fault is c.in_err-text.ensures.refused
 
 pub returns-in_err-read-clause-refused : goal.returns-in_err-read-clause-refused
@@ -33,9 +35,11 @@ returns-in_err-read-clause-refused g c =
     let same : c.deref.result.now ≡ bytes = search rules in
     let path = c.args.service.now.path.now in
     why_unset (g.F.Opener.unopened path) (g.F.Opener.opened path) g.F.File.Read.remaining
-    c.args.service.now.exchanges (λ s. IsOfServing g.B.Binder.bound g.B.Binder.unbound s.listen c.args.service.now.admin
-    c.args.service.now.status (refused_of c.args.spawner.now) (refused_of c.args.spawner.now)
-    (AreMiscounted any_rules (making_of (threads_of c.args.service.now) s) (threads_of c.args.service.now)))
+    c.args.service.now.exchanges (λ s. IsOfServing g.B.Binder.bound g.B.Binder.unbound s.listen
+    c.args.service.now.admin c.args.service.now.status (refused_of c.args.spawner.now)
+    (refused_of c.args.spawner.now)
+    (AreMiscounted any_rules (making_of (threads_of c.args.service.now) s)
+    (threads_of c.args.service.now)))
     c.args.writer.now c.from_residual-in_err-read.result fault is bytes
     c.in_ok-text.ensures.text
     (subst (λ (xs : List ℕ). IsFaultOf xs fault) same c.in_err-read.ensures.refused)
@@ -74,10 +78,11 @@ returns-in_err-counters-clause-refused g c =
     (making_of (threads_of c.args.service.now) s) (threads_of c.args.service.now)) fault in
     let of = subst Of is_by c.in_err-counters.ensures.refused in
     why_unserved (g.F.Opener.unopened path) (g.F.Opener.opened path) g.F.File.Read.remaining
-    c.args.service.now.exchanges (λ s. IsOfServing g.B.Binder.bound g.B.Binder.unbound s.listen c.args.service.now.admin
-    c.args.service.now.status (refused_of c.args.spawner.now)
+    c.args.service.now.exchanges (λ s. IsOfServing g.B.Binder.bound g.B.Binder.unbound s.listen
+    c.args.service.now.admin c.args.service.now.status (refused_of c.args.spawner.now)
     (refused_of c.serve_settings.new.spawner)
-    (AreMiscounted any_rules (making_of (threads_of c.args.service.now) s) (threads_of c.args.service.now)))
+    (AreMiscounted any_rules (making_of (threads_of c.args.service.now) s)
+    (threads_of c.args.service.now)))
     c.args.writer.now c.from_residual-in_err-counters.result fault is
     s (had.0, bytes, had.2, had.3, says) of
     (serving_is g.B.Binder.bound g.B.Binder.unbound by.listen c.args.service.now.admin
@@ -97,10 +102,11 @@ returns-in_err-write_counters-clause-refused g c =
     let is : c.from_residual-in_err-write_counters.result ≡ Err Service.Write = search rules in
     let path = c.args.service.now.path.now in
     why_unwritten (g.F.Opener.unopened path) (g.F.Opener.opened path) g.F.File.Read.remaining
-    c.args.service.now.exchanges (λ s. IsOfServing g.B.Binder.bound g.B.Binder.unbound s.listen c.args.service.now.admin
-    c.args.service.now.status (refused_of c.args.spawner.now)
+    c.args.service.now.exchanges (λ s. IsOfServing g.B.Binder.bound g.B.Binder.unbound s.listen
+    c.args.service.now.admin c.args.service.now.status (refused_of c.args.spawner.now)
     (refused_of c.serve_settings.new.spawner)
-    (AreMiscounted any_rules (making_of (threads_of c.args.service.now) s) (threads_of c.args.service.now)))
+    (AreMiscounted any_rules (making_of (threads_of c.args.service.now) s)
+    (threads_of c.args.service.now)))
     c.args.writer.now c.write_counters.new.writer c.from_residual-in_err-write_counters.result is
     c.in_err-write_counters.ensures.failed
     s (had.0, bytes, had.2, had.3, says)

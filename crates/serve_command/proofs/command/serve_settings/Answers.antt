@@ -108,7 +108,8 @@ returns-in-Some-clause-served g c =
     subst (λ (it : Result (Option Counters) ServeFault). IfOk it (λ told. IfSome told
     (HasServedAt any_rules made g.B.Bound.Closable.closed g.B.Bound.Listener.came
     g.B.Bound.Listener.found policy begin c.in_ok-admin.admin c.in_ok-status.status
-    (threads_of c.args.service.now) c.args.service.now.per_worker))) was c.serve_in.ensures.served in
+    (threads_of c.args.service.now) c.args.service.now.per_worker))) was
+    c.serve_in.ensures.served in
     record {
       listener = c.in_ok-front.front;
       bound = subst (λ (address : List ℕ). g.B.Binder.bound address c.in_ok-front.front) same
