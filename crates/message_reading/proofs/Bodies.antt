@@ -2,7 +2,7 @@
 use Rattle.std.proofs.Common.{rules, ◌≡◌, ap, refl, ℕ, List}
 use Rattle.std.specs.Prelude.{Option, Some, None, Result, Ok, Err}
 use Rattle.message_reading.specs.declared.fault.MessageFault.{MessageFault}
-use Rattle.message_reading.specs.declared.fault.MessageFault.TheVariants.{Memory, Read, TurnLimit, Bytes}
+use Rattle.message_reading.specs.declared.fault.MessageFault.TheVariants.{Memory, Read, TurnLimit, Bodies, Bytes}
 use Rattle.message_reading.specs.Reading.{By, Gives, Reading}
 use Rattle.message_reading.specs.PlainBody.{all_of, sized_of}
 use Rattle.message_reading.specs.Chunks.{IsChunks}
@@ -36,6 +36,7 @@ module _ {X : Type 0} (view : X → List ℕ) where
     fault_by (Some xs) new Memory given = search rules
     fault_by (Some xs) new Read given = search rules
     fault_by (Some xs) new TurnLimit given = search rules
+    fault_by (Some xs) new Bodies given = search rules
     fault_by (Some xs) new (Bytes e) given = is xs _ (ap some_body given)
 
   pub sized_body : (old new : Option (List ℕ)) (size : ℕ) (framing : Framing) (x : X) (b : List ℕ)
@@ -76,6 +77,7 @@ module _ {X : Type 0} (view : X → List ℕ) where
   chunked_fault (Some xs) new framing Memory is given = search rules
   chunked_fault (Some xs) new framing Read is given = search rules
   chunked_fault (Some xs) new framing TurnLimit is given = search rules
+  chunked_fault (Some xs) new framing Bodies is given = search rules
   chunked_fault (Some xs) new framing (Bytes e) is given = rw is ((Err e, given, refl))
 
 pub ruleset body_steps =

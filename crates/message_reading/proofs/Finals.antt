@@ -3,7 +3,7 @@ use Rattle.std.proofs.Common.{rules, ◌≡◌, ◌+◌, ◌-◌, ◌⊎◌, ◌
 use Rattle.std.specs.Prelude.{Option, Some, None, Result, Ok, Err, ⊤}
 use Rattle.message_reading.specs.declared.fault.Fault.TheVariants.{Malformed}
 use Rattle.message_reading.specs.declared.fault.MessageFault.{MessageFault}
-use Rattle.message_reading.specs.declared.fault.MessageFault.TheVariants.{Memory, Read, TurnLimit, Bytes}
+use Rattle.message_reading.specs.declared.fault.MessageFault.TheVariants.{Memory, Read, TurnLimit, Bodies, Bytes}
 use Rattle.message_reading.specs.Reading.{Gives, Reading}
 use Rattle.message_reading.specs.declared.response_head.ResponseHead.{ResponseHead}
 use Rattle.message_reading.specs.Heads.{IsFinalHead, IsResponseHead, behind, is_final, is_interim}
@@ -61,6 +61,7 @@ final_fault (Some xs) None new left e on given = absurd on
 final_fault (Some xs) (Some ys) new left Memory on given = search rules
 final_fault (Some xs) (Some ys) new left Read on given = search rules
 final_fault (Some xs) (Some ys) new left TurnLimit on given = search rules
+final_fault (Some xs) (Some ys) new left Bodies on given = search rules
 final_fault (Some xs) (Some ys) new left (Bytes e) on given =
     on _ (IsFinalHead.head_fails left ys e given)
 

@@ -4,7 +4,7 @@ use Rattle.std.specs.Prelude.{Option, Some, None, Result, Ok, Err}
 use Rattle.message_reading.specs.declared.fault.Fault.{Fault}
 use Rattle.message_reading.specs.declared.fault.Fault.TheVariants.{Malformed}
 use Rattle.message_reading.specs.declared.fault.MessageFault.{MessageFault}
-use Rattle.message_reading.specs.declared.fault.MessageFault.TheVariants.{Memory, Read, TurnLimit, Bytes}
+use Rattle.message_reading.specs.declared.fault.MessageFault.TheVariants.{Memory, Read, TurnLimit, Bodies, Bytes}
 use Rattle.message_reading.specs.Reading.{By, Gives, Reading, Then}
 use Rattle.message_reading.specs.HeadBytes.{head_of}
 use Rattle.httparse.specs.Grammar.{RequestHead as RequestText, ResponseHead as ResponseText}
@@ -24,6 +24,7 @@ module _ {X A : Type 0} (view : X → A) (First : List ℕ → Reading A → Typ
     then_fault (Some xs) mid Memory given = search rules
     then_fault (Some xs) mid Read given = search rules
     then_fault (Some xs) mid TurnLimit given = search rules
+    then_fault (Some xs) mid Bodies given = search rules
     then_fault (Some xs) mid (Bytes f) given = Then.first_fails xs f given
 
     pub then_next : (old mid new : Option (List ℕ)) (x : X) (result : Result Y MessageFault)
@@ -36,6 +37,7 @@ module _ {X A : Type 0} (view : X → A) (First : List ℕ → Reading A → Typ
     then_next (Some xs) (Some ys) new x (Err Memory) one two = search rules
     then_next (Some xs) (Some ys) new x (Err Read) one two = search rules
     then_next (Some xs) (Some ys) new x (Err TurnLimit) one two = search rules
+    then_next (Some xs) (Some ys) new x (Err Bodies) one two = search rules
     then_next (Some xs) (Some ys) new x (Err (Bytes f)) one two =
         Then.goes_on xs ys (view x) _ one two
 

@@ -7,6 +7,7 @@ mod HeadCuts
 mod HeadEnds
 mod HeadProgress
 mod HeadTexts
+mod Held
 mod JoinedBytes
 mod JoinedChunks
 mod JoinedPhases

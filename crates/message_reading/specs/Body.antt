@@ -1,5 +1,5 @@
 -- The body of a message.
-use Rattle.std.specs.Prelude.{◌≡◌, ℕ, List, Option, Some, None, Ok, Err}
+use Rattle.std.specs.Prelude.{◌≡◌, ℕ, List, Option, Some, None, Ok, Err, length}
 use Rattle.message_reading.specs.declared.fault.Fault.{Fault}
 use Rattle.message_reading.specs.Reading.{Reading, ◌>>=◌}
 use Rattle.message_reading.specs.PlainBody.{all_of, sized_of}
@@ -10,6 +10,11 @@ use Rattle.message_reading.specs.declared.framing.Framing.TheVariants.{Bodiless,
 -- there is a body
 abbrev pub some_body : Reading (List ℕ) → Reading (Option (List ℕ))
 some_body r = r >>= λ p. Ok (Some p.0, p.1)
+
+-- how many bytes a body has: none where there is no body
+abbrev pub size_of : Option (List ℕ) → ℕ
+size_of None = 0
+size_of (Some body) = length body
 
 -- what reading a body gives that is delimited so
 abbrev pub IsBody : Framing → List ℕ → Reading (Option (List ℕ)) → Type 0

@@ -9,6 +9,7 @@ pub mod Gather
 pub mod HeadBytes
 pub mod HeadTexts
 pub mod Heads
+pub mod Holding
 pub mod Laws
 pub mod PlainBody
 pub mod Progress

@@ -1,7 +1,8 @@
 // Chunked bodies.
 ghost use Rattle.std.specs.Prelude.{◌≡◌, ◌≤◌, ◌+◌, ◌++◌, drop, length, IfOk};
 ghost use Rattle.counted_io.specs.Counted.{calls_of};
-ghost use Rattle.message_reading.specs.Reading.{By, Reads, ReadsWithin};
+ghost use Rattle.message_reading.specs.Holding.{Holds, Refuses};
+ghost use Rattle.message_reading.specs.Reading.{By, Reads, ReadsBy};
 ghost use Rattle.message_reading.specs.Chunks.{IsChunks, piece_of};
 
 use crate::byte::read_crlf;
@@ -9,13 +10,14 @@ use crate::chunk_size::read_size;
 use crate::fault::{Fault, MessageFault};
 use crate::plain_body::fill;
 use crate::trailers::read_trailers;
+use body_memory::BodyMemory;
 use counted_io::Counted;
 use message_fields::MOST_BODY;
-use std::alloc::Global;
 use std::io::BufRead;
 
 // A chunk's bytes, behind those of the body, and the CR LF behind them.
-fn read_piece<R: BufRead>(
+fn read_piece<R: BufRead, M: BodyMemory>(
+    memory: &mut M,
     reader: &mut Counted<R>,
     limit: u64,
     mut body: Vec<u8>,
@@ -26,10 +28,13 @@ fn read_piece<R: BufRead>(
     ensures kept { IfOk result (λ longer.
         longer.items ≡ body.items ++ drop (length body.items) longer.items) }
     ensures length { IfOk result (λ longer. length longer.items ≡ length body.items + size) }
-    ensures within { ReadsWithin limit result reader.old reader.new }
+    ensures within { ReadsBy (Refuses (M.refused memory.old) (M.refused memory.new))
+        limit result reader.old reader.new }
+    ensures held { Holds (λ _. size) result (M.held memory.old) (M.held memory.new)
+        (M.refused memory.old) (M.refused memory.new) }
     ensures goes_on { calls_of reader.old ≤ calls_of reader.new }
 {
-    fill(reader, limit, &mut body, size)?;
+    fill(memory, reader, limit, &mut body, size)?;
     read_crlf(reader, limit)?;
     Ok(body)
 }
@@ -40,19 +45,22 @@ fn read_piece<R: BufRead>(
 /// no CR LF follows; a size with which the sum passes 8,388,608 is `BodyTooLarge`, before the
 /// chunk's bytes are read; more than 65,536 bytes behind the last chunk are `HeadTooLarge`.
 #[tactic(auto, using(crate::proofs::JoinedChunks::chunk_steps))]
-pub(crate) fn read_chunked<R: BufRead>(
-    alloc: Global,
+pub(crate) fn read_chunked<R: BufRead, M: BodyMemory>(
+    memory: &mut M,
     reader: &mut Counted<R>,
     limit: u64,
 ) -> Result<Vec<u8>, MessageFault>
     ensures body { Reads R.remaining reader.old reader.new (λ body. body.items)
         (IsChunks 0) result }
-    ensures within { ReadsWithin limit result reader.old reader.new }
+    ensures within { ReadsBy (Refuses (M.refused memory.old) (M.refused memory.new))
+        limit result reader.old reader.new }
+    ensures held { Holds (λ body. length body.items) result (M.held memory.old) (M.held memory.new)
+        (M.refused memory.old) (M.refused memory.new) }
     ensures goes_on { calls_of reader.old ≤ calls_of reader.new }
 {
-    let mut body = Vec::new(alloc);
+    let mut body = Vec::new(memory.alloc());
     loop {
-        let size = read_size(alloc, reader, limit)?;
+        let size = read_size(memory.alloc(), reader, limit)?;
         if size == 0 {
             read_trailers(reader, limit)?;
             return Ok(body);
@@ -60,6 +68,6 @@ pub(crate) fn read_chunked<R: BufRead>(
         if size > MOST_BODY - body.len() as u64 {
             return Err(MessageFault::Bytes(Fault::BodyTooLarge));
         }
-        body = read_piece(reader, limit, body, size as usize)?;
+        body = read_piece(memory, reader, limit, body, size as usize)?;
     }
 }

@@ -1,7 +1,8 @@
-use Rattle.std.proofs.Common.{rules, arith, subst, ◌≡◌, ◌<◌, ◌≤◌, ◌+◌, length, drop, ℕ, Vec, Global, Ok, Err}
+use Rattle.std.proofs.Common.{rules, arith, subst, sym, ◌∙◌, ◌≡◌, ◌<◌, ◌≤◌, ◌+◌, length, drop, ℕ, Vec, Global, Ok, Err}
 use Rattle.counted_io.specs.Counted.{inner_of}
 use Rattle.message_reading.specs.Reading.{Gives}
 use Rattle.message_reading.specs.ChunkSize.{IsSize}
+use Rattle.message_reading.proofs.Held.{held_on}
 use Rattle.message_reading.proofs.JoinedChunks.{chunks_more, end_fault, large_fault}
 use Rattle.message_reading.proofs.chunks.read_chunked.Goals as goal
 
@@ -49,6 +50,10 @@ loop-body-preserved g c =
         c.in_ok-body.ensures.goes_on,
         c.loop-body.invariant.goes_on,
       );
+      holds = held_on _ _ _ (length c.loop-body.body.items) c.in_ok-size.size _
+          c.loop-body.invariant.holds c.in_ok-body.ensures.held.holds
+          (sym c.in_ok-body.ensures.length);
+      accepted = c.in_ok-body.ensures.held.accepted (search rules) ∙ c.loop-body.invariant.accepted;
     }
 
 pub returns-then-size-len-clause-body : goal.returns-then-size-len-clause-body

@@ -1,6 +1,7 @@
 use Rattle.std.proofs.Common.{◌≡◌, ◌≤◌, ◌-◌, max, length}
 use Rattle.counted_io.specs.Counted.{inner_of, calls_of, failures_of}
 use Rattle.message_reading.specs.Chunks.{GoOn}
+use Rattle.body_memory.specs.Memory.{more}
 use Rattle.message_reading.proofs.chunks.read_chunked.Given as goal
 
 abbrev pub invariant-loop-body : goal.invariant-loop-body
@@ -12,6 +13,8 @@ invariant-loop-body g l =
       failures : failures_of l.reader ≡ failures_of l.fn.reader;
       few : calls_of l.reader ≤ max l.limit (calls_of l.fn.reader);
       goes_on : calls_of l.fn.reader ≤ calls_of l.reader;
+      holds : g.M.BodyMemory.held l.memory ≡ more (length l.body.items) (g.M.BodyMemory.held l.fn.memory);
+      accepted : g.M.BodyMemory.refused l.memory ≡ g.M.BodyMemory.refused l.fn.memory;
     }
 
 abbrev pub decreases-loop-body : goal.decreases-loop-body

@@ -1,6 +1,7 @@
 use Rattle.std.proofs.Common.{arith, rules, ◌<◌, ◌∙◌, length, drop, length-append}
 use Rattle.std.proofs.KnownBytes.{Consumes-trans}
 use Rattle.std.proofs.lemmas.Grind.{common_steps}
+use Rattle.message_reading.proofs.Held.{held_on}
 use Rattle.message_reading.proofs.PlainBodies.{longer, not_filled, stays}
 use Rattle.message_reading.proofs.plain_body.fill.Goals as goal
 
@@ -10,7 +11,7 @@ loop-left-preserved g c =
     let gave = c.in_ok-count.ensures.gave in
     let invariant = c.loop-left.invariant in
     let front = c.args.body.now.items in
-    let more = longer front c.loop-left.body.items c.read_some.new.into.items gave.0 invariant.kept
+    let more = longer front c.loop-left.body.items c.read_held.new.into.items gave.0 invariant.kept
     gave.2 in
     let got = drop (length front) c.loop-left.body.items in
     let size = length-append got gave.0 in
@@ -27,6 +28,9 @@ loop-left-preserved g c =
       failures = c.in_ok-count.ensures.within.unfailing ∙ invariant.failures;
       few = omega (arith, c.in_ok-count.ensures.within.few, invariant.few);
       goes_on = omega (arith, c.in_ok-count.ensures.goes_on, invariant.goes_on);
+      holds = rw more (held_on _ _ _ (length got) c.in_ok-count.count _ invariant.holds
+          c.in_ok-count.ensures.held.holds (omega (arith, size, gave.1)));
+      accepted = c.in_ok-count.ensures.held.accepted (search rules) ∙ invariant.accepted;
     }
 
 pub returns-then-count-eq0-clause-bytes : goal.returns-then-count-eq0-clause-bytes

@@ -1,6 +1,7 @@
 use Rattle.std.proofs.Common.{◌≡◌, ◌+◌, ◌++◌, ◌≤◌, max, length, drop}
 use Rattle.counted_io.specs.Counted.{calls_of, failures_of}
 use Rattle.counted_io.specs.Effects.{Gave}
+use Rattle.body_memory.specs.Memory.{more}
 use Rattle.message_reading.proofs.plain_body.fill.Given as goal
 
 -- what was read so far lies behind what the body had
@@ -14,6 +15,8 @@ invariant-loop-left g l =
       failures : failures_of l.reader ≡ failures_of l.fn.reader;
       few : calls_of l.reader ≤ max l.limit (calls_of l.fn.reader);
       goes_on : calls_of l.fn.reader ≤ calls_of l.reader;
+      holds : g.M.BodyMemory.held l.memory ≡ more (length got) (g.M.BodyMemory.held l.fn.memory);
+      accepted : g.M.BodyMemory.refused l.memory ≡ g.M.BodyMemory.refused l.fn.memory;
     }
 
 abbrev pub decreases-loop-left : goal.decreases-loop-left

@@ -1,6 +1,7 @@
-use Rattle.std.proofs.Common.{arith, rules, ◌≡◌, ◌∙◌, length-append}
+use Rattle.std.proofs.Common.{arith, rules, ◌≡◌, ◌∙◌, length, length-append}
 use Rattle.std.proofs.KnownBytes.{Consumes-trans}
 use Rattle.std.proofs.lemmas.Grind.{common_steps}
+use Rattle.message_reading.proofs.Held.{held_on}
 use Rattle.message_reading.proofs.PlainBodies.{all_read, too_many}
 use Rattle.message_reading.proofs.plain_body.read_to_end.Goals as goal
 
@@ -15,6 +16,9 @@ loop-body-preserved g c =
       failures = c.in_ok-count.ensures.within.unfailing ∙ invariant.failures;
       few = omega (arith, c.in_ok-count.ensures.within.few, invariant.few);
       goes_on = omega (arith, c.in_ok-count.ensures.goes_on, invariant.goes_on);
+      holds = rw gave.2 (held_on _ _ _ (length c.loop-body.body.items) c.in_ok-count.count _
+          invariant.holds c.in_ok-count.ensures.held.holds (omega (arith, size, gave.1)));
+      accepted = c.in_ok-count.ensures.held.accepted (search rules) ∙ invariant.accepted;
     }
 
 pub returns-then-count-eq0-clause-body : goal.returns-then-count-eq0-clause-body
