@@ -4,7 +4,7 @@ use Rattle.std.specs.Prelude.{Option, Some, None, Result, Ok, Err, IfSome}
 use Rattle.message_reading.specs.declared.fault.Fault.{Fault}
 use Rattle.message_reading.specs.declared.fault.Fault.TheVariants as own
 use Rattle.message_reading.specs.declared.fault.MessageFault.{MessageFault}
-use Rattle.message_reading.specs.declared.fault.MessageFault.TheVariants.{Memory, Read, TurnLimit, Bytes}
+use Rattle.message_reading.specs.declared.fault.MessageFault.TheVariants.{Memory, Read, TurnLimit, Bodies, Bytes}
 use Rattle.message_reading.specs.Reading.{By, Fails, Reading, Then, checked}
 use Rattle.message_reading.specs.Reading as bytes
 use Rattle.message_reading.specs.declared.request_head.RequestHead.{RequestHead}
@@ -29,6 +29,7 @@ module _ {X A : Type 0} (view : X → A) (First : List ℕ → Reading A → Typ
     then_fault (Some xs) mid Memory given = search rules
     then_fault (Some xs) mid Read given = search rules
     then_fault (Some xs) mid TurnLimit given = search rules
+    then_fault (Some xs) mid Bodies given = search rules
     then_fault (Some xs) mid (Bytes f) given = Then.first_fails xs f given
 
     then_next : (old mid new : Option (List ℕ)) (x : X) (result : Result Y MessageFault)
@@ -41,6 +42,7 @@ module _ {X A : Type 0} (view : X → A) (First : List ℕ → Reading A → Typ
     then_next (Some xs) (Some ys) new x (Err Memory) one two = search rules
     then_next (Some xs) (Some ys) new x (Err Read) one two = search rules
     then_next (Some xs) (Some ys) new x (Err TurnLimit) one two = search rules
+    then_next (Some xs) (Some ys) new x (Err Bodies) one two = search rules
     then_next (Some xs) (Some ys) new x (Err (Bytes f)) one two =
         Then.goes_on xs ys (view x) _ one two
 
@@ -68,6 +70,7 @@ module _ {X V : Type 0} (view : X → V) (Is : List ℕ → Reading V → Type 0
   tells_err (Some xs) new Memory w is given = rw is tt
   tells_err (Some xs) new Read w is given = rw is tt
   tells_err (Some xs) new TurnLimit w is given = rw is tt
+  tells_err (Some xs) new Bodies w is given = rw is tt
   tells_err (Some xs) new (Bytes f) w is given = rw is (told_bytes Is xs f given)
 
 abbrev GivesBody : Framing → Option (List ℕ) → Option (List ℕ)
@@ -88,6 +91,7 @@ module _ {V : Type 0} (make : Option (List ℕ) → V) (framing : Framing) where
   body_cut (Some xs) new Memory given = search rules
   body_cut (Some xs) new Read given = search rules
   body_cut (Some xs) new TurnLimit given = search rules
+  body_cut (Some xs) new Bodies given = search rules
   body_cut (Some xs) new (Bytes f) given = IsWithBody.body_fails xs f given
 
 abbrev Head : Type 0

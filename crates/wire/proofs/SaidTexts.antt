@@ -5,7 +5,7 @@ use Rattle.std.specs.Io.KnownBytes.{Appends}
 use Rattle.std.proofs.KnownBytes.{Appends-nil}
 use Rattle.message_reading.specs.declared.fault.Fault.{Fault}
 use Rattle.message_reading.specs.declared.fault.MessageFault.{MessageFault}
-use Rattle.message_reading.specs.declared.fault.MessageFault.TheVariants.{Memory, Read, TurnLimit, Bytes}
+use Rattle.message_reading.specs.declared.fault.MessageFault.TheVariants.{Memory, Read, TurnLimit, Bodies, Bytes}
 use Rattle.message_reading.specs.declared.request_head.RequestHead.{RequestHead}
 use Rattle.message_reading.specs.declared.framing.Framing.{Framing}
 use Rattle.message_reading.specs.Continue.{Says, continue_of}
@@ -30,6 +30,7 @@ module _ (X : Type 0) where
   silent_head (Some xs) mid held Memory w is given = rw is ((tt, inl (Appends-nil held)))
   silent_head (Some xs) mid held Read w is given = rw is ((tt, inl (Appends-nil held)))
   silent_head (Some xs) mid held TurnLimit w is given = rw is ((tt, inl (Appends-nil held)))
+  silent_head (Some xs) mid held Bodies w is given = rw is ((tt, inl (Appends-nil held)))
   silent_head (Some xs) mid held (Bytes f) w is given = (
     if_any (bytes_fault w) ([], Says.silent xs f given, Appends-nil held),
     inl (Appends-nil held),

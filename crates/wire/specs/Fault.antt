@@ -26,6 +26,7 @@ abbrev pub of_read : MessageFault → WireFault
 of_read read.Memory = fault.Memory
 of_read read.Read = fault.Read
 of_read read.TurnLimit = fault.TurnLimit
+of_read read.Bodies = fault.Bodies
 of_read (read.Bytes f) = of_bytes f
 
 -- the fault of the bytes that is reported, if it is one

@@ -7,7 +7,7 @@ use Rattle.message_text.specs.declared.persistence.Persistence.{Persistence}
 use Rattle.wire.specs.declared.answer.BackendAnswer.{BackendAnswer}
 use Rattle.wire.specs.declared.answer.BackendAnswer.TheVariants.{Broken, NotConnected, Stale}
 use Rattle.wire.specs.declared.fault.WireFault.{WireFault}
-use Rattle.wire.specs.declared.fault.WireFault.TheVariants.{Memory, Write}
+use Rattle.wire.specs.declared.fault.WireFault.TheVariants.{Bodies, Memory, Write}
 use Rattle.wire.specs.Written.{request_text}
 
 -- one request and its answer
@@ -30,9 +30,9 @@ fault_told (Stale fault) = Some fault
 fault_told other = None
 
 -- the fault where a request wasn't written whole: that of the write, or out of memory for an early
--- answer
+-- answer, or its body may not be held
 abbrev pub IsCut : WireFault → Type 0
-IsCut fault = (fault ≡ Write) ⊎ (fault ≡ Memory)
+IsCut fault = (fault ≡ Write) ⊎ (fault ≡ Memory) ⊎ (fault ≡ Bodies)
 
 -- a beginning of the text of a request was written: none of it where there was no connection, and
 -- all of it where a fault isn't one of a cut

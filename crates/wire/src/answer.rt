@@ -18,4 +18,6 @@ pub enum BackendAnswer {
     Late,
     /// A growth was refused.
     Memory,
+    /// Bytes of the response's body were refused by the memory that they were asked of.
+    Bodies,
 }

@@ -28,6 +28,8 @@ pub enum WireFault {
     TurnLimit = 10,
     /// The method isn't served.
     Method = 11,
+    /// Bytes of the body were refused by the memory that they were asked of.
+    Bodies = 12,
 }
 
 impl From<Fault> for WireFault {
@@ -60,6 +62,7 @@ impl From<MessageFault> for WireFault {
             MessageFault::Memory => WireFault::Memory,
             MessageFault::Read => WireFault::Read,
             MessageFault::TurnLimit => WireFault::TurnLimit,
+            MessageFault::Bodies => WireFault::Bodies,
             MessageFault::Bytes(own) => own.into(),
         }
     }

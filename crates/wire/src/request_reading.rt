@@ -1,8 +1,11 @@
 // Requests that are read.
-ghost use Rattle.std.specs.Prelude.{◌≡◌, ◌≤◌, ◌+◌, IsErrOf, OnOk};
+ghost use Rattle.std.specs.Prelude.{◌≡◌, ◌≤◌, ◌+◌, IfOk, IsErrOf, OnOk};
 ghost use Rattle.counted_io.specs.Causes.{HasRead, IsWriteCause};
 ghost use Rattle.counted_io.specs.Counted.{calls_of, failures_of, inner_of};
+ghost use Rattle.body_memory.specs.Memory.{more};
 ghost use Rattle.message_fields.specs.Target.{path_of};
+ghost use Rattle.message_reading.specs.Body.{size_of};
+ghost use Rattle.message_reading.specs.Holding.{Refuses};
 ghost use Rattle.message_reading.specs.Reading.{HasFailed};
 ghost use Rattle.message_reading.specs.Continue.{IsSeen};
 ghost use Rattle.wire.specs.Fault.{IsUsedUp, Reads, most_reads};
@@ -10,10 +13,10 @@ ghost use Rattle.wire.specs.Messages.{IsRequest, Said, SaidFront, request_of, ve
 
 use crate::fault::WireFault;
 use crate::path::path_of;
+use body_memory::BodyMemory;
 use counted_io::Counted;
 use message_parts::{Bytes, Request, TextPiece, Version};
 use message_reading::{RequestHead, read_body, read_checked_head, say_continue};
-use std::alloc::Global;
 use std::io::{BufRead, Write};
 
 /// The greatest number of reads for one message.
@@ -57,10 +60,11 @@ fn request_of(head: RequestHead, path: TextPiece, body: Option<Bytes>) -> Reques
 /// asks it is flushed before the body is read; nothing else is written. `Memory`, `Read`, `Write`
 /// and `TurnLimit` come where a growth was refused, the reader or the writer failed, or 100,000,000
 /// reads were made; each other fault where the bytes have it first: in the head, in its checks, in
-/// the lengths or in the body.
+/// the lengths or in the body. The body's bytes are held by the memory as they come, and `Bodies`
+/// comes where it refuses some.
 #[tactic(auto, using(crate::proofs::SaidTexts::request_told))]
-pub fn read_request<R: BufRead, W: Write>(
-    alloc: Global,
+pub fn read_request<R: BufRead, W: Write, M: BodyMemory>(
+    memory: &mut M,
     reader: &mut Counted<R>,
     writer: &mut Counted<W>,
 ) -> Result<Request, WireFault>
@@ -79,11 +83,18 @@ pub fn read_request<R: BufRead, W: Write>(
     ensures turns { IsErrOf result WireFault.TurnLimit → IsUsedUp reader.old reader.new }
     ensures few { calls_of reader.new ≤ calls_of reader.old + most_reads }
     ensures reads { HasRead reader.old reader.new }
+    ensures held { IfOk result (λ request. M.held memory.new
+        ≡ more (size_of request.body) (M.held memory.old)) }
+    ensures bodies { IsErrOf result WireFault.Bodies →
+        Refuses (M.refused memory.old) (M.refused memory.new) }
+    ensures accepted { ¬ (IsErrOf result WireFault.Bodies) →
+        M.refused memory.new ≡ M.refused memory.old }
 {
     let limit = reader.calls().saturating_add(MOST_READS);
+    let alloc = memory.alloc();
     let (head, framing) = read_checked_head(alloc, reader, limit)?;
     let path = path_of(alloc, &head.target)?;
     say_continue(writer, &head, framing)?;
-    let body = read_body(alloc, reader, limit, framing)?;
+    let body = read_body(memory, reader, limit, framing)?;
     Ok(request_of(head, path, body))
 }

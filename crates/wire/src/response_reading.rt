@@ -1,7 +1,10 @@
 // Responses that are read.
-ghost use Rattle.std.specs.Prelude.{◌≡◌, ◌≤◌, ◌+◌, IsErrOf, OnOk};
+ghost use Rattle.std.specs.Prelude.{◌≡◌, ◌≤◌, ◌+◌, IfOk, IsErrOf, OnOk};
 ghost use Rattle.counted_io.specs.Causes.{HasRead};
 ghost use Rattle.counted_io.specs.Counted.{calls_of, failures_of};
+ghost use Rattle.body_memory.specs.Memory.{more};
+ghost use Rattle.message_reading.specs.Body.{size_of};
+ghost use Rattle.message_reading.specs.Holding.{Refuses};
 ghost use Rattle.message_reading.specs.Reading.{HasFailed};
 ghost use Rattle.wire.specs.Fault.{IsUsedUp, Reads, most_reads};
 ghost use Rattle.wire.specs.Messages.{IsResponse};
@@ -10,10 +13,10 @@ use crate::fault::WireFault;
 use crate::request_reading::MOST_READS;
 use crate::response::Response;
 use crate::reuse::reuse_of;
+use body_memory::BodyMemory;
 use counted_io::Counted;
 use message_parts::Method;
 use message_reading::{frame_response, read_body, read_final_head};
-use std::alloc::Global;
 use std::io::BufRead;
 
 /// The final response that the reader's bytes begin with, to a request of this method; what follows
@@ -22,9 +25,10 @@ use std::io::BufRead;
 ///
 /// At most 16 interim responses before it are read and dropped. `Memory`, `Read` and `TurnLimit`
 /// come where a growth was refused, the reader failed, or 100,000,000 reads were made; each other
-/// fault where the bytes have it first: in a head, in its status, in the lengths or in the body.
-pub fn read_response<R: BufRead>(
-    alloc: Global,
+/// fault where the bytes have it first: in a head, in its status, in the lengths or in the body. The
+/// body's bytes are held by the memory as they come, and `Bodies` comes where it refuses some.
+pub fn read_response<R: BufRead, M: BodyMemory>(
+    memory: &mut M,
     reader: &mut Counted<R>,
     method: &Method,
 ) -> Result<Response, WireFault>
@@ -36,11 +40,18 @@ pub fn read_response<R: BufRead>(
     ensures turns { IsErrOf result WireFault.TurnLimit → IsUsedUp reader.old reader.new }
     ensures few { calls_of reader.new ≤ calls_of reader.old + most_reads }
     ensures reads { HasRead reader.old reader.new }
+    ensures held { IfOk result (λ response. M.held memory.new
+        ≡ more (size_of response.body) (M.held memory.old)) }
+    ensures bodies { IsErrOf result WireFault.Bodies →
+        Refuses (M.refused memory.old) (M.refused memory.new) }
+    ensures accepted { ¬ (IsErrOf result WireFault.Bodies) →
+        M.refused memory.new ≡ M.refused memory.old }
 {
     let limit = reader.calls().saturating_add(MOST_READS);
+    let alloc = memory.alloc();
     let head = read_final_head(alloc, reader, limit)?;
     let framing = frame_response(method, &head)?;
-    let body = read_body(alloc, reader, limit, framing)?;
+    let body = read_body(memory, reader, limit, framing)?;
     let reuse = reuse_of(&head, framing);
     Ok(Response::new(head.status, head.lines, body, reuse))
 }
