@@ -23,6 +23,10 @@ macro_rules! range_between {
     ([] [$low:literal to $high:literal; default $default:literal $(, $meaning:ident)?]) => {
         Range::new($low, $high, $default)
     };
+    // Without it there is no bound, as with one that is never reached.
+    ([] [$low:literal to $high:literal; default none]) => {
+        Range::new($low, $high, $high)
+    };
     ([$low:ident] [$key:ident to $high:literal; default $default:literal]) => {
         Range::new($low, $high, $default)
     };

@@ -42,6 +42,10 @@ macro_rules! key_row {
             "how long one may be idle and be used again, "
             [1 to 3600000; default 1000];
     } };
+    (BodiesMib [$($row:tt)*] $($given:tt)*) => { $($row)*! { $($given)*
+        BodiesMib "  bodies_mib    version 2: " "MiB of bodies in all, "
+            [16 to 1048576; default none] help ", with --exchanges 1024";
+    } };
     (Keep [$($row:tt)*] $($given:tt)*) => { $($row)*! { $($given)*
         Keep "  keep          " "entries of the history that are kept, "
             [1 to 1000000; default 4096];
@@ -195,6 +199,7 @@ macro_rules! key_rows {
             ClientIdleMs
             Backends
             BackendIdleMs
+            BodiesMib
             Keep
             Promote
             Limit

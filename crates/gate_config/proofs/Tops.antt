@@ -106,6 +106,12 @@ pub at_backend_idle : (front : FrontKeys) (kept : Option KeptKeys) (gate : GateK
 at_backend_idle front None gate = refl
 at_backend_idle front (Some kept) gate = refl
 
+pub at_bodies : (front : FrontKeys) (kept : Option KeptKeys) (gate : GateKeys)
+    → number_at (codes "bodies_mib") (front_values front ++ kept_values kept ++ gate_values gate)
+    ≡ number_at (codes "bodies_mib") (kept_values kept)
+at_bodies front None gate = refl
+at_bodies front (Some kept) gate = refl
+
 -- What the settings can cite, by the name of the set.
 pub ruleset read_at =
-    (at_keep, at_promote, at_clients, at_client_idle, at_backends, at_backend_idle)
+    (at_keep, at_promote, at_clients, at_client_idle, at_backends, at_backend_idle, at_bodies)

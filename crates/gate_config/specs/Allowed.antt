@@ -18,12 +18,13 @@ abbrev pub listed_keys : AllowedKeys → List Key
 listed_keys (Listed keys) = keys.now
 listed_keys (Top version windows) = top_keys
 
--- version 1 has no keys of connections that are kept
+-- version 1 has no keys of connections that are kept and of bodies that are held
 abbrev pub is_of_version : Version → Key → Bool
 is_of_version One Key.Clients = false
 is_of_version One Key.ClientIdleMs = false
 is_of_version One Key.Backends = false
 is_of_version One Key.BackendIdleMs = false
+is_of_version One Key.BodiesMib = false
 is_of_version version key = true
 
 -- a key outside all tables is allowed, where a table of windows is or isn't

@@ -1,7 +1,8 @@
 -- The table of keys: what each is called, which there are, in the order in which faults are looked
 -- for, and what each may hold. The share of a class is written in percent by version 1, and in
--- thousandths by version 2; a limit without numbers, the places of a class and the connections that
--- are kept are keys of version 2 alone, and off unless they are written. All else is that of both.
+-- thousandths by version 2; a limit without numbers, the places of a class, the connections that are
+-- kept and the bodies that are held are keys of version 2 alone, and off unless they are written. All
+-- else is that of both.
 use Rattle.std.specs.Prelude.{ℕ, Bool, true, List, [], ◌∷◌, ◌++◌, map, Option, Some, None, codes}
 use Rattle.limit_laws.specs.Algorithm.{greatest_limit}
 use Rattle.aimd.specs.AimdRules.{least_ratio, greatest_ratio}
@@ -37,6 +38,7 @@ section_of Key.Clients = In.Top
 section_of Key.ClientIdleMs = In.Top
 section_of Key.Backends = In.Top
 section_of Key.BackendIdleMs = In.Top
+section_of Key.BodiesMib = In.Top
 section_of Key.Keep = In.Top
 section_of Key.Promote = In.Top
 section_of Key.Limit = In.Top
@@ -84,6 +86,7 @@ name_of Key.Clients = codes "clients"
 name_of Key.ClientIdleMs = codes "client_idle_ms"
 name_of Key.Backends = codes "backends"
 name_of Key.BackendIdleMs = codes "backend_idle_ms"
+name_of Key.BodiesMib = codes "bodies_mib"
 name_of Key.Keep = codes "keep"
 name_of Key.Promote = codes "promote"
 name_of Key.Limit = codes "limit"
@@ -201,7 +204,7 @@ front_rows =
     ∷ row Key.TimeoutMs (number (at 1) (at 3600000) (Some 1000))
     ∷ []
 
--- the connections that are kept
+-- the connections that are kept, and the bodies that are held: by default as many as there can be
 abbrev pub kept_rows : Version → List Row
 kept_rows One = []
 kept_rows Two =
@@ -209,6 +212,7 @@ kept_rows Two =
     ∷ row Key.ClientIdleMs (number (at 1) (at 3600000) (Some 60000))
     ∷ row Key.Backends (number (at 0) (at 4096) (Some 0))
     ∷ row Key.BackendIdleMs (number (at 1) (at 3600000) (Some 1000))
+    ∷ row Key.BodiesMib (number (at 16) (at 1048576) (Some 1048576))
     ∷ []
 
 -- the history, and who is promoted

@@ -47,6 +47,7 @@ abbrev pub omitted_from : Members → Members → OmittedKeys
 omitted_from t limit = record {
   backlog = is_none (get_member (codes "backlog") t);
   limit_max = is_none (get_member (codes "max") limit);
+  bodies = is_none (get_member (codes "bodies_mib") t);
 }
 
 -- the settings that the keys of a table make with these resolvers: everybody's places and the
@@ -63,6 +64,7 @@ settings_with t d resolvers = record {
   client_idle_ns = number_at (codes "client_idle_ms") d.top * 1000000;
   backends = number_at (codes "backends") d.top;
   backend_idle_ns = number_at (codes "backend_idle_ms") d.top * 1000000;
+  bodies_mib = number_at (codes "bodies_mib") d.top;
   keep = number_at (codes "keep") d.top;
   promote = promote_named (text_at (codes "promote") d.top);
   limit =

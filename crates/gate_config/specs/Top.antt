@@ -20,7 +20,8 @@ kept_values (Some k) =
     (codes "clients", number_is k.clients)
     ∷ (codes "client_idle_ms", number_is k.client_idle_ms)
     ∷ (codes "backends", number_is k.backends)
-    ∷ (codes "backend_idle_ms", number_is k.backend_idle_ms) ∷ []
+    ∷ (codes "backend_idle_ms", number_is k.backend_idle_ms)
+    ∷ (codes "bodies_mib", number_is k.bodies_mib) ∷ []
 
 abbrev pub gate_values : GateKeys → Values
 gate_values k =
@@ -29,12 +30,13 @@ gate_values k =
 abbrev pub top_values : TopKeys → Values
 top_values k = front_values k.front ++ kept_values k.kept ++ gate_values k.gate
 
--- the numbers of connections that are kept are in their ranges
+-- the numbers of connections that are kept and of bodies that are held are in their ranges
 pub record AreKept (k : KeptKeys) : Type 0 where
   pub clients_most : k.clients ≤ 10000
   pub client_idle_most : k.client_idle_ms ≤ 3600000
   pub backends_most : k.backends ≤ 4096
   pub backend_idle_most : k.backend_idle_ms ≤ 3600000
+  pub bodies_most : k.bodies_mib ≤ 1048576
 
 -- the numbers are in their ranges
 pub record IsTop (k : TopKeys) : Type 0 where

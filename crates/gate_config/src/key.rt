@@ -44,6 +44,7 @@ pub enum Key {
     ClientIdleMs,
     Backends,
     BackendIdleMs,
+    BodiesMib,
     Keep,
     Promote,
     Limit,
@@ -96,6 +97,7 @@ impl Key {
             | Key::ClientIdleMs
             | Key::Backends
             | Key::BackendIdleMs
+            | Key::BodiesMib
             | Key::Keep
             | Key::Promote
             | Key::Limit
@@ -146,6 +148,7 @@ impl Key {
             Key::ClientIdleMs => "client_idle_ms",
             Key::Backends => "backends",
             Key::BackendIdleMs => "backend_idle_ms",
+            Key::BodiesMib => "bodies_mib",
             Key::Keep => "keep",
             Key::Promote => "promote",
             Key::Limit => "limit",

@@ -133,6 +133,7 @@ fn made_of(alloc: Global, top_table: &Table, document: Document) -> Result<Setti
         client_idle_ms,
         backends,
         backend_idle_ms,
+        bodies_mib,
     } = kept_of(kept);
     Ok(Settings {
         listen: front.listen,
@@ -144,6 +145,7 @@ fn made_of(alloc: Global, top_table: &Table, document: Document) -> Result<Setti
         client_idle_ns: u64::from(client_idle_ms) * MILLI,
         backends,
         backend_idle_ns: u64::from(backend_idle_ms) * MILLI,
+        bodies_mib,
         keep: gate.keep,
         promote: promote_of(gate.promote),
         limit,
@@ -161,10 +163,12 @@ fn omitted_from(table: &Table, limit: &Table) -> OmittedKeys
     OmittedKeys {
         backlog: value_at(table, Key::Backlog).is_none(),
         limit_max: value_at(limit, Key::LimitMax).is_none(),
+        bodies: value_at(table, Key::BodiesMib).is_none(),
     }
 }
 
-/// The connections that are kept: none where the version has no keys for them.
+/// The connections that are kept and the bodies that are held: none where the version has no keys
+/// for them.
 fn kept_of(kept: Option<KeptKeys>) -> KeptKeys
     ensures most { ForSome kept AreKept → AreKept result }
     ensures clients { result.clients ≡ number_at (codes "clients") (kept_values kept) }
@@ -173,6 +177,7 @@ fn kept_of(kept: Option<KeptKeys>) -> KeptKeys
     ensures backends { result.backends ≡ number_at (codes "backends") (kept_values kept) }
     ensures backend_idle { result.backend_idle_ms
         ≡ number_at (codes "backend_idle_ms") (kept_values kept) }
+    ensures bodies { result.bodies_mib ≡ number_at (codes "bodies_mib") (kept_values kept) }
 {
     match kept {
         Some(kept) => kept,
@@ -181,6 +186,7 @@ fn kept_of(kept: Option<KeptKeys>) -> KeptKeys
             client_idle_ms: 0,
             backends: 0,
             backend_idle_ms: 0,
+            bodies_mib: 0,
         },
     }
 }

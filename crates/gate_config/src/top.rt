@@ -15,7 +15,7 @@ use gateway_settings::Address;
 use toml::Table;
 
 /// The keys outside all tables, of all versions and beside all limits.
-pub const TOP_KEYS: [Key; 17] = [
+pub const TOP_KEYS: [Key; 18] = [
     Key::Version,
     Key::Listen,
     Key::Backend,
@@ -26,6 +26,7 @@ pub const TOP_KEYS: [Key; 17] = [
     Key::ClientIdleMs,
     Key::Backends,
     Key::BackendIdleMs,
+    Key::BodiesMib,
     Key::Keep,
     Key::Promote,
     Key::Limit,
@@ -39,7 +40,8 @@ pub const TOP_KEYS: [Key; 17] = [
 #[derive(Drop)]
 pub struct TopKeys {
     pub front: FrontKeys,
-    /// The connections that are kept, in a version that has keys for them.
+    /// The connections that are kept and the bodies that are held, in a version that has keys for
+    /// them.
     pub kept: Option<KeptKeys>,
     pub gate: GateKeys,
 }
@@ -57,7 +59,7 @@ pub struct FrontKeys {
     pub timeout_ms: u32,
 }
 
-/// The connections that are kept.
+/// The connections that are kept, and the bodies that are held.
 #[derive(Clone, Copy, Drop)]
 pub struct KeptKeys {
     /// How many places there are for clients that are kept or silent.
@@ -68,6 +70,8 @@ pub struct KeptKeys {
     pub backends: u32,
     /// How long one may be idle and be used again, in milliseconds.
     pub backend_idle_ms: u32,
+    /// How many MiB all bodies may have together that are held.
+    pub bodies_mib: u32,
 }
 
 /// The history, and who is promoted.
@@ -112,7 +116,8 @@ fn read_front(table: &Table) -> Result<FrontKeys, ConfigFault>
     })
 }
 
-/// The connections that are kept, behind what was read, in a version that has keys for them.
+/// The connections that are kept and the bodies that are held, behind what was read, in a version
+/// that has keys for them.
 fn read_kept(version: Version, table: &Table) -> Result<Option<KeptKeys>, ConfigFault>
     ensures within { IfOk result (λ kept. ForSome kept AreKept) }
     ensures value { (before : Values) → result_map (λ kept. before ++ kept_values kept) result
@@ -127,7 +132,7 @@ fn read_kept(version: Version, table: &Table) -> Result<Option<KeptKeys>, Config
     }
 }
 
-/// The keys of connections that are kept, behind what was read.
+/// The keys of connections that are kept and of bodies that are held, behind what was read.
 fn read_kept_keys(table: &Table) -> Result<KeptKeys, ConfigFault>
     ensures within { IfOk result AreKept }
     ensures value { (before : Values)
@@ -138,11 +143,13 @@ fn read_kept_keys(table: &Table) -> Result<KeptKeys, ConfigFault>
     let client_idle_ms = read_number(table, Key::ClientIdleMs, range_of!(ClientIdleMs))?;
     let backends = read_number(table, Key::Backends, range_of!(Backends))?;
     let backend_idle_ms = read_number(table, Key::BackendIdleMs, range_of!(BackendIdleMs))?;
+    let bodies_mib = read_number(table, Key::BodiesMib, range_of!(BodiesMib))?;
     Ok(KeptKeys {
         clients,
         client_idle_ms,
         backends,
         backend_idle_ms,
+        bodies_mib,
     })
 }
 

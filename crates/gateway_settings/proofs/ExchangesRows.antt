@@ -25,12 +25,13 @@ left_out rows limit = record {
   client_idle_ns = 0;
   backends = 0;
   backend_idle_ns = 0;
+  bodies_mib = 1048576;
   keep = 1000;
   promote = Newest;
   limit = limit;
   table = rows;
   rules = record { resolvers = []; bypass = [] };
-  omitted = record { backlog = true; limit_max = true };
+  omitted = record { backlog = true; limit_max = true; bodies = true };
   exchanges = None;
 }
 
@@ -94,7 +95,7 @@ a_min_above_what_is_left = refl
 a_written_backlog_stays : numbers 64
     (record (left_out [] (auto 1 80)) {
       backlog = 30;
-      omitted = record { backlog = false; limit_max = true };
+      omitted = record { backlog = false; limit_max = true; bodies = true };
     }) ≡ (30, 4, 33)
 unfolding greatest
 a_written_backlog_stays = refl

@@ -1,5 +1,6 @@
 -- The settings for a number of exchanges at once.
-use Rattle.std.specs.Prelude.{ℕ, ◌+◌, ◌/◌, ◌≤◌, Bool, true, false, min, nat_le, if◌then◌else◌, Option, None, Some, ⊤}
+use Rattle.std.specs.Prelude.{ℕ, ◌+◌, ◌*◌, ◌/◌, ◌≤◌, ◌&&◌, Bool, true, false, min, nat_le}
+use Rattle.std.specs.Prelude.{if◌then◌else◌, is_none, Option, None, Some, ⊤}
 use Rattle.lemmas.specs.Extremes.{greatest}
 use Rattle.limit_laws.specs.Algorithm.{greatest_limit}
 use Rattle.limit_kinds.specs.AnyKinds.{any_kind, any_rules, any_with_greatest}
@@ -13,6 +14,15 @@ use Rattle.gateway_settings.specs.declared.settings.Settings.{Settings}
 abbrev pub backlog_for : ℕ → Settings → ℕ
 backlog_for n s =
     if s.omitted.backlog then min s.backlog (n / 4 + placed s.table) else s.backlog
+
+-- the MiB of all bodies together for exchanges: 1,024 where they are omitted
+abbrev pub bodies_for : Settings → ℕ
+bodies_for s = if s.omitted.bodies then 1024 else s.bodies_mib
+
+-- the bound on the bytes of all bodies: of what is written or is made for exchanges, and else none
+abbrev pub bodies_bound : Settings → Option ℕ
+bodies_bound s =
+    if s.omitted.bodies && is_none s.exchanges then None else Some (s.bodies_mib * 1048576)
 
 -- how many of the exchanges can wait
 abbrev pub waiting_for : ℕ → Settings → ℕ
@@ -53,6 +63,7 @@ greatest_hi n s =
 abbrev pub settings_for : ℕ → Settings → Settings
 settings_for n s = record s {
   backlog = backlog_for n s;
+  bodies_mib = bodies_for s;
   limit = if gives_way s then any_with_greatest (greatest_hi n s) s.limit else s.limit;
   exchanges = Some n;
 }

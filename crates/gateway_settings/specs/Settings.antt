@@ -14,5 +14,6 @@ pub record AreSound (s : Settings) : Type 0 where
   pub client_idle_most : s.client_idle_ns ≤ 3600000000000
   pub backends_most : s.backends ≤ 4096
   pub backend_idle_most : s.backend_idle_ns ≤ 3600000000000
+  pub bodies_most : s.bodies_mib ≤ 1048576
   pub keep_least : 1 ≤ s.keep
   pub keep_most : s.keep ≤ 1000000

@@ -3,7 +3,8 @@ ghost use Rattle.std.specs.Prelude.{◌≡◌, ℕ, ◌+◌, ◌≤◌, ◌↔�
 ghost use Rattle.limit_laws.specs.Algorithm.{IsWithin, greatest_limit};
 ghost use Rattle.limit_kinds.specs.AnyKinds.{any_rules, any_with_greatest};
 ghost use Rattle.partitions.specs.Table.{bound};
-ghost use Rattle.gateway_settings.specs.Exchanges.{AreEnough, backlog_for, gives_way, greatest_hi};
+ghost use Rattle.gateway_settings.specs.Exchanges.{AreEnough, backlog_for, bodies_bound, bodies_for};
+ghost use Rattle.gateway_settings.specs.Exchanges.{gives_way, greatest_hi};
 ghost use Rattle.gateway_settings.specs.Exchanges.{AreEnoughFor, AreTooFew, least_hi, settings_by};
 ghost use Rattle.gateway_settings.specs.Exchanges.{settings_for, waiting_for};
 ghost use Rattle.gateway_settings.specs.Settings.{AreSound};
@@ -12,6 +13,12 @@ ghost use Rattle.gateway_settings.specs.Workers.{waiting};
 use crate::settings::Settings;
 use limit_kinds::{AnyLimit, LimitKind};
 use limit_laws::{GREATEST_LIMIT, Limit};
+
+/// How many bytes a MiB is.
+const MIB: u64 = 1 << 20;
+
+/// How many MiB all bodies of a number of exchanges may have, where that isn't written.
+const BODIES_OF_EXCHANGES_MIB: u32 = 1_024;
 
 /// Why settings are not those for a number of exchanges: there are too few.
 #[derive(Clone, Copy)]
@@ -45,6 +52,7 @@ impl Settings {
         let limit = self.limit_within(exchanges);
         Ok(Settings {
             backlog,
+            bodies_mib: self.bodies_for(),
             limit,
             exchanges: Some(exchanges),
             ..self
@@ -63,6 +71,29 @@ impl Settings {
         match exchanges {
             Some(exchanges) => self.for_exchanges(exchanges),
             None => Ok(self),
+        }
+    }
+
+    /// How many bytes all bodies that are held may have together; none where there is no bound.
+    pub fn bodies_bound(&self) -> Option<u64>
+        requires { AreSound self.now }
+        ensures { result ≡ bodies_bound self.now }
+    {
+        if self.omitted.bodies && self.exchanges.is_none() {
+            None
+        } else {
+            Some(u64::from(self.bodies_mib) * MIB)
+        }
+    }
+
+    /// How many MiB they may have for a number of exchanges.
+    fn bodies_for(&self) -> u32
+        ensures { result ≡ bodies_for self.now }
+    {
+        if self.omitted.bodies {
+            BODIES_OF_EXCHANGES_MIB
+        } else {
+            self.bodies_mib
         }
     }
 

@@ -7,4 +7,6 @@ pub struct OmittedKeys {
     pub backlog: bool,
     /// The key `max` of the table `limit`.
     pub limit_max: bool,
+    /// The key `bodies_mib`.
+    pub bodies: bool,
 }

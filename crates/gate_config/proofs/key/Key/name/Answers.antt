@@ -31,6 +31,9 @@ returns-in-Backends c = search rules
 pub returns-in-BackendIdleMs : goal.returns-in-BackendIdleMs
 returns-in-BackendIdleMs c = search rules
 
+pub returns-in-BodiesMib : goal.returns-in-BodiesMib
+returns-in-BodiesMib c = search rules
+
 pub returns-in-Keep : goal.returns-in-Keep
 returns-in-Keep c = search rules
 
