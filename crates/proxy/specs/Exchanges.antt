@@ -22,7 +22,7 @@ use Rattle.proxy.specs.declared.told.ExchangeSummary.{ExchangeSummary}
 use Rattle.proxy.specs.declared.told.Verdict.TheVariants as verdict
 use Rattle.proxy.specs.Keeping.{Persists}
 use Rattle.proxy.specs.Settling.{IsSettled, class_by}
-use Rattle.proxy.specs.Table.{is_sent_own, outcome_at, sent_status, sent_text}
+use Rattle.proxy.specs.Table.{fault_status, is_sent_own, outcome_at, sent_status, sent_text}
 
 -- the bytes that a reader has left or that a writer holds, where they are known
 abbrev pub Bytes : Type 0
@@ -99,6 +99,11 @@ is_empty other before reads = false
 abbrev pub is_unsent : Result Request WireFault → ℕ → ℕ → Bool
 is_unsent (Err f) before reads = is_empty f before reads
 is_unsent (Ok request) before reads = false
+
+-- it ended as the body of its request wasn't held: the gate wasn't asked, and the answer is that of
+-- this fault
+abbrev pub IsUnheld : ExchangeSummary → Type 0
+IsUnheld x = (x.admission ≡ verdict.NotAsked) × (x.answer ≡ fault_status fault.Bodies)
 
 -- AN EXCHANGE: something is read, and dealt with; what is told of it, and what is written to the
 -- client, or with a fault of writing a beginning of that, is by the table of answers, its own

@@ -14,7 +14,7 @@ use Rattle.wire.specs.Response.{ResponseValue}
 use Rattle.wire.specs.Written.{response_text}
 use Rattle.wire.specs.declared.answer.BackendAnswer.{BackendAnswer}
 use Rattle.wire.specs.declared.answer.BackendAnswer.TheVariants.{Answered, NotConnected, Broken}
-use Rattle.wire.specs.declared.answer.BackendAnswer.TheVariants.{Stale, Late, Memory}
+use Rattle.wire.specs.declared.answer.BackendAnswer.TheVariants.{Stale, Late, Memory, Bodies}
 use Rattle.proxy.specs.declared.told.Verdict.{Verdict}
 use Rattle.proxy.specs.declared.told.Verdict.TheVariants.{Refused}
 
@@ -34,6 +34,7 @@ outcome_of (Broken f) = Dropped
 outcome_of (Stale f) = Dropped
 outcome_of Late = Dropped
 outcome_of Memory = Ignored
+outcome_of Bodies = Ignored
 
 abbrev pub outcome_at : Option BackendAnswer → Option Outcome
 outcome_at None = None
@@ -49,6 +50,7 @@ fault_status fault.BodyTooLarge = Some 413
 fault_status fault.Coding = Some 501
 fault_status fault.Method = Some 501
 fault_status fault.Memory = Some 500
+fault_status fault.Bodies = Some 503
 fault_status fault.Read = None
 fault_status fault.Write = None
 fault_status fault.TurnLimit = None
@@ -62,6 +64,7 @@ reply_of (Some (Broken f)) = Err 502
 reply_of (Some (Stale f)) = Err 502
 reply_of (Some Late) = Err 504
 reply_of (Some Memory) = Err 500
+reply_of (Some Bodies) = Err 502
 reply_of None = Err 429
 
 -- WHO GETS NO REPLY: a client on a later request of its connection, where that of the backend was
@@ -96,10 +99,12 @@ backend_mark (Broken f) = codes "broken"
 backend_mark (Stale f) = codes "broken"
 backend_mark Late = codes "late"
 backend_mark Memory = codes "memory"
+backend_mark Bodies = codes "bodies"
 
 -- or the request couldn't be read
 abbrev pub fault_mark : WireFault → List ℕ
 fault_mark fault.Memory = codes "memory"
+fault_mark fault.Bodies = codes "bodies"
 fault_mark f = codes "unread"
 
 abbrev pub mark_of : Verdict → Option BackendAnswer → Option (List ℕ)

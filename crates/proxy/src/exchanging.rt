@@ -3,10 +3,11 @@ ghost use Rattle.std.specs.Prelude.{◌≡◌, ◌==◌, ◌⊎◌, None, Some, 
 ghost use Rattle.counted_io.specs.Causes.{IsWriteCause};
 ghost use Rattle.counted_io.specs.Counted.{failures_of, inner_of, is_flushed};
 ghost use Rattle.counted_io.specs.Effects.{Wrote};
+ghost use Rattle.message_reading.specs.Holding.{Refuses};
 ghost use Rattle.message_text.specs.Fronts.{WroteFront};
 ghost use Rattle.message_text.specs.declared.persistence.Persistence.TheVariants.{Close};
 ghost use Rattle.proxy.specs.Table.{fault_mark, fault_status, if_marked, own_or_nothing};
-ghost use Rattle.proxy.specs.Exchanges.{IsExchange, is_empty, told_by};
+ghost use Rattle.proxy.specs.Exchanges.{IsExchange, IsUnheld, is_empty, told_by};
 ghost use Rattle.proxy.specs.Made.{counts_of, is_all_sent, reads_of, summary_of, writes_of};
 
 use crate::keeping::{ExchangePolicy, Keeper, persistence_behind};
@@ -15,13 +16,13 @@ use crate::replying::{
 };
 use crate::settling::{outcome_at, settle};
 use crate::told::{CallCounts, Exchange, ExchangeSummary, Verdict};
+use body_memory::BodyMemory;
 use clocks::{Clock, MonotonicClock};
 use counted_io::Counted;
 use gate_port::GatePort;
 use gateway_settings::Settings;
 use lent_io::ReadAhead;
 use message_text::Persistence;
-use std::alloc::Global;
 use std::io::{BufRead, Write};
 use wire::{Backend, BackendAnswer, WireFault, read_request};
 
@@ -38,10 +39,11 @@ use wire::{Backend, BackendAnswer, WireFault, read_request};
 /// The answer has no line `Connection: close`, and `persistence` is `Keep`, where the request is in
 /// HTTP/1.1 and has no such option (RFC 9112, section 9.3), it was read and nothing behind it, the
 /// answer tells where it ends, and the policy's keeper lets the client be kept; it is asked as the
-/// permit is ended. A later request of a connection gets no answer, and `persistence` is `Close`,
+/// permit is ended. A request whose body the memory refuses to hold is answered 503, like one that
+/// can't be read. A later request of a connection gets no answer, and `persistence` is `Close`,
 /// where the backend's connection was stale.
-pub fn exchange<P, B, C, R, W, K>(
-    alloc: Global,
+pub fn exchange<M, P, B, C, R, W, K>(
+    memory: &mut M,
     port: &mut P,
     backend: &mut B,
     settings: &Settings,
@@ -51,6 +53,7 @@ pub fn exchange<P, B, C, R, W, K>(
     writer: &mut Counted<W>,
 ) -> Exchange
 where
+    M: BodyMemory,
     P: GatePort,
     B: Backend,
     C: Clock,
@@ -94,9 +97,13 @@ where
         failures_of writer.new ≡ failures_of writer.old }
     ensures written { IfSome (summary_of result).written_fault (λ fault.
         (fault ≡ WireFault.Write) × IsWriteCause writer.old writer.new) }
+    ensures full { (¬ (M.refused memory.new ≡ M.refused memory.old))
+        → IsUnheld (summary_of result) }
+    ensures refused { IsUnheld (summary_of result)
+        → Refuses (M.refused memory.old) (M.refused memory.new) }
 {
     let before = reader.calls();
-    let request = match read_request(alloc, reader, writer) {
+    let request = match read_request(memory, reader, writer) {
         Ok(request) => request,
         Err(fault) => {
             let is_empty = is_empty(fault, before, reader.calls());

@@ -38,6 +38,7 @@ pub(crate) fn reply_of(answer: &Option<BackendAnswer>) -> Result<&Response, u16>
         Some(BackendAnswer::Stale(_)) => Err(502),
         Some(BackendAnswer::Late) => Err(504),
         Some(BackendAnswer::Memory) => Err(500),
+        Some(BackendAnswer::Bodies) => Err(502),
         None => Err(429),
     }
 }
@@ -102,6 +103,7 @@ fn backend_mark(answer: &BackendAnswer) -> &'static str
         BackendAnswer::NotConnected => "unreached",
         BackendAnswer::Late => "late",
         BackendAnswer::Memory => "memory",
+        BackendAnswer::Bodies => "bodies",
     }
 }
 
@@ -133,6 +135,7 @@ pub(crate) fn fault_mark(marks: bool, fault: WireFault) -> Option<&'static str>
     }
     match fault {
         WireFault::Memory => Some("memory"),
+        WireFault::Bodies => Some("bodies"),
         _ => Some("unread"),
     }
 }
@@ -227,6 +230,7 @@ pub fn fault_status(fault: WireFault) -> Option<u16>
         WireFault::BodyTooLarge => Some(413),
         WireFault::Coding | WireFault::Method => Some(501),
         WireFault::Memory => Some(500),
+        WireFault::Bodies => Some(503),
         WireFault::Read | WireFault::Write | WireFault::TurnLimit => None,
     }
 }

@@ -45,6 +45,7 @@ fn outcome(answer: &BackendAnswer) -> Outcome
         BackendAnswer::Stale(_) => Outcome::Dropped,
         BackendAnswer::Late => Outcome::Dropped,
         BackendAnswer::Memory => Outcome::Ignored,
+        BackendAnswer::Bodies => Outcome::Ignored,
     }
 }
 

@@ -13,11 +13,11 @@ use crate::call_time::CallTime;
 use crate::early::EarlyRead;
 use crate::ends::RequestOutlet;
 use crate::unanswered::UnansweredWrite;
+use body_memory::BodyMemory;
 use clocks::Clock;
 use counted_io::Counted;
 use lent_io::{BufferedRead, BufferedWrite, ReadBuffer, WriteBuffer};
 use message_parts::Request;
-use std::alloc::Global;
 use std::io::Read;
 use std::net::OpenStream;
 use std::os::fd::AsRawFd;
@@ -90,8 +90,8 @@ impl<S> ReadAnswer<S> {
 // request, and close or read no further (RFC 9112, section 9.5), so the answer is looked for behind
 // a write that failed or stands still, too; nothing more is written then. Both end with the time of
 // the call.
-pub(crate) fn ask<S, E, C>(
-    alloc: Global,
+pub(crate) fn ask<M, S, E, C>(
+    memory: &mut M,
     call: &CallTime<'_, C>,
     stream: S,
     end: E,
@@ -99,6 +99,7 @@ pub(crate) fn ask<S, E, C>(
     sending: &Sending<'_>,
 ) -> Attempt<S, E>
 where
+    M: BodyMemory,
     S: Read + OpenStream + AsRawFd,
     E: RequestOutlet<S>,
     C: Clock,
@@ -117,10 +118,10 @@ where
     } = send(stream, end, call.countdown(), behind, sending);
     let reader = AnswerRead::new(stream, call.countdown());
     if !is_sent {
-        let read = read_early(alloc, reader, ahead, sending.request);
+        let read = read_early(memory, reader, ahead, sending.request);
         return read.behind_request(is_sent, end, behind);
     }
-    let read = read_answer(alloc, reader, ahead, sending.request);
+    let read = read_answer(memory, reader, ahead, sending.request);
     read.behind_request(is_sent, end, behind)
 }
 
@@ -158,14 +159,14 @@ fn send<S: OpenStream, E: RequestOutlet<S>, C: Clock>(
 }
 
 // The answer behind a request that was written whole.
-fn read_answer<S: Read + OpenStream + AsRawFd, C: Clock>(
-    alloc: Global,
+fn read_answer<M: BodyMemory, S: Read + OpenStream + AsRawFd, C: Clock>(
+    memory: &mut M,
     reader: AnswerRead<'_, S, C>,
     ahead: ReadBuffer,
     request: &Request,
 ) -> ReadAnswer<S> {
     let mut reader = Counted::new(BufferedRead::new(reader, ahead));
-    let answer = read_response(alloc, &mut reader, &request.method);
+    let answer = read_response(memory, &mut reader, &request.method);
     let (reader, ahead) = reader.into_inner().into_parts();
     ReadAnswer {
         answer,
@@ -178,8 +179,8 @@ fn read_answer<S: Read + OpenStream + AsRawFd, C: Clock>(
 
 // The answer that came before the request was written. It has to say its own length: its end may be
 // a cut. Where there is none, the fault is that of the write.
-fn read_early<S: Read + OpenStream + AsRawFd, C: Clock>(
-    alloc: Global,
+fn read_early<M: BodyMemory, S: Read + OpenStream + AsRawFd, C: Clock>(
+    memory: &mut M,
     reader: AnswerRead<'_, S, C>,
     ahead: ReadBuffer,
     request: &Request,
@@ -187,9 +188,10 @@ fn read_early<S: Read + OpenStream + AsRawFd, C: Clock>(
     ensures { IfErr result.answer IsCut }
 {
     let mut reader = Counted::new(BufferedRead::new(EarlyRead::new(reader), ahead));
-    let answer = match read_response(alloc, &mut reader, &request.method) {
+    let answer = match read_response(memory, &mut reader, &request.method) {
         Ok(response) => Ok(response),
         Err(WireFault::Memory) => Err(WireFault::Memory),
+        Err(WireFault::Bodies) => Err(WireFault::Bodies),
         Err(_) => Err(WireFault::Write),
     };
     let (reader, ahead) = reader.into_inner().into_parts();
@@ -235,6 +237,7 @@ pub(crate) fn answer_of(
     match asked {
         Ok(response) => BackendAnswer::Answered(response),
         Err(WireFault::Memory) => BackendAnswer::Memory,
+        Err(WireFault::Bodies) => BackendAnswer::Bodies,
         Err(WireFault::Read | WireFault::Write) if is_over => BackendAnswer::Late,
         Err(fault) if is_stale => BackendAnswer::Stale(fault),
         Err(fault) => BackendAnswer::Broken(fault),

@@ -19,10 +19,11 @@ use crate::call_time::{CallTime, connect_time};
 use crate::dialing::{Connected, Connector};
 use crate::watch::{BackendWatch, ConnectionEvent};
 use arrayvec::ArrayString;
+use body_memory::{BodyMemory, HeldBodies};
 use clocks::Clock;
 use itoa::Buffer;
 use message_parts::{Method, Request};
-use std::alloc::{AllocError, Global};
+use std::alloc::AllocError;
 use std::io::Error;
 use std::net::SocketAddrV4;
 use wire::{Backend, BackendAnswer, Persistence};
@@ -46,28 +47,36 @@ impl From<AllocError> for BackendFault {
 pub struct TcpBackend<'c, K, S, W, C> {
     connector: K,
     watch: W,
-    line: Line<S>,
+    line: Line<'c, S>,
     limit: Limit<'c, C>,
 }
 
-/// What serves one connection after another, and the one whose answer was read last, until it is
-/// left. A call takes the buffers, and puts them back.
+/// What serves one connection after another: what holds the bodies of its answers, the last one's
+/// until it is left, and the connection of that. A call takes the buffers, and puts them back.
 #[derive(Drop)]
-struct Line<S> {
-    alloc: Global,
+struct Line<'c, S> {
+    bodies: HeldBodies<'c>,
     host: ArrayString<21>,
     buffers: Option<CallBuffers>,
     answered: Option<S>,
 }
 
-impl<S: Drop> Line<S> {
+impl<'c, S: Drop> Line<'c, S> {
+    // Lets go of the last answer, where it wasn't left.
+    fn let_go(&mut self)
+        ensures host { self.new.host ≡ self.old.host }
+    {
+        self.answered = None;
+        self.bodies.release();
+    }
+
     // The buffers, by value; new ones where a call kept them, which none does.
     fn take_buffers(&mut self) -> Result<CallBuffers, AllocError>
         ensures host { self.new.host ≡ self.old.host }
     {
         match self.buffers.take() {
             Some(buffers) => Ok(buffers),
-            None => CallBuffers::new(self.alloc),
+            None => CallBuffers::new(self.bodies.alloc()),
         }
     }
 
@@ -112,10 +121,11 @@ impl<'c, K: Connector + Drop, W: Drop, C> TcpBackend<'c, K, K::Stream, W, C> {
     /// The backend at the address of this connector. A request that names no host is sent with the
     /// address as its host. A call may take so many nanoseconds of the clock, from its connect to
     /// the end of its answer, and without a limit as long as the backend takes. Nothing is
-    /// connected yet, and it fails only out of memory for the buffers.
+    /// connected yet, and it fails only out of memory for the buffers. The bodies of answers are held
+    /// by `bodies`, each until it is left.
     pub fn new(
         connector: K,
-        alloc: Global,
+        bodies: HeldBodies<'c>,
         watch: W,
         clock: &'c C,
         most_ns: Option<u64>,
@@ -124,10 +134,11 @@ impl<'c, K: Connector + Drop, W: Drop, C> TcpBackend<'c, K, K::Stream, W, C> {
         ensures host { IfOk result (λ backend. host_of backend ≡ K.reaches connector) }
         ensures limit { IfOk result (λ backend. limit_of backend ≡ most_ns) }
     {
+        let buffers = CallBuffers::new(bodies.alloc())?;
         let line = Line {
-            alloc,
+            bodies,
             host: host_text(connector.address()),
-            buffers: Some(CallBuffers::new(alloc)?),
+            buffers: Some(buffers),
             answered: None,
         };
         Ok(TcpBackend {
@@ -153,7 +164,7 @@ impl<'c, K: Connector, W: BackendWatch, C: Clock> Backend for TcpBackend<'c, K, 
 
     /// Asks for a connection once, writes the request and reads one response. Where there is no
     /// connection, that is `NotConnected`; each later fault is `Broken`, but out of memory is
-    /// `Memory`; and where the time of the call is over before, all that is `Late`. A connection
+    /// `Memory`, and a body that may not be held is `Bodies`; and where the time of the call is over before, all that is `Late`. A connection
     /// that was kept may have been closed by the backend meanwhile: a fault over one is `Stale`
     /// where no byte of an answer came, and the request isn't sent again (RFC 9110, section 9.2.2).
     /// A response that says its own length is read behind a write that failed or stands still, too:
@@ -181,7 +192,8 @@ impl<'c, K: Connector, W: BackendWatch, C: Clock> Backend for TcpBackend<'c, K, 
     }
 
     /// Reads the connection of the last answer to its end, and closes it, so that a backend which
-    /// closes it does so first. One that keeps it open isn't waited for.
+    /// closes it does so first. One that keeps it open isn't waited for. The body of that answer is
+    /// held no longer.
     fn leave(&mut self)
         ensures count { K.connects (connector_of self.new)
             ≡ K.connects (connector_of self.old) }
@@ -193,6 +205,7 @@ impl<'c, K: Connector, W: BackendWatch, C: Clock> Backend for TcpBackend<'c, K, 
         if let Some(mut stream) = self.line.answered.take() {
             read_on(&mut stream);
         }
+        self.line.bodies.release();
     }
 
     fn forwards(&self) -> u64 {
@@ -204,7 +217,7 @@ impl<'c, K: Connector, W: BackendWatch, C: Clock> Backend for TcpBackend<'c, K, 
 // second one.
 fn forward_over<K: Connector, W: BackendWatch, C: Clock>(
     connector: &mut K,
-    line: &mut Line<K::Stream>,
+    line: &mut Line<'_, K::Stream>,
     limit: &Limit<'_, C>,
     watch: &W,
     request: &Request,
@@ -218,7 +231,7 @@ fn forward_over<K: Connector, W: BackendWatch, C: Clock>(
     ensures fresh { K.keeps connector.old ≡ false
         → (fault : WireFault) → ¬ (result ≡ Stale fault) }
 {
-    line.answered = None;
+    line.let_go();
     let call = CallTime::begin(limit.clock, limit.most_ns);
     let most = connect_time(limit.most_ns);
     let Connected {
@@ -239,7 +252,7 @@ fn forward_over<K: Connector, W: BackendWatch, C: Clock>(
         host: line.host.as_str(),
         persistence,
     };
-    let attempt = ask(line.alloc, &call, stream, end, buffers, &sending);
+    let attempt = ask(&mut line.bodies, &call, stream, end, buffers, &sending);
     let (answer, left) = line.put_back(&call, attempt, persistence, is_reused);
     tell(watch, &answer);
     line.answered = give_back(connector, limit.clock, watch, left);
@@ -283,6 +296,7 @@ fn tell<W: BackendWatch>(watch: &W, answer: &BackendAnswer) {
         BackendAnswer::Broken(fault) => watch.broken(*fault),
         BackendAnswer::Stale(fault) => watch.broken(*fault),
         BackendAnswer::Late => watch.late(),
+        BackendAnswer::Bodies => watch.unheld(),
         BackendAnswer::Answered(_) | BackendAnswer::NotConnected | BackendAnswer::Memory => {}
     }
 }

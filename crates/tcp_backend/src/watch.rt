@@ -29,6 +29,9 @@ pub trait BackendWatch {
     /// The time for a call was over before its response was read whole.
     fn late(&self);
 
+    /// The body of a response may not be held: all bodies together have as many bytes as they may.
+    fn unheld(&self);
+
     /// This became of a connection.
     fn connection(&self, event: ConnectionEvent);
 }

@@ -1,5 +1,5 @@
 use Rattle.std.proofs.Common.{rules, ◌≡◌, ◌∙◌, ℕ, ◌<◌, ◌⊎◌, IfSome, List, Option, None, Some, Result, Ok, Err, ap, is_ok, take}
-use Rattle.std.proofs.Common.{is_some, refl, subst, sym, true≢false}
+use Rattle.std.proofs.Common.{is_some, refl, subst, sym, true≢false, ⊎_elim}
 use Rattle.std.specs.Io.KnownBytes.{Appends}
 use Rattle.counted_io.specs.Count.{count_end}
 use Rattle.counted_io.specs.Counted.{failures_of, inner_of}
@@ -7,6 +7,8 @@ use Rattle.message_parts.specs.declared.request.Request.{Request}
 use Rattle.wire.specs.declared.fault.WireFault.{WireFault}
 use Rattle.wire.specs.declared.fault.WireFault.TheVariants.{Write}
 use Rattle.proxy.specs.Table.{reply_text}
+use Rattle.proxy.specs.Table.{fault_status}
+use Rattle.proxy.proofs.Unheld.{by_status, is_or_not}
 use Rattle.proxy.proofs.exchanging.exchange.Goals as goal
 
 -- the fault of a result that has one
@@ -128,3 +130,22 @@ pub returns-clause-unfailing : goal.returns-clause-unfailing
 returns-clause-unfailing g c = λ none.
     c.reply-written_fault.ensures.unfailing none
     ∙ c.in-Ok.ensures.unfailing (λ same. true≢false (ap is_ok same))
+
+pub returns-in-Err-clause-full : goal.returns-in-Err-clause-full
+returns-in-Err-clause-full g c = λ changed.
+    let told = c.unread-told.ensures in
+    ⊎_elim (λ is. (told.admission, told.answer ∙ ap fault_status is))
+    (λ other. absurd (changed (c.in-Err.ensures.accepted (λ same. other (ap fault_in same)))))
+    (is_or_not c.in-Err.fault)
+
+pub returns-in-Err-clause-refused : goal.returns-in-Err-clause-refused
+returns-in-Err-clause-refused g c = λ unheld.
+    c.in-Err.ensures.bodies
+    (ap Err (by_status c.in-Err.fault (sym c.unread-told.ensures.answer ∙ unheld.1)))
+
+pub returns-clause-full : goal.returns-clause-full
+returns-clause-full g c = λ changed.
+    absurd (changed (c.in-Ok.ensures.accepted (λ same. true≢false (ap is_ok same))))
+
+pub returns-clause-refused : goal.returns-clause-refused
+returns-clause-refused g c = λ unheld. absurd (c.settle-settled.ensures.asked unheld.0)

@@ -15,3 +15,6 @@ returns-in-Memory c = search rules
 
 pub returns-in-Late : goal.returns-in-Late
 returns-in-Late c = search rules
+
+pub returns-in-Bodies : goal.returns-in-Bodies
+returns-in-Bodies c = search rules
