@@ -1,1 +1,3 @@
 pub mod Accepted
+pub mod Roll
+pub mod Tokens

@@ -1,4 +1,8 @@
 // Clients over TCP.
+ghost use Rattle.listening.specs.Roll.{Goes};
+ghost use Rattle.listening.specs.Tokens.{roll_on, unseen};
+
+use crate::bound_token::{BoundToken, TokensOut};
 use crate::listener::{AcceptedClient, Closable, Listener};
 use crate::opaque_end::OpaqueEnd;
 use crate::room::{Came, Room};
@@ -40,6 +44,7 @@ pub struct BoundListener<'r, R> {
     told: AtomicU64,
     // One who was accepted, but can't wait, while somebody else was to be served.
     unseated: Mutex<Option<TcpStream>>,
+    tokens: TokensOut,
     open: AtomicBool,
     has_places: AtomicBool,
 }
@@ -65,9 +70,35 @@ impl<'r, R: Net + Wait + Clock> BoundListener<'r, R> {
             room,
             told: AtomicU64::new(0),
             unseated: Mutex::new(None),
+            tokens: TokensOut::new(),
             open: AtomicBool::new(true),
             has_places: AtomicBool::new(false),
         })
+    }
+
+    // The next client, a new one or one who is kept, where this token is one of the listener.
+    fn await_client(&self, token: &BoundToken) -> Result<Arrival> {
+        if !token.is_of(self.listener.as_raw_fd()) {
+            return Err(Error::from(ErrorKind::NotConnected));
+        }
+        for _ in self.rt.forever() {
+            if let Some(client) = self.await_event()? {
+                return Ok(client);
+            }
+        }
+        Err(Error::from(ErrorKind::NotConnected))
+    }
+
+    // The next new client. Who was kept is let go.
+    fn await_new(&self, token: &BoundToken) -> Result<Arrival> {
+        for _ in self.rt.forever() {
+            let client = self.await_client(token)?;
+            if !client.is_kept {
+                return Ok(client);
+            }
+            client.close();
+        }
+        Err(Error::from(ErrorKind::NotConnected))
     }
 
     // The next event, and the client that comes of it.
@@ -172,33 +203,41 @@ impl<'r, R: Net + Wait + Clock> Listener for BoundListener<'r, R> {
 
     type To = OpaqueEnd;
 
+    type Token = BoundToken;
+
     ghost use Rattle.std.specs.Prelude.{⊤};
+    ghost use Rattle.listening.specs.Tokens.{roll_on};
 
     ghost came = { λ _ _. ⊤ };
 
     ghost found = { λ _ _. ⊤ };
 
-    fn accept(&self) -> Result<Arrival> {
-        for _ in self.rt.forever() {
-            let client = self.next()?;
-            if !client.is_kept {
-                return Ok(client);
-            }
-            client.close();
-        }
-        Err(Error::from(ErrorKind::NotConnected))
+    ghost roll = { λ _ token. roll_on token };
+
+    ghost gave = { λ _ _. ⊤ };
+
+    ghost lost = { λ _. ⊤ };
+
+    fn token(&self) -> BoundToken {
+        self.tokens.give(self.rt, self.listener.as_raw_fd())
     }
 
-    fn next(&self) -> Result<Arrival> {
-        for _ in self.rt.forever() {
-            if let Some(client) = self.await_event()? {
-                return Ok(client);
-            }
-        }
-        Err(Error::from(ErrorKind::NotConnected))
+    fn accept(&self, token: &mut BoundToken) -> Result<Arrival> {
+        let client = self.await_new(token)?;
+        token.raise_came();
+        Ok(client)
     }
 
-    fn keep(&self, client: Arrival) {
+    fn next(&self, token: &mut BoundToken) -> Result<Arrival> {
+        let client = self.await_client(token)?;
+        token.raise_came();
+        Ok(client)
+    }
+
+    fn keep(&self, token: &mut BoundToken, client: Arrival)
+        ensures { Goes (roll_on token.old) (roll_on token.new) unseen }
+    {
+        token.raise_left();
         let AcceptedClient {
             stream,
             is_kept: _,
@@ -207,6 +246,21 @@ impl<'r, R: Net + Wait + Clock> Listener for BoundListener<'r, R> {
         if self.keeps() {
             let _unseated = self.room.keep(stream);
         }
+    }
+
+    fn let_go(&self, token: &mut BoundToken, client: Arrival)
+        ensures { Goes (roll_on token.old) (roll_on token.new) unseen }
+    {
+        token.raise_left();
+        client.close();
+    }
+
+    fn join(&self, token: &mut BoundToken, other: BoundToken) {
+        self.tokens.join(self.rt, token, other);
+    }
+
+    fn gave_all(&self, all: BoundToken) -> bool {
+        self.tokens.close(self.rt, self.listener.as_raw_fd(), &all)
     }
 
     fn keeps(&self) -> bool {

@@ -1,40 +1,59 @@
 // A listener whose accepts are counted.
-ghost use Rattle.std.specs.Prelude.{◌≡◌, [], false, is_ok, if◌then◌else◌, IfOk, IfSome};
+ghost use Rattle.std.specs.Prelude.{◌≡◌, [], false, is_ok, if◌then◌else◌, IfOk, IfSome, OnErr};
 ghost use Rattle.counted_io.specs.Count.{raised, raised_by_err};
 ghost use Rattle.timed_io.specs.Client.{from_of, to_of};
-ghost use Rattle.listening.specs.Accepted.{accepted_of, kept_of, listener_of, missed_of};
+ghost use Rattle.listening.specs.Accepted.{accepted_of, kept_of, listener_of, missed_of, token_of};
+ghost use Rattle.listening.specs.Roll.{Comes, Goes, Stays, nobody, seen_at};
 
 use crate::listener::{AcceptedClient, Listener};
 use std::io::Result;
 
-/// A listener, as one of those has it who share it: each of its accepts is counted, and each client
-/// who is left there. A count stays at its greatest value.
+/// A listener, as one of those has it who share it: by a token of its own, with which each of its
+/// accepts is counted, and each client who is left there. A count stays at its greatest value.
 #[derive(Drop)]
-pub struct CountedListener<'a, L> {
+pub struct CountedListener<'a, L, K> {
     listener: &'a L,
+    token: K,
     accepted: u64,
     missed: u64,
     kept: u64,
 }
 
-impl<'a, L> CountedListener<'a, L> {
+impl<'a, L, K> CountedListener<'a, L, K> {
+    /// Its token, which tells who was given by it and left.
+    pub fn into_token(self) -> K
+        ensures { result ≡ token_of self.entry }
+    {
+        let CountedListener {
+            listener: _,
+            token,
+            accepted: _,
+            missed: _,
+            kept: _,
+        } = self;
+        token
+    }
+}
+
+impl<'a, L: Listener> CountedListener<'a, L, L::Token> {
     /// Nobody was asked for yet.
-    pub fn new(listener: &'a L) -> CountedListener<'a, L>
+    pub fn new(listener: &'a L) -> CountedListener<'a, L, L::Token>
         ensures listener { listener_of result ≡ listener.now }
         ensures accepted { accepted_of result ≡ 0 }
         ensures missed { missed_of result ≡ 0 }
         ensures kept { kept_of result ≡ 0 }
+        ensures rolled { IfSome (L.roll listener.now (token_of result))
+            (λ rolled. rolled ≡ nobody) }
     {
         CountedListener {
             listener,
+            token: listener.token(),
             accepted: 0,
             missed: 0,
             kept: 0,
         }
     }
-}
 
-impl<'a, L: Listener> CountedListener<'a, L> {
     /// Waits for the next new client, to whom nothing was written yet.
     pub fn accept(&mut self) -> Result<AcceptedClient<L::Stream, L::From, L::To>>
         ensures listener { listener_of self.new ≡ listener_of self.old }
@@ -46,8 +65,14 @@ impl<'a, L: Listener> CountedListener<'a, L> {
             L.came (listener_of self.old) (L.From.remaining (from_of client.ends))) }
         ensures unwritten { IfOk result (λ client.
             IfSome (L.To.contents (to_of client.ends)) (λ written. written ≡ [])) }
+        ensures given { IfOk result (λ client. Comes
+            (L.roll (listener_of self.old) (token_of self.old))
+            (L.roll (listener_of self.old) (token_of self.new))
+            (seen_at L.From.remaining L.To.contents client.ends)) }
+        ensures none { OnErr result (Stays (L.roll (listener_of self.old) (token_of self.old))
+            (L.roll (listener_of self.old) (token_of self.new))) }
     {
-        let outcome = self.listener.accept();
+        let outcome = self.listener.accept(&mut self.token);
         match &outcome {
             Ok(_) => self.accepted = self.accepted.saturating_add(1),
             Err(_) => self.missed = self.missed.saturating_add(1),
@@ -66,8 +91,14 @@ impl<'a, L: Listener> CountedListener<'a, L> {
             L.came (listener_of self.old) (L.From.remaining (from_of client.ends))) }
         ensures unwritten { IfOk result (λ client. client.is_kept ≡ false
             → IfSome (L.To.contents (to_of client.ends)) (λ written. written ≡ [])) }
+        ensures given { IfOk result (λ client. Comes
+            (L.roll (listener_of self.old) (token_of self.old))
+            (L.roll (listener_of self.old) (token_of self.new))
+            (seen_at L.From.remaining L.To.contents client.ends)) }
+        ensures none { OnErr result (Stays (L.roll (listener_of self.old) (token_of self.old))
+            (L.roll (listener_of self.old) (token_of self.new))) }
     {
-        let outcome = self.listener.next();
+        let outcome = self.listener.next(&mut self.token);
         match &outcome {
             Ok(_) => self.accepted = self.accepted.saturating_add(1),
             Err(_) => self.missed = self.missed.saturating_add(1),
@@ -81,9 +112,25 @@ impl<'a, L: Listener> CountedListener<'a, L> {
         ensures accepted { accepted_of self.new ≡ accepted_of self.old }
         ensures missed { missed_of self.new ≡ missed_of self.old }
         ensures kept { kept_of self.new ≡ raised (kept_of self.old) }
+        ensures left { Goes (L.roll (listener_of self.old) (token_of self.old))
+            (L.roll (listener_of self.old) (token_of self.new))
+            (seen_at L.From.remaining L.To.contents client.ends) }
     {
-        self.listener.keep(client);
+        self.listener.keep(&mut self.token, client);
         self.kept = self.kept.saturating_add(1);
+    }
+
+    /// Lets a client go.
+    pub fn let_go(&mut self, client: AcceptedClient<L::Stream, L::From, L::To>)
+        ensures listener { listener_of self.new ≡ listener_of self.old }
+        ensures accepted { accepted_of self.new ≡ accepted_of self.old }
+        ensures missed { missed_of self.new ≡ missed_of self.old }
+        ensures kept { kept_of self.new ≡ kept_of self.old }
+        ensures left { Goes (L.roll (listener_of self.old) (token_of self.old))
+            (L.roll (listener_of self.old) (token_of self.new))
+            (seen_at L.From.remaining L.To.contents client.ends) }
+    {
+        self.listener.let_go(&mut self.token, client);
     }
 
     /// Whether a client who is served now may be kept.

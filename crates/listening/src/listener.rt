@@ -1,6 +1,7 @@
 // Where connections come from.
-ghost use Rattle.std.specs.Prelude.{◌≡◌, [], false, IfOk, IfSome};
+ghost use Rattle.std.specs.Prelude.{◌≡◌, [], false, true, Some, IfOk, IfSome, OnErr};
 ghost use Rattle.timed_io.specs.Client.{from_of, to_of};
+ghost use Rattle.listening.specs.Roll.{Comes, Goes, Joins, Roll, Stays, nobody, seen_at};
 
 use seats::{ClientConnections, Places};
 use std::alloc::{AllocError, Global};
@@ -30,7 +31,7 @@ impl<S: Drop, F: Drop, T: Drop> AcceptedClient<S, F, T> {
     }
 }
 
-/// Where connections come from. Several threads may ask it at once.
+/// Where connections come from. Several threads may ask it at once, each by a token of its own.
 pub trait Listener {
     /// A client's connection, which is closed where its value ends. Whoever may do that says so by
     /// a bound of his own: nobody else lets a client go.
@@ -42,7 +43,12 @@ pub trait Listener {
     /// The end of it that is written.
     type To: Outlet<Self::Stream> + Drop;
 
+    /// The right to be given clients, of one of those who share it. It can't be copied, and counts
+    /// who was given by it, and who was left. Only the listener makes one.
+    type Token: Send + Drop;
+
     ghost use Rattle.std.specs.Prelude.{ℕ, Bool, List, Option};
+    ghost use Rattle.listening.specs.Roll.{Roll};
 
     // A client came there who would send these bytes, where they are known.
     ghost came: { Self → Option (List ℕ) → Type 0 };
@@ -50,26 +56,82 @@ pub trait Listener {
     // It was found open, or closed.
     ghost found: { Self → Bool → Type 0 };
 
+    // Who was given by a token of it, and who was left by that, where it is known.
+    ghost roll: { Self → Self.Token → Option Roll };
+
+    // Just these were given and left in all, since nobody is given any more.
+    ghost gave: { Self → Roll → Type 0 };
+
+    // It can't tell whom it gave in all.
+    ghost lost: { Self → Type 0 };
+
+    /// One token more, by which nobody was given yet.
+    fn token(&self) -> Self::Token
+        ensures { IfSome (roll self.now result) (λ rolled. rolled ≡ nobody) };
+
     /// Waits for the next new client, to whom nothing was written yet; the fault is the system's,
     /// where there was none to be had. Once it is closed, nobody waits. Nobody is kept where this
-    /// is asked: who was, is let go.
-    fn accept(&self) -> Result<AcceptedClient<Self::Stream, Self::From, Self::To>>
+    /// is asked: who was, is let go. A token of another listener, and any token once it was told
+    /// who was given in all, gives nobody.
+    fn accept(
+        &self,
+        token: &mut Self::Token,
+    ) -> Result<AcceptedClient<Self::Stream, Self::From, Self::To>>
         ensures came { IfOk result (λ client.
             came self.now (Self.From.remaining (from_of client.ends))) }
         ensures unwritten { IfOk result (λ client.
-            IfSome (Self.To.contents (to_of client.ends)) (λ written. written ≡ [])) };
+            IfSome (Self.To.contents (to_of client.ends)) (λ written. written ≡ [])) }
+        ensures given { IfOk result (λ client. Comes (roll self.now token.old)
+            (roll self.now token.new)
+            (seen_at Self.From.remaining Self.To.contents client.ends)) }
+        ensures missed { OnErr result (Stays (roll self.now token.old) (roll self.now token.new)) };
 
     /// Waits for the next client, a new one as [`accept`](Self::accept) does, or one who is kept
     /// and has sent something.
-    fn next(&self) -> Result<AcceptedClient<Self::Stream, Self::From, Self::To>>
+    fn next(
+        &self,
+        token: &mut Self::Token,
+    ) -> Result<AcceptedClient<Self::Stream, Self::From, Self::To>>
         ensures came { IfOk result (λ client.
             came self.now (Self.From.remaining (from_of client.ends))) }
         ensures unwritten { IfOk result (λ client. client.is_kept ≡ false
-            → IfSome (Self.To.contents (to_of client.ends)) (λ written. written ≡ [])) };
+            → IfSome (Self.To.contents (to_of client.ends)) (λ written. written ≡ [])) }
+        ensures given { IfOk result (λ client. Comes (roll self.now token.old)
+            (roll self.now token.new)
+            (seen_at Self.From.remaining Self.To.contents client.ends)) }
+        ensures missed { OnErr result (Stays (roll self.now token.old) (roll self.now token.new)) };
 
     /// Has a client who was served wait for its next request, as long as a kept one may; it is let
     /// go where it can't: without places, once this is closed, or where there is no memory.
-    fn keep(&self, client: AcceptedClient<Self::Stream, Self::From, Self::To>);
+    fn keep(
+        &self,
+        token: &mut Self::Token,
+        client: AcceptedClient<Self::Stream, Self::From, Self::To>,
+    )
+        ensures { Goes (roll self.now token.old) (roll self.now token.new)
+            (seen_at Self.From.remaining Self.To.contents client.ends) };
+
+    /// Lets a client go who was served: its connection is closed.
+    fn let_go(
+        &self,
+        token: &mut Self::Token,
+        client: AcceptedClient<Self::Stream, Self::From, Self::To>,
+    )
+        ensures { Goes (roll self.now token.old) (roll self.now token.new)
+            (seen_at Self.From.remaining Self.To.contents client.ends) };
+
+    /// Puts another token into one: who was given and left by it comes behind its own.
+    fn join(&self, token: &mut Self::Token, other: Self::Token)
+        ensures { Joins (roll self.now token.old) (roll self.now other)
+            (roll self.now token.new) };
+
+    /// Whether just those were given and left in all who were by this token: all others that there
+    /// were are put into it, and each client who was given was left. From then on nobody is given
+    /// any more.
+    fn gave_all(&self, all: Self::Token) -> bool
+        ensures all { result ≡ true → (rolled : Roll) × (roll self.now all ≡ Some rolled)
+            × gave self.now rolled }
+        ensures lost { result ≡ false → lost self.now };
 
     /// Whether a client who is served now may be kept: there are places, and it wasn't closed.
     fn keeps(&self) -> bool;
