@@ -45,7 +45,7 @@ pub trait Listener {
 
     /// The right to be given clients, of one of those who share it. It can't be copied, and counts
     /// who was given by it, and who was left. Only the listener makes one.
-    type Token: Send + Drop;
+    type Token: Drop;
 
     ghost use Rattle.std.specs.Prelude.{ℕ, Bool, List, Option};
     ghost use Rattle.listening.specs.Roll.{Roll};

@@ -6,6 +6,7 @@ use Rattle.counted_io.specs.Count.{count_end, raised}
 use Rattle.gate_port.specs.Log.{Known}
 use Rattle.gate_port.specs.Shown.{Shown}
 use Rattle.wire.specs.Forwards.{Forwarded}
+use Rattle.listening.specs.Roll.{Comes, Goes, Roll}
 use Rattle.timed_io.specs.declared.client_ends.ClientEnds.{ClientEnds}
 use Rattle.timed_io.specs.Client.{from_of, to_of}
 use Rattle.proxy.specs.declared.told.Exchange.{Exchange}
@@ -16,11 +17,12 @@ use Rattle.serving.specs.declared.working.TurnCounts.{TurnCounts}
 use Rattle.serving.specs.Served.{Back, IsServed, back_of, policy_for}
 use Rattle.proxy.specs.Made.{is_kept}
 use Rattle.serving.specs.Turns.{AreServed, AreTaken, Ending, IsRun, IsTurn, Keeping, Missing}
-use Rattle.serving.specs.Turns.{Place, Shows, Turn, Wait}
-use Rattle.serving.specs.Turns.{events_of, failed_by, given_by, missed, served}
+use Rattle.serving.specs.Turns.{Place, Rolls, Shows, Turn, Wait}
+use Rattle.serving.specs.Turns.{events_of, failed_by, given_by, missed, seen, served}
 use Rattle.serving.specs.Visits.{Arrives, Client, Closed, Closes, Event, Follows, Keeps, Kept}
 use Rattle.serving.specs.Visits.{LeavesBy, Missed, Misses, Opened, Visits}
 use Rattle.serving.proofs.Forwards.{exchanged_once}
+use Rattle.serving.proofs.RolledTurns.{all_rolled, nothing_rolled, visit_rolled}
 
 -- a client by the ends of its connection
 abbrev pub client_of : {I O : Type 0} → (I → Bytes) → (O → Bytes) → ClientEnds I O → Bool → Client
@@ -219,6 +221,7 @@ module _ (s : Policy) (came : Bytes → Type 0) where
       failed = refl;
       exchanges = refl;
       shown = nothing_shown place.visits;
+      rolled = nothing_rolled place.roll;
     };
     many = refl;
   }
@@ -230,8 +233,9 @@ module _ (s : Policy) (came : Bytes → Type 0) where
       → after.unaccepted ≡ before.unaccepted + missed (t ∷ [])
       → new.given ≡ given_by (t ∷ []) mid.given → new.failed ≡ failed_by (t ∷ []) mid.failed
       → AreServed s came (t ∷ []) mid.back new.back → Shows (t ∷ []) mid.visits new.visits
-      → Took (count + 1) old new after
-  goes_on count old mid new before after t took accepted unaccepted given failed exchanges shown =
+      → Rolls (t ∷ []) mid.roll new.roll → Took (count + 1) old new after
+  goes_on count old mid new before after t took accepted unaccepted given failed exchanges shown
+      rolled =
       let turns = took.turns in
       record {
         turns = turns ++ t ∷ [];
@@ -247,6 +251,7 @@ module _ (s : Policy) (came : Bytes → Type 0) where
           exchanges = all_served turns t old.back mid.back new.back took.taken.exchanges
               exchanges;
           shown = all_shown turns t old.visits mid.visits new.visits took.taken.shown shown;
+          rolled = all_rolled turns t old.roll mid.roll new.roll took.taken.rolled rolled;
         };
         many = length-append turns (t ∷ []) ∙ ap (λ (n : ℕ). n + 1) took.many;
       }
@@ -261,6 +266,9 @@ module _ (s : Policy) (came : Bytes → Type 0) where
     pub same : new.back ≡ back
     pub arrives : Arrives old.visits visits client
     pub leaves : LeavesBy (is_kept told) visits new.visits left told
+    pub roll : Option Roll
+    pub comes : Comes old.roll roll (seen client)
+    pub goes : Goes roll new.roll (seen left)
 
   one_visit : (count : ℕ) (old mid new : Place) (before after : TurnCounts) (client left : Client)
       (told : Exchange) (visit : HasVisited mid new client left told) (k : Bool)
@@ -273,12 +281,14 @@ module _ (s : Policy) (came : Bytes → Type 0) where
       (unaccepted ∙ sym (add-zero before.unaccepted)) visit.given visit.failed
       (visit.back, visit.turn, is, visit.same)
       (ending_shown mid.visits visit.visits new.visits client left told visit.arrives leaves)
+      (visit_rolled mid.roll visit.roll new.roll client left visit.comes visit.goes)
   one_visit count old mid new before after client left told visit true is leaves took accepted
       unaccepted =
       goes_on count old mid new before after (Keeping client left told) took accepted
       (unaccepted ∙ sym (add-zero before.unaccepted)) visit.given visit.failed
       (visit.back, visit.turn, is, visit.same)
       (keeping_shown mid.visits visit.visits new.visits client left told visit.arrives leaves)
+      (visit_rolled mid.roll visit.roll new.roll client left visit.comes visit.goes)
 
   -- one more was, of this kind
   pub goes_on_visited : (count : ℕ) (old mid new : Place) (before after : TurnCounts)
@@ -332,11 +342,13 @@ module _ (s : Policy) (came : Bytes → Type 0) where
 
   -- the turns that were taken are a run, where they are as many as were asked for, or the door was
   -- found closed
-  pub run_of : (count most : ℕ) (old new : Place) (tally : TurnCounts) → Took count old new tally
-      → count ≤ most → (new.closed ≡ false → count ≡ most) → IsRun s came most old new tally
-  run_of count most old new tally took few whole = record {
+  pub run_of : (Shut : Type 0) (count most : ℕ) (old new : Place) (tally : TurnCounts)
+      → Took count old new tally → count ≤ most → (new.closed ≡ false → count ≡ most)
+      → (new.closed ≡ true → old.closed ≡ false → Shut) → IsRun s came Shut most old new tally
+  run_of Shut count most old new tally took few whole shut = record {
     turns = took.turns;
     taken = took.taken;
     few = let many = took.many in omega arith;
     whole = λ open_yet. took.many ∙ whole open_yet;
+    shut = shut;
   }

@@ -2,6 +2,7 @@
 use Rattle.std.specs.Prelude.{◌≡◌, ◌≤◌, ◌+◌, ℕ, Bool, true, false, List, [], ◌∷◌, ◌++◌, length}
 use Rattle.std.specs.Prelude.{Option}
 use Rattle.counted_io.specs.Count.{raised}
+use Rattle.listening.specs.Roll.{Roll, RollsOn, Seen}
 use Rattle.proxy.specs.declared.told.Exchange.{Exchange}
 use Rattle.proxy.specs.Exchanges.{Bytes, Policy}
 use Rattle.proxy.specs.Made.{is_kept}
@@ -39,6 +40,28 @@ events_of (Ending before behind told ∷ turns) =
 events_of (Keeping before behind told ∷ turns) =
     Opened before ∷ Kept behind told ∷ events_of turns
 
+-- a client of a turn, as the ends of its connection tell
+abbrev pub seen : Client → Seen
+seen client = record { sent = client.sent; written = client.written }
+
+-- the clients of turns as they came, and as they were left
+abbrev pub came_in : List Turn → List Seen
+came_in [] = []
+came_in (Missing ∷ turns) = came_in turns
+came_in (Ending before behind told ∷ turns) = seen before ∷ came_in turns
+came_in (Keeping before behind told ∷ turns) = seen before ∷ came_in turns
+
+abbrev pub left_in : List Turn → List Seen
+left_in [] = []
+left_in (Missing ∷ turns) = left_in turns
+left_in (Ending before behind told ∷ turns) = seen behind ∷ left_in turns
+left_in (Keeping before behind told ∷ turns) = seen behind ∷ left_in turns
+
+-- who was given and left by a token: those of the turns more, and nobody else
+abbrev pub Rolls : List Turn → Option Roll → Option Roll → Type 0
+Rolls turns old new = RollsOn old new (λ o n.
+    (n.came ≡ o.came ++ came_in turns) × (n.left ≡ o.left ++ left_in turns))
+
 -- WHO WAITS: each who comes was the first of those who waited, as it was left, and one who is kept
 -- waits again with what it has yet to send; nobody else comes or goes
 abbrev pub Wait : List Turn → List Client → List Client → Type 0
@@ -72,22 +95,24 @@ AreServed p came (Keeping before behind told ∷ turns) old new =
     × AreServed p came turns mid new
 
 -- what a worker finds and leaves: its door's counts, whether that was found closed, what it shows,
--- and what stands behind the worker
+-- who was given and left there, where that is known, and what stands behind the worker
 pub record Place : Type 0 where
   pub given : ℕ
   pub failed : ℕ
   pub closed : Bool
   pub visits : Option Visits
+  pub roll : Option Roll
   pub back : Back
 
 -- what it finds or leaves at a door, a port and a backend, by what these show
 abbrev pub place_of : {A P B : Type 0} → (A → ℕ) → (A → ℕ) → (A → Bool) → (A → Option Visits)
-    → (P → B → Back) → A → P → B → Place
-place_of given failed closed visits back door port backend = record {
+    → (A → Option Roll) → (P → B → Back) → A → P → B → Place
+place_of given failed closed visits roll back door port backend = record {
   given = given door;
   failed = failed door;
   closed = closed door;
   visits = visits door;
+  roll = roll door;
   back = back port backend;
 }
 
@@ -109,7 +134,8 @@ abbrev pub Shows : List Turn → Option Visits → Option Visits → Type 0
 Shows turns old new = Follows old new (λ o n.
     Wait turns o.waiting n.waiting × (n.log ≡ o.log ++ events_of turns))
 
--- TAKEN: the turns, as they are tallied, as the door counts and shows them, and as they are served
+-- TAKEN: the turns, as they are tallied, as the door counts, shows and lists them, and as they are
+-- served
 pub record AreTaken (p : Policy) (came : Bytes → Type 0) (turns : List Turn) (old new : Place)
     (tally : TurnCounts) : Type 0 where
   pub accepted : tally.accepted ≡ served turns
@@ -118,11 +144,13 @@ pub record AreTaken (p : Policy) (came : Bytes → Type 0) (turns : List Turn) (
   pub failed : new.failed ≡ failed_by turns old.failed
   pub exchanges : AreServed p came turns old.back new.back
   pub shown : Shows turns old.visits new.visits
+  pub rolled : Rolls turns old.roll new.roll
 
--- A RUN of so many turns, or of fewer where the door was found closed
-pub record IsRun (p : Policy) (came : Bytes → Type 0) (most : ℕ) (old new : Place)
-    (tally : TurnCounts) : Type 0 where
+-- A RUN of so many turns, or of fewer where the door was found closed, and then it was shut
+pub record IsRun (p : Policy) (came : Bytes → Type 0) (Shut : Type 0) (most : ℕ)
+    (old new : Place) (tally : TurnCounts) : Type 0 where
   pub turns : List Turn
   pub taken : AreTaken p came turns old new tally
   pub few : length turns ≤ most
   pub whole : new.closed ≡ false → length turns ≡ most
+  pub shut : new.closed ≡ true → old.closed ≡ false → Shut

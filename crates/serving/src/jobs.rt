@@ -83,8 +83,8 @@ where
     ghost use Rattle.serving.specs.Turns.{place_of};
     ghost use Rattle.serving.specs.Workers.{Makes, WorksIn};
 
-    ghost makes = { Makes (WorksIn (place_of A.given A.failed A.closed A.visits
-        (back_of P.shown P.known B.forwarded B.shown)) A.came) T.makes };
+    ghost makes = { Makes (WorksIn (place_of A.given A.failed A.closed A.visits A.roll
+        (back_of P.shown P.known B.forwarded B.shown)) A.came A.shut A.source) T.makes };
 
     fn run(self) -> JobResult<A, P, B, T::Done> {
         match self {
@@ -123,8 +123,9 @@ where
     B: Backend + Drop,
     C: Clock,
     W: Watch,
-    ensures { WorksIn (place_of A.given A.failed A.closed A.visits
-        (back_of P.shown P.known B.forwarded B.shown)) A.came context.now worker result }
+    ensures { WorksIn (place_of A.given A.failed A.closed A.visits A.roll
+        (back_of P.shown P.known B.forwarded B.shown)) A.came A.shut A.source
+        context.now worker result }
 {
     let common = context.common;
     let Worker {

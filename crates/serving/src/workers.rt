@@ -1,12 +1,15 @@
 // Workers that serve through one gate.
-ghost use Rattle.std.specs.Prelude.{◌≡◌, [], IfOk, IsErrOf, OnErr};
+ghost use Rattle.std.specs.Prelude.{◌≡◌, [], false, IfOk, IfSome, IsErrOf, OnErr};
 ghost use Rattle.std.specs.List.{AllZip};
 ghost use Rattle.counted_io.specs.Count.{raised};
 ghost use Rattle.tasks.specs.Refused.{refused_of};
+ghost use Rattle.listening.specs.Accepted.{listener_of};
+ghost use Rattle.listening.specs.Roll.{nobody};
+ghost use Rattle.serving.specs.Doors.{counted_in, failed_of, given_of, is_closed};
 ghost use Rattle.serving.specs.Served.{back_of, policy_of};
 ghost use Rattle.serving.specs.Turns.{place_of};
 ghost use Rattle.serving.specs.Workers.{AreWithin, Begins, HasRun, HasWorked};
-ghost use Rattle.serving.specs.Workers.{ended_in, made_in, tasks_in, workers_in};
+ghost use Rattle.serving.specs.Workers.{ended_in, made_in, roll_at, tasks_in, workers_in};
 
 use crate::doors::{Accepts, Door};
 use crate::fault::ServeFault;
@@ -58,7 +61,7 @@ pub fn serve<'l, R, G, P, T, L, E, C, W>(
 ) -> Result<
     Vec<
         JobResult<
-            Door<'l, L, W>,
+            Door<'l, L, L::Token, W>,
             P,
             TcpBackend<'l, Dialer<&'l R, R::Stream>, R::Stream, &'l W, C>,
             T::Done,
@@ -80,13 +83,15 @@ where
     L::Stream: Send + Sync + Drop,
     L::From: Send + Sync,
     L::To: Send + Sync,
+    L::Token: Send + Sync,
     E::Stream: Send + Sync,
     E::From: Send + Sync,
     E::To: Send + Sync,
+    E::Token: Send + Sync,
     R::Stream: Send + Sync,
     R::Listener: Send + Sync,
     ensures ran { IfOk result (λ lefts.
-        AllZip (HasRun L.came P.shown P.known common.now) ports.items
+        AllZip (HasRun L.came L.found L.roll P.shown P.known common.now) ports.items
         (ended_in lefts.items)) }
     ensures side_tasks { IfOk result (λ lefts.
         AllZip T.makes side_tasks.items (made_in lefts.items)) }
@@ -161,16 +166,22 @@ fn prepare<L: Listener, C, W>(
 }
 
 /// A worker for each port, with a door, and with a backend at the address of the settings.
-fn make_workers<'l, R: Net + Wait, P: Drop, L, C, W>(
+fn make_workers<'l, R: Net + Wait, P: Drop, L: Listener, C, W>(
     rt: &'l R,
     common: &WorkerSettings<'l, L, C, W>,
     ports: Vec<P>,
 ) -> Result<
-    Vec<Worker<Door<'l, L, W>, P, TcpBackend<'l, Dialer<&'l R, R::Stream>, R::Stream, &'l W, C>>>,
+    Vec<
+        Worker<
+            Door<'l, L, L::Token, W>,
+            P,
+            TcpBackend<'l, Dialer<&'l R, R::Stream>, R::Stream, &'l W, C>,
+        >,
+    >,
     ServeFault,
 >
     ensures workers { IfOk result (λ workers.
-        AllZip (Begins common.now.listener.now common.now.backend_timeout_ns
+        AllZip (Begins common.now.listener.now L.roll common.now.backend_timeout_ns
         common.now.settings.now.backend) ports.items workers.items) }
     ensures lacking { OnErr result (IsErrOf result ServeFault.Memory) }
 {
@@ -182,7 +193,7 @@ fn make_workers<'l, R: Net + Wait, P: Drop, L, C, W>(
     for port in ports {
         let dialer = Dialer::new(rt, address, share(&pool)?);
         let worker = Worker {
-            door: Door::new(CountedListener::new(common.listener), watch),
+            door: make_door(common.listener, watch),
             port,
             backend: TcpBackend::new(dialer, alloc, watch, clock, most_ns)?,
             buffers: ClientBuffers::new(alloc)?,
@@ -190,6 +201,18 @@ fn make_workers<'l, R: Net + Wait, P: Drop, L, C, W>(
         workers.push_reserved(worker);
     }
     Ok(workers)
+}
+
+/// A door to a listener, by a token of its own, where nobody was given yet.
+fn make_door<'l, L: Listener, W>(listener: &'l L, watch: &'l W) -> Door<'l, L, L::Token, W>
+    ensures opens_to { listener_of (counted_in result) ≡ listener.now }
+    ensures given { given_of result ≡ 0 }
+    ensures failed { failed_of result ≡ 0 }
+    ensures unclosed { is_closed result ≡ false }
+    ensures unrolled { IfSome (roll_at L.roll result) (λ rolled. rolled ≡ nobody) }
+{
+    let counted = CountedListener::new(listener);
+    Door::new(counted, watch)
 }
 
 /// Where connections to the backend wait for another request, by settings that keep some.
@@ -246,12 +269,14 @@ where
     L::Stream: Send + Sync,
     L::From: Send + Sync,
     L::To: Send + Sync,
+    L::Token: Send + Sync,
     E::Stream: Send + Sync,
     E::From: Send + Sync,
     E::To: Send + Sync,
+    E::Token: Send + Sync,
     ensures worked { IfOk result (λ lefts. AllZip
-        (HasWorked (place_of A.given A.failed A.closed A.visits
-        (back_of P.shown P.known B.forwarded B.shown)) A.came
+        (HasWorked (place_of A.given A.failed A.closed A.visits A.roll
+        (back_of P.shown P.known B.forwarded B.shown)) A.came A.shut A.source
         (policy_of common.now.settings.now common.now.marks) common.now.per_worker)
         workers.items (ended_in lefts.items)) }
     ensures side_tasks { IfOk result (λ lefts.

@@ -86,12 +86,13 @@ where
     C: Clock,
     W: Watch,
     ensures run { IsRun (policy_of common.now.settings.now common.now.marks)
-        (A.came door.old) common.now.per_worker
-        (place_of A.given A.failed A.closed A.visits (back_of P.shown P.known B.forwarded B.shown)
-        door.old port.old backend.old)
-        (place_of A.given A.failed A.closed A.visits (back_of P.shown P.known B.forwarded B.shown)
-        door.new port.new backend.new)
+        (A.came door.old) (A.shut door.old) common.now.per_worker
+        (place_of A.given A.failed A.closed A.visits A.roll
+        (back_of P.shown P.known B.forwarded B.shown) door.old port.old backend.old)
+        (place_of A.given A.failed A.closed A.visits A.roll
+        (back_of P.shown P.known B.forwarded B.shown) door.new port.new backend.new)
         result }
+    ensures source { A.source door.new ≡ A.source door.old }
     ensures bounded { common.now.per_worker ≤ count_end }
     ensures turns { result.accepted + result.unaccepted ≤ common.now.per_worker }
     ensures whole { A.closed door.new ≡ false →

@@ -1,15 +1,24 @@
-use Rattle.std.proofs.Common.{rules, ◌≡◌, ◌∙◌, arith, refl, subst}
+use Rattle.std.proofs.Common.{rules, ◌≡◌, ◌∙◌, arith, ap, refl, subst, sym}
 use Rattle.counted_io.specs.Count.{raised}
 use Rattle.proxy.specs.Made.{is_kept}
 use Rattle.serving.specs.Served.{back_of}
 use Rattle.serving.specs.Turns.{Missing}
 use Rattle.serving.proofs.TakenTurns.{all_failed, all_given, begins, client_of, forwarded_at_most}
-use Rattle.serving.proofs.TakenTurns.{goes_on, goes_on_visited, missing_shown, run_of, same_back}
+use Rattle.serving.proofs.RolledTurns.{missing_rolled}
+use Rattle.serving.proofs.TakenTurns.{goes_on, goes_on_visited, missing_shown, run_of}
+use Rattle.serving.proofs.TakenTurns.{same_back}
 use Rattle.serving.proofs.working.work.Goals.{in-Ok, in-Err+else-is_closed}
 use Rattle.serving.proofs.working.work.Goals as goal
 
 pub loop-init : goal.loop-init
-loop-init g c = record { took = begins _ _ _; turns = refl; same = λ sent came. came }
+loop-init g c = record {
+  took = begins _ _ _;
+  turns = refl;
+  same = λ sent came. came;
+  shut = λ is begun. search rules;
+  same_shut = λ shut. shut;
+  source = refl;
+}
 
 pub loop-preserved : goal.loop-preserved
 loop-preserved g c = elim c.match-accept.branch [
@@ -36,27 +45,44 @@ loop-preserved g c = elim c.match-accept.branch [
               w.leave-in-Ok.ensures.count w.leave-in-Ok.ensures.log;
           arrives = w.in-Ok.ensures.arrived;
           leaves = search rules;
+          roll = g.A.Accepts.roll c.accept.new.self;
+          comes = w.in-Ok.ensures.rolled;
+          goes = search rules;
         });
     turns = search rules;
     same = λ sent came. c.loop.invariant.same sent
         (c.accept.ensures.place sent (w.leave.ensures.place sent
         (subst (λ door. g.A.Accepts.came door sent) w.door-is came)));
+    shut = λ is begun. c.loop.invariant.shut (sym w.in-Ok.ensures.open
+        ∙ sym w.leave.ensures.same_closed ∙ sym (ap g.A.Accepts.closed w.door-is) ∙ is) begun;
+    same_shut = λ shut. c.loop.invariant.same_shut (c.accept.ensures.same_shut
+        (w.leave.ensures.same_shut (subst g.A.Accepts.shut w.door-is shut)));
+    source = ap g.A.Accepts.source w.door-is ∙ w.leave.ensures.source ∙ c.accept.ensures.source
+        ∙ c.loop.invariant.source;
   }
   | in-Err+else-is_closed w ↦ record {
     took = goes_on _ _ _ _ _ _ _ _ Missing c.loop.invariant.took
         (search rules) (search rules) (search rules) (search rules) (search rules)
-        (missing_shown _ _ (search rules));
+        (missing_shown _ _ (search rules)) (missing_rolled _ _ (search rules));
     turns = search rules;
     same = λ sent came. c.loop.invariant.same sent (c.accept.ensures.place sent
         (subst (λ door. g.A.Accepts.came door sent) w.door-is came));
+    shut = λ is begun. c.loop.invariant.same_shut (w.in-Err.ensures.shut
+        (sym (ap g.A.Accepts.closed w.door-is) ∙ is));
+    same_shut = λ shut. c.loop.invariant.same_shut (c.accept.ensures.same_shut
+        (subst g.A.Accepts.shut w.door-is shut));
+    source = ap g.A.Accepts.source w.door-is ∙ c.accept.ensures.source
+        ∙ c.loop.invariant.source;
   }
 ]
 
 pub returns-then-is_closed-clause-run : goal.returns-then-is_closed-clause-run
 returns-then-is_closed-clause-run g c =
-    run_of _ _ _ _ _ _ _ (goes_on _ _ _ _ _ _ _ _ Missing c.loop.invariant.took
+    run_of _ _ _ _ _ _ _ _ (goes_on _ _ _ _ _ _ _ _ Missing c.loop.invariant.took
     (search rules) (search rules) (search rules) (search rules) (search rules)
-    (missing_shown _ _ (search rules))) (search rules) (λ open_yet. absurd (search rules))
+    (missing_shown _ _ (search rules)) (missing_rolled _ _ (search rules))) (search rules)
+    (λ open_yet. absurd (search rules))
+    (λ is begun. c.loop.invariant.same_shut (c.in-Err.ensures.shut is))
 
 pub returns-then-is_closed-clause-once : goal.returns-then-is_closed-clause-once
 returns-then-is_closed-clause-once g c = forwarded_at_most _ _ _ _ _ _ c.loop.invariant.took
@@ -78,8 +104,8 @@ returns-then-is_closed-clause-failed g c = λ room.
     omega arith
 
 pub returns-clause-run : goal.returns-clause-run
-returns-clause-run g c = run_of _ _ _ _ _ _ _ c.loop.invariant.took (search rules)
-    (λ open_yet. search rules)
+returns-clause-run g c = run_of _ _ _ _ _ _ _ _ c.loop.invariant.took (search rules)
+    (λ open_yet. search rules) c.loop.invariant.shut
 
 pub returns-clause-once : goal.returns-clause-once
 returns-clause-once g c = forwarded_at_most _ _ _ _ _ _ c.loop.invariant.took

@@ -1,4 +1,4 @@
-use Rattle.std.proofs.Common.{◌≡◌, ◌+◌, ℕ, List, Option}
+use Rattle.std.proofs.Common.{◌≡◌, ◌+◌, ℕ, List, Option, true, false}
 use Rattle.serving.specs.Served.{back_of, policy_of}
 use Rattle.serving.specs.Turns.{place_of}
 use Rattle.serving.proofs.TakenTurns.{Took}
@@ -10,12 +10,18 @@ invariant-loop g l = record {
   took : Took (policy_of l.common.settings.now l.common.marks)
       (g.A.Accepts.came l.fn.door) l.counter
       (place_of g.A.Accepts.given g.A.Accepts.failed g.A.Accepts.closed g.A.Accepts.visits
+      g.A.Accepts.roll
       (back_of g.P.GatePort.shown g.P.GatePort.known g.B.Backend.forwarded g.B.Backend.shown)
       l.fn.door l.fn.port l.fn.backend)
       (place_of g.A.Accepts.given g.A.Accepts.failed g.A.Accepts.closed g.A.Accepts.visits
+      g.A.Accepts.roll
       (back_of g.P.GatePort.shown g.P.GatePort.known g.B.Backend.forwarded g.B.Backend.shown)
       l.door l.port l.backend)
       l.tally;
   turns : l.tally.accepted + l.tally.unaccepted ≡ l.counter;
   same : (sent : Option (List ℕ)) → g.A.Accepts.came l.door sent → g.A.Accepts.came l.fn.door sent;
+  shut : g.A.Accepts.closed l.door ≡ true → g.A.Accepts.closed l.fn.door ≡ false
+      → g.A.Accepts.shut l.fn.door;
+  same_shut : g.A.Accepts.shut l.door → g.A.Accepts.shut l.fn.door;
+  source : g.A.Accepts.source l.door ≡ g.A.Accepts.source l.fn.door;
 }
