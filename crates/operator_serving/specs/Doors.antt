@@ -6,18 +6,18 @@ use Rattle.listening.specs.Accepted.{accepted_of, missed_of}
 use Rattle.operator_serving.specs.declared.door.ListenerDoor.{ListenerDoor}
 
 -- where the clients of a door come from, with the counts of the accepts
-abbrev pub counted_in : {L : Type 0} → ListenerDoor L → CountedListener L
+abbrev pub counted_in : {L K : Type 0} → ListenerDoor L K → CountedListener L K
 counted_in door = door.listener
 
 -- how many accepts gave a client, and how many gave none
-abbrev pub given_of : {L : Type 0} → ListenerDoor L → ℕ
+abbrev pub given_of : {L K : Type 0} → ListenerDoor L K → ℕ
 given_of door = accepted_of door.listener
 
-abbrev pub failed_of : {L : Type 0} → ListenerDoor L → ℕ
+abbrev pub failed_of : {L K : Type 0} → ListenerDoor L K → ℕ
 failed_of door = missed_of door.listener
 
 -- whether its listener was found closed
-abbrev pub is_closed : {L : Type 0} → ListenerDoor L → Bool
+abbrev pub is_closed : {L K : Type 0} → ListenerDoor L K → Bool
 is_closed door = door.closed
 
 -- WHERE A THREAD STANDS that serves operators: its desk, how many clients its door gave, how often

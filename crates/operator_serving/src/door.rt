@@ -64,16 +64,16 @@ pub trait Door {
         ensures { result ≡ closed self.now };
 }
 
-/// A door to a listener that several share.
+/// A door to a listener that several share, with a token of its own.
 #[derive(Drop)]
-pub struct ListenerDoor<'a, L> {
-    listener: CountedListener<'a, L>,
+pub struct ListenerDoor<'a, L, K> {
+    listener: CountedListener<'a, L, K>,
     closed: bool,
 }
 
-impl<'a, L> ListenerDoor<'a, L> {
+impl<'a, L: Listener> ListenerDoor<'a, L, L::Token> {
     /// Nobody was asked for yet.
-    pub fn new(listener: &'a L) -> ListenerDoor<'a, L>
+    pub fn new(listener: &'a L) -> ListenerDoor<'a, L, L::Token>
         ensures listener { listener_of (counted_in result) ≡ listener.now }
         ensures given { given_of result ≡ 0 }
         ensures failed { failed_of result ≡ 0 }
@@ -85,7 +85,7 @@ impl<'a, L> ListenerDoor<'a, L> {
     }
 }
 
-impl<'a, L: Listener> Door for ListenerDoor<'a, L>
+impl<'a, L: Listener> Door for ListenerDoor<'a, L, L::Token>
 where
     L::Stream: Drop,
 {
@@ -126,7 +126,7 @@ where
         ensures same_shut { L.found (listener_of (counted_in self.new)) false
             → L.found (listener_of (counted_in self.old)) false }
     {
-        client.close();
+        self.listener.let_go(client);
         told.end();
     }
 
