@@ -66,6 +66,7 @@ serve_rows =
     (λ o. o.client_timeout_ms)
     ∷ row (option (codes "head-timeout-ms") (number 1 3600000) (Some (codes "1000")))
     (λ o. o.head_timeout_ms)
+    ∷ row (option (codes "body-rate") (number_if_given 0 1000000000) None) (λ o. o.body_rate)
     ∷ row (option (codes "backend-timeout-ms") (number_if_given 1 3600000) None)
     (λ o. o.backend_timeout_ms)
     ∷ row (option (codes "report-seconds") (number_if_given 1 3600) None) (λ o. o.report_seconds)

@@ -1,5 +1,6 @@
 -- The options of `serve`, by the rows of their table.
 use Rattle.std.specs.Prelude.{◌≡◌, ◌&&◌, ℕ, Bool, false, List, [], ◌∷◌, Some, codes, unwrap_or}
+use Rattle.std.specs.Prelude.{if◌then◌else◌, is_some}
 use Rattle.clap.specs.Words.{Row, Text, first_of}
 use Rattle.commands.specs.declared.serve_options.ServeOptions.{ServeOptions}
 use Rattle.commands.specs.Options.{ServeRow, exchanges, serve_rows, workers}
@@ -31,6 +32,11 @@ pub record AreGiven (rows : List Row) : Type 0 where
 -- how many threads serve: one for each exchange at once where that is given, else the workers
 abbrev pub threads_of : ServeOptions → ℕ
 threads_of o = unwrap_or o.exchanges o.workers
+
+-- the least rate at which the body of a request has to arrive, in bytes per second: the one that is
+-- given, else 500 where the number of exchanges at once is, and 0 for none
+abbrev pub body_rate_of : ServeOptions → ℕ
+body_rate_of o = unwrap_or o.body_rate (if is_some o.exchanges then 500 else 0)
 
 -- the values are in their ranges
 abbrev pub AreWithinRanges : ServeOptions → Type 0

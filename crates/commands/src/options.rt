@@ -53,6 +53,14 @@ macro_rules! option_row {
                           where no other one is free, " "; " ". It isn't longer
                           than --client-timeout-ms";
     } };
+    (BodyRate [$($row:tt)*] $($given:tt)*) => { $($row)*! { $($given)*
+        BodyRate "body-rate" "BYTES" [0 to 1000000000]
+            listed "Least bytes per second of a request's body, " "; 0 sets none"
+            told "       least bytes per second at which the body of a request has to arrive,
+                          " "; without it 500 with --exchanges, and otherwise 0,
+                          which sets no rate. While three quarters of the threads read requests,
+                          clients below it are closed, those that are furthest behind first";
+    } };
     (BackendTimeoutMs [$($row:tt)*] $($given:tt)*) => { $($row)*! { $($given)*
         BackendTimeoutMs "backend-timeout-ms" "T" [1 to 3600000]
             listed "Milliseconds for the backend, " "; without it no limit"
@@ -117,6 +125,7 @@ macro_rules! serve_rows {
                 PerWorker
                 ClientTimeoutMs
                 HeadTimeoutMs
+                BodyRate
                 BackendTimeoutMs
                 ReportSeconds
                 Admin
@@ -130,7 +139,7 @@ macro_rules! serve_rows {
 }
 
 /// How many these are.
-pub(crate) const SERVE_OPTIONS: usize = 11;
+pub(crate) const SERVE_OPTIONS: usize = 12;
 
 /// The value of an option, by its row. The caller has the functions that read in scope.
 macro_rules! read {

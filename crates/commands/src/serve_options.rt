@@ -2,7 +2,8 @@
 ghost use Rattle.std.specs.Prelude.{◌≡◌, IfSome, IsNone};
 ghost use Rattle.clap.specs.Words.{found_of, rows_of};
 ghost use Rattle.commands.specs.Options.{log_lines as any_form};
-ghost use Rattle.commands.specs.ServeOptions.{AreGiven, AreServeOptions, gives_both, threads_of};
+ghost use Rattle.commands.specs.ServeOptions.{AreGiven, AreServeOptions, body_rate_of, gives_both};
+ghost use Rattle.commands.specs.ServeOptions.{threads_of};
 ghost use Rattle.commands.specs.Values.{HasLogLines, Lacks, is_given};
 
 use super::addresses::{optional_address, optional_loopback};
@@ -12,6 +13,9 @@ use super::options::{option_row, read, read_by_row};
 use clap::ArgMatches;
 use clap::parser::ValueSource;
 use std::net::SocketAddrV4;
+
+/// The least rate of a body in bytes per second with `--exchanges`, if none is given.
+const USUAL_BODY_RATE: u32 = 500;
 
 /// How each line of the log begins.
 #[derive(Clone, Copy)]
@@ -41,6 +45,9 @@ pub struct ServeOptions<'a> {
     /// For how many milliseconds a client whose head isn't whole may hold a worker where no other
     /// one is free. It isn't longer than the client's time.
     pub head_timeout_ms: u32,
+    /// The least rate at which the body of a request has to arrive, in bytes per second, if it is
+    /// given. 0 sets no rate.
+    pub body_rate: Option<u32>,
     /// How many milliseconds the backend may take, from the connect to the end of its answer; as
     /// long as it likes without it.
     pub backend_timeout_ms: Option<u32>,
@@ -66,6 +73,19 @@ impl ServeOptions<'_> {
         ensures { result ≡ threads_of self.now }
     {
         self.exchanges.unwrap_or(self.workers)
+    }
+
+    /// Returns the least rate at which the body of a request has to arrive, in bytes per second: if
+    /// none is given 500 with a number of exchanges, and otherwise 0, which sets none.
+    pub fn body_rate(&self) -> u32
+        ensures { result ≡ body_rate_of self.now }
+    {
+        let usual = if self.exchanges.is_some() {
+            USUAL_BODY_RATE
+        } else {
+            0
+        };
+        self.body_rate.unwrap_or(usual)
     }
 }
 
@@ -111,6 +131,7 @@ pub(crate) fn serve_options<'a>(matches: &ArgMatches<'a>) -> Option<ServeOptions
     let per_worker = read!(matches, PerWorker)?;
     let client_timeout_ms = read!(matches, ClientTimeoutMs)?;
     let head_timeout_ms = read!(matches, HeadTimeoutMs)?;
+    let body_rate = read!(matches, BodyRate)?;
     let backend_timeout_ms = read!(matches, BackendTimeoutMs)?;
     let report_seconds = read!(matches, ReportSeconds)?;
     let admin = read!(matches, Admin)?;
@@ -127,6 +148,7 @@ pub(crate) fn serve_options<'a>(matches: &ArgMatches<'a>) -> Option<ServeOptions
         per_worker,
         client_timeout_ms,
         head_timeout_ms,
+        body_rate,
         backend_timeout_ms,
         report_seconds,
         admin,

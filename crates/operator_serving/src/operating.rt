@@ -20,7 +20,7 @@ use std::sync::Wait;
 use std::thread;
 use std::time::{Clock as SystemClock, Duration};
 use timed_io::{
-    Client, ClientBuffers, ClientEnds, ClientTime, Connection, Inlet, Outlet, Patience,
+    BodyWait, Client, ClientBuffers, ClientEnds, ClientTime, Connection, Inlet, Outlet, Patience,
     ServedClient,
 };
 
@@ -211,5 +211,13 @@ impl Patience for Unhurried {
 
     fn may_wait(&self) -> bool {
         true
+    }
+
+    fn begin_read(&self) {}
+
+    fn end_read(&self) {}
+
+    fn wait_for_body(&self, _bytes: u64, _elapsed: Duration) -> BodyWait {
+        BodyWait::Unlimited
     }
 }

@@ -27,6 +27,7 @@ use std::sync::Wait;
 use std::thread::Threads;
 use std::time::Clock as SystemClock;
 use tasks::Spawner;
+use timed_io::BodyRates;
 
 /// How many clients that have sent nothing may wait beside those who are served.
 const CLIENT_PLACES: u32 = 1_000;
@@ -87,6 +88,7 @@ where
     let (alloc, clock) = (context.alloc, context.clock);
     let (admin, status) = (context.admin, context.status);
     let side = SideAddresses::new(alloc, admin, status, clock, context.lame_duck);
+    let rates = BodyRates::new(alloc, service.threads(), service.body_rate())?;
     let common = WorkerSettings {
         listener: context.front,
         settings: context.settings,
@@ -94,6 +96,7 @@ where
         per_worker: u64::from(service.per_worker),
         client_timeout_ns,
         head_timeout_ns: u64::from(service.head_timeout_ms) * MILLI,
+        rates: &rates,
         client_places: CLIENT_PLACES,
         backend_timeout_ns: call_time(service.backend_timeout_ms),
         marks: service.marks,

@@ -16,8 +16,8 @@ use std::alloc::Global;
 use std::thread;
 use std::time::{Clock as SystemClock, Duration};
 use timed_io::{
-    Client, ClientBuffers, ClientEnds, ClientTime, Connection, Inlet, Outlet, Patience,
-    ServedClient,
+    BodyRates, BodyReader, BodyWait, Client, ClientBuffers, ClientEnds, ClientTime, Connection, Inlet,
+    Outlet, Patience, ServedClient,
 };
 use wire::Backend;
 
@@ -40,6 +40,8 @@ pub struct WorkerSettings<'a, L, C, W> {
     pub client_timeout_ns: u64,
     /// For how long a client whose head isn't whole may hold a worker where no other one is free.
     pub head_timeout_ns: u64,
+    /// Which bodies of requests arrive slowest, over all workers.
+    pub rates: &'a BodyRates,
     /// How many clients that have sent nothing may wait beside those who are served, where settings
     /// keep none.
     pub client_places: u32,
@@ -104,6 +106,12 @@ where
         A.failed door.new ≡ A.failed door.old + result.unaccepted }
 {
     let mut buffers = buffers;
+    let patience = WorkerPatience {
+        watch: common.watch,
+        clock: common.clock,
+        least_ns: common.head_timeout_ns,
+        body: common.rates.reader(),
+    };
     let mut tally = TurnCounts {
         accepted: 0,
         unaccepted: 0,
@@ -116,7 +124,7 @@ where
                     places: common.settings.clients,
                 };
                 let (client, served, used) = serve_client(
-                    common, client, &keeper, port, backend, buffers,
+                    common, client, &keeper, &patience, port, backend, buffers,
                 );
                 buffers = used;
                 door.leave(client, served);
@@ -140,10 +148,11 @@ where
 /// kept, and is answered before its whole request was read, or has sent more than that, what it
 /// still sends is dropped, so that it gets to read the answer. A signal that cuts a read or a write
 /// short changes nothing. Of a client that was kept the request is a later one of its connection.
-fn serve_client<T, I, O, P, B, C, L, W, K>(
+fn serve_client<T, I, O, P, B, C, L, W, K, A>(
     common: &WorkerSettings<'_, L, C, W>,
     client: AcceptedClient<T, I, O>,
     keeper: &K,
+    patience: &A,
     port: &mut P,
     backend: &mut B,
     buffers: ClientBuffers,
@@ -155,8 +164,8 @@ where
     P: GatePort,
     B: Backend,
     C: Clock,
-    W: Watch,
     K: Keeper,
+    A: Patience,
     ensures { IsServed
         (record {
           settings = common.now.settings.now;
@@ -170,10 +179,6 @@ where
         (back_of P.shown P.known B.forwarded B.shown port.new backend.new)
         result.1 }
 {
-    let patience = FreeWorkers {
-        watch: common.watch,
-        least_ns: common.head_timeout_ns,
-    };
     let AcceptedClient {
         stream,
         is_kept,
@@ -185,7 +190,7 @@ where
         is_later: is_kept,
     };
     let (ends, served, buffers) = serve_over(
-        common, &policy, &stream, ends, &patience, port, backend, buffers,
+        common, &policy, &stream, ends, patience, port, backend, buffers,
     );
     let client = AcceptedClient {
         stream,
@@ -301,21 +306,36 @@ impl<A: Accepts> Keeper for DoorKeeper<'_, A> {
     }
 }
 
-/// The workers that are free for others than who is slow to send its head.
+/// What decides how long a worker waits for a client that is slow to send its request: a head may
+/// take longer as long as other workers are free, and a body as long as others are further behind.
 #[derive(Drop)]
-struct FreeWorkers<'a, W> {
+struct WorkerPatience<'a, C, W> {
     watch: &'a W,
+    clock: &'a C,
     // For how long a head is waited for in any case.
     least_ns: u64,
+    body: BodyReader<'a>,
 }
 
-impl<W: Watch> Patience for FreeWorkers<'_, W> {
+impl<C: Clock, W: Watch> Patience for WorkerPatience<'_, C, W> {
     fn least(&self) -> Duration {
         Duration::from_nanos(self.least_ns)
     }
 
     fn may_wait(&self) -> bool {
         self.watch.has_free_worker()
+    }
+
+    fn begin_read(&self) {
+        self.body.begin_read();
+    }
+
+    fn end_read(&self) {
+        self.body.end_read();
+    }
+
+    fn wait_for_body(&self, bytes: u64, elapsed: Duration) -> BodyWait {
+        self.body.wait(bytes, elapsed, self.clock.now())
     }
 }
 

@@ -26,13 +26,16 @@ impl HeadEnd {
         self.is_whole
     }
 
-    /// More bytes pass.
-    pub(crate) fn pass(&mut self, bytes: &[u8]) {
-        for byte in bytes {
+    /// More bytes pass. Returns how many of them follow the head.
+    pub(crate) fn pass(&mut self, bytes: &[u8]) -> usize {
+        if self.is_whole {
+            return bytes.len();
+        }
+        for (index, byte) in bytes.iter().enumerate() {
             match byte {
                 b'\n' if self.is_line_empty && self.has_begun => {
                     self.is_whole = true;
-                    return;
+                    return bytes.len() - index - 1;
                 }
                 b'\n' => self.is_line_empty = true,
                 b'\r' => {}
@@ -42,5 +45,6 @@ impl HeadEnd {
                 }
             }
         }
+        0
     }
 }

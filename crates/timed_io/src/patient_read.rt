@@ -1,21 +1,15 @@
-// Who is slow to send the head of a request.
+// Clients that are slow to send a request.
 ghost use Rattle.std.specs.Prelude.{◌≡◌, ◌≤◌};
 ghost use Rattle.std.specs.Duration.{as_nanos};
+ghost use Rattle.std.specs.Io.{ReadsAtMost};
+ghost use Rattle.std.specs.Io.KnownBytes.{ReadConsumes};
 ghost use Rattle.timed_io.specs.Timed.{patient_in};
 
 use crate::head_end::HeadEnd;
+use crate::patience::{BodyWait, Patience};
 use crate::reading::LimitedRead;
 use std::io::{ErrorKind, Result};
 use std::time::Duration;
-
-/// What says for how long somebody is waited for whose head isn't whole yet.
-pub trait Patience {
-    /// For how long in any case.
-    fn least(&self) -> Duration;
-
-    /// Whether it may be longer: nobody else is kept waiting by it.
-    fn may_wait(&self) -> bool;
-}
 
 /// Behind the time that nobody is denied, for how long at a time, in milliseconds.
 const STEP_MS: u64 = 100;
@@ -27,10 +21,10 @@ const LAST_STEP_MS: u64 = 1;
 /// what is left at once.
 const MOST_TURNS: u32 = 1 << 24;
 
-/// A reader of somebody who may be slow to send the head of a request. Until that is whole it is
-/// waited for as long as nobody is denied, as far as the reads are allowed to wait, and longer for
-/// as long as the patience lasts; where it is at its end, a read that has to wait fails. Once the
-/// head is whole, reads are those of the reader inside.
+/// A reader of a client that may be slow to send its request. Until the head is whole it is waited
+/// for as long as nobody is denied, as far as the reads are allowed to wait, and longer for as long
+/// as the patience lasts; where it is at its end, a read that has to wait fails. Once the head is
+/// whole, a read of the body fails if the patience finds that it arrives too slowly.
 #[derive(Drop)]
 pub struct PatientRead<'p, R, P> {
     inner: R,
@@ -38,6 +32,10 @@ pub struct PatientRead<'p, R, P> {
     // How long the first read was allowed to wait: from then on each has what is left of that.
     allowed: Option<Duration>,
     head: HeadEnd,
+    // The same of the first read of the body.
+    body_allowed: Option<Duration>,
+    // How many bytes of the body have arrived.
+    body_bytes: u64,
 }
 
 impl<'p, R: LimitedRead, P: Patience> PatientRead<'p, R, P> {
@@ -50,6 +48,8 @@ impl<'p, R: LimitedRead, P: Patience> PatientRead<'p, R, P> {
             patience,
             allowed: None,
             head: HeadEnd::new(),
+            body_allowed: None,
+            body_bytes: 0,
         }
     }
 
@@ -62,6 +62,8 @@ impl<'p, R: LimitedRead, P: Patience> PatientRead<'p, R, P> {
             patience: _,
             allowed: _,
             head: _,
+            body_allowed: _,
+            body_bytes: _,
         } = self;
         inner
     }
@@ -93,24 +95,20 @@ impl<'p, R: LimitedRead, P: Patience> PatientRead<'p, R, P> {
     {
         if let Ok(count) = outcome {
             if let Some(bytes) = buf.get(..*count) {
-                self.head.pass(bytes);
+                let behind = self.head.pass(bytes) as u64;
+                self.body_bytes = self.body_bytes.saturating_add(behind);
             }
         }
     }
-}
 
-impl<'p, R: LimitedRead, P: Patience> LimitedRead for PatientRead<'p, R, P> {
-    ghost use Rattle.timed_io.specs.Timed.{patient_in};
-
-    ghost remaining = { λ reader. R.remaining (patient_in reader) };
-
-    ghost allowed = { λ reader. R.allowed (patient_in reader) };
-
+    // A read while the head isn't whole.
     #[tactic(auto, using(crate::proofs::KnownBytes::anew))]
-    fn read_within(&mut self, most: Duration, buf: &mut [u8]) -> Result<usize> {
-        if self.head.is_whole() {
-            return self.inner.read_within(most, buf);
-        }
+    fn read_head(&mut self, most: Duration, buf: &mut [u8]) -> Result<usize>
+        ensures bound { ReadsAtMost result buf.new }
+        ensures bytes { ReadConsumes (R.remaining (patient_in self.old))
+            (R.remaining (patient_in self.new)) result buf.new }
+        ensures allowed { R.allowed (patient_in self.new) ≤ as_nanos most }
+    {
         let allowed = self.allowed.unwrap_or(most);
         self.allowed = Some(allowed);
         let mut left = most;
@@ -130,5 +128,65 @@ impl<'p, R: LimitedRead, P: Patience> LimitedRead for PatientRead<'p, R, P> {
             }
         }
         self.inner.read_within(left, buf)
+    }
+
+    // A read of the body, in turns until bytes arrive. If it arrives too slowly, what has come is
+    // still read.
+    #[tactic(auto, using(crate::proofs::KnownBytes::anew))]
+    fn read_body(&mut self, most: Duration, buf: &mut [u8]) -> Result<usize>
+        ensures bound { ReadsAtMost result buf.new }
+        ensures bytes { ReadConsumes (R.remaining (patient_in self.old))
+            (R.remaining (patient_in self.new)) result buf.new }
+        ensures allowed { R.allowed (patient_in self.new) ≤ as_nanos most }
+    {
+        let allowed = self.body_allowed.unwrap_or(most);
+        self.body_allowed = Some(allowed);
+        let mut left = most;
+        for _ in 0..MOST_TURNS {
+            let elapsed = allowed.saturating_sub(left);
+            let wait = self.patience.wait_for_body(self.body_bytes, elapsed);
+            let next = left.saturating_sub(left.saturating_sub(turn_of(wait)));
+            match self.inner.read_within(next, buf) {
+                Err(fault) if fault.kind() == ErrorKind::WouldBlock && next < left => {
+                    if let BodyWait::TooSlow = wait {
+                        return Err(fault);
+                    }
+                    left = left.saturating_sub(next);
+                }
+                outcome => {
+                    self.note(&outcome, buf);
+                    return outcome;
+                }
+            }
+        }
+        self.inner.read_within(left, buf)
+    }
+}
+
+// How long the next turn of a read of the body waits at most.
+fn turn_of(wait: BodyWait) -> Duration {
+    match wait {
+        BodyWait::Unlimited => Duration::MAX,
+        BodyWait::UpTo(most) => most,
+        BodyWait::TooSlow => Duration::from_millis(LAST_STEP_MS),
+    }
+}
+
+impl<'p, R: LimitedRead, P: Patience> LimitedRead for PatientRead<'p, R, P> {
+    ghost use Rattle.timed_io.specs.Timed.{patient_in};
+
+    ghost remaining = { λ reader. R.remaining (patient_in reader) };
+
+    ghost allowed = { λ reader. R.allowed (patient_in reader) };
+
+    fn read_within(&mut self, most: Duration, buf: &mut [u8]) -> Result<usize> {
+        self.patience.begin_read();
+        let outcome = if self.head.is_whole() {
+            self.read_body(most, buf)
+        } else {
+            self.read_head(most, buf)
+        };
+        self.patience.end_read();
+        outcome
     }
 }

@@ -2,7 +2,7 @@ use Rattle.std.proofs.Common.{◌≤◌}
 use Rattle.std.specs.Duration.{as_nanos}
 use Rattle.std.specs.Io.KnownBytes.{Keeps}
 use Rattle.timed_io.specs.Timed.{patient_in}
-use Rattle.timed_io.proofs.patient_read.PatientReadLimitedRead.read_within.Given as goal
+use Rattle.timed_io.proofs.patient_read.PatientRead.read_head.Given as goal
 
 -- the waits so far left the known bytes as they were, and were of what there was
 abbrev pub invariant-loop : goal.invariant-loop
