@@ -1,5 +1,5 @@
 -- The text of a report.
-use Rattle.std.specs.Prelude.{ℕ, List, [], ◌∷◌, ◌++◌, codes, decimal, length, nat_lt, slice_index, if◌then◌else◌}
+use Rattle.std.specs.Prelude.{ℕ, List, [], ◌∷◌, ◌++◌, ◌==◌, codes, decimal, length, nat_lt, slice_index, if◌then◌else◌}
 use Rattle.std.specs.List.{concat}
 use Rattle.partitions.specs.declared.part.Part.TheVariants.{Known}
 use Rattle.partitions.specs.Table.{Row, name_of}
@@ -57,6 +57,10 @@ outcomes_text c = concat (
 abbrev pub counters_text : Counters → List ℕ
 counters_text c = acquires_text c ++ waits_text c ++ outcomes_text c
 
+-- how many requests had a body that wasn't held, where there is one
+abbrev pub unheld_text : ℕ → List ℕ
+unheld_text count = if count == 0 then [] else codes " 503=" ++ decimal count
+
 -- how many exchanges ended in each of the gateway's own answers
 abbrev pub answers_text : AnswerTally → List ℕ
 answers_text t = concat (
@@ -64,6 +68,7 @@ answers_text t = concat (
     ∷ codes " 429=" ∷ decimal t.refused ∷ codes " 431=" ∷ decimal t.head_too_large
     ∷ codes " 500=" ∷ decimal t.out_of_memory ∷ codes " 501=" ∷ decimal t.not_taken
     ∷ codes " 502=" ∷ decimal t.bad_gateway ∷ codes " 504=" ∷ decimal t.timed_out ∷ [])
+    ++ unheld_text t.bodies
 
 -- the connections to the backend: how many are open and idle, and how many were made, taken again,
 -- and closed while they were idle

@@ -14,7 +14,8 @@ counted_at status t =
     if nat_eq status 500 then record t { out_of_memory = raised t.out_of_memory } else (
     if nat_eq status 501 then record t { not_taken = raised t.not_taken } else (
     if nat_eq status 502 then record t { bad_gateway = raised t.bad_gateway } else (
-    if nat_eq status 504 then record t { timed_out = raised t.timed_out } else t)))))))
+    if nat_eq status 503 then record t { bodies = raised t.bodies } else (
+    if nat_eq status 504 then record t { timed_out = raised t.timed_out } else t))))))))
 
 abbrev pub counted_answer : Option ℕ → AnswerTally → AnswerTally
 counted_answer None t = t

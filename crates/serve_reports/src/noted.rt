@@ -21,6 +21,8 @@ pub struct Troubles {
     pub without_descriptor: u64,
     /// The last free worker was taken.
     pub all_taken: u64,
+    /// The body of a request or of an answer wasn't held.
+    pub bodies: u64,
 }
 
 /// What the limit of a gateway may be.

@@ -4,7 +4,7 @@ ghost use Rattle.serve_reports.specs.Report.{acquires_text, answers_text, class_
 ghost use Rattle.serve_reports.specs.Report.{clients_text, connections_text, events_text};
 ghost use Rattle.serve_reports.specs.Report.{waiting_text};
 ghost use Rattle.serve_reports.specs.Report.{counters_text, outcomes_text, report_text, stands_text};
-ghost use Rattle.serve_reports.specs.Report.{unknown_text, waits_text, workers_text};
+ghost use Rattle.serve_reports.specs.Report.{unheld_text, unknown_text, waits_text, workers_text};
 
 use crate::connections::BackendConnections;
 use crate::tally::AnswerTally;
@@ -168,7 +168,19 @@ fn push_answers(text: &mut String, answers: &AnswerTally) -> Result<(), AllocErr
     write!(
         text,
         " 431={head} 500={memory} 501={not_taken} 502={gateway} 504={late}"
-    )
+    )?;
+    push_unheld(text, answers.bodies)
+}
+
+/// Adds how many requests had a body that wasn't held, where there is one: there is none without a
+/// bound.
+fn push_unheld(text: &mut String, count: u64) -> Result<(), AllocError>
+    ensures { OnOk result (string_bytes text.new ≡ string_bytes text.old ++ unheld_text count) }
+{
+    if count == 0 {
+        return Ok(());
+    }
+    write!(text, " 503={count}")
 }
 
 /// Adds how many connections to the backend are open, how many of them are idle, how many were made

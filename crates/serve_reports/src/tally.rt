@@ -23,6 +23,8 @@ pub struct AnswerTally {
     pub not_taken: u64,
     /// 502: the backend can't be reached, or its answer can't be passed on.
     pub bad_gateway: u64,
+    /// 503: all bodies that are held have as many bytes as they may.
+    pub bodies: u64,
     /// 504: the backend's answer wasn't there in time.
     pub timed_out: u64,
     /// No answer is counted: a client ended what it sends before a byte of a request, and 400 was
@@ -56,6 +58,7 @@ impl AnswerTally {
             500 => raise(&mut self.out_of_memory),
             501 => raise(&mut self.not_taken),
             502 => raise(&mut self.bad_gateway),
+            503 => raise(&mut self.bodies),
             504 => raise(&mut self.timed_out),
             _ => {}
         }

@@ -49,6 +49,7 @@ struct Notes {
     late: RateLimitedLog,
     without_descriptor: RateLimitedLog,
     all_taken: RateLimitedLog,
+    bodies: RateLimitedLog,
     // When the log last told of old permits, by the watcher's clock in nanoseconds.
     old_told: Option<u64>,
 }
@@ -62,6 +63,7 @@ impl Notes {
             late: self.late.total(),
             without_descriptor: self.without_descriptor.total(),
             all_taken: self.all_taken.total(),
+            bodies: self.bodies.total(),
         }
     }
 }
@@ -113,6 +115,7 @@ impl<'a, R: SystemClock> Watcher<'a, R> {
             late: RateLimitedLog::new(),
             without_descriptor: RateLimitedLog::new(),
             all_taken: RateLimitedLog::new(),
+            bodies: RateLimitedLog::new(),
             old_told: None,
         };
         let measures = Measures {
@@ -201,6 +204,16 @@ impl<R: SystemClock + Log + Wait> Watcher<'_, R> {
             warn!(self.rt; target: "admission", count, workers; "all workers are taken");
         }
     }
+
+    /// The body of a request or of an answer wasn't held: all bodies together have as many bytes as
+    /// they may.
+    fn lack_bodies(&self) {
+        let now = self.clock.now();
+        let told = self.notes.lock(self.rt).bodies.note(now);
+        if let Some(count) = told {
+            warn!(self.rt; target: "admission", count; "bodies are at their bound");
+        }
+    }
 }
 
 impl<R: SystemClock + Log + Wait> Watcher<'_, R> {
@@ -254,6 +267,9 @@ impl<R: SystemClock + Log + Wait> Watch for Watcher<'_, R> {
             let mut notes = self.notes.lock(self.rt);
             notes.answers.count(exchange);
             notes.refusals.count(exchange);
+        }
+        if exchange.is_own && exchange.answer == Some(503) {
+            self.lack_bodies();
         }
     }
 
@@ -319,6 +335,10 @@ impl<R: SystemClock + Log + Wait> BackendWatch for Watcher<'_, R> {
         }
     }
 
+    fn unheld(&self) {
+        self.lack_bodies();
+    }
+
     fn connection(&self, event: ConnectionEvent) {
         self.connections.count(event);
     }
@@ -342,5 +362,6 @@ fn cause_of(fault: WireFault) -> &'static str {
         WireFault::Write => "closed before the request was written",
         WireFault::TurnLimit => "too slow",
         WireFault::Memory => "out of memory",
+        WireFault::Bodies => "above the bound on bodies",
     }
 }
