@@ -5,6 +5,7 @@ use denote.Ref.{NamedLft}
 use denote.Struct.Declared.{shape}
 use denote.Param.Send.{IsSync, recorded_sync, sendable, shr_sync, struct_sync}
 use Rattle.std.proofs.Crossing.{crosses}
+use Rattle.body_memory.proofs.shared.SharedBodies.TheSendSync as bodies
 use Rattle.matchit.proofs.route.Route.TheSendSync as route
 use Rattle.matchit.proofs.tree.Node.TheLaws.TheKnot.{sync-Node}
 use Rattle.limit_kinds.proofs.kinds.AnyLimit.TheSendSync as limit
@@ -57,7 +58,40 @@ common_sync ℓ L C W l c w =
       shr_sync _ _ L l,
       (
         shr_sync _ _ settings.the_row settings_sync,
-        search (sendable, crosses, c, w) depth 60 fits 100000,
+        (
+          shr_sync _ _ C c,
+          (
+            search (sendable, crosses),
+            (
+              search (sendable, crosses),
+              (
+                search (sendable, crosses),
+                (
+                  search (sendable, crosses),
+                  (
+                    search (sendable, crosses),
+                    (
+                      search (sendable, crosses),
+                      (
+                        search (sendable, crosses),
+                        (
+                          shr_sync _ _ W w,
+                          (
+                            search (sendable, crosses),
+                            (
+                              search (sendable, crosses, bodies.the_sync) depth 60 fits 100000,
+                              tt,
+                            ),
+                          ),
+                        ),
+                      ),
+                    ),
+                  ),
+                ),
+              ),
+            ),
+          ),
+        ),
       ),
     ))
 

@@ -16,6 +16,7 @@ use crate::fault::ServeFault;
 use crate::jobs::{Context, Job, JobResult, Worker};
 use crate::reporting::{ActiveWorkers, Reporter};
 use crate::working::WorkerSettings;
+use body_memory::HeldBodies;
 use clocks::Clock;
 use gate_port::{GatePort, GateView};
 use gateway_settings::Settings;
@@ -192,10 +193,11 @@ fn make_workers<'l, R: Net + Wait, P: Drop, L: Listener, C, W>(
     let mut workers = Vec::with_capacity(alloc, ports.len())?;
     for port in ports {
         let dialer = Dialer::new(rt, address, share(&pool)?);
+        let bodies = HeldBodies::new(alloc, common.bodies);
         let worker = Worker {
             door: make_door(common.listener, watch),
             port,
-            backend: TcpBackend::new(dialer, alloc, watch, clock, most_ns)?,
+            backend: TcpBackend::new(dialer, bodies, watch, clock, most_ns)?,
             buffers: ClientBuffers::new(alloc)?,
         };
         workers.push_reserved(worker);

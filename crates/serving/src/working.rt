@@ -7,6 +7,7 @@ ghost use Rattle.serving.specs.Turns.{IsRun, place_of};
 ghost use Rattle.timed_io.specs.Client.{from_of, to_of};
 
 use crate::doors::Accepts;
+use body_memory::{BodyMemory, HeldBodies, SharedBodies};
 use clocks::{Clock, MonotonicClock};
 use gate_port::GatePort;
 use gateway_settings::Settings;
@@ -56,6 +57,8 @@ pub struct WorkerSettings<'a, L, C, W> {
     pub watch: &'a W,
     /// What is read of a client is held here.
     pub alloc: Global,
+    /// The bytes that the bodies of all exchanges share, where these have a bound.
+    pub bodies: Option<&'a SharedBodies>,
 }
 
 /// What came of a worker's turns.
@@ -200,7 +203,8 @@ where
     (client, served, buffers)
 }
 
-/// The same over a connection and its ends, by somebody's patience with who is slow.
+/// The same over a connection and its ends, by somebody's patience with who is slow. The body of
+/// the request is held until the exchange has ended.
 fn serve_over<'s, T, I, O, P, B, C, L, W, A, K>(
     common: &WorkerSettings<'_, L, C, W>,
     policy: &ExchangePolicy<'_, K>,
@@ -243,8 +247,9 @@ where
         mut writer,
     } = client;
     let mut looks = MonotonicClock::new(common.clock);
+    let mut bodies = HeldBodies::new(common.alloc, common.bodies);
     let served = exchange(
-        common.alloc,
+        &mut bodies,
         port,
         backend,
         common.settings,
@@ -253,6 +258,7 @@ where
         &mut reader,
         &mut writer,
     );
+    bodies.release();
     let client = Client { reader, writer };
     let left = client.close();
     let served = served.with_sent(left.is_sent);
