@@ -1,5 +1,5 @@
 -- What a scrape is told.
-use Rattle.std.specs.Prelude.{ℕ, List, [], ◌∷◌, ◌++◌, codes, length, nat_lt, slice_index}
+use Rattle.std.specs.Prelude.{ℕ, List, [], ◌∷◌, ◌++◌, ◌==◌, codes, length, nat_lt, slice_index}
 use Rattle.std.specs.Prelude.{if◌then◌else◌}
 use Rattle.partitions.specs.declared.part.Part.TheVariants.{Known}
 use Rattle.partitions.specs.Table.{Row, name_of}
@@ -148,6 +148,10 @@ outcomes_text c =
     ((codes "success", c.success) ∷ (codes "ignored", c.ignored) ∷ (codes "dropped", c.dropped)
     ∷ [])
 
+-- the sample of what comes only by a bound on bodies, once it was seen
+abbrev pub seen_text : List ℕ → List ℕ → List ℕ → ℕ → List ℕ
+seen_text name label word value = if value == 0 then [] else sample_text name label word value
+
 -- how many exchanges ended in each of the gateway's own answers
 abbrev pub answers_text : AnswerTally → List ℕ
 answers_text t =
@@ -157,6 +161,7 @@ answers_text t =
     ∷ (codes "431", t.head_too_large) ∷ (codes "500", t.out_of_memory)
     ∷ (codes "501", t.not_taken) ∷ (codes "502", t.bad_gateway) ∷ (codes "504", t.timed_out)
     ∷ [])
+    ++ seen_text (codes "admission_answers_total") (codes "status") (codes "503") t.bodies
 
 -- how many clients sent nothing at all
 abbrev pub empty_text : AnswerTally → List ℕ
@@ -173,6 +178,7 @@ troubles_text t =
     ((codes "unreached", t.unreached) ∷ (codes "broken", t.broken)
     ∷ (codes "backend-timeout", t.late) ∷ (codes "without-descriptor", t.without_descriptor)
     ∷ (codes "all-taken", t.all_taken) ∷ [])
+    ++ seen_text (codes "admission_troubles_total") (codes "trouble") (codes "bodies") t.bodies
 
 -- how many connections to the backend there are, and what became of those that there were
 abbrev pub connections_text : BackendConnections → List ℕ

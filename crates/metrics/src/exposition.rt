@@ -4,7 +4,8 @@ ghost use Rattle.release.specs.Release.{version};
 ghost use Rattle.metrics.specs.Families.{sample_text};
 ghost use Rattle.metrics.specs.Metrics.{answers_text, by_class_text, class_text, classes_text};
 ghost use Rattle.metrics.specs.Metrics.{decisions_text, empty_text, metrics_text, oldest_text};
-ghost use Rattle.metrics.specs.Metrics.{outcomes_text, program_text, standing_text, troubles_text};
+ghost use Rattle.metrics.specs.Metrics.{outcomes_text, program_text, seen_text, standing_text};
+ghost use Rattle.metrics.specs.Metrics.{troubles_text};
 ghost use Rattle.metrics.specs.Metrics.{clients_text, connections_text, durations_text, range_text};
 ghost use Rattle.metrics.specs.Metrics.{workers_text};
 
@@ -219,7 +220,25 @@ fn push_answers(text: &mut String, answers: &AnswerTally) -> Result<(), AllocErr
         ("502", answers.bad_gateway),
         ("504", answers.timed_out),
     ];
-    push_samples(text, name, "status", &samples)
+    push_samples(text, name, "status", &samples)?;
+    push_seen(text, name, "status", "503", answers.bodies)
+}
+
+/// Adds a sample of what comes only by a bound on bodies, once it was seen.
+fn push_seen(
+    text: &mut String,
+    name: &str,
+    label: &str,
+    word: &str,
+    value: u64,
+) -> Result<(), AllocError>
+    ensures { OnOk result (string_bytes text.new
+        ≡ string_bytes text.old ++ seen_text name.now label.now word.now value) }
+{
+    if value == 0 {
+        return Ok(());
+    }
+    push_sample(text, name, label, word, value)
 }
 
 /// Adds how many clients sent nothing at all.
@@ -248,7 +267,8 @@ fn push_troubles(text: &mut String, troubles: &Troubles) -> Result<(), AllocErro
         ("without-descriptor", troubles.without_descriptor),
         ("all-taken", troubles.all_taken),
     ];
-    push_samples(text, name, "trouble", &samples)
+    push_samples(text, name, "trouble", &samples)?;
+    push_seen(text, name, "trouble", "bodies", troubles.bodies)
 }
 
 /// Adds how many connections to the backend there are, and what became of those that there were.

@@ -1,5 +1,7 @@
-use Rattle.metrics.proofs.Joins.{grown}
+use Rattle.metrics.proofs.Joins.{grown, joined}
 use Rattle.metrics.proofs.exposition.push_troubles.Goals as goal
 
 pub returns : goal.returns
-returns c = grown c.push_samples.result _ _ _ _ _ c.in_ok-push_head.ensures c.push_samples.ensures
+returns c =
+    let counts = joined _ _ _ _ _ c.in_ok-push_head.ensures c.in_ok-push_samples.ensures in
+    grown c.push_seen.result _ _ _ _ _ counts c.push_seen.ensures
