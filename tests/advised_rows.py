@@ -240,29 +240,37 @@ OTHERS_HOLD = (
     "bypassed requests and slow clients hold threads too: if you expect them, write these numbers into the "
     "configuration, and take more exchanges\n"
 )
+BODIES = "bodies_mib = 1024, derived from --exchanges {}\n"
 OF_ADVISED_EXCHANGES = [
     (
         1024,
         AUTO,
-        "backlog = 100, derived from --exchanges 1024\nlimit.max = 923, derived from --exchanges 1024\n"
+        "backlog = 100, derived from --exchanges 1024\n" + BODIES.format(1024)
+        + "limit.max = 923, derived from --exchanges 1024\n"
         "greatest limit 923, shares of it 0 and backlog 100 are 1023 together\n" + OTHERS_HOLD.format(1024, 1),
     ),
     (
         20,
         "backlog = 10\n" + AIMD + "timeout_us = 1_000_000\n",
-        "limit.max = 9, derived from --exchanges 20\nlimit.initial = 9, lowered to limit.max\n"
+        BODIES.format(20) + "limit.max = 9, derived from --exchanges 20\nlimit.initial = 9, lowered to limit.max\n"
         "greatest limit 9, shares of it 0 and backlog 10 are 19 together\n" + OTHERS_HOLD.format(20, 1),
     ),
     (
         100,
         "backlog = 10\n" + AUTO + "max = 20\n",
-        "greatest limit 20, shares of it 0 and backlog 10 are 30 together\n" + OTHERS_HOLD.format(100, 70),
+        BODIES.format(100) + "greatest limit 20, shares of it 0 and backlog 10 are 30 together\n"
+        + OTHERS_HOLD.format(100, 70),
     ),
     (
         64,
         PLAIN + "initial = 200\n",
         "too few exchanges: 267 are wanted; with --exchanges 267:\n"
-        "backlog = 66, derived from --exchanges 267\n"
-        "greatest limit 200, shares of it 0 and backlog 66 are 266 together\n" + OTHERS_HOLD.format(267, 1),
+        "backlog = 66, derived from --exchanges 267\n" + BODIES.format(267)
+        + "greatest limit 200, shares of it 0 and backlog 66 are 266 together\n" + OTHERS_HOLD.format(267, 1),
+    ),
+    (
+        100,
+        "backlog = 10\nbodies_mib = 16\n" + AUTO + "max = 20\n",
+        "greatest limit 20, shares of it 0 and backlog 10 are 30 together\n" + OTHERS_HOLD.format(100, 70),
     ),
 ]

@@ -85,6 +85,13 @@ fn say_derived(out: &mut String, before: Numbers, settings: &Settings) -> Result
             "backlog = {backlog}, derived from --exchanges {exchanges}\n"
         )?;
     }
+    if settings.omitted.bodies {
+        let bodies = settings.bodies_mib;
+        write!(
+            out,
+            "bodies_mib = {bodies}, derived from --exchanges {exchanges}\n"
+        )?;
+    }
     if max != before.max || (settings.omitted.limit_max && finds_rest(settings.limit.kind())) {
         write!(
             out,

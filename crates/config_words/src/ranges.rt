@@ -24,7 +24,7 @@ macro_rules! range_between {
         Range::new($low, $high, $default)
     };
     // Without it there is no bound, as with one that is never reached.
-    ([] [$low:literal to $high:literal; default none]) => {
+    ([] [$low:literal to $high:literal; default none, with exchanges $other:literal]) => {
         Range::new($low, $high, $high)
     };
     ([$low:ident] [$key:ident to $high:literal; default $default:literal]) => {

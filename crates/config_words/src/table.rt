@@ -44,7 +44,7 @@ macro_rules! key_row {
     } };
     (BodiesMib [$($row:tt)*] $($given:tt)*) => { $($row)*! { $($given)*
         BodiesMib "  bodies_mib    version 2: " "MiB of bodies in all, "
-            [16 to 1048576; default none] help ", with --exchanges 1024";
+            [16 to 1048576; default none, with exchanges 1024];
     } };
     (Keep [$($row:tt)*] $($given:tt)*) => { $($row)*! { $($given)*
         Keep "  keep          " "entries of the history that are kept, "

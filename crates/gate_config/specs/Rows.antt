@@ -1,8 +1,8 @@
 -- The table of keys: what each is called, which there are, in the order in which faults are looked
 -- for, and what each may hold. The share of a class is written in percent by version 1, and in
--- thousandths by version 2; a limit without numbers, the places of a class, the connections that are
--- kept and the bodies that are held are keys of version 2 alone, and off unless they are written. All
--- else is that of both.
+-- thousandths by version 2; a limit without numbers, the places of a class, the connections that
+-- are kept and the bodies that are held are keys of version 2 alone, and off unless they are
+-- written. All else is that of both.
 use Rattle.std.specs.Prelude.{ℕ, Bool, true, List, [], ◌∷◌, ◌++◌, map, Option, Some, None, codes}
 use Rattle.limit_laws.specs.Algorithm.{greatest_limit}
 use Rattle.aimd.specs.AimdRules.{least_ratio, greatest_ratio}

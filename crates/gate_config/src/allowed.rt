@@ -52,11 +52,8 @@ fn is_top_key(version: Version, windows: bool, key: Key) -> bool
 {
     match key {
         Key::Window => windows,
-        Key::Clients
-        | Key::ClientIdleMs
-        | Key::Backends
-        | Key::BackendIdleMs
-        | Key::BodiesMib => matches!(version, Version::Two),
+        Key::Clients | Key::ClientIdleMs | Key::Backends | Key::BackendIdleMs | Key::BodiesMib =>
+            matches!(version, Version::Two),
         _ => true,
     }
 }

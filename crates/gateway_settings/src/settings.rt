@@ -29,8 +29,8 @@ pub struct Settings {
     pub backends: u32,
     /// How long one of them may be idle and be used again, in nanoseconds: up to an hour.
     pub backend_idle_ns: u64,
-    /// How many MiB all bodies may have together that are held, up to 1,048,576. It is a bound where
-    /// it is written or made for a number of exchanges ([`Settings::bodies_bound`]).
+    /// How many MiB all bodies may have together that are held, up to 1,048,576. It is a bound
+    /// where it is written or made for a number of exchanges ([`Settings::bodies_bound`]).
     pub bodies_mib: u32,
     /// How many entries of the history are kept, from 1 to 1,000,000.
     pub keep: u32,

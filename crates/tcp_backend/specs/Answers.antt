@@ -11,8 +11,9 @@ use Rattle.tcp_backend.specs.declared.attempt.Attempt.{Attempt}
 abbrev pub is_stale : {S E : Type 0} → Bool → Attempt S E → Bool
 is_stale reused attempt = reused && not attempt.is_heard
 
--- a response was read; out of memory and a body that isn't held are the gateway's own; a call that failed where the last look
--- found its deadline reached is late; all else is the connection's fault, which was stale or broke
+-- a response was read; out of memory and a body that isn't held are the gateway's own; a call that
+-- failed where the last look found its deadline reached is late; all else is the connection's
+-- fault, which was stale or broke
 abbrev pub answer_of : Result ResponseValue WireFault → Bool → Bool → BackendAnswer
 answer_of (Ok response) is_over stale = answer.Answered response
 answer_of (Err fault.Memory) is_over stale = answer.Memory

@@ -121,8 +121,8 @@ impl<'c, K: Connector + Drop, W: Drop, C> TcpBackend<'c, K, K::Stream, W, C> {
     /// The backend at the address of this connector. A request that names no host is sent with the
     /// address as its host. A call may take so many nanoseconds of the clock, from its connect to
     /// the end of its answer, and without a limit as long as the backend takes. Nothing is
-    /// connected yet, and it fails only out of memory for the buffers. The bodies of answers are held
-    /// by `bodies`, each until it is left.
+    /// connected yet, and it fails only out of memory for the buffers. The bodies of answers are
+    /// held by `bodies`, each until it is left.
     pub fn new(
         connector: K,
         bodies: HeldBodies<'c>,
@@ -164,12 +164,13 @@ impl<'c, K: Connector, W: BackendWatch, C: Clock> Backend for TcpBackend<'c, K, 
 
     /// Asks for a connection once, writes the request and reads one response. Where there is no
     /// connection, that is `NotConnected`; each later fault is `Broken`, but out of memory is
-    /// `Memory`, and a body that may not be held is `Bodies`; and where the time of the call is over before, all that is `Late`. A connection
-    /// that was kept may have been closed by the backend meanwhile: a fault over one is `Stale`
-    /// where no byte of an answer came, and the request isn't sent again (RFC 9110, section 9.2.2).
-    /// A response that says its own length is read behind a write that failed or stands still, too:
-    /// the backend may have answered before it read the whole request. `NotConnected`, `Broken`,
-    /// `Stale` and `Late` are told, and `Stale` as `Broken` is.
+    /// `Memory`, and a body that may not be held is `Bodies`; and where the time of the call is
+    /// over before, all that is `Late`. A connection that was kept may have been closed by the
+    /// backend meanwhile: a fault over one is `Stale` where no byte of an answer came, and the
+    /// request isn't sent again (RFC 9110, section 9.2.2). A response that says its own length is
+    /// read behind a write that failed or stands still, too: the backend may have answered before
+    /// it read the whole request. `NotConnected`, `Broken`, `Stale`, `Late` and `Bodies` are told,
+    /// and `Stale` as `Broken` is.
     fn forward(&mut self, request: &Request) -> BackendAnswer
         ensures count { K.connects (connector_of self.new)
             ≡ raised (K.connects (connector_of self.old)) }

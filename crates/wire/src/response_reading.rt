@@ -25,8 +25,8 @@ use std::io::BufRead;
 ///
 /// At most 16 interim responses before it are read and dropped. `Memory`, `Read` and `TurnLimit`
 /// come where a growth was refused, the reader failed, or 100,000,000 reads were made; each other
-/// fault where the bytes have it first: in a head, in its status, in the lengths or in the body. The
-/// body's bytes are held by the memory as they come, and `Bodies` comes where it refuses some.
+/// fault where the bytes have it first: in a head, in its status, in the lengths or in the body.
+/// The body's bytes are held by the memory as they come, and `Bodies` comes where it refuses some.
 pub fn read_response<R: BufRead, M: BodyMemory>(
     memory: &mut M,
     reader: &mut Counted<R>,

@@ -134,6 +134,8 @@ limit learns from it:
   out of memory                                                 500               ignored
   the request is malformed, cut off, or has two lengths         400               nothing
   the request's body is above 8 MiB                             413               nothing
+  all bodies together are above bodies_mib: a request's         503               nothing
+  all bodies together are above bodies_mib: a response's        502               ignored
   the request's head is above 64 KiB or 100 lines               431               nothing
   the method is CONNECT or TRACE, or the coding isn't chunked   501               nothing
   the client left or was too slow with its request              no answer         nothing
@@ -147,11 +149,11 @@ system's accept queue and are never refused; the workers may need more descripto
 gives; or the backend is this gateway itself.
 
 While it serves the log says, at most once in ten seconds each and with the count since the last
-time, that the backend can't be reached, broke an answer or took too long, or that no descriptor was
-free. With --report-seconds N one line every N seconds tells the state: the limit, the requests in
-flight and those that wait, each class as in flight/share, the counters since the start, and how
-many exchanges ended in each status of the gateway's own, so that a stop loses N seconds of counters
-at most:
+time, that the backend can't be reached, broke an answer or took too long, that no descriptor was
+free, or that bodies are at their bound. With --report-seconds N one line every N seconds tells the
+state: the limit, the requests in flight and those that wait, each class as in flight/share, the
+counters since the start, and how many exchanges ended in each status of the gateway's own, so that
+a stop loses N seconds of counters at most:
 `report limit=L inflight=I waiters=V granted=G class.NAME=C/S class.unknown=C admitted=A ..
 dropped=D 400=N 413=N 429=N 431=N 500=N 501=N 502=N 504=N`.
 
