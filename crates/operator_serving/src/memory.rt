@@ -63,7 +63,7 @@ impl AnswerMemory {
             refused_of self.new ≡ refused_by fault (refused_of self.old)) }
         ensures unrefused { OnOk result (refused_of self.new ≡ refused_of self.old) }
     {
-        let read = read_request(self.alloc, reader, writer);
+        let read = read_request(&mut self.alloc, reader, writer);
         if let Err(WireFault::Memory) = &read {
             self.refused = self.refused.saturating_add(1);
         }
