@@ -17,8 +17,8 @@ use std::alloc::Global;
 use std::thread;
 use std::time::{Clock as SystemClock, Duration};
 use timed_io::{
-    BodyRates, BodyReader, BodyWait, Client, ClientBuffers, ClientEnds, ClientTime, Connection, Inlet,
-    Outlet, Patience, ServedClient,
+    BodyRates, BodyReader, BodyWait, Client, ClientBuffers, ClientEnds, ClientTime, Connection,
+    Inlet, Outlet, Patience, ServedClient,
 };
 use wire::Backend;
 
