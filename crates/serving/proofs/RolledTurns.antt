@@ -60,7 +60,8 @@ nothing_rolled None = tt
 nothing_rolled (Some it) = same_rolled it it refl
 
 -- one came, and was left
-pub visit_rolled : (old mid new : Option Roll) (before behind : Client) → Comes old mid (seen before)
+pub visit_rolled : (old mid new : Option Roll) (before behind : Client)
+    → Comes old mid (seen before)
     → Goes mid new (seen behind)
     → RollsOn old new (λ o n. (n.came ≡ o.came ++ seen before ∷ [])
     × (n.left ≡ o.left ++ seen behind ∷ []))
