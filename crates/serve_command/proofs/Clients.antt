@@ -3,7 +3,8 @@ use Rattle.std.proofs.Common.{◌≡◌, ℕ, [], ◌∷◌, ◌++◌, List, Opt
 use Rattle.std.proofs.Common.{append_assoc, ap, ◌∙◌, sym, subst, refl}
 use Rattle.std.proofs.lemmas.List.{append-nil}
 use Rattle.std.proofs.lemmas.Option.{same_Some}
-use Rattle.std.proofs.lemmas.List.Elements.{All-cons, All-head, All-nil, All-tail}
+use Rattle.std.proofs.lemmas.List.Elements.{All-head, All-tail}
+use Rattle.std.specs.List.{AllZip}
 use mathlib.Core.List.{IsPrefix}
 use Rattle.lemmas.proofs.Lists.{prefix_trans}
 use Rattle.counted_io.specs.Counted.{fresh}
@@ -111,15 +112,20 @@ module _ {S : Type 0} (g : Gate S) (one : ExchangesAreOneThreads g) (p : Policy)
       (decided_behind turns are.0 new first.0 most (first.3.same ∙ from_there) are.3 first.2)
 
 module _ {S : Type 0} (rules : Algorithm S) (m : Making) (p : Policy)
-    (Came : Option (List ℕ) → Type 0) (most : ℕ) (passes beside : List Pass) (counters : Counters)
-    (one : (g : Gate S) → ExchangesAreOneThreads g)
+    (Came : Option (List ℕ) → Type 0) (Shut : Type 0) (most : ℕ) (passes beside : List Pass)
+    (counters : Counters) (one : (g : Gate S) → ExchangesAreOneThreads g)
     (behind : AreCountersOfAll rules m (passes ++ beside) counters) where
-  abbrev pub RanIn : Pass → Type 0
-  RanIn = HasRunIn (limiter_of rules m) (image_of behind.after.origin) behind.log m p Came most
+  abbrev pub RanIn : Pass → List Turn → Type 0
+  RanIn = HasRunIn (limiter_of rules m) (image_of behind.after.origin) behind.log m p Came Shut most
 
-  ran_in : (pass : Pass) → HasRunTo m p Came most pass → IsPrefix pass.log behind.log
-      → RanIn pass
-  ran_in pass ran begun =
+  -- a worker took these turns
+  abbrev pub Took : Pass → List Turn → Type 0
+  Took pass turns = (ran : HasRunTo m p Came Shut most pass) × (ran.run.turns ≡ turns)
+
+  ran_in : (pass : Pass) (turns : List Turn) → Took pass turns → IsPrefix pass.log behind.log
+      → RanIn pass turns
+  ran_in pass turns took begun =
+      let ran = took.0 in
       let g = limiter_of rules m in
       let o = image_of behind.after.origin in
       let all = decided_behind g (one g) p Came ran.run.turns _ _
@@ -129,23 +135,28 @@ module _ {S : Type 0} (rules : Algorithm S) (m : Making) (p : Policy)
       sym (append-nil all.1) ∙ sym all.3.numbers ∙ ap (λ (known : Known). known.own) (sym ends) in
       record {
         ran = ran;
+        took = took.1;
         decided =
-            subst (λ (ns : List ℕ). AreDecided g o behind.log (exhausted_from m)
+            subst (λ (ts : List Turn). AreDecided g o behind.log (exhausted_from m)
+            p.settings ts pass.own) took.1
+            (subst (λ (ns : List ℕ). AreDecided g o behind.log (exhausted_from m)
             p.settings ran.run.turns ns) numbers
             (all.4 o behind.log behind.after.unasked.nobody behind.after.legal
-            (subst (λ (known : Known). IsPrefix known.log behind.log) ends begun));
+            (subst (λ (known : Known). IsPrefix known.log behind.log) ends begun)));
       }
 
-  all_ran : (own : List Pass) → All (HasRunTo m p Came most) own
-      → All (λ pass. IsPrefix pass.log behind.log) (own ++ beside) → All RanIn own
-  all_ran [] ran begun = All-nil RanIn
-  all_ran (q ∷ qs) ran begun =
-      let Begun : Pass → Type 0 = λ pass. IsPrefix pass.log behind.log in
-      let Ran = HasRunTo m p Came most in
-      All-cons RanIn q qs
-      (ran_in q (All-head Ran q qs ran) (All-head Begun q (qs ++ beside) begun))
-      (all_ran qs (All-tail Ran q qs ran) (All-tail Begun q (qs ++ beside) begun))
+  all_ran : (own : List Pass) (turns : List (List Turn)) → AllZip Took own turns
+      → All (λ pass. IsPrefix pass.log behind.log) (own ++ beside) → AllZip RanIn own turns
+  all_ran [] [] ran begun = tt
+  all_ran [] (ts ∷ tss) ran begun = absurd ran
+  all_ran (q ∷ qs) [] ran begun = absurd ran
+  all_ran (q ∷ qs) (ts ∷ tss) ran begun =
+      let Begun : Pass → Type 0 = λ pass. IsPrefix pass.log behind.log in (
+        ran_in q ts ran.0 (All-head Begun q (qs ++ beside) begun),
+        all_ran qs tss ran.1 (All-tail Begun q (qs ++ beside) begun),
+      )
 
   -- ALL OF THEM RAN IN THE LOG whose counters are told
-  pub all_ran_in : All (HasRunTo m p Came most) passes → All RanIn passes
-  all_ran_in all = all_ran passes all behind.begun
+  pub all_ran_in : (turns : List (List Turn)) → AllZip Took passes turns
+      → AllZip RanIn passes turns
+  all_ran_in turns all = all_ran passes turns all behind.begun

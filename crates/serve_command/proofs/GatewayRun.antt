@@ -19,6 +19,8 @@ use Rattle.shared_gate.specs.Closing.{calls_by}
 use Rattle.shared_gate.specs.Reported.{AreCountersOfAll, ArePassesMissing}
 use Rattle.ports.specs.declared.asked.Receipts.TheVariants.{Nothing}
 use Rattle.ports.specs.Asked.{Shared, known_at, known_by, port_in}
+use Rattle.listening.specs.Accepted.{token_of}
+use Rattle.listening.specs.Roll.{Roll, nobody}
 use Rattle.proxy.specs.Exchanges.{Policy}
 use Rattle.tcp_backend.specs.declared.connecting.TcpBackend.{TcpBackend}
 use Rattle.tcp_backend.specs.declared.dialing.Dialer.{Dialer}
@@ -28,9 +30,9 @@ use Rattle.serving.specs.declared.jobs.WorkerExit.{WorkerExit}
 use Rattle.serving.specs.declared.jobs.JobResult.{JobResult}
 use Rattle.serving.specs.declared.jobs.JobResult.TheVariants as left
 use Rattle.serving.specs.declared.working.WorkerSettings.{WorkerSettings}
-use Rattle.serving.specs.Doors.{failed_of, given_of, is_closed}
+use Rattle.serving.specs.Doors.{counted_in, failed_of, given_of, is_closed}
 use Rattle.serving.specs.Served.{policy_of}
-use Rattle.serving.specs.Turns.{IsRun}
+use Rattle.serving.specs.Turns.{IsRun, Rolls, Turn}
 use Rattle.serving.specs.Workers.{HasRun, made_in}
 use Rattle.gate_port.specs.declared.report.Report.{Report}
 use Rattle.gate_laws.specs.Balance.{IsBalanced, ReportsBalance}
@@ -42,58 +44,83 @@ use Rattle.serve_command.specs.Beside.{AreServedBeside, IsUnused}
 use Rattle.serve_command.specs.GatewayRun.{AreCountersOfRuns, AreEnded, AreMiscounted, AreOff}
 use Rattle.serve_command.specs.GatewayRun.{HasRunTo, HasServedAll, calls_told}
 use Rattle.serve_command.specs.GatewayRun.{passes_in, served_by, stood_at}
+use Rattle.serve_command.specs.Worked.{roll_by}
 use Rattle.serve_command.proofs.Clients.{all_ran_in}
 
-module _ {L C W : Type 0} (R T V M : Type 0) (m : Making) (came : L → Option (List ℕ) → Type 0)
-    (common : WorkerSettings L C W) where
+module _ {L K C W : Type 0} (R T V M : Type 0) (m : Making)
+    (came : L → Option (List ℕ) → Type 0) (found : L → Bool → Type 0)
+    (roll : L → K → Option Roll) (common : WorkerSettings L C W) where
   abbrev End : Type 0
-  End = WorkerExit (Door L W) (Shared M) (TcpBackend (Dialer R T) T V C)
+  End = WorkerExit (Door L K W) (Shared M) (TcpBackend (Dialer R T) T V C)
 
   abbrev Ran : Shared M → End → Type 0
-  Ran = HasRun came (λ port. None) (λ port. Some (known_by m port)) common
+  Ran = HasRun came found roll (λ port. None) (λ port. Some (known_by m port)) common
 
   abbrev RanTo : Pass → Type 0
   RanTo = HasRunTo m (policy_of common.settings.now common.marks) (came common.listener.now)
-      common.per_worker
+      (found common.listener.now false) common.per_worker
+
+  abbrev TookTurns : Pass → List Turn → Type 0
+  TookTurns pass turns = (ran : RanTo pass) × (ran.run.turns ≡ turns)
 
   abbrev pass_in : End → Pass
   pass_in ended = ended.port.pass
+
+  -- what is known of who was given and left by the token of its door
+  abbrev pub roll_in_end : End → Option Roll
+  roll_in_end ended = roll common.listener.now (token_of (counted_in ended.door))
+
+  abbrev pub RolledTo : End → List Turn → Type 0
+  RolledTo ended turns = Rolls turns (Some nobody) (roll_in_end ended)
 
   abbrev port_of : Pass → Shared M
   port_of pass = port_in pass Nothing 0
 
   -- one worker, whose pass knew nothing
   ran_to : (pass : Pass) (ended : End) → IsUnused pass → Ran (port_of pass) ended
-      → RanTo (pass_in ended)
-  ran_to pass ended empty did = record {
-    given = given_of ended.door;
-    failed = failed_of ended.door;
-    closed = is_closed ended.door;
-    forwarded = count_of ended.backend;
-    reached = ended.port.reached;
-    tally = ended.tally;
-    run =
-        subst (λ (it : Pass). IsRun
-        (policy_of common.settings.now common.marks) (came common.listener.now)
-        common.per_worker (stood_at 0 0 false 0 (known_at m it 0))
-        (stood_at (given_of ended.door) (failed_of ended.door) (is_closed ended.door)
-        (count_of ended.backend) (known_by m ended.port)) ended.tally) empty did.run;
-    tallied = did.tallied;
-  }
+      → (turns : List Turn) × TookTurns (pass_in ended) turns × RolledTo ended turns
+  ran_to pass ended empty did =
+      let run = subst (λ (it : Pass). IsRun
+      (policy_of common.settings.now common.marks) (came common.listener.now)
+      (found common.listener.now false) common.per_worker
+      (stood_at 0 0 false (Some nobody) 0 (known_at m it 0))
+      (stood_at (given_of ended.door) (failed_of ended.door) (is_closed ended.door)
+      (roll_in_end ended) (count_of ended.backend) (known_by m ended.port)) ended.tally) empty
+      did.run in
+      let ran : RanTo (pass_in ended) = record {
+        given = given_of ended.door;
+        failed = failed_of ended.door;
+        closed = is_closed ended.door;
+        roll = roll_in_end ended;
+        forwarded = count_of ended.backend;
+        reached = ended.port.reached;
+        tally = ended.tally;
+        run = run;
+        tallied = did.tallied;
+      } in
+      (run.turns, (ran, refl), run.taken.rolled)
 
-  -- all of them: as many as there were passes
+  -- all of them: as many as there were passes, each with the turns that it took
+  pub record HaveRunTo (passes : List Pass) (ends : List End) : Type 0 where
+    pub turns : List (List Turn)
+    pub took : AllZip TookTurns (map pass_in ends) turns
+    pub rolled : AllZip RolledTo ends turns
+    pub many : length (map pass_in ends) ≡ length passes
+
   pub all_ran_to : (passes : List Pass) (ends : List End) → All IsUnused passes
-      → AllZip Ran (map port_of passes) ends
-      → All RanTo (map pass_in ends) × (length (map pass_in ends) ≡ length passes)
-  all_ran_to [] [] empty all = (All-nil RanTo, refl)
+      → AllZip Ran (map port_of passes) ends → HaveRunTo passes ends
+  all_ran_to [] [] empty all = record { turns = []; took = tt; rolled = tt; many = refl }
   all_ran_to [] (e ∷ es) empty all = absurd all
   all_ran_to (p ∷ ps) [] empty all = absurd all
   all_ran_to (p ∷ ps) (e ∷ es) empty all =
-      let rest = all_ran_to ps es (All-tail IsUnused p ps empty) all.1 in (
-        All-cons RanTo (pass_in e) (map pass_in es)
-            (ran_to p e (All-head IsUnused p ps empty) all.0) rest.0,
-        ap suc rest.1,
-      )
+      let rest = all_ran_to ps es (All-tail IsUnused p ps empty) all.1 in
+      let one = ran_to p e (All-head IsUnused p ps empty) all.0 in
+      record {
+        turns = one.0 ∷ rest.turns;
+        took = (one.1, rest.took);
+        rolled = (one.2, rest.rolled);
+        many = ap suc rest.many;
+      }
 
 -- the passes of those who served, and of one more
 pub passes_more : {A B M : Type 0} (lefts : List (JobResult A (Shared M) B Pass))
@@ -249,32 +276,46 @@ module _ {S A B M : Type 0} (rules : Algorithm S) (m : Making)
       (subst (λ (ps : List Pass). AreCountersOfAll rules m ps counters) are
       (subst (λ (it : Result Counters Calls). IfOk it (AreCountersOfAll rules m passes)) is behind))
 
-  -- the counters of runs, where they tell of just as many calls as the workers made
-  pub counted_runs : (p : Policy) (Came : Option (List ℕ) → Type 0) (most : ℕ)
-      (told : Option Counters) → ((g : Gate S) → ExchangesAreOneThreads g) → ReportsBalance rules
-      → All (HasRunTo m p Came most) (served_by lefts)
+  -- the counters of runs, where they tell of just as many calls as the workers made, and all whom
+  -- their listener gave came in these turns
+  pub counted_runs : (p : Policy) (Came : Option (List ℕ) → Type 0) (Shut : Type 0)
+      (Gave : Roll → Type 0) (most : ℕ)
+      (told final : Option Counters) → ((g : Gate S) → ExchangesAreOneThreads g)
+      → ReportsBalance rules → (turns : List (List Turn))
+      → AllZip (λ pass own. (ran : HasRunTo m p Came Shut most pass) × (ran.run.turns ≡ own))
+      (served_by lefts) turns
       → IfSome told (λ it. (counted ≡ Ok it) × (calls_told it ≡ calls) × AreEnded it)
-      → IfSome told (AreCountersOfRuns rules m p Came workers most (made_in lefts))
-  counted_runs p Came most None one balances ran some = tt
-  counted_runs p Came most (Some it) one balances ran some =
-      let own = of_all it some.0 in
+      → IfSome final (λ it. told ≡ Some it) → IfSome final (λ it. Gave (roll_by turns))
+      → IfSome final (AreCountersOfRuns rules m p Came Shut Gave workers most (made_in lefts))
+  counted_runs p Came Shut Gave most told None one balances turns took some same gave = tt
+  counted_runs p Came Shut Gave most told (Some it) one balances turns took some same gave =
+      let here : (counted ≡ Ok it) × (calls_told it ≡ calls) × AreEnded it =
+      subst (λ (t : Option Counters). IfSome t (λ it. (counted ≡ Ok it)
+      × (calls_told it ≡ calls) × AreEnded it)) same some in
+      let own = of_all it here.0 in
       record {
         passes = served_by lefts;
         all = all;
         behind = own;
-        ran = all_ran_in rules m p Came most (served_by lefts) (made_in lefts) it one own ran;
-        balance = some.1 ∙ made;
-        ended = none_left own.report it own.told (balances m own.log own.report own.after) some.2;
+        turns = turns;
+        ran = all_ran_in rules m p Came Shut most (served_by lefts) (made_in lefts) it one own
+            turns took;
+        gave = gave;
+        balance = here.1 ∙ made;
+        ended = none_left own.report it own.told (balances m own.log own.report own.after) here.2;
       }
 
-  is_off : (it : Result Counters Calls) → counted ≡ it
-      → IfOk it (λ counters. ¬ ((calls_told counters ≡ calls) × AreEnded counters))
-      → ((calls : Calls) × ArePassesMissing rules m (both rules m lefts) calls)
+  abbrev Off : Type 0 → Type 0
+  Off Lost = ((calls : Calls) × ArePassesMissing rules m (both rules m lefts) calls)
       ⊎ ((counters : Counters) × AreCountersOfAll rules m (both rules m lefts) counters
       × AreOff (served_by lefts) counters)
-  is_off (Ok counters) is none =
-      inr (counters, of_all counters is, λ same. none (same.0 ∙ sym made, same.1))
-  is_off (Err calls) is none = inl (
+      ⊎ Lost
+
+  is_off : (Lost : Type 0) (it : Result Counters Calls) → counted ≡ it
+      → IfOk it (λ counters. ¬ ((calls_told counters ≡ calls) × AreEnded counters)) → Off Lost
+  is_off Lost (Ok counters) is none =
+      inr (inl (counters, of_all counters is, λ same. none (same.0 ∙ sym made, same.1)))
+  is_off Lost (Err calls) is none = inl (
     calls,
     missing_both rules m lefts calls
         (subst (λ (ps : List Pass). ArePassesMissing rules m ps calls) are
@@ -282,27 +323,61 @@ module _ {S A B M : Type 0} (rules : Algorithm S) (m : Making)
         missing)),
   )
 
-  -- and else they are off, or some are missing
-  pub runs_miscounted : (told : Option Counters)
+  why_off : (Lost : Type 0) (told : Option Counters)
       → IfNone told (IfOk counted (λ counters. ¬ ((calls_told counters ≡ calls)
       × AreEnded counters)))
-      → IfNone told (AreMiscounted rules m workers)
-  runs_miscounted (Some it) none = tt
-  runs_miscounted None none = record {
+      → (told ≡ None) ⊎ Lost → Off Lost
+  why_off Lost told none (inr lost) = inr (inr lost)
+  why_off Lost told none (inl nothing) =
+      is_off Lost counted refl
+      (subst (λ (t : Option Counters). IfNone t (IfOk counted (λ counters.
+      ¬ ((calls_told counters ≡ calls) × AreEnded counters)))) nothing none)
+
+  -- and else they are off, or some are missing, or the listener can't tell whom it gave
+  pub runs_miscounted : (Lost : Type 0) (told final : Option Counters)
+      → IfNone told (IfOk counted (λ counters. ¬ ((calls_told counters ≡ calls)
+      × AreEnded counters)))
+      → IfNone final ((told ≡ None) ⊎ Lost)
+      → IfNone final (AreMiscounted rules m workers Lost)
+  runs_miscounted Lost told (Some it) none why = tt
+  runs_miscounted Lost told None none why = record {
     passes = served_by lefts;
     all = all;
     beside = made_in lefts;
-    off = is_off counted refl none;
+    off = why_off Lost told none why;
   }
 
 -- with whoever was served beside the workers
 pub served_all : {S L C : Type 0} (rules : Algorithm S) (m : Making) (closed : L → Type 0)
-    (came : L → Option (List ℕ) → Type 0) (found : L → Bool → Type 0) (p : Policy)
-    (begin : DeskState L) (side : SideAddresses L C) (workers most : ℕ) (beside : List Pass)
-    (told : Option Counters)
+    (came : L → Option (List ℕ) → Type 0) (found : L → Bool → Type 0) (gave : L → Roll → Type 0)
+    (p : Policy) (begin : DeskState L) (side : SideAddresses L C) (workers most : ℕ)
+    (beside : List Pass) (told : Option Counters)
     → AreServedBeside (IsDone rules m closed) came found begin side beside
-    → IfSome told (AreCountersOfRuns rules m p (came begin.front) workers most beside)
-    → IfSome told (HasServedAll rules m closed came found p begin side workers most)
-served_all rules m closed came found p begin side workers most beside None served counted = tt
-served_all rules m closed came found p begin side workers most beside (Some it) served counted =
+    → IfSome told (AreCountersOfRuns rules m p (came begin.front) (found begin.front false)
+    (gave begin.front) workers most beside)
+    → IfSome told (HasServedAll rules m closed came found gave p begin side workers most)
+served_all rules m closed came found gave p begin side workers most beside None served counted = tt
+served_all rules m closed came found gave p begin side workers most beside (Some it) served
+    counted =
     record { beside = beside; served = served; counted = counted }
+
+-- where one cause is another one, too
+pub lost_too : {S : Type 0} (rules : Algorithm S) (m : Making) (workers : ℕ) (Lost Other : Type 0)
+    → (Lost → Other) → AreMiscounted rules m workers Lost → AreMiscounted rules m workers Other
+lost_too rules m workers Lost Other too off = record {
+  passes = off.passes;
+  all = off.all;
+  beside = off.beside;
+  off = go off.off;
+} where
+  go : ((calls : Calls) × ArePassesMissing rules m (off.passes ++ off.beside) calls)
+      ⊎ ((counters : Counters) × AreCountersOfAll rules m (off.passes ++ off.beside) counters
+      × AreOff off.passes counters)
+      ⊎ Lost
+      → ((calls : Calls) × ArePassesMissing rules m (off.passes ++ off.beside) calls)
+      ⊎ ((counters : Counters) × AreCountersOfAll rules m (off.passes ++ off.beside) counters
+      × AreOff off.passes counters)
+      ⊎ Other
+  go (inl missing) = inl missing
+  go (inr (inl told)) = inr (inl told)
+  go (inr (inr lost)) = inr (inr (too lost))

@@ -1,5 +1,6 @@
 mod Beside
 mod Clients
 mod GatewayRun
+mod Rolls
 mod Served
 mod WhyUnserved

@@ -1,5 +1,5 @@
 -- What `serve` does.
-use Rattle.std.specs.Prelude.{◌≡◌, ◌⊎◌, ℕ, Bool, true, List, ◌++◌, Option, None, Some, IfSome, Ok}
+use Rattle.std.specs.Prelude.{◌≡◌, ◌⊎◌, ℕ, Bool, false, true, List, ◌++◌, Option, None, Some, IfSome, Ok}
 use Rattle.std.specs.declared.net.socket_addr.SocketAddrV4.{SocketAddrV4}
 use Rattle.std.specs.Net.Text.{socket_v4_text}
 use Rattle.counted_io.specs.Count.{raised}
@@ -15,6 +15,7 @@ use Rattle.commands.specs.declared.serve_options.ServeOptions.{ServeOptions}
 use Rattle.commands.specs.ServeOptions.{threads_of}
 use Rattle.shared_gate.specs.Calls.{Pass}
 use Rattle.gate_opening.specs.Opening.{making_of}
+use Rattle.listening.specs.Roll.{Roll}
 use Rattle.serving.specs.Served.{policy_of}
 use Rattle.config_file.specs.Reading.{Held, IsUnset, Says}
 use Rattle.config_file.specs.declared.file_fault.FileFault.TheVariants as File
@@ -24,7 +25,7 @@ use Rattle.serve_command.specs.declared.fault.ServiceFault.TheVariants as Servic
 use Rattle.gate_desk.specs.Desk.{IsDone}
 use Rattle.gate_desk.specs.State.{new_desk}
 use Rattle.serve_command.specs.Beside.{IsAdminServed, IsStatusServed}
-use Rattle.serve_command.specs.GatewayRun.{AreCountersOfRuns}
+use Rattle.serve_command.specs.GatewayRun.{AreCountersOfRuns, AreMiscounted}
 
 -- THE SETTINGS of a file that was opened as it says: its text was read whole, and holds them
 abbrev pub AreOfFile : {F : Type 0} → (F → Type 0) → (F → Option (List ℕ)) → Settings → Type 0
@@ -46,18 +47,20 @@ IsUnboundToo Unbound (Some address) = Unbound (socket_v4_text address)
 
 -- SERVED BY SETTINGS, at their address, the operator's and that of whoever looks: a listener was
 -- bound at each. As many workers as the options say took their turns, each by these settings, with
--- marks or without, with clients who came to the first, and these are the counters of their runs;
--- at the others those were served who came there, at desks of the same gate, by whose passes nobody
--- had called, and which close the listener of clients
+-- marks or without, with clients who came to the first, all whom that gave, and these are the
+-- counters of their runs; at the others those were served who came there, at desks of the same
+-- gate, by whose passes nobody had called, and which close the listener of clients
 pub record IsServedBy {L : Type 0} (Bound : List ℕ → L → Type 0)
-    (came : L → Option (List ℕ) → Type 0) (found : L → Bool → Type 0) (closed : L → Type 0)
-    (o : ServeOptions) (s : Settings) (counters : Counters) : Type 0 where
+    (came : L → Option (List ℕ) → Type 0) (found : L → Bool → Type 0)
+    (gave : L → Roll → Type 0) (closed : L → Type 0) (o : ServeOptions) (s : Settings)
+    (counters : Counters) : Type 0 where
   pub listener : L
   pub bound : Bound s.listen listener
   pub by_lookers : List Pass
   pub by_admins : List Pass
   pub ran : AreCountersOfRuns any_rules (making_of (threads_of o) s) (policy_of s o.marks)
-      (came listener) (threads_of o) o.per_worker (by_lookers ++ by_admins) counters
+      (came listener) (found listener false) (gave listener) (threads_of o) o.per_worker
+      (by_lookers ++ by_admins) counters
   pub operator : IsAdminServed (IsDone any_rules (making_of (threads_of o) s) closed) came found
       (new_desk s.table listener) Bound o.admin by_admins
   pub lookers : IsStatusServed (IsDone any_rules (making_of (threads_of o) s) closed) came found
@@ -68,8 +71,8 @@ pub record IsServedBy {L : Type 0} (Bound : List ℕ → L → Type 0)
 -- flushed, and no write failed
 pub record HasServed {F L W : Type 0} (Opened : F → Type 0) (remaining : F → Option (List ℕ))
     (Bound : List ℕ → L → Type 0) (came : L → Option (List ℕ) → Type 0)
-    (found : L → Bool → Type 0) (closed : L → Type 0) (contents : W → Option (List ℕ))
-    (o : ServeOptions) (old new : Counted W) : Type 0 where
+    (found : L → Bool → Type 0) (gave : L → Roll → Type 0) (closed : L → Type 0)
+    (contents : W → Option (List ℕ)) (o : ServeOptions) (old new : Counted W) : Type 0 where
   pub settings : Settings
   pub file : Counted F
   pub bytes : List ℕ
@@ -78,29 +81,37 @@ pub record HasServed {F L W : Type 0} (Opened : F → Type 0) (remaining : F →
   pub says : Says bytes (Ok settings)
   pub enough : AreEnoughFor o.exchanges settings
   pub counters : Counters
-  pub served : IsServedBy Bound came found closed o (settings_by o.exchanges settings) counters
+  pub served : IsServedBy Bound came found gave closed o (settings_by o.exchanges settings) counters
   pub written : Wrote contents old new (counters_line counters)
   pub unfailing : failures_of new ≡ failures_of old
   pub flushed : is_flushed new ≡ true
 
+-- by these settings so many workers' gate is miscounted, or a listener that was bound at their
+-- address can't tell whom it gave
+abbrev pub Miscounts : {L : Type 0} → (List ℕ → L → Type 0) → (L → Type 0) → ℕ → Settings → Type 0
+Miscounts {L} Bound lost workers s =
+    AreMiscounted any_rules (making_of workers s) workers
+    ((listener : L) × Bound s.listen listener × lost listener)
+
 -- A FAULT OF SERVING ITSELF, by the addresses, by how many threads were refused before and after,
 -- and by what is miscounted: an address couldn't be bound, of clients, of the operator or of
 -- whoever looks; or that of clients was, and memory was lacking, the system refused a thread, or
--- all have served, and the gate has other calls than these made, or counts others
+-- all have served, and the gate has other calls than these made, or counts others, or their
+-- listener can't tell whom it gave
 abbrev pub IsOfServing : {L : Type 0} → (List ℕ → L → Type 0) → (List ℕ → Type 0)
     → List ℕ → Option SocketAddrV4 → Option SocketAddrV4 → ℕ → ℕ → Type 0 → ServiceFault → Type 0
-IsOfServing Bound Unbound listen admin status before after Miscounts (Service.Config fault) = ⊥
-IsOfServing Bound Unbound listen admin status before after Miscounts (Service.Exchanges few) = ⊥
-IsOfServing Bound Unbound listen admin status before after Miscounts Service.Listen =
+IsOfServing Bound Unbound listen admin status before after Off (Service.Config fault) = ⊥
+IsOfServing Bound Unbound listen admin status before after Off (Service.Exchanges few) = ⊥
+IsOfServing Bound Unbound listen admin status before after Off Service.Listen =
     Unbound listen ⊎ (IsBound Bound listen × IsUnboundToo Unbound admin)
     ⊎ (IsBound Bound listen × IsBoundToo Bound admin × IsUnboundToo Unbound status)
-IsOfServing Bound Unbound listen admin status before after Miscounts Service.Memory =
+IsOfServing Bound Unbound listen admin status before after Off Service.Memory =
     IsBound Bound listen
-IsOfServing Bound Unbound listen admin status before after Miscounts Service.Thread =
+IsOfServing Bound Unbound listen admin status before after Off Service.Thread =
     IsBound Bound listen × (after ≡ raised before)
-IsOfServing Bound Unbound listen admin status before after Miscounts Service.Miscounted =
-    IsBound Bound listen × Miscounts
-IsOfServing Bound Unbound listen admin status before after Miscounts Service.Write = ⊥
+IsOfServing Bound Unbound listen admin status before after Off Service.Miscounted =
+    IsBound Bound listen × Off
+IsOfServing Bound Unbound listen admin status before after Off Service.Write = ⊥
 
 -- why an operator's address isn't had
 abbrev pub IsOfAdmin : (List ℕ → Type 0) → Option SocketAddrV4 → ServiceFault → Type 0

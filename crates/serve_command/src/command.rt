@@ -4,7 +4,6 @@ ghost use Rattle.std.specs.Net.Text.{socket_v4_text};
 ghost use Rattle.counted_io.specs.declared.counted.Counted.{Counted as CountedValue};
 ghost use Rattle.counted_io.specs.Counted.{failures_of, inner_of};
 ghost use Rattle.tasks.specs.Refused.{refused_of};
-ghost use Rattle.limit_kinds.specs.AnyKinds.{any_rules};
 ghost use Rattle.gateway_settings.specs.Settings.{AreSound};
 ghost use Rattle.fault_lines.specs.FaultLine.{IsTold, fault_line};
 ghost use Rattle.config_file.specs.Reading.{Held, IsUnreadFile};
@@ -12,9 +11,7 @@ ghost use Rattle.serve_command.specs.declared.fault.ServiceFault.TheVariants.{Li
 ghost use Rattle.commands.specs.ServeOptions.{threads_of};
 ghost use Rattle.serve_command.specs.Beside.{IsAdminBound, IsStatusBound};
 ghost use Rattle.serve_command.specs.Command.{HasServed, IsOfAdmin, IsOfServing, IsServedBy};
-ghost use Rattle.serve_command.specs.Command.{IsUnboundToo, IsWhyOfService};
-ghost use Rattle.gate_opening.specs.Opening.{making_of};
-ghost use Rattle.serve_command.specs.GatewayRun.{AreMiscounted};
+ghost use Rattle.serve_command.specs.Command.{IsUnboundToo, IsWhyOfService, Miscounts};
 ghost use Rattle.serve_command.specs.ServiceFault.{service_fault_text};
 
 use crate::admin::AdminAddress;
@@ -68,6 +65,7 @@ where
     <B::Bound as Listener>::Stream: Send + Sync + Drop,
     <B::Bound as Listener>::From: Send + Sync,
     <B::Bound as Listener>::To: Send + Sync,
+    <B::Bound as Listener>::Token: Send + Sync,
     R::Stream: Send + Sync,
     R::Listener: Send + Sync,
     requires some { 1 ≤ threads_of service.now }
@@ -76,8 +74,8 @@ where
 
     // The line of counters is written, and nothing else.
     ensures served { result ≡ 0 → HasServed (F.opened service.now.path.now) F.File.remaining
-        B.bound B.Bound.came B.Bound.found B.Bound.closed W.contents service.now writer.old
-        writer.new }
+        B.bound B.Bound.came B.Bound.found B.Bound.gave B.Bound.closed W.contents service.now
+        writer.old writer.new }
     ensures quiet { result ≡ 0 → errors.new ≡ errors.old }
 
     // The first fault is reported.
@@ -87,8 +85,7 @@ where
         (F.opened service.now.path.now) F.File.remaining service.now.exchanges
         (λ s. IsOfServing B.bound B.unbound s.listen service.now.admin service.now.status
         (refused_of spawner.old) (refused_of spawner.new)
-        (AreMiscounted any_rules (making_of (threads_of service.now) s)
-        (threads_of service.now)))
+        (Miscounts B.bound B.Bound.lost (threads_of service.now) s))
         writer.old writer.new fault }
 {
     match serve_and_count(rt, spawner, files, addresses, alloc, service, writer) {
@@ -116,19 +113,19 @@ where
     <B::Bound as Listener>::Stream: Send + Sync + Drop,
     <B::Bound as Listener>::From: Send + Sync,
     <B::Bound as Listener>::To: Send + Sync,
+    <B::Bound as Listener>::Token: Send + Sync,
     R::Stream: Send + Sync,
     R::Listener: Send + Sync,
     requires some { 1 ≤ threads_of service.now }
     requires few { threads_of service.now ≤ 4096 }
     ensures served { OnOk result (HasServed (F.opened service.now.path.now) F.File.remaining
-        B.bound B.Bound.came B.Bound.found B.Bound.closed W.contents service.now writer.old
-        writer.new) }
+        B.bound B.Bound.came B.Bound.found B.Bound.gave B.Bound.closed W.contents service.now
+        writer.old writer.new) }
     ensures refused { IfErr result (IsWhyOfService (F.unopened service.now.path.now)
         (F.opened service.now.path.now) F.File.remaining service.now.exchanges
         (λ s. IsOfServing B.bound B.unbound s.listen service.now.admin service.now.status
         (refused_of spawner.old) (refused_of spawner.new)
-        (AreMiscounted any_rules (making_of (threads_of service.now) s)
-        (threads_of service.now)))
+        (Miscounts B.bound B.Bound.lost (threads_of service.now) s))
         writer.old writer.new) }
 {
     let text = read_config(rt, files, alloc, service.path)?;
@@ -189,18 +186,18 @@ where
     <B::Bound as Listener>::Stream: Send + Sync + Drop,
     <B::Bound as Listener>::From: Send + Sync,
     <B::Bound as Listener>::To: Send + Sync,
+    <B::Bound as Listener>::Token: Send + Sync,
     R::Stream: Send + Sync,
     R::Listener: Send + Sync,
     requires sound { AreSound settings.now }
     requires some { 1 ≤ threads_of service.now }
     requires few { threads_of service.now ≤ 4096 }
-    ensures served { IfOk result (IsServedBy B.bound B.Bound.came B.Bound.found B.Bound.closed
-        service.now settings.now) }
+    ensures served { IfOk result (IsServedBy B.bound B.Bound.came B.Bound.found B.Bound.gave
+        B.Bound.closed service.now settings.now) }
     ensures refused { IfErr result (IsOfServing B.bound B.unbound settings.now.listen
         service.now.admin service.now.status
         (refused_of spawner.old) (refused_of spawner.new)
-        (AreMiscounted any_rules (making_of (threads_of service.now) settings.now)
-        (threads_of service.now))) }
+        (Miscounts B.bound B.Bound.lost (threads_of service.now) settings.now)) }
 {
     let front = bind(rt, addresses, settings.listen.socket())?;
     let admin = bind_admin(rt, addresses, alloc, service.admin)?;

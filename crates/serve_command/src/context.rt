@@ -56,8 +56,8 @@ pub(crate) struct ServeContext<'a, R: SystemClock, L> {
 }
 
 /// Serves by the settings, and tells the gate's counters; or none, where it has calls that nobody
-/// made who served, or where these tell of others than the workers made, or of permits that weren't
-/// ended.
+/// made who served, where these tell of others than the workers made, or of permits that weren't
+/// ended, or where the listener can't tell whom it gave.
 pub(crate) fn serve_in<'c, R, L>(
     rt: &'c R,
     spawner: &mut Spawner<'_, R>,
@@ -70,17 +70,20 @@ where
     L::Stream: Send + Sync + Drop,
     L::From: Send + Sync,
     L::To: Send + Sync,
+    L::Token: Send + Sync,
     R::Stream: Send + Sync,
     R::Listener: Send + Sync,
     requires sound { AreSound context.now.settings.now }
     requires few { threads_of service.now ≤ 4096 }
     ensures served { IfOk result (λ told. IfSome told (HasServedAt any_rules
         (making_of (threads_of service.now) context.now.settings.now) L.closed L.came L.found
+        L.gave
         (policy_of context.now.settings.now service.now.marks)
         (new_desk context.now.settings.now.table context.now.front.now) context.now.admin.now
         context.now.status.now (threads_of service.now) service.now.per_worker)) }
     ensures miscounted { IfOk result (λ told. IfNone told (AreMiscounted any_rules
-        (making_of (threads_of service.now) context.now.settings.now) (threads_of service.now))) }
+        (making_of (threads_of service.now) context.now.settings.now) (threads_of service.now)
+        (L.lost context.now.front.now))) }
     ensures thread { IsErrOf result ServeFault.Thread →
         refused_of spawner.new ≡ raised (refused_of spawner.old) }
 {

@@ -23,7 +23,7 @@ pub enum ServiceFault {
     /// A thread couldn't be started; the workers that were have ended.
     Thread,
     /// All workers have ended, and the gate's counters tell of calls that none of them made, or of
-    /// permits that weren't ended.
+    /// permits that weren't ended; or the listener can't tell whom it gave.
     Miscounted,
     /// The counters can't be written.
     Write,

@@ -1,8 +1,9 @@
 // The gate of a configuration, and its workers.
-ghost use Rattle.std.specs.Prelude.{◌≡◌, ◌≤◌, ◌+◌, [], ◌∷◌, map, replicate, vec_len};
+ghost use Rattle.std.specs.Prelude.{◌≡◌, ◌≤◌, ◌+◌, ◌⊎◌, [], ◌∷◌, map, replicate, vec_len, None, Some};
 ghost use Rattle.std.specs.Prelude.{All, IfNone, IfOk, IfSome, IsErrOf, OnOk};
 ghost use Rattle.counted_io.specs.Count.{raised};
 ghost use Rattle.tasks.specs.Refused.{refused_of};
+ghost use Rattle.listening.specs.Roll.{Roll};
 ghost use Rattle.limit_kinds.specs.AnyKinds.{any_rules};
 ghost use Rattle.gate_ledgers.specs.Names.{AreNamed, AreWhole};
 ghost use Rattle.gateway_settings.specs.Settings.{AreSound};
@@ -16,7 +17,8 @@ ghost use Rattle.serving.specs.Served.{policy_of};
 ghost use Rattle.gate_desk.specs.State.{new_desk};
 ghost use Rattle.serve_command.specs.Beside.{IsUnused, count_beside};
 ghost use Rattle.serve_command.specs.GatewayRun.{AreMiscounted, HasServedAll};
-ghost use Rattle.serve_command.specs.GatewayRun.{passes_in, served_by};
+ghost use Rattle.serve_command.specs.GatewayRun.{all_joined, joined, passes_in, rolls_left};
+ghost use Rattle.serve_command.specs.GatewayRun.{served_by};
 
 use crate::admin::SideAddresses;
 use crate::operators::make_operators;
@@ -26,11 +28,11 @@ use gate_laws::{exchanges_are_one_threads, reports_balance};
 use gate_opening::{balanced, open_gate};
 use limit_laws::Limit;
 use limiter_core::Counters;
-use listening::Closable;
+use listening::{Closable, Listener};
 use log::Log;
 use ports::{Port, View};
 use serve_reports::Watcher;
-use serving::{JobResult, ServeFault, WorkerSettings, serve};
+use serving::{Door, JobResult, ServeFault, WorkerSettings, serve};
 use shared_gate::{GateNaming, LogLength, Pass, SharedGate};
 use std::alloc::AllocError;
 use std::marker::Brand;
@@ -54,8 +56,8 @@ pub(crate) struct Gateway<'g, R: SystemClock, L, C> {
 }
 
 /// Serves clients through the gate of the gateway's settings, by its workers, and tells the gate's
-/// counters once all have ended; or none, where it has calls that nobody made who served, or where
-/// these tell of others than the workers made.
+/// counters once all have ended; or none, where it has calls that nobody made who served, where
+/// these tell of others than the workers made, or where the listener can't tell whom it gave.
 pub(crate) fn serve_gateway<R, L, C>(
     spawner: &mut Spawner<'_, R>,
     gateway: &Gateway<'_, R, L, C>,
@@ -67,17 +69,20 @@ where
     L::Stream: Send + Sync + Drop,
     L::From: Send + Sync,
     L::To: Send + Sync,
+    L::Token: Send + Sync,
     R::Stream: Send + Sync,
     R::Listener: Send + Sync,
     requires sound { AreSound gateway.now.common.now.settings.now }
     requires few { gateway.now.workers ≤ 4096 }
     ensures served { IfOk result (λ told. IfSome told (HasServedAll any_rules
         (making_of gateway.now.workers gateway.now.common.now.settings.now) L.closed L.came L.found
+        L.gave
         (policy_of gateway.now.common.now.settings.now gateway.now.common.now.marks)
         (new_desk gateway.now.common.now.settings.now.table gateway.now.common.now.listener.now)
         gateway.now.side.now gateway.now.workers gateway.now.common.now.per_worker)) }
     ensures miscounted { IfOk result (λ told. IfNone told (AreMiscounted any_rules
-        (making_of gateway.now.workers gateway.now.common.now.settings.now) gateway.now.workers)) }
+        (making_of gateway.now.workers gateway.now.common.now.settings.now) gateway.now.workers
+        (L.lost gateway.now.common.now.listener.now))) }
     ensures thread { IsErrOf result ServeFault.Thread →
         refused_of spawner.new ≡ raised (refused_of spawner.old) }
 {
@@ -104,6 +109,7 @@ where
     L::Stream: Send + Sync + Drop,
     L::From: Send + Sync,
     L::To: Send + Sync,
+    L::Token: Send + Sync,
     R::Stream: Send + Sync,
     R::Listener: Send + Sync,
     requires names { AreNamed M.calls M.place blanks }
@@ -119,11 +125,13 @@ where
     requires few { gateway.now.workers ≤ 4096 }
     ensures served { IfOk result (λ told. IfSome told (HasServedAll any_rules
         (making_of gateway.now.workers gateway.now.common.now.settings.now) L.closed L.came L.found
+        L.gave
         (policy_of gateway.now.common.now.settings.now gateway.now.common.now.marks)
         (new_desk gateway.now.common.now.settings.now.table gateway.now.common.now.listener.now)
         gateway.now.side.now gateway.now.workers gateway.now.common.now.per_worker)) }
     ensures miscounted { IfOk result (λ told. IfNone told (AreMiscounted any_rules
-        (making_of gateway.now.workers gateway.now.common.now.settings.now) gateway.now.workers)) }
+        (making_of gateway.now.workers gateway.now.common.now.settings.now) gateway.now.workers
+        (L.lost gateway.now.common.now.listener.now))) }
     ensures thread { IsErrOf result ServeFault.Thread →
         refused_of spawner.new ≡ raised (refused_of spawner.old) }
 {
@@ -159,6 +167,7 @@ where
     L::Stream: Send + Sync + Drop,
     L::From: Send + Sync,
     L::To: Send + Sync,
+    L::Token: Send + Sync,
     R::Stream: Send + Sync,
     R::Listener: Send + Sync,
     requires unused { All IsUnused passes.items }
@@ -166,11 +175,13 @@ where
     requires beside { vec_len own ≡ count_beside gateway.now.side.now + 1 }
     ensures served { IfOk result (λ told. IfSome told (HasServedAll G.rules M.making
         L.closed L.came L.found
+        L.gave
         (policy_of gateway.now.common.now.settings.now gateway.now.common.now.marks)
         (new_desk gateway.now.common.now.settings.now.table gateway.now.common.now.listener.now)
         gateway.now.side.now (vec_len passes) gateway.now.common.now.per_worker)) }
     ensures miscounted { IfOk result (λ told. IfNone told
-        (AreMiscounted G.rules M.making (vec_len passes))) }
+        (AreMiscounted G.rules M.making (vec_len passes)
+        (L.lost gateway.now.common.now.listener.now))) }
     ensures thread { IsErrOf result ServeFault.Thread →
         refused_of spawner.new ≡ raised (refused_of spawner.old) }
 {
@@ -191,10 +202,11 @@ where
         operators,
         gateway.side.side_listener(),
     )?;
-    let back = passes_of(kept, lefts)?;
+    let back = passes_of(common.listener, kept, lefts)?;
     exchanges_are_one_threads::<G>();
     reports_balance::<G>();
-    Ok(balanced(gate.counters_of_all(rt, back.passes), back.calls))
+    let told = balanced(gate.counters_of_all(rt, back.passes), back.calls);
+    Ok(if_gave_all(common.listener, back.token, told))
 }
 
 /// The passes behind the first ones, so many of them. It fails only out of memory.
@@ -244,44 +256,76 @@ fn noting<'a, M: GateNaming, R: SystemClock, G: Limit, C>(
     }
 }
 
+/// The counters that are told, where all whom the listener gave came by this token, and were left.
+fn if_gave_all<L: Listener>(
+    listener: &L,
+    token: L::Token,
+    told: Option<Counters>,
+) -> Option<Counters>
+    ensures told { IfSome result (λ it. told ≡ Some it) }
+    ensures gave { IfSome result (λ it. (rolled : Roll)
+        × (L.roll listener.now token ≡ Some rolled) × L.gave listener.now rolled) }
+    ensures none { IfNone result ((told ≡ None) ⊎ L.lost listener.now) }
+{
+    if listener.gave_all(token) { told } else { None }
+}
+
 /// What comes back once all have ended.
 #[derive(Drop)]
-struct PassesBack<M: GateNaming> {
+struct Back<M: GateNaming, K> {
     /// The passes of all who served.
     passes: Vec<Pass<M>>,
     /// How many calls were made by those of workers.
     calls: u128,
+    /// The tokens of all workers, put together.
+    token: K,
 }
 
-/// The passes of all who served, in their order, in a list that is empty at first.
-fn passes_of<M: GateNaming, R, G: Limit, C, A: Drop, B: Drop>(
+/// The passes of all who served, in their order, in a list that is empty at first; and the tokens
+/// of the workers.
+fn passes_of<M: GateNaming, R, G: Limit, C, L: Listener, W, B: Drop>(
+    listener: &L,
     mut passes: Vec<Pass<M>>,
-    lefts: Vec<JobResult<A, Port<'_, G, M, R, C>, B, Pass<M>>>,
-) -> Result<PassesBack<M>, AllocError>
+    lefts: Vec<JobResult<Door<'_, L, L::Token, W>, Port<'_, G, M, R, C>, B, Pass<M>>>,
+) -> Result<Back<M, L::Token>, AllocError>
     requires { passes.items ≡ [] }
     ensures passes { IfOk result (λ back. back.passes.items ≡ passes_in lefts.entry.items) }
     ensures calls { IfOk result (λ back. back.calls ≡ calls_by (served_by lefts.entry.items)) }
+    ensures token { IfOk result (λ back. IfSome (L.roll listener.now back.token) (λ all.
+        all_joined (rolls_left L.roll listener.now lefts.entry.items) ≡ Some all)) }
 {
     let mut calls = 0;
+    let mut token = listener.token();
     for left in lefts {
-        let (pass, made) = pass_in(left);
+        let (pass, made) = pass_in(listener, &mut token, left);
         passes.push(pass)?;
         calls += u128::from(made);
     }
-    Ok(PassesBack { passes, calls })
+    Ok(Back {
+        passes,
+        calls,
+        token,
+    })
 }
 
-/// The pass of whoever left this, and how many calls a worker made by it.
-fn pass_in<M: GateNaming, R, G: Limit, C, A: Drop, B: Drop>(
-    left: JobResult<A, Port<'_, G, M, R, C>, B, Pass<M>>,
+/// The pass of whoever left this, and how many calls a worker made by it, whose token is put into
+/// this one.
+fn pass_in<M: GateNaming, R, G: Limit, C, L: Listener, W, B: Drop>(
+    listener: &L,
+    token: &mut L::Token,
+    left: JobResult<Door<'_, L, L::Token, W>, Port<'_, G, M, R, C>, B, Pass<M>>,
 ) -> (Pass<M>, u64)
     ensures pass { passes_in (left.entry ∷ []) ≡ result.0 ∷ [] }
     ensures calls { result.1 ≡ calls_by (served_by (left.entry ∷ [])) }
+    ensures token { IfSome (L.roll listener.now token.new) (λ all.
+        joined (L.roll listener.now token.old)
+        (all_joined (rolls_left L.roll listener.now (left.entry ∷ []))) ≡ Some all) }
 {
     match left {
         JobResult::Worked(ended) => {
             let pass = ended.port.into_pass();
             let calls = pass.count();
+            listener.join(token, ended.door.into_token());
             (pass, calls)
         }
         JobResult::SideTask(pass) => (pass, 0),

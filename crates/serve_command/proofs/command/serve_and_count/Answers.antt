@@ -1,13 +1,10 @@
 use Rattle.std.proofs.Common.{rules, ◌≡◌, ℕ, List, Ok, Err, subst}
 use Rattle.tasks.specs.Refused.{refused_of}
-use Rattle.limit_kinds.specs.AnyKinds.{any_rules}
 use Rattle.commands.specs.ServeOptions.{threads_of}
 use Rattle.config_file.specs.Reading.{IsFaultOf, Says}
 use Rattle.gateway_settings.specs.declared.settings.Settings.{Settings}
 use Rattle.gateway_settings.specs.Exchanges.{settings_by}
-use Rattle.gate_opening.specs.Opening.{making_of}
-use Rattle.serve_command.specs.Command.{IsOfServing, IsServedBy}
-use Rattle.serve_command.specs.GatewayRun.{AreMiscounted}
+use Rattle.serve_command.specs.Command.{IsOfServing, IsServedBy, Miscounts}
 use Rattle.serve_command.specs.declared.fault.ServiceFault.TheVariants as Service
 use Rattle.serve_command.proofs.WhyUnserved.{serving_is, why_too_few, why_unread, why_unserved}
 use Rattle.serve_command.proofs.WhyUnserved.{why_unset, why_unwritten}
@@ -23,8 +20,8 @@ returns-in_err-text-clause-refused g c =
     c.args.service.now.exchanges (λ s. IsOfServing g.B.Binder.bound g.B.Binder.unbound s.listen
     c.args.service.now.admin c.args.service.now.status (refused_of c.args.spawner.now)
     (refused_of c.args.spawner.now)
-    (AreMiscounted any_rules (making_of (threads_of c.args.service.now) s)
-    (threads_of c.args.service.now)))
+    (Miscounts g.B.Binder.bound g.B.Bound.Listener.lost
+    (threads_of c.args.service.now) s))
     c.args.writer.now c.from_residual.result fault is c.in_err-text.ensures.refused
 
 pub returns-in_err-read-clause-refused : goal.returns-in_err-read-clause-refused
@@ -38,8 +35,8 @@ returns-in_err-read-clause-refused g c =
     c.args.service.now.exchanges (λ s. IsOfServing g.B.Binder.bound g.B.Binder.unbound s.listen
     c.args.service.now.admin c.args.service.now.status (refused_of c.args.spawner.now)
     (refused_of c.args.spawner.now)
-    (AreMiscounted any_rules (making_of (threads_of c.args.service.now) s)
-    (threads_of c.args.service.now)))
+    (Miscounts g.B.Binder.bound g.B.Bound.Listener.lost
+    (threads_of c.args.service.now) s))
     c.args.writer.now c.from_residual-in_err-read.result fault is bytes
     c.in_ok-text.ensures.text
     (subst (λ (xs : List ℕ). IsFaultOf xs fault) same c.in_err-read.ensures.refused)
@@ -56,8 +53,8 @@ returns-in_err-settings-clause-refused g c =
     why_too_few (g.F.Opener.unopened path) (g.F.Opener.opened path) g.F.File.Read.remaining
     c.args.service.now.exchanges (λ s. IsOfServing g.B.Binder.bound g.B.Binder.unbound s.listen
     c.args.service.now.admin c.args.service.now.status (refused_of c.args.spawner.now)
-    (refused_of c.args.spawner.now) (AreMiscounted any_rules
-    (making_of (threads_of c.args.service.now) s) (threads_of c.args.service.now)))
+    (refused_of c.args.spawner.now) (Miscounts g.B.Binder.bound g.B.Bound.Listener.lost
+    (threads_of c.args.service.now) s))
     c.args.writer.now c.from_residual-in_err-settings.result few is s
     (had.0, bytes, had.2, had.3, says) c.in_err-settings.ensures.too_few
 
@@ -74,22 +71,22 @@ returns-in_err-counters-clause-refused g c =
     let path = c.args.service.now.path.now in
     let Of = λ (s : Settings). IsOfServing g.B.Binder.bound g.B.Binder.unbound s.listen
     c.args.service.now.admin c.args.service.now.status (refused_of c.args.spawner.now)
-    (refused_of c.serve_settings.new.spawner) (AreMiscounted any_rules
-    (making_of (threads_of c.args.service.now) s) (threads_of c.args.service.now)) fault in
+    (refused_of c.serve_settings.new.spawner) (Miscounts g.B.Binder.bound g.B.Bound.Listener.lost
+    (threads_of c.args.service.now) s) fault in
     let of = subst Of is_by c.in_err-counters.ensures.refused in
     why_unserved (g.F.Opener.unopened path) (g.F.Opener.opened path) g.F.File.Read.remaining
     c.args.service.now.exchanges (λ s. IsOfServing g.B.Binder.bound g.B.Binder.unbound s.listen
     c.args.service.now.admin c.args.service.now.status (refused_of c.args.spawner.now)
     (refused_of c.serve_settings.new.spawner)
-    (AreMiscounted any_rules (making_of (threads_of c.args.service.now) s)
-    (threads_of c.args.service.now)))
+    (Miscounts g.B.Binder.bound g.B.Bound.Listener.lost
+    (threads_of c.args.service.now) s))
     c.args.writer.now c.from_residual-in_err-counters.result fault is
     s (had.0, bytes, had.2, had.3, says) of
     (serving_is g.B.Binder.bound g.B.Binder.unbound by.listen c.args.service.now.admin
     c.args.service.now.status (refused_of c.args.spawner.now)
     (refused_of c.serve_settings.new.spawner)
-    (AreMiscounted any_rules (making_of (threads_of c.args.service.now) by)
-    (threads_of c.args.service.now))
+    (Miscounts g.B.Binder.bound g.B.Bound.Listener.lost
+    (threads_of c.args.service.now) by)
     fault of)
 
 pub returns-in_err-write_counters-clause-refused :
@@ -105,8 +102,8 @@ returns-in_err-write_counters-clause-refused g c =
     c.args.service.now.exchanges (λ s. IsOfServing g.B.Binder.bound g.B.Binder.unbound s.listen
     c.args.service.now.admin c.args.service.now.status (refused_of c.args.spawner.now)
     (refused_of c.serve_settings.new.spawner)
-    (AreMiscounted any_rules (making_of (threads_of c.args.service.now) s)
-    (threads_of c.args.service.now)))
+    (Miscounts g.B.Binder.bound g.B.Bound.Listener.lost
+    (threads_of c.args.service.now) s))
     c.args.writer.now c.write_counters.new.writer c.from_residual-in_err-write_counters.result is
     c.in_err-write_counters.ensures.failed
     s (had.0, bytes, had.2, had.3, says)
@@ -130,7 +127,8 @@ returns-clause-served g c =
       enough = c.in_ok-settings.ensures.enough;
       counters = c.in_ok-counters.counters;
       served = subst (λ (s : Settings). IsServedBy g.B.Binder.bound g.B.Bound.Listener.came
-          g.B.Bound.Listener.found g.B.Bound.Closable.closed c.args.service.now s
+          g.B.Bound.Listener.found g.B.Bound.Listener.gave g.B.Bound.Closable.closed
+          c.args.service.now s
           c.in_ok-counters.counters) is_by c.in_ok-counters.ensures.served;
       written = c.in_ok-write_counters.ensures.all;
       unfailing = c.in_ok-write_counters.ensures.unfailing;

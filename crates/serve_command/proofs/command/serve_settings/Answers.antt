@@ -1,5 +1,6 @@
 use Rattle.std.proofs.Common.{rules, ◌≡◌, ℕ, List, Option, Some, subst}
-use Rattle.std.proofs.Common.{Result, Ok, Err, IfOk, IfSome}
+use Rattle.std.proofs.Common.{Result, Ok, Err, IfOk, IfSome, None}
+use Rattle.std.specs.Prelude.{IfNone}
 use Rattle.std.specs.Net.Text.{socket_v4_text}
 use Rattle.tasks.specs.Refused.{refused_of}
 use Rattle.limit_kinds.specs.AnyKinds.{any_rules}
@@ -10,9 +11,11 @@ use Rattle.gate_desk.specs.State.{new_desk}
 use Rattle.limiter_core.specs.declared.counters.Counters.{Counters}
 use Rattle.serving.specs.Served.{policy_of}
 use Rattle.serving.specs.declared.fault.ServeFault.{ServeFault}
+use Rattle.serve_command.specs.Command.{Miscounts}
 use Rattle.serve_command.specs.GatewayRun.{AreMiscounted, HasServedAt}
 use Rattle.serve_command.specs.ServiceFault.{of_workers}
 use Rattle.serve_command.proofs.Beside.{admin_served, bound_too, status_served}
+use Rattle.serve_command.proofs.GatewayRun.{lost_too}
 use Rattle.serve_command.proofs.WhyUnserved.{bound_at, lacks_admin, lacks_front, lacks_status}
 use Rattle.serve_command.proofs.WhyUnserved.{lacks_memory, lacks_workers}
 use Rattle.serve_command.proofs.command.serve_settings.Goals as goal
@@ -25,8 +28,8 @@ returns-in_err-front-clause-refused g c =
     let same : socket_v4_text c.socket.result ≡ c.args.settings.now.listen = search rules in
     lacks_front g.B.Binder.bound g.B.Binder.unbound c.args.settings.now.listen
     c.args.service.now.admin c.args.service.now.status before before
-    (AreMiscounted any_rules (making_of (threads_of c.args.service.now) c.args.settings.now)
-    (threads_of c.args.service.now))
+    (Miscounts g.B.Binder.bound g.B.Bound.Listener.lost
+    (threads_of c.args.service.now) c.args.settings.now)
     c.from_residual.result fault is
     (socket_v4_text c.socket.result) same c.in_err-front.ensures.unbound
 
@@ -38,8 +41,8 @@ returns-in_err-admin-clause-refused g c =
     let same : socket_v4_text c.socket.result ≡ c.args.settings.now.listen = search rules in
     lacks_admin g.B.Binder.bound g.B.Binder.unbound c.args.settings.now.listen
     c.args.service.now.admin c.args.service.now.status before before
-    (AreMiscounted any_rules (making_of (threads_of c.args.service.now) c.args.settings.now)
-    (threads_of c.args.service.now))
+    (Miscounts g.B.Binder.bound g.B.Bound.Listener.lost
+    (threads_of c.args.service.now) c.args.settings.now)
     c.from_residual-in_err-admin.result fault is
     (bound_at g.B.Binder.bound (socket_v4_text c.socket.result) c.args.settings.now.listen
     c.in_ok-front.front same c.in_ok-front.ensures.bound) c.in_err-admin.ensures.unbound
@@ -52,8 +55,8 @@ returns-in_err-status-clause-refused g c =
     let same : socket_v4_text c.socket.result ≡ c.args.settings.now.listen = search rules in
     lacks_status g.B.Binder.bound g.B.Binder.unbound c.args.settings.now.listen
     c.args.service.now.admin c.args.service.now.status before before
-    (AreMiscounted any_rules (making_of (threads_of c.args.service.now) c.args.settings.now)
-    (threads_of c.args.service.now))
+    (Miscounts g.B.Binder.bound g.B.Bound.Listener.lost
+    (threads_of c.args.service.now) c.args.settings.now)
     c.from_residual-in_err-status.result fault is
     (bound_at g.B.Binder.bound (socket_v4_text c.socket.result) c.args.settings.now.listen
     c.in_ok-front.front same c.in_ok-front.ensures.bound)
@@ -69,8 +72,8 @@ returns-in_err-watch-clause-refused g c =
     let same : socket_v4_text c.socket.result ≡ c.args.settings.now.listen = search rules in
     lacks_memory g.B.Binder.bound g.B.Binder.unbound c.args.settings.now.listen
     c.args.service.now.admin c.args.service.now.status before before
-    (AreMiscounted any_rules (making_of (threads_of c.args.service.now) c.args.settings.now)
-    (threads_of c.args.service.now))
+    (Miscounts g.B.Binder.bound g.B.Bound.Listener.lost
+    (threads_of c.args.service.now) c.args.settings.now)
     c.from_residual-in_err-watch.result fault is
     (bound_at g.B.Binder.bound (socket_v4_text c.socket.result) c.args.settings.now.listen
     c.in_ok-front.front same c.in_ok-front.ensures.bound) c.in_err-watch.ensures.lacking
@@ -86,8 +89,8 @@ returns-in_err-counters-clause-refused g c =
     lacks_workers g.B.Binder.bound g.B.Binder.unbound c.args.settings.now.listen
     c.args.service.now.admin c.args.service.now.status (refused_of c.args.spawner.now)
     (refused_of c.serve_in.new.spawner)
-    (AreMiscounted any_rules (making_of (threads_of c.args.service.now) c.args.settings.now)
-    (threads_of c.args.service.now))
+    (Miscounts g.B.Binder.bound g.B.Bound.Listener.lost
+    (threads_of c.args.service.now) c.args.settings.now)
     c.from_residual-in_err-counters.result
     c.serve_in.result fault was is
     (bound_at g.B.Binder.bound (socket_v4_text c.socket.result) c.args.settings.now.listen
@@ -103,11 +106,13 @@ returns-in-Some-clause-served g c =
     let was : c.serve_in.result ≡ Ok (Some c.in-Some.counters) = search rules in
     let policy = policy_of c.args.settings.now c.args.service.now.marks in
     let served : HasServedAt any_rules made g.B.Bound.Closable.closed g.B.Bound.Listener.came
-    g.B.Bound.Listener.found policy begin c.in_ok-admin.admin c.in_ok-status.status
+    g.B.Bound.Listener.found g.B.Bound.Listener.gave policy begin c.in_ok-admin.admin
+    c.in_ok-status.status
     (threads_of c.args.service.now) c.args.service.now.per_worker c.in-Some.counters =
     subst (λ (it : Result (Option Counters) ServeFault). IfOk it (λ told. IfSome told
     (HasServedAt any_rules made g.B.Bound.Closable.closed g.B.Bound.Listener.came
-    g.B.Bound.Listener.found policy begin c.in_ok-admin.admin c.in_ok-status.status
+    g.B.Bound.Listener.found g.B.Bound.Listener.gave policy begin c.in_ok-admin.admin
+    c.in_ok-status.status
     (threads_of c.args.service.now) c.args.service.now.per_worker))) was
     c.serve_in.ensures.served in
     record {
@@ -124,3 +129,21 @@ returns-in-Some-clause-served g c =
           g.B.Binder.bound c.args.service.now.status c.in_ok-status.status served.by_lookers
           c.in_ok-status.ensures.bound served.lookers;
     }
+
+pub returns-in-None-clause-refused : goal.returns-in-None-clause-refused
+returns-in-None-clause-refused g c =
+    let same : socket_v4_text c.socket.result ≡ c.args.settings.now.listen = search rules in
+    let bound : g.B.Binder.bound c.args.settings.now.listen c.in_ok-front.front =
+    subst (λ (address : List ℕ). g.B.Binder.bound address c.in_ok-front.front) same
+    c.in_ok-front.ensures.bound in
+    let made = making_of (threads_of c.args.service.now) c.args.settings.now in
+    let lost = g.B.Bound.Listener.lost c.in_ok-front.front in
+    let was : c.serve_in.result ≡ Ok None = search rules in
+    let off : AreMiscounted any_rules made (threads_of c.args.service.now) lost =
+    subst (λ (it : Result (Option Counters) ServeFault). IfOk it (λ told. IfNone told
+    (AreMiscounted any_rules made (threads_of c.args.service.now) lost))) was
+    c.serve_in.ensures.miscounted in (
+      (c.in_ok-front.front, bound),
+      lost_too any_rules made (threads_of c.args.service.now) lost _
+          (λ it. (c.in_ok-front.front, bound, it)) off,
+    )

@@ -18,11 +18,13 @@ returns-clause-served g c =
     let workers : c.threads.result ≡ threads_of c.args.service.now = c.threads.ensures in
     let Served = λ (count most : ℕ). IfOk c.serve_gateway.result (λ told. IfSome told
     (HasServedAt any_rules (making_of count settings) g.L.Closable.closed g.L.Listener.came
-    g.L.Listener.found policy begin context.admin.now context.status.now count most)) in
+    g.L.Listener.found g.L.Listener.gave policy begin context.admin.now context.status.now count
+    most)) in
     subst (λ (count : ℕ). Served count c.args.service.now.per_worker) workers
     (subst (λ (most : ℕ). Served c.threads.result most) turns
     (on_ok c.serve_gateway.result (λ told. served_at any_rules
     (making_of c.threads.result settings) g.L.Closable.closed
-    g.L.Listener.came g.L.Listener.found policy begin context.admin.now context.status.now
+    g.L.Listener.came g.L.Listener.found g.L.Listener.gave policy begin context.admin.now
+    context.status.now
     c.new-side.result c.threads.result c.from.result told c.new-side.ensures.admin
     c.new-side.ensures.status) c.serve_gateway.ensures.served))

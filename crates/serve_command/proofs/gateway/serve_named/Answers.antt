@@ -19,10 +19,12 @@ returns-clause-served g c =
     let all : vec_len c.take_own.new.passes ≡ gateway.workers = c.in_ok-own.ensures.all in
     subst (λ (n : ℕ). IfOk c.serve_through.result (λ told. IfSome told
     (HasServedAll any_rules (making_of gateway.workers common.settings.now) g.L.Closable.closed
-    g.L.Listener.came g.L.Listener.found policy begin gateway.side.now n common.per_worker))) all
+    g.L.Listener.came g.L.Listener.found g.L.Listener.gave policy begin gateway.side.now n
+    common.per_worker))) all
     (subst (λ (m : Making). IfOk c.serve_through.result (λ told. IfSome told
-    (HasServedAll any_rules m g.L.Closable.closed g.L.Listener.came g.L.Listener.found policy begin
-    gateway.side.now (vec_len c.take_own.new.passes) common.per_worker)))
+    (HasServedAll any_rules m g.L.Closable.closed g.L.Listener.came g.L.Listener.found
+    g.L.Listener.gave policy begin gateway.side.now
+    (vec_len c.take_own.new.passes) common.per_worker)))
     c.requires.making c.serve_through.ensures.served)
 
 pub returns-clause-miscounted : goal.returns-clause-miscounted
@@ -30,7 +32,9 @@ returns-clause-miscounted g c =
     let gateway = c.args.gateway.now in
     let all : vec_len c.take_own.new.passes ≡ gateway.workers = c.in_ok-own.ensures.all in
     subst (λ (n : ℕ). IfOk c.serve_through.result (λ told. IfNone told
-    (AreMiscounted any_rules (making_of gateway.workers gateway.common.now.settings.now) n))) all
+    (AreMiscounted any_rules (making_of gateway.workers gateway.common.now.settings.now) n
+    (g.L.Listener.lost gateway.common.now.listener.now)))) all
     (subst (λ (m : Making). IfOk c.serve_through.result (λ told. IfNone told
-    (AreMiscounted any_rules m (vec_len c.take_own.new.passes))))
+    (AreMiscounted any_rules m (vec_len c.take_own.new.passes)
+    (g.L.Listener.lost gateway.common.now.listener.now))))
     c.requires.making c.serve_through.ensures.miscounted)
