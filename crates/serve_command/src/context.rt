@@ -1,8 +1,9 @@
 // What a gateway stands on while it serves.
-ghost use Rattle.std.specs.Prelude.{◌≡◌, ◌≤◌, IfNone, IfOk, IfSome, IsErrOf};
+ghost use Rattle.std.specs.Prelude.{◌≡◌, ◌≤◌, IfNone, IfOk, IfSome, IsErrOf, option_map};
 ghost use Rattle.counted_io.specs.Count.{raised};
 ghost use Rattle.tasks.specs.Refused.{refused_of};
 ghost use Rattle.limit_kinds.specs.AnyKinds.{any_rules};
+ghost use Rattle.gateway_settings.specs.Exchanges.{bodies_bound};
 ghost use Rattle.gateway_settings.specs.Settings.{AreSound};
 ghost use Rattle.commands.specs.ServeOptions.{threads_of};
 ghost use Rattle.gate_opening.specs.Opening.{making_of};
@@ -12,6 +13,7 @@ ghost use Rattle.serve_command.specs.GatewayRun.{AreMiscounted, HasServedAt};
 
 use crate::admin::{AdminAddress, SideAddresses};
 use crate::gateway::{Gateway, serve_gateway};
+use body_memory::SharedBodies;
 use clocks::ProgramClock;
 use commands::ServeOptions;
 use gate_desk::LameDuck;
@@ -21,7 +23,7 @@ use listening::Closable;
 use log::Log;
 use serve_reports::Watcher;
 use serving::{ServeFault, WorkerSettings};
-use std::alloc::Global;
+use std::alloc::{AllocError, Global};
 use std::net::Net;
 use std::sync::Wait;
 use std::thread::Threads;
@@ -92,6 +94,8 @@ where
     let (admin, status) = (context.admin, context.status);
     let side = SideAddresses::new(alloc, admin, status, clock, context.lame_duck);
     let rates = BodyRates::new(alloc, service.threads(), service.body_rate())?;
+    let made = make_bodies(alloc, context.settings)?;
+    let bodies = made.as_ref();
     let common = WorkerSettings {
         listener: context.front,
         settings: context.settings,
@@ -106,6 +110,7 @@ where
         report_every_ns: Some(context.watch.pace().look_ns),
         watch: context.watch,
         alloc,
+        bodies,
     };
     let gateway = Gateway {
         rt,
@@ -114,6 +119,19 @@ where
         side: &side,
     };
     serve_gateway(spawner, &gateway)
+}
+
+/// The bytes that the bodies of all exchanges share, where the settings have a bound. It fails only
+/// out of memory.
+fn make_bodies(alloc: Global, settings: &Settings) -> Result<Option<SharedBodies>, AllocError>
+    requires { AreSound settings.now }
+    ensures { IfOk result (λ made.
+        option_map (λ bodies. bodies.bound) made ≡ bodies_bound settings.now) }
+{
+    match settings.bodies_bound() {
+        Some(bound) => Ok(Some(SharedBodies::new(alloc, bound)?)),
+        None => Ok(None),
+    }
 }
 
 /// So many milliseconds in nanoseconds.
