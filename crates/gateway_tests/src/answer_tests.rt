@@ -11,10 +11,11 @@ const GET: &[u8] = b"GET /a HTTP/1.1\r\nHost: h\r\n\r\n";
 
 /// A backend that isn't there, one that is late, one without memory, and each class of a status:
 /// what the client gets, and what the gate learns.
-const ANSWERS: [(Says, &[u8; KEPT], u16, Outcome); 21] = [
+const ANSWERS: [(Says, &[u8; KEPT], u16, Outcome); 22] = [
     (Says::NotConnected, b"HTTP/1.1 502", 502, Outcome::Ignored),
     (Says::Late, b"HTTP/1.1 504", 504, Outcome::Dropped),
     (Says::Memory, b"HTTP/1.1 500", 500, Outcome::Ignored),
+    (Says::Bodies, b"HTTP/1.1 502", 502, Outcome::Ignored),
     (Says::Status(100), b"HTTP/1.1 502", 502, Outcome::Dropped),
     (Says::Status(199), b"HTTP/1.1 502", 502, Outcome::Dropped),
     (Says::Status(200), b"HTTP/1.1 200", 200, Outcome::Success),
@@ -36,7 +37,7 @@ const ANSWERS: [(Says, &[u8; KEPT], u16, Outcome); 21] = [
 ];
 
 /// Each fault of a message. A backend whose connection breaks by it has dropped the request.
-const FAULTS: [WireFault; 11] = [
+const FAULTS: [WireFault; 12] = [
     WireFault::Memory,
     WireFault::Read,
     WireFault::Write,
@@ -48,6 +49,7 @@ const FAULTS: [WireFault; 11] = [
     WireFault::BothLengths,
     WireFault::TurnLimit,
     WireFault::Method,
+    WireFault::Bodies,
 ];
 
 /// What came of a request to a backend that says so.

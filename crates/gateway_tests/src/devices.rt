@@ -190,6 +190,7 @@ pub(crate) enum Says {
     Stale(WireFault),
     Late,
     Memory,
+    Bodies,
 }
 
 /// A backend that answers what it was told to.
@@ -231,6 +232,7 @@ impl Backend for Told {
             Says::Stale(fault) => BackendAnswer::Stale(fault),
             Says::Late => BackendAnswer::Late,
             Says::Memory => BackendAnswer::Memory,
+            Says::Bodies => BackendAnswer::Bodies,
         }
     }
 

@@ -104,8 +104,9 @@ fn came_by<P: GatePort>(alloc: Global, port: &mut P, case: Case, settings: &Sett
         keeper: &false,
         is_later: false,
     };
+    let mut memory = alloc;
     let served = exchange(
-        alloc,
+        &mut memory,
         port,
         &mut backend,
         settings,

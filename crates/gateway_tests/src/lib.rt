@@ -13,6 +13,8 @@
 #[cfg(test)]
 mod answer_tests;
 #[cfg(test)]
+mod body_tests;
+#[cfg(test)]
 mod book_tests;
 #[cfg(test)]
 mod books;

@@ -155,8 +155,9 @@ fn serve_by<L: Limit, M: GateNaming, R: Wait + SystemClock>(
         keeper: &true,
         is_later: false,
     };
+    let mut memory = alloc;
     let served = exchange(
-        alloc,
+        &mut memory,
         &mut port,
         &mut backend,
         settings,
