@@ -92,10 +92,8 @@ where
     let client_timeout_ns = u64::from(service.client_timeout_ms) * MILLI;
     let (alloc, clock) = (context.alloc, context.clock);
     let (admin, status) = (context.admin, context.status);
+    let shared = SharedLimits::new(alloc, context.settings, service)?;
     let side = SideAddresses::new(alloc, admin, status, clock, context.lame_duck);
-    let rates = BodyRates::new(alloc, service.threads(), service.body_rate())?;
-    let made = make_bodies(alloc, context.settings)?;
-    let bodies = made.as_ref();
     let common = WorkerSettings {
         listener: context.front,
         settings: context.settings,
@@ -103,14 +101,14 @@ where
         per_worker: u64::from(service.per_worker),
         client_timeout_ns,
         head_timeout_ns: u64::from(service.head_timeout_ms) * MILLI,
-        rates: &rates,
+        rates: &shared.rates,
         client_places: CLIENT_PLACES,
         backend_timeout_ns: call_time(service.backend_timeout_ms),
         marks: service.marks,
         report_every_ns: Some(context.watch.pace().look_ns),
         watch: context.watch,
         alloc,
-        bodies,
+        bodies: shared.bodies.as_ref(),
     };
     let gateway = Gateway {
         rt,
@@ -121,8 +119,37 @@ where
     serve_gateway(spawner, &gateway)
 }
 
-/// The bytes that the bodies of all exchanges share, where the settings have a bound. It fails only
-/// out of memory.
+/// What bounds the bodies of all exchanges together.
+#[derive(Drop)]
+struct SharedLimits {
+    /// How fast those of requests arrive.
+    rates: BodyRates,
+    /// The bytes that all share, if the settings have a bound.
+    bodies: Option<SharedBodies>,
+}
+
+impl SharedLimits {
+    /// Returns the limits of these settings and options. It fails only out of memory.
+    fn new(
+        alloc: Global,
+        settings: &Settings,
+        service: &ServeOptions<'_>,
+    ) -> Result<SharedLimits, AllocError>
+        requires { AreSound settings.now }
+        ensures { IfOk result (λ shared.
+            option_map (λ bodies. bodies.bound) shared.bodies ≡ bodies_bound settings.now) }
+    {
+        let bodies = make_bodies(alloc, settings);
+        let rates = BodyRates::new(alloc, service.threads(), service.body_rate());
+        Ok(SharedLimits {
+            bodies: bodies?,
+            rates: rates?,
+        })
+    }
+}
+
+/// Returns the bytes that the bodies of all exchanges share, if the settings have a bound. It fails
+/// only out of memory.
 fn make_bodies(alloc: Global, settings: &Settings) -> Result<Option<SharedBodies>, AllocError>
     requires { AreSound settings.now }
     ensures { IfOk result (λ made.
