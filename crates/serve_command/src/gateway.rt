@@ -32,7 +32,7 @@ use listening::{Closable, Listener};
 use log::Log;
 use ports::{Port, View};
 use serve_reports::Watcher;
-use serving::{Door, JobResult, ServeFault, WorkerSettings, serve};
+use serving::{Door, JobResult, ServeFault, WorkerSettings, if_gave_all, serve};
 use shared_gate::{GateNaming, LogLength, Pass, SharedGate};
 use std::alloc::AllocError;
 use std::marker::Brand;
@@ -254,20 +254,6 @@ fn noting<'a, M: GateNaming, R: SystemClock, G: Limit, C>(
         Some(since) => port.noting(since),
         None => port,
     }
-}
-
-/// The counters that are told, where all whom the listener gave came by this token, and were left.
-fn if_gave_all<L: Listener>(
-    listener: &L,
-    token: L::Token,
-    told: Option<Counters>,
-) -> Option<Counters>
-    ensures told { IfSome result (λ it. told ≡ Some it) }
-    ensures gave { IfSome result (λ it. (rolled : Roll)
-        × (L.roll listener.now token ≡ Some rolled) × L.gave listener.now rolled) }
-    ensures none { IfNone result ((told ≡ None) ⊎ L.lost listener.now) }
-{
-    if listener.gave_all(token) { told } else { None }
 }
 
 /// What comes back once all have ended.

@@ -1,13 +1,13 @@
 // How a worker comes to its clients.
-ghost use Rattle.std.specs.Prelude.{◌≡◌, ℕ, List, [], Option, None, false, true, is_ok};
-ghost use Rattle.std.specs.Prelude.{if◌then◌else◌, IfOk, OnErr};
+ghost use Rattle.std.specs.Prelude.{◌≡◌, ◌⊎◌, ℕ, List, [], Option, None, Some, false, true, is_ok};
+ghost use Rattle.std.specs.Prelude.{if◌then◌else◌, IfNone, IfOk, IfSome, OnErr};
 ghost use Rattle.counted_io.specs.Count.{raised, raised_by_err};
 ghost use Rattle.proxy.specs.Made.{is_kept};
 ghost use Rattle.serving.specs.Doors.{counted_in, failed_of, given_of, is_closed, left_at};
 ghost use Rattle.serving.specs.Visits.{Arrives, IsUnwritten, Leaves, Misses};
 ghost use Rattle.timed_io.specs.Client.{from_of, to_of};
 ghost use Rattle.listening.specs.Accepted.{listener_of, token_of};
-ghost use Rattle.listening.specs.Roll.{Comes, Goes, Stays, seen_at};
+ghost use Rattle.listening.specs.Roll.{Comes, Goes, Roll, Stays, seen_at};
 
 use listening::{AcceptedClient, CountedListener, Listener};
 use proxy::{Exchange, Watch};
@@ -116,6 +116,21 @@ pub trait Accepts {
     /// Whether it was found closed: nobody comes any more.
     fn is_closed(&self) -> bool
         ensures { result ≡ closed self.now };
+}
+
+/// Returns what is given as the last word, if all clients that a listener gave came by this token
+/// and were left, and otherwise nothing.
+pub fn if_gave_all<L: Listener, T: Drop>(
+    listener: &L,
+    token: L::Token,
+    told: Option<T>,
+) -> Option<T>
+    ensures told { IfSome result (λ it. told ≡ Some it) }
+    ensures gave { IfSome result (λ _. (rolled : Roll)
+        × (L.roll listener.now token ≡ Some rolled) × L.gave listener.now rolled) }
+    ensures none { IfNone result ((told ≡ None) ⊎ L.lost listener.now) }
+{
+    if listener.gave_all(token) { told } else { None }
 }
 
 /// A worker's own door over a listener that is shared, which counts each accept. It shows no

@@ -23,7 +23,7 @@ mod reporting;
 mod workers;
 mod working;
 
-pub use doors::{Accepts, Door};
+pub use doors::{Accepts, Door, if_gave_all};
 pub use fault::ServeFault;
 pub use jobs::{JobResult, WorkerExit};
 pub use laws::a_visit_reads_each_byte_once;
