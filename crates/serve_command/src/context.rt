@@ -93,6 +93,7 @@ where
     let (alloc, clock) = (context.alloc, context.clock);
     let (admin, status) = (context.admin, context.status);
     let shared = SharedLimits::new(alloc, context.settings, service)?;
+    let bodies = shared.bodies.as_ref();
     let side = SideAddresses::new(alloc, admin, status, clock, context.lame_duck);
     let common = WorkerSettings {
         listener: context.front,
@@ -108,7 +109,7 @@ where
         report_every_ns: Some(context.watch.pace().look_ns),
         watch: context.watch,
         alloc,
-        bodies: shared.bodies.as_ref(),
+        bodies,
     };
     let gateway = Gateway {
         rt,
