@@ -120,6 +120,8 @@ class Backend(Listener):
     """A backend which answers by the path, and keeps what it was given."""
 
     usual = (OSError, threading.BrokenBarrierError)
+    # For how many seconds it holds an answer back at most.
+    holds = PATIENCE
 
     def __init__(self) -> None:
         self.given: list[bytes] = []
@@ -148,7 +150,7 @@ class Backend(Listener):
         path = text.split(b" ")[1] if b" " in text else b""
         if path == b"/held":
             self.held.release()
-            self.release.wait(PATIENCE)
+            self.release.wait(self.holds)
         elif path == b"/both":
             self.both.wait(PATIENCE)
         elif path == b"/rests":

@@ -283,7 +283,7 @@ class Balanced:
             '[limit]\nkind = "fixed"\ninitial = 20\n',
             encoding="utf-8",
         )
-        run = [self.folder / "admission-run", "--after", str(AFTER), "--wait", "50", config, "--workers", "64"]
+        run = [self.folder / "admission-run", "--after", str(AFTER), "--wait", "50", config, "--exchanges", "1024"]
         words = [str(it) for it in (*run, "--admin", operator, "--status", f"127.0.0.1:{checked}")]
         process = self.fronts.start(*words, stdout=subprocess.PIPE, text=True)
         self.fronts.wait_for(port, process)

@@ -46,6 +46,7 @@ NEWCOMER = constant("listening/src/bound_listener.rt", "NEWCOMER_MS", 1e3)
 OPEN = constant("listening/src/bound_listener.rt", "OPEN_TO_ALL_MS", 1e3)
 AT_ONCE = constant("serve_command/src/admin.rt", "AT_ONCE")
 OPERATOR = constant("serve_command/src/admin.rt", "TIMEOUT_NS", 1e9)
+BODIES = constant("gateway_settings/src/exchanges.rt", "BODIES_OF_EXCHANGES_MIB")
 SPELL = constant("serve_reports/src/spell.rt", "LENGTH_NS", 1e9)
 DELAY = constant("operator_calls/src/query.rt", "LONGEST_MS")
 AFTER, WAIT, RESTARTS = packaged(r"AFTER=(\d+)"), packaged(r"--wait (\d+)"), packaged(r"RestartSec=(\d+)s")
@@ -55,7 +56,8 @@ LISTEN, BACKEND = (
 )
 CLIENTS, BACKENDS = (packaged(rf"(?m)^{it} = ([\d_]+)", "packaging/admission.toml") for it in ("clients", "backends"))
 STARTUP = "crates/serve_command/src/startup_lines.rt"
-WORKERS, LIMIT_MS = packaged(r"--workers (\d+)"), packaged(r"BACKEND_MS=(\d+)")
+EXCHANGES, LIMIT_MS = packaged(r"EXCHANGES=(\d+)"), packaged(r"BACKEND_MS=(\d+)")
+MEMORY, TASKS, FILES = packaged(r"MemoryMax=(\d+)M"), packaged(r"TasksMax=(\d+)"), packaged(r"LimitNOFILE=(\d+)")
 CONTAINER = "packaging/Containerfile"
 LAME, PATIENCE = packaged(r'"--after", "(\d+)"', CONTAINER), packaged(r'"--wait", "(\d+)"', CONTAINER)
 
@@ -73,7 +75,7 @@ def seconds_unasked() -> float:
 
 
 def days_of_the_default() -> float:
-    return WORKERS() * 1e9 // (7_000 * 86_400)
+    return EXCHANGES() * 1e9 // (7_000 * 86_400)
 
 
 def slowest_upload() -> float:
@@ -82,9 +84,9 @@ def slowest_upload() -> float:
 
 
 def descriptors_without_kept() -> float:
-    """The descriptors that the log's warning wants for the packaged workers, where no connection is kept."""
+    """The descriptors that the log's warning wants for the packaged exchanges, where no connection is kept."""
     own = packaged(r"2 \* u64::from\(workers\) \+ u64::from\(backends\) \+ (\d+);", STARTUP)
-    return 2 * WORKERS() + own()
+    return 2 * EXCHANGES() + own()
 
 
 def descriptors_wanted() -> float:
@@ -94,17 +96,17 @@ def descriptors_wanted() -> float:
 
 def descriptors_of_clients() -> float:
     """The descriptors with which the packaged number of idle clients is kept too."""
-    return 2 * WORKERS() + BACKENDS() + OTHERS() + CLIENTS()
+    return 2 * EXCHANGES() + BACKENDS() + OTHERS() + CLIENTS()
 
 
 def threads() -> float:
     """The threads of the program with both addresses, and `admission-run`."""
-    return 1 + WORKERS() + 2 * AT_ONCE() + 1
+    return 1 + EXCHANGES() + 2 * AT_ONCE() + 1
 
 
-def least_memory() -> float:
-    """The GiB that the bodies of all workers take."""
-    return WORKERS() * 2 * BODY() / 1024
+def greatest_bodies() -> float:
+    """The GiB of all bodies without a bound."""
+    return EXCHANGES() * 2 * BODY() / 1024
 
 
 def number_of_body() -> int:
@@ -129,14 +131,30 @@ def of_installed() -> float:
 # A document, a sentence with a number in each of its groups, and what the numbers are.
 NUMBERS: tuple[tuple[str, str, tuple[Callable[[], float], ...]], ...] = (
     (OPERATING, r"It lists (\d+) files, (\d+) of them examples", (of_installed, of_examples)),
-    (OPERATING, r"runs (\d+) workers as an unprivileged user", (WORKERS,)),
+    (OPERATING, r"serves up to ([\d,]+) exchanges at once as an unprivileged user", (EXCHANGES,)),
+    (OPERATING, r"serve CONFIG --exchanges (\d+)`. Where", (EXCHANGES,)),
+    (OPERATING, r"The unit and the container set ([\d,]+)\. It is the number", (EXCHANGES,)),
+    (OPERATING, r"the manifests for Kubernetes set N to ([\d,]+)", (EXCHANGES,)),
+    (OPERATING, r"`TasksMax` \| N \+ 64 \| ([\d,]+) \| ([\d,]+) \|", (lambda: EXCHANGES() + 64, TASKS)),
+    (
+        OPERATING,
+        r"`LimitNOFILE` \| 2 N \+ `clients` \+ `backends` \+ (\d+) \| ([\d,]+) \| ([\d,]+) \|",
+        (lambda: OTHERS() + 2 * AT_ONCE(), lambda: descriptors_of_clients() + 2 * AT_ONCE(), FILES),
+    ),
+    (
+        OPERATING,
+        r"`MemoryMax` \| twice `bodies_mib`, and 512 KiB for each exchange \| ([\d,]+) MiB \| ([\d,]+) MiB \|",
+        (lambda: 2 * BODIES() + EXCHANGES() / 2, MEMORY),
+    ),
+    (OPERATING, r"With ([\d,]+) exchanges and a backlog of 10 that is ([\d,]+)", (EXCHANGES, lambda: EXCHANGES() - 11)),
+    (OPERATING, r"for the client timeout: ([\d,]+) of them would hold", (EXCHANGES,)),
     (OPERATING, r"starts the program again (\w+) seconds after any end", (RESTARTS,)),
     (OPERATING, r"for (\w+) seconds `/health` is 503 while clients", (AFTER,)),
     (OPERATING, r"cut off who still is after (\d+) seconds", (WAIT,)),
     (
         OPERATING,
-        r"With (\d+) workers at 7,000 requests a second the default lasts (\d+) days",
-        (WORKERS, days_of_the_default),
+        r"With ([\d,]+) exchanges at once and 7,000 requests a second the default lasts ([\d,]+) days",
+        (EXCHANGES, days_of_the_default),
     ),
     (OPERATING, r"The unit sets ([\d,]+); `docs/TUNING.md`", (LIMIT_MS,)),
     (OPERATING, r"up to (\d+) MiB each way. A slow upload of (\d+) MiB needs (\d+) kB/s", (BODY, BODY, slowest_upload)),
@@ -233,7 +251,7 @@ NUMBERS: tuple[tuple[str, str, tuple[Callable[[], float], ...]], ...] = (
     (RUNBOOK, r"draws the last (\w+) minutes of what the report tells", (minutes_kept,)),
     (
         RUNBOOK,
-        r"start with `--workers N`; where I is (\d+) or more",
+        r"or with `--workers N`; where I is (\d+) or more",
         (constant("serve_command/src/startup_lines.rt", "MOST_WORKERS"),),
     ),
     (RUNBOOK, r"`admission-drain 127\.0\.0\.1:(\d+)`", (ADMIN,)),
@@ -257,19 +275,31 @@ NUMBERS: tuple[tuple[str, str, tuple[Callable[[], float], ...]], ...] = (
     (OPERATING, r"targets: \['127\.0\.0\.1:(\d+)'\]", (ADMIN,)),
     (OPERATING, r"`--status 0\.0\.0\.0:(\d+)`", (STATUS,)),
     (FORMATS, r"So for `localhost:(\d+)`", (ADMIN,)),
-    (RUNBOOK, r"With (\d+) descriptors the clients of (\d+) workers take them all", (WORKERS, WORKERS)),
+    (
+        RUNBOOK,
+        r"With ([\d,]+) descriptors the clients of ([\d,]+) exchanges take them all",
+        (EXCHANGES, EXCHANGES),
+    ),
     (
         KUBERNETES,
-        r"With (\d+) workers and `backends = (\d+)` the gateway needs (\d+) descriptors, or (\d+) without",
-        (WORKERS, BACKENDS, descriptors_wanted, descriptors_without_kept),
+        r"With ([\d,]+) exchanges and `backends = (\d+)` the gateway needs ([\d,]+) descriptors, or ([\d,]+) without",
+        (EXCHANGES, BACKENDS, descriptors_wanted, descriptors_without_kept),
     ),
     (KUBERNETES, r"To\s+keep ([\d,]+) idle clients open as well, it needs ([\d,]+)", (CLIENTS, descriptors_of_clients)),
-    (KUBERNETES, r"(\d+) workers need (\d+) threads", (WORKERS, threads)),
+    (KUBERNETES, r"([\d,]+) exchanges need ([\d,]+) threads", (EXCHANGES, threads)),
     (
         KUBERNETES,
-        r"Each of the (\d+) workers may hold a request and an answer of (\d+) MiB each: (\d+) GiB together",
-        (WORKERS, BODY, least_memory),
+        r"All bodies together may have ([\d,]+) MiB, .*\s+([\d,]+) exchanges could hold (\d+) GiB",
+        (BODIES, EXCHANGES, greatest_bodies),
     ),
+    (KUBERNETES, r"The manifests' limit, (\d+)Mi, is twice that bound", (MEMORY,)),
+    (KUBERNETES, r"(\d+)` fits (\d+)Mi", (lambda: 128.0, lambda: 2 * 128 + EXCHANGES() / 2)),
+    (KUBERNETES, r"--exchanges (\d+) --status", (EXCHANGES,)),
+    ("README.md", r"([\d,]+) as packaged, and up to", (EXCHANGES,)),
+    ("README.md", r"divided by the time of one: ([\d,]+) of 100 ms each", (lambda: EXCHANGES() * 10,)),
+    ("README.md", r"--exchanges (\d+) --admin", (EXCHANGES,)),
+    ("docs/TUNING.md", r"gateway with \*\*`--exchanges (\d+)`\*\*", (EXCHANGES,)),
+    ("docs/TUNING.md", r"what `--exchanges` leaves over,\s+([\d,]+) as packaged", (lambda: EXCHANGES() - 11,)),
     (KUBERNETES, r"`--after (\d+) --wait (\d+) /etc", (LAME, PATIENCE)),
     (KUBERNETES, r"- `--after (\d+)` is enough where endpoints come through in (\w+) seconds", (LAME, LAME)),
     (KUBERNETES, r"- `--wait (\d+)` bounds the whole", (PATIENCE,)),
