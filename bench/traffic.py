@@ -173,7 +173,7 @@ class Limited:
 
 class Gateway(Limited):
     """The program over a configuration of its own. `tables` is what stands below the addresses. It tells its limit
-    where it reports every `report_seconds`."""
+    where it reports every `report_seconds`. With `exchanges` it has so many at once, in place of workers."""
 
     def __init__(
         self,
@@ -183,10 +183,12 @@ class Gateway(Limited):
         workers: int = 64,
         report_seconds: int | None = None,
         version: int = 2,
+        exchanges: int | None = None,
     ) -> None:
         self.room = tempfile.TemporaryDirectory(prefix="admission-")
         self.file = pathlib.Path(self.room.name) / "gateway.toml"
-        words = [program, "serve", str(self.file), "--workers", str(workers)]
+        at_once = ("--workers", workers) if exchanges is None else ("--exchanges", exchanges)
+        words = [program, "serve", str(self.file), *map(str, at_once)]
         super().__init__([*words, "--report-seconds", str(report_seconds)] if report_seconds else words, free_port())
         addresses = f'listen = "127.0.0.1:{self.port}"\nbackend = "127.0.0.1:{origin.port}"\n'
         self.file.write_text(f"version = {version}\n{addresses}{tables}")
