@@ -275,11 +275,7 @@ NUMBERS: tuple[tuple[str, str, tuple[Callable[[], float], ...]], ...] = (
     (OPERATING, r"targets: \['127\.0\.0\.1:(\d+)'\]", (ADMIN,)),
     (OPERATING, r"`--status 0\.0\.0\.0:(\d+)`", (STATUS,)),
     (FORMATS, r"So for `localhost:(\d+)`", (ADMIN,)),
-    (
-        RUNBOOK,
-        r"With ([\d,]+) descriptors the clients of ([\d,]+) exchanges take them all",
-        (EXCHANGES, EXCHANGES),
-    ),
+    (RUNBOOK, r"With ([\d,]+) descriptors the clients of ([\d,]+) exchanges take them all", (EXCHANGES, EXCHANGES)),
     (
         KUBERNETES,
         r"With ([\d,]+) exchanges and `backends = (\d+)` the gateway needs ([\d,]+) descriptors, or ([\d,]+) without",
