@@ -55,7 +55,7 @@ macro_rules! option_row {
     } };
     (BodyRate [$($row:tt)*] $($given:tt)*) => { $($row)*! { $($given)*
         BodyRate "body-rate" "BYTES" [0 to 1000000000]
-            listed "Least bytes per second of a request's body, " "; 0 sets none"
+            listed "Least bytes per second of a body, " "; 0 sets none"
             told "       least bytes per second at which the body of a request has to arrive,
                           " "; without it 500 with --exchanges, and otherwise 0,
                           which sets no rate. While three quarters of the threads read requests,
@@ -100,7 +100,8 @@ macro_rules! option_row {
             listed "Tells in the gateway's own answers why; without it they don't"
             told "                  gives each of the gateway's own answers the line X-Admission
                           with the reason in a word, full, backlog, waited, unreached, broken, late,
-                          unread, memory, lost or exhausted; without it they have no such line";
+                          unread, bodies, memory, lost or exhausted; without it they have no such
+                          line";
     } };
 }
 
