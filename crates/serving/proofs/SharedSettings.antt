@@ -1,5 +1,5 @@
--- Settings may be shared by threads, and so may what workers have in common: each of their parts may.
--- A router is a tree of nodes, whose law `search` doesn't find by itself where it lies so deep.
+-- Settings may be shared by threads, and so may what workers have in common: each of their parts
+-- may. A router is a tree of nodes, whose law `search` doesn't find by itself where it lies so deep.
 use denote.RattleType.{RattleType}
 use denote.Ref.{NamedLft}
 use denote.Struct.Declared.{shape}
@@ -17,6 +17,7 @@ use Rattle.classifier.proofs.bypass.Bypass.TheSendSync as bypass
 use Rattle.classifier.specs.contracts.resolver.Resolver as resolver
 use Rattle.classifier.specs.contracts.rules.Rules as rules
 use Rattle.gateway_settings.proofs.address.Address.TheSendSync as address
+use Rattle.timed_io.proofs.body_rates.BodyRates.TheSendSync as rates
 use Rattle.gateway_settings.specs.contracts.settings.Settings as settings
 use Rattle.serving.proofs.reporting.ActiveWorkers.TheSendSync as active
 use Rattle.serving.specs.contracts.jobs.Context as context
@@ -67,7 +68,7 @@ common_sync ℓ L C W l c w =
               (
                 search (sendable, crosses),
                 (
-                  search (sendable, crosses),
+                  search (sendable, crosses, rates.the_sync) depth 60 fits 100000,
                   (
                     search (sendable, crosses),
                     (
@@ -75,12 +76,15 @@ common_sync ℓ L C W l c w =
                       (
                         search (sendable, crosses),
                         (
-                          shr_sync _ _ W w,
+                          search (sendable, crosses),
                           (
-                            search (sendable, crosses),
+                            shr_sync _ _ W w,
                             (
-                              search (sendable, crosses, bodies.the_sync) depth 60 fits 100000,
-                              tt,
+                              search (sendable, crosses),
+                              (
+                                search (sendable, crosses, bodies.the_sync) depth 60 fits 100000,
+                                tt,
+                              ),
                             ),
                           ),
                         ),
