@@ -29,8 +29,8 @@ behind_nobody roll =
 
 both_assoc : (a b c : Roll) → both (both a b) c ≡ both a (both b c)
 both_assoc a b c =
-    same_roll ((a.came ++ b.came) ++ c.came) (a.came ++ b.came ++ c.came)
-    ((a.left ++ b.left) ++ c.left) (a.left ++ b.left ++ c.left)
+    same_roll ((a.came ++ b.came) ++ c.came) (a.came ++ (b.came ++ c.came))
+    ((a.left ++ b.left) ++ c.left) (a.left ++ (b.left ++ c.left))
     (append_assoc a.came b.came c.came) (append_assoc a.left b.left c.left)
 
 pub joined_nobody : (roll : Option Roll) → joined roll (Some nobody) ≡ roll

@@ -11,7 +11,7 @@ abbrev pub invariant-loop-left : goal.invariant-loop-left
 invariant-loop-left g l = record {
   passes : l.passes.items ≡ passes_in l.yielded;
   calls : l.calls ≡ calls_by (served_by l.yielded);
-  token : IfSome (g.L.Listener.roll l.listener.now l.token) (λ all.
-      all_joined (rolls_left g.L.Listener.roll l.listener.now l.yielded) ≡ Some all);
+  token : IfSome (g.L.Listener.roll l.fn.listener l.token) (λ all.
+      all_joined (rolls_left g.L.Listener.roll l.fn.listener l.yielded) ≡ Some all);
   few : l.calls + 2 ^ 64 * length (into_iter_items l.left-iterator) ≤ 2 ^ 64 * vec_len l.fn.lefts;
 }
