@@ -130,8 +130,8 @@ returns-in-Some-clause-served g c =
           c.in_ok-status.ensures.bound served.lookers;
     }
 
-pub returns-in-None-clause-refused : goal.returns-in-None-clause-refused
-returns-in-None-clause-refused g c =
+pub returns-clause-refused : goal.returns-clause-refused
+returns-clause-refused g c =
     let same : socket_v4_text c.socket.result ≡ c.args.settings.now.listen = search rules in
     let bound : g.B.Binder.bound c.args.settings.now.listen c.in_ok-front.front =
     subst (λ (address : List ℕ). g.B.Binder.bound address c.in_ok-front.front) same
