@@ -93,7 +93,6 @@ where
     let (alloc, clock) = (context.alloc, context.clock);
     let (admin, status) = (context.admin, context.status);
     let shared = SharedLimits::new(alloc, context.settings, service)?;
-    let bodies = shared.bodies.as_ref();
     let side = SideAddresses::new(alloc, admin, status, clock, context.lame_duck);
     let common = WorkerSettings {
         listener: context.front,
@@ -109,7 +108,7 @@ where
         report_every_ns: Some(context.watch.pace().look_ns),
         watch: context.watch,
         alloc,
-        bodies,
+        bodies: &shared.bodies,
     };
     let gateway = Gateway {
         rt,

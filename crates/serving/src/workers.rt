@@ -193,7 +193,7 @@ fn make_workers<'l, R: Net + Wait, P: Drop, L: Listener, C, W>(
     let mut workers = Vec::with_capacity(alloc, ports.len())?;
     for port in ports {
         let dialer = Dialer::new(rt, address, share(&pool)?);
-        let bodies = HeldBodies::new(alloc, common.bodies);
+        let bodies = HeldBodies::new(alloc, common.bodies.as_ref());
         let worker = Worker {
             door: make_door(common.listener, watch),
             port,

@@ -58,7 +58,7 @@ pub struct WorkerSettings<'a, L, C, W> {
     /// What is read of a client is held here.
     pub alloc: Global,
     /// The bytes that the bodies of all exchanges share, where these have a bound.
-    pub bodies: Option<&'a SharedBodies>,
+    pub bodies: &'a Option<SharedBodies>,
 }
 
 /// What came of a worker's turns.
@@ -247,7 +247,7 @@ where
         mut writer,
     } = client;
     let mut looks = MonotonicClock::new(common.clock);
-    let mut bodies = HeldBodies::new(common.alloc, common.bodies);
+    let mut bodies = HeldBodies::new(common.alloc, common.bodies.as_ref());
     let served = exchange(
         &mut bodies,
         port,
