@@ -1,5 +1,5 @@
 -- Two exchanges of passes that are handed back are decided in the log behind these.
-use Rattle.std.proofs.Common.{◌≡◌, ℕ, List, [], ◌∷◌, All, Some, ap, arith, sym, ◌∙◌, subst}
+use Rattle.std.proofs.Common.{◌≡◌, ℕ, List, [], ◌∷◌, ◌++◌, All, Some, ap, arith, sym, ◌∙◌, subst}
 use Rattle.std.proofs.lemmas.List.{append-nil}
 use Rattle.std.proofs.lemmas.List.Sums.{sum_by-cons}
 use Rattle.std.proofs.lemmas.List.Elements.{All-head, All-same, All-tail}
@@ -24,6 +24,12 @@ use Rattle.proxy.specs.Exchanges.{Policy}
 use Rattle.gate_laws.specs.Decided.{IsDecided}
 use Rattle.gate_laws.specs.Exchanges.{ExchangesAreOneThreads}
 use Rattle.gateway_tests.specs.Deciding.{AreBothDecided, IsServed}
+
+-- two that were pushed behind none
+pub two_pushed : {A : Type 0} (none one both : List A) (x y : A) → none ≡ []
+    → one ≡ none ++ x ∷ [] → both ≡ one ++ y ∷ [] → both ≡ x ∷ y ∷ []
+two_pushed {A} none one both x y empty first second =
+    second ∙ ap (λ (it : List A). it ++ y ∷ []) (first ∙ ap (λ (it : List A). it ++ x ∷ []) empty)
 
 module _ {S : Type 0} (rules : Algorithm S) (m : Making) (passes : List Pass) (counters : Counters)
     (law : (g : Gate S) → ExchangesAreOneThreads g)
