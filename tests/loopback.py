@@ -123,12 +123,12 @@ class Backend(Listener):
     # For how many seconds it holds an answer back at most.
     holds = PATIENCE
 
-    def __init__(self) -> None:
+    def __init__(self, backlog: int = 128) -> None:
         self.given: list[bytes] = []
         self.release, self.held = threading.Event(), threading.Semaphore(0)
         self.both = threading.Barrier(2)
         self.stayed: queue.SimpleQueue[bool] = queue.SimpleQueue()
-        super().__init__()
+        super().__init__(backlog=backlog)
 
     def request(self, client: socket.socket) -> bytes:
         """A request with the body that its length says, or what comes of one that ends before."""
