@@ -1,11 +1,11 @@
 #!/usr/bin/env -S python3 -B
 """A new client beside clients that send their bodies slowly, with nginx and HAProxy in the same run:
 
-    bench/slow_bodies.py PROGRAM [--slow N] [--rate BYTES] [--exchanges N] [--seconds S]
+    bench/slow_bodies.py PROGRAM [--slow N] [--again S] [--rate BYTES] [--exchanges N] [--seconds S]
 
 N clients (2,000 by default) each send the head of a request with a body of 100,000 bytes, and then one byte each
-second. One that is closed comes again at once. Beside them a new client each 10 ms asks for a small answer, for S
-seconds (10). Printed are, for each proxy, the median, the 99th percentile and the greatest of their times in
+second. One that is closed comes again a second later, or after S seconds of --again, which may be 0. Beside them a new
+client each 10 ms asks for a small answer, for S seconds (10). Printed are, for each proxy, the median, the 99th percentile and the greatest of their times in
 milliseconds, counted from the moment before the connect, how many got no answer within ten seconds, and how many slow
 clients were closed. PROGRAM serves with `--exchanges` (1,024) and `--body-rate` (500), and once more with a rate of 0,
 which closes none. nginx and HAProxy need a few bytes for each slow client, as one thread serves many.
@@ -13,6 +13,7 @@ which closes none. nginx and HAProxy need a few bytes for each slow client, as o
 Needs Debian's nginx-light and haproxy.
 """
 import argparse
+import collections
 import contextlib
 import os
 import pathlib
@@ -42,9 +43,11 @@ BETWEEN = 0.01
 class SlowClients(threading.Thread):
     """Clients that send a byte of their bodies each second, on a thread of their own."""
 
-    def __init__(self, port: int, count: int) -> None:
+    def __init__(self, port: int, count: int, again: float) -> None:
         super().__init__(daemon=True)
-        self.port, self.count, self.closed, self.refused = port, count, 0, 0
+        self.port, self.count, self.again, self.closed, self.refused = port, count, again, 0, 0
+        # When those that were closed come again, the first one first.
+        self.coming: collections.deque[float] = collections.deque()
         self.all_there, self.is_over = threading.Event(), threading.Event()
         self.looked = selectors.DefaultSelector()
         self.clients: set[socket.socket] = set()
@@ -67,11 +70,14 @@ class SlowClients(threading.Thread):
         client.close()
 
     def replace_closed(self, seconds: float) -> None:
-        """Waits for so long, and lets a new client come for each that was closed."""
+        """Waits for so long, and lets a new client come for each that was closed long enough ago."""
         for key, _ in self.looked.select(seconds):
             assert isinstance(key.fileobj, socket.socket)
             self.end_one(key.fileobj)
             self.closed += 1
+            self.coming.append(time.monotonic() + self.again)
+        while self.coming and self.coming[0] <= time.monotonic():
+            self.coming.popleft()
             self.begin_one()
 
     def run(self) -> None:
@@ -85,7 +91,7 @@ class SlowClients(threading.Thread):
                 for client in list(self.clients):
                     with contextlib.suppress(OSError):
                         client.send(b"x")
-            self.replace_closed(max(0.0, min(0.05, due - time.monotonic())))
+            self.replace_closed(max(0.0, min(0.01, due - time.monotonic())))
         for client in list(self.clients):
             self.end_one(client)
 
@@ -104,13 +110,13 @@ def time_of_one(port: int) -> float | None:
     return (time.monotonic() - began) * 1000 if said[9:12] == b"200" else None
 
 
-def figures_of(target: Target, slow: int, seconds: float) -> list[str]:
-    """What new clients meet beside so many slow ones: the cells of a row."""
-    clients = SlowClients(target.port, slow)
+def figures_of(target: Target, given: argparse.Namespace) -> list[str]:
+    """What new clients meet beside slow ones: the cells of a row."""
+    clients = SlowClients(target.port, given.slow, given.again)
     clients.start()
     clients.all_there.wait()
     time.sleep(1.0)
-    end, took = time.monotonic() + seconds, []
+    end, took = time.monotonic() + given.seconds, []
     while time.monotonic() < end:
         took.append(time_of_one(target.port))
         time.sleep(BETWEEN)
@@ -125,6 +131,7 @@ def words_of_run() -> argparse.Namespace:
     reader = reader_of(__doc__)
     reader.add_argument("program", type=built, metavar="PROGRAM")
     reader.add_argument("--slow", type=above_zero(int), default=2_000, metavar="N")
+    reader.add_argument("--again", type=float, default=1.0, metavar="S")
     reader.add_argument("--rate", type=above_zero(int), default=500, metavar="BYTES")
     reader.add_argument("--exchanges", type=above_zero(int), default=1_024, metavar="N")
     reader.add_argument("--seconds", type=above_zero(float), default=10.0, metavar="S")
@@ -149,7 +156,7 @@ def main() -> None:
                 it.gateway(f"admission, a rate of {rate}", TEXT, words)
             time.sleep(1.0)
             rows = [
-                [name, *figures_of(target, given.slow, given.seconds)]
+                [name, *figures_of(target, given)]
                 for name, target in it.found.items()
                 if name != "origin alone"
             ]
