@@ -45,7 +45,7 @@ class Asked:
         self.takes = dice.choice((0, 5, 11, 12, 40)) if dice.random() < (0.04 if is_often else 0.1) else ALL
 
     def drawn(self, dice: random.Random) -> bytes:
-        path = f"/health/{self.number}" if self.bypasses else f"/work/{self.number}"
+        path = f"/health/{self.number}" if self.bypasses else f"/jobs/{self.number}"
         lines = [f"GET {path} HTTP/1.1", "Host: h"]
         if self.is_live:
             lines.append("X-Class: live")

@@ -150,7 +150,7 @@ NUMBERS: tuple[tuple[str, str, tuple[Callable[[], float], ...]], ...] = (
     (OPERATING, r"for the client timeout: ([\d,]+) of them would hold", (EXCHANGES,)),
     (OPERATING, r"starts the program again (\w+) seconds after any end", (RESTARTS,)),
     (OPERATING, r"for (\w+) seconds `/health` is 503 while clients", (AFTER,)),
-    (OPERATING, r"cut off who still is after (\d+) seconds", (WAIT,)),
+    (OPERATING, r"last longer than (\d+) seconds are cut off", (WAIT,)),
     (
         OPERATING,
         r"With ([\d,]+) exchanges at once and 7,000 requests a second the default lasts ([\d,]+) days",
