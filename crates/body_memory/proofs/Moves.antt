@@ -66,7 +66,8 @@ module _ (bound : ℕ) where
       (λ n w. Entered (step slots 0 0 0 none) (first, []) n (w, []))
   enters slots first s kept len fits =
       let total = sum_by_push (λ (z : Holding). z.held) s.views (holding 0) in
-      let same : held_by_all s.views ≡ held_by_all (s.views ++ holding 0 ∷ []) = omega (arith, total) in (
+      let same : held_by_all s.views ≡ held_by_all (s.views ++ holding 0 ∷ []) =
+          omega (arith, total) in (
         holding 0,
         (kept.0 ∙ ap (λ (k : ℕ). k ∷ []) same, omega (arith, kept.1, same)),
         refl,
@@ -95,7 +96,8 @@ module _ (bound : ℕ) where
         holding (me.0.held + (new - old)),
         keeps,
         tt,
-        changed s id new me.0 (holding (me.0.held + (new - old))) kept at (omega (arith, e, more)) below,
+        changed s id new me.0 (holding (me.0.held + (new - old))) kept at
+            (omega (arith, e, more)) below,
         ((λ _. refl), (λ (ne : n ≢ old). absurd (ne e))),
       ))
       (λ (ne : n ≢ old). (

@@ -14,7 +14,8 @@ pub enum BodiesFull {
     Contended,
 }
 
-/// Where the bytes of bodies are asked for, before they are copied into memory of its allocator.
+/// Where the bytes of bodies are counted that lie in memory of its allocator. A reader holds each
+/// piece as soon as it has it, and drops a piece that is refused.
 pub trait BodyMemory {
     ghost use Rattle.std.specs.Prelude.{Option};
 

@@ -37,10 +37,13 @@ mod trailers;
 
 pub use ask::say_continue;
 pub use body::read_body;
+pub use byte::{read_crlf, read_some};
 pub use checked_head::read_checked_head;
+pub use chunk_size::read_size;
 pub use fault::{Fault, MessageFault};
 pub use final_head::read_final_head;
 pub use framing::{Framing, frame_response};
 pub use laws::{chunks_have_one_reading, heads_have_one_reading};
 pub use request_head::RequestHead;
 pub use response_head::ResponseHead;
+pub use trailers::read_trailers;

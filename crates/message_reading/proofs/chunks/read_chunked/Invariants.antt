@@ -13,7 +13,8 @@ invariant-loop-body g l =
       failures : failures_of l.reader ≡ failures_of l.fn.reader;
       few : calls_of l.reader ≤ max l.limit (calls_of l.fn.reader);
       goes_on : calls_of l.fn.reader ≤ calls_of l.reader;
-      holds : g.M.BodyMemory.held l.memory ≡ more (length l.body.items) (g.M.BodyMemory.held l.fn.memory);
+      holds : g.M.BodyMemory.held l.memory
+          ≡ more (length l.body.items) (g.M.BodyMemory.held l.fn.memory);
       accepted : g.M.BodyMemory.refused l.memory ≡ g.M.BodyMemory.refused l.fn.memory;
     }
 
