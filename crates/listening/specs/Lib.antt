@@ -1,3 +1,2 @@
 pub mod Accepted
-pub mod Roll
-pub mod Tokens
+pub mod Seen

@@ -1,11 +1,11 @@
 // Clients over TCP.
-ghost use Rattle.listening.specs.Roll.{Goes};
-ghost use Rattle.listening.specs.Tokens.{roll_on, unseen};
+ghost use Rattle.client_tokens.specs.Roll.{Goes};
+ghost use Rattle.client_tokens.specs.Tokens.{roll_on, unseen};
 
-use crate::bound_token::{BoundToken, TokensOut};
 use crate::listener::{AcceptedClient, Closable, Listener};
 use crate::opaque_end::OpaqueEnd;
 use crate::room::{Came, Room};
+use client_tokens::{BoundToken, TokensOut};
 use libc::net::{POLLIN, SHUT_RD, listen, poll, shutdown};
 use libc::types::pollfd;
 use seats::{ClientConnections, Places};
@@ -206,7 +206,7 @@ impl<'r, R: Net + Wait + Clock> Listener for BoundListener<'r, R> {
     type Token = BoundToken;
 
     ghost use Rattle.std.specs.Prelude.{⊤};
-    ghost use Rattle.listening.specs.Tokens.{roll_on};
+    ghost use Rattle.client_tokens.specs.Tokens.{roll_on};
 
     ghost came = { λ _ _. ⊤ };
 

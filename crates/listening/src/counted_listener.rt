@@ -3,7 +3,8 @@ ghost use Rattle.std.specs.Prelude.{◌≡◌, [], false, is_ok, if◌then◌els
 ghost use Rattle.counted_io.specs.Count.{raised, raised_by_err};
 ghost use Rattle.timed_io.specs.Client.{from_of, to_of};
 ghost use Rattle.listening.specs.Accepted.{accepted_of, kept_of, listener_of, missed_of, token_of};
-ghost use Rattle.listening.specs.Roll.{Comes, Goes, Stays, nobody, seen_at};
+ghost use Rattle.client_tokens.specs.Roll.{Comes, Goes, Stays, nobody};
+ghost use Rattle.listening.specs.Seen.{seen_at};
 
 use crate::listener::{AcceptedClient, Listener};
 use std::io::Result;

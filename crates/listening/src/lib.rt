@@ -14,7 +14,6 @@
 
 mod binding;
 mod bound_listener;
-mod bound_token;
 mod counted_listener;
 mod descriptors;
 mod listener;
@@ -23,7 +22,6 @@ mod room;
 
 pub use binding::{Binder, SystemAddresses};
 pub use bound_listener::BoundListener;
-pub use bound_token::BoundToken;
 pub use counted_listener::CountedListener;
 pub use descriptors::spare_descriptors;
 pub use listener::{AcceptedClient, Closable, Listener};

@@ -1,7 +1,8 @@
 // Where connections come from.
 ghost use Rattle.std.specs.Prelude.{◌≡◌, [], false, true, Some, IfOk, IfSome, OnErr};
 ghost use Rattle.timed_io.specs.Client.{from_of, to_of};
-ghost use Rattle.listening.specs.Roll.{Comes, Goes, Joins, Roll, Stays, nobody, seen_at};
+ghost use Rattle.client_tokens.specs.Roll.{Comes, Goes, Joins, Roll, Stays, nobody};
+ghost use Rattle.listening.specs.Seen.{seen_at};
 
 use seats::{ClientConnections, Places};
 use std::alloc::{AllocError, Global};
@@ -48,7 +49,7 @@ pub trait Listener {
     type Token: Drop;
 
     ghost use Rattle.std.specs.Prelude.{ℕ, Bool, List, Option};
-    ghost use Rattle.listening.specs.Roll.{Roll};
+    ghost use Rattle.client_tokens.specs.Roll.{Roll};
 
     // A client came there who would send these bytes, where they are known.
     ghost came: { Self → Option (List ℕ) → Type 0 };

@@ -20,7 +20,7 @@ use Rattle.shared_gate.specs.Reported.{AreCountersOfAll, ArePassesMissing}
 use Rattle.ports.specs.declared.asked.Receipts.TheVariants.{Nothing}
 use Rattle.ports.specs.Asked.{Shared, known_at, known_by, port_in}
 use Rattle.listening.specs.Accepted.{token_of}
-use Rattle.listening.specs.Roll.{Roll, nobody}
+use Rattle.client_tokens.specs.Roll.{Roll, nobody}
 use Rattle.proxy.specs.Exchanges.{Policy}
 use Rattle.tcp_backend.specs.declared.connecting.TcpBackend.{TcpBackend}
 use Rattle.tcp_backend.specs.declared.dialing.Dialer.{Dialer}

@@ -4,7 +4,7 @@ use Rattle.std.proofs.Common.{ap, append_assoc, append-nil, map, refl, subst, sy
 use Rattle.std.proofs.lemmas.Option.{none-some, same_Some}
 use Rattle.std.specs.List.{AllZip}
 use Rattle.listening.specs.Accepted.{token_of}
-use Rattle.listening.specs.Roll.{Joins, Roll, Seen, both, nobody}
+use Rattle.client_tokens.specs.Roll.{Joins, Roll, Seen, both, nobody}
 use Rattle.serving.specs.declared.doors.Door.{Door}
 use Rattle.serving.specs.declared.jobs.WorkerExit.{WorkerExit}
 use Rattle.serving.specs.declared.jobs.JobResult.{JobResult}

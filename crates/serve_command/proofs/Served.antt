@@ -5,7 +5,7 @@ use Rattle.limit_laws.specs.Algorithm.{Algorithm}
 use Rattle.limiter_core.specs.declared.counters.Counters.{Counters}
 use Rattle.gate_ledgers.specs.Making.{Making}
 use Rattle.shared_gate.specs.Calls.{Pass}
-use Rattle.listening.specs.Roll.{Roll}
+use Rattle.client_tokens.specs.Roll.{Roll}
 use Rattle.proxy.specs.Exchanges.{Policy}
 use Rattle.gate_desk.specs.Desk.{IsDone}
 use Rattle.gate_desk.specs.State.{DeskState}

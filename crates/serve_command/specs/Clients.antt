@@ -11,7 +11,7 @@ use Rattle.limiter_core.specs.History.{Gate, Image}
 use Rattle.gate_journal.specs.Image.{image_of}
 use Rattle.gate_ledgers.specs.Making.{Making}
 use Rattle.gate_history.specs.Refusal.{exhausted_from}
-use Rattle.listening.specs.Roll.{Roll}
+use Rattle.client_tokens.specs.Roll.{Roll}
 use Rattle.gateway_settings.specs.declared.settings.Settings.{Settings}
 use Rattle.shared_gate.specs.Calls.{Pass}
 use Rattle.shared_gate.specs.Closing.{calls_by, limiter_of}

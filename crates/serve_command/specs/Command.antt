@@ -15,7 +15,7 @@ use Rattle.commands.specs.declared.serve_options.ServeOptions.{ServeOptions}
 use Rattle.commands.specs.ServeOptions.{threads_of}
 use Rattle.shared_gate.specs.Calls.{Pass}
 use Rattle.gate_opening.specs.Opening.{making_of}
-use Rattle.listening.specs.Roll.{Roll}
+use Rattle.client_tokens.specs.Roll.{Roll}
 use Rattle.serving.specs.Served.{policy_of}
 use Rattle.config_file.specs.Reading.{Held, IsUnset, Says}
 use Rattle.config_file.specs.declared.file_fault.FileFault.TheVariants as File

@@ -8,7 +8,7 @@ use Rattle.gate_ledgers.specs.Making.{Making}
 use Rattle.shared_gate.specs.Calls.{Pass}
 use Rattle.shared_gate.specs.Closing.{calls_by}
 use Rattle.shared_gate.specs.Reported.{AreCountersOfAll, ArePassesMissing}
-use Rattle.listening.specs.Roll.{Roll}
+use Rattle.client_tokens.specs.Roll.{Roll}
 use Rattle.proxy.specs.Exchanges.{Policy}
 use Rattle.gate_desk.specs.Desk.{IsDone}
 use Rattle.gate_desk.specs.State.{DeskState}

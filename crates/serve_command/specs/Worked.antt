@@ -1,7 +1,7 @@
 -- What a worker of a gateway did.
 use Rattle.std.specs.Prelude.{ℕ, Bool, false, List, [], ◌∷◌, map, Option, Some, None}
 use Rattle.listening.specs.Accepted.{token_of}
-use Rattle.listening.specs.Roll.{Roll, both, nobody}
+use Rattle.client_tokens.specs.Roll.{Roll, both, nobody}
 use Rattle.gate_ledgers.specs.Making.{Making}
 use Rattle.gate_port.specs.Log.{Known}
 use Rattle.shared_gate.specs.Calls.{Pass, pass_of}

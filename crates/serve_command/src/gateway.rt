@@ -3,7 +3,7 @@ ghost use Rattle.std.specs.Prelude.{◌≡◌, ◌≤◌, ◌+◌, ◌⊎◌, []
 ghost use Rattle.std.specs.Prelude.{All, IfNone, IfOk, IfSome, IsErrOf, OnOk};
 ghost use Rattle.counted_io.specs.Count.{raised};
 ghost use Rattle.tasks.specs.Refused.{refused_of};
-ghost use Rattle.listening.specs.Roll.{Roll};
+ghost use Rattle.client_tokens.specs.Roll.{Roll};
 ghost use Rattle.limit_kinds.specs.AnyKinds.{any_rules};
 ghost use Rattle.gate_ledgers.specs.Names.{AreNamed, AreWhole};
 ghost use Rattle.gateway_settings.specs.Settings.{AreSound};

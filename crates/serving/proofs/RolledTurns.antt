@@ -1,7 +1,7 @@
 -- Who is on a roll behind one turn more.
 use Rattle.std.proofs.Common.{◌≡◌, ◌∙◌, List, [], ◌∷◌, ◌++◌, Option, None, Some, ap, sym, refl}
 use Rattle.std.proofs.Common.{append_assoc, append-nil}
-use Rattle.listening.specs.Roll.{Comes, Goes, Roll, RollsOn, Seen, Stays}
+use Rattle.client_tokens.specs.Roll.{Comes, Goes, Roll, RollsOn, Seen, Stays}
 use Rattle.serving.specs.Turns.{Ending, Keeping, Missing, Rolls, Turn, came_in, left_in, seen}
 use Rattle.serving.specs.Visits.{Client}
 

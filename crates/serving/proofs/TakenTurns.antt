@@ -6,7 +6,7 @@ use Rattle.counted_io.specs.Count.{count_end, raised}
 use Rattle.gate_port.specs.Log.{Known}
 use Rattle.gate_port.specs.Shown.{Shown}
 use Rattle.wire.specs.Forwards.{Forwarded}
-use Rattle.listening.specs.Roll.{Comes, Goes, Roll}
+use Rattle.client_tokens.specs.Roll.{Comes, Goes, Roll}
 use Rattle.timed_io.specs.declared.client_ends.ClientEnds.{ClientEnds}
 use Rattle.timed_io.specs.Client.{from_of, to_of}
 use Rattle.proxy.specs.declared.told.Exchange.{Exchange}

@@ -12,7 +12,7 @@ use Rattle.serving.specs.declared.jobs.WorkerExit.{WorkerExit}
 use Rattle.serving.specs.declared.jobs.Worker.{Worker}
 use Rattle.serving.specs.declared.working.WorkerSettings.{WorkerSettings}
 use Rattle.listening.specs.Accepted.{listener_of, token_of}
-use Rattle.listening.specs.Roll.{Roll, nobody}
+use Rattle.client_tokens.specs.Roll.{Roll, nobody}
 use Rattle.proxy.specs.Exchanges.{Bytes}
 use Rattle.serving.specs.Doors.{counted_in, failed_of, given_of, is_closed}
 use Rattle.serving.specs.Served.{back_of, policy_of}

@@ -2,7 +2,7 @@
 use Rattle.std.specs.Prelude.{◌≡◌, ◌≤◌, ◌+◌, ℕ, Bool, true, false, List, [], ◌∷◌, ◌++◌, length}
 use Rattle.std.specs.Prelude.{Option}
 use Rattle.counted_io.specs.Count.{raised}
-use Rattle.listening.specs.Roll.{Roll, RollsOn, Seen}
+use Rattle.client_tokens.specs.Roll.{Roll, RollsOn, Seen}
 use Rattle.proxy.specs.declared.told.Exchange.{Exchange}
 use Rattle.proxy.specs.Exchanges.{Bytes, Policy}
 use Rattle.proxy.specs.Made.{is_kept}

@@ -7,7 +7,8 @@ ghost use Rattle.serving.specs.Doors.{counted_in, failed_of, given_of, is_closed
 ghost use Rattle.serving.specs.Visits.{Arrives, IsUnwritten, Leaves, Misses};
 ghost use Rattle.timed_io.specs.Client.{from_of, to_of};
 ghost use Rattle.listening.specs.Accepted.{listener_of, token_of};
-ghost use Rattle.listening.specs.Roll.{Comes, Goes, Roll, Stays, seen_at};
+ghost use Rattle.client_tokens.specs.Roll.{Comes, Goes, Roll, Stays};
+ghost use Rattle.listening.specs.Seen.{seen_at};
 
 use listening::{AcceptedClient, CountedListener, Listener};
 use proxy::{Exchange, Watch};
@@ -31,7 +32,7 @@ pub trait Accepts {
     type Source;
 
     ghost use Rattle.std.specs.Prelude.{ℕ, Bool, List, Option};
-    ghost use Rattle.listening.specs.Roll.{Roll};
+    ghost use Rattle.client_tokens.specs.Roll.{Roll};
     ghost use Rattle.serving.specs.Visits.{Visits};
 
     // Where its clients come from.

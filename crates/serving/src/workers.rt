@@ -4,7 +4,7 @@ ghost use Rattle.std.specs.List.{AllZip};
 ghost use Rattle.counted_io.specs.Count.{raised};
 ghost use Rattle.tasks.specs.Refused.{refused_of};
 ghost use Rattle.listening.specs.Accepted.{listener_of};
-ghost use Rattle.listening.specs.Roll.{nobody};
+ghost use Rattle.client_tokens.specs.Roll.{nobody};
 ghost use Rattle.serving.specs.Doors.{counted_in, failed_of, given_of, is_closed};
 ghost use Rattle.serving.specs.Served.{back_of, policy_of};
 ghost use Rattle.serving.specs.Turns.{place_of};

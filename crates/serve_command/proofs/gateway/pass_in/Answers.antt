@@ -1,5 +1,5 @@
 use Rattle.std.proofs.Common.{rules, ◌≡◌, ◌∷◌, [], IfSome, Some, subst, sym}
-use Rattle.listening.specs.Roll.{nobody}
+use Rattle.client_tokens.specs.Roll.{nobody}
 use Rattle.serve_command.specs.GatewayRun.{all_joined, joined, rolls_left}
 use Rattle.serve_command.proofs.Rolls.{with_none, with_one}
 use Rattle.serve_command.proofs.gateway.pass_in.Goals as goal

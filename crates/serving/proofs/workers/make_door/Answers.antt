@@ -1,6 +1,6 @@
 use Rattle.std.proofs.Common.{◌≡◌, IfSome, subst, sym}
 use Rattle.listening.specs.Accepted.{listener_of, token_of}
-use Rattle.listening.specs.Roll.{nobody}
+use Rattle.client_tokens.specs.Roll.{nobody}
 use Rattle.serving.proofs.workers.make_door.Goals as goal
 
 pub returns-clause-unrolled : goal.returns-clause-unrolled

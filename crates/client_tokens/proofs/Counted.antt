@@ -1,8 +1,8 @@
 -- Clients of whom no bytes are known, counted.
-use Rattle.std.proofs.Common.{◌≡◌, ◌∙◌, ℕ, ◌+◌, List, ◌++◌, ◌∷◌, [], refl, sym, ap, replicate}
+use Rattle.std.proofs.Common.{◌≡◌, ◌∙◌, ℕ, ◌+◌, List, ◌++◌, ◌∷◌, [], sym, ap, replicate}
 use Rattle.std.proofs.lemmas.List.{replicate-append-replicate}
-use Rattle.listening.specs.Roll.{Roll, Seen}
-use Rattle.listening.specs.Tokens.{unseen}
+use Rattle.client_tokens.specs.Roll.{Roll, Seen}
+use Rattle.client_tokens.specs.Tokens.{unseen}
 
 -- one more
 pub one_more : (n m : ℕ) → m ≡ n + 1 → replicate m unseen ≡ replicate n unseen ++ unseen ∷ []

@@ -1,8 +1,8 @@
 -- What a token of a bound listener tells.
 use Rattle.std.specs.Prelude.{Option, None, Some, replicate}
-use Rattle.listening.specs.declared.bound_token.BoundToken.{BoundToken}
-use Rattle.listening.specs.declared.bound_token.Met.{Met}
-use Rattle.listening.specs.Roll.{Roll, Seen}
+use Rattle.client_tokens.specs.declared.token.BoundToken.{BoundToken}
+use Rattle.client_tokens.specs.declared.token.Met.{Met}
+use Rattle.client_tokens.specs.Roll.{Roll, Seen}
 
 -- a client of whom no bytes are known
 abbrev pub unseen : Seen

@@ -1,7 +1,7 @@
 // Tokens of a bound listener.
 ghost use Rattle.std.specs.Prelude.{◌≡◌, IfSome, is_some, true};
-ghost use Rattle.listening.specs.Roll.{Comes, Goes, Joins, nobody};
-ghost use Rattle.listening.specs.Tokens.{roll_by, roll_on, unseen};
+ghost use Rattle.client_tokens.specs.Roll.{Comes, Goes, Joins, nobody};
+ghost use Rattle.client_tokens.specs.Tokens.{roll_by, roll_on, unseen};
 
 use std::os::fd::RawFd;
 use std::sync::{Mutex, Wait};
@@ -33,23 +33,23 @@ impl BoundToken {
         }
     }
 
-    /// Whether it is one of the listener of this file, which gives clients by it.
-    pub(crate) fn is_of(&self, file: RawFd) -> bool {
+    /// Returns whether it is a token of the listener with this file, which gives clients by it.
+    pub fn is_of(&self, file: RawFd) -> bool {
         match self.file {
             Some(own) => own == file,
             None => false,
         }
     }
 
-    /// One client more was given.
-    pub(crate) fn raise_came(&mut self)
+    /// Counts one client more that was given.
+    pub fn raise_came(&mut self)
         ensures { Comes (roll_on self.old) (roll_on self.new) unseen }
     {
         self.met = one_came(self.met);
     }
 
-    /// One client more was left.
-    pub(crate) fn raise_left(&mut self)
+    /// Counts one client more that was left.
+    pub fn raise_left(&mut self)
         ensures { Goes (roll_on self.old) (roll_on self.new) unseen }
     {
         self.met = one_left(self.met);
@@ -112,24 +112,24 @@ fn both_met(first: Option<Met>, second: Option<Met>) -> Option<Met>
     Some(Met { came, left })
 }
 
-/// The tokens of a bound listener that are out: how many, or none once it was told who was given in
-/// all.
+/// The tokens of a bound listener that are out: how many, or none once the listener told who was
+/// given in all.
 #[derive(Drop)]
-pub(crate) struct TokensOut {
+pub struct TokensOut {
     count: Mutex<Option<u64>>,
 }
 
 impl TokensOut {
-    /// None is out.
-    pub(crate) fn new() -> TokensOut {
+    /// Returns the state of a new listener: no token is out.
+    pub fn new() -> TokensOut {
         TokensOut {
             count: Mutex::new(Some(0)),
         }
     }
 
-    /// One more of the listener of this file, by which nobody was given yet. Once it was told who
-    /// was given in all, it gives nobody.
-    pub(crate) fn give(&self, rt: &impl Wait, file: RawFd) -> BoundToken
+    /// Returns one more token of the listener with this file, by which nobody was given yet. Once
+    /// the listener told who was given in all, nobody is given by it.
+    pub fn give(&self, rt: &impl Wait, file: RawFd) -> BoundToken
         ensures { IfSome (roll_on result) (λ rolled. rolled ≡ nobody) }
     {
         let is_counted = self.raise(rt);
@@ -147,7 +147,7 @@ impl TokensOut {
     }
 
     /// Puts one into another: one less is out.
-    pub(crate) fn join(&self, rt: &impl Wait, token: &mut BoundToken, other: BoundToken)
+    pub fn join(&self, rt: &impl Wait, token: &mut BoundToken, other: BoundToken)
         ensures { Joins (roll_on token.old) (roll_on other) (roll_on token.new) }
     {
         token.add(other);
@@ -157,9 +157,9 @@ impl TokensOut {
         }
     }
 
-    /// Whether this one of the listener of this file alone is out, and as many were left by it as
-    /// were given. From then on none gives anybody.
-    pub(crate) fn close(&self, rt: &impl Wait, file: RawFd, all: &BoundToken) -> bool
+    /// Returns whether this token of the listener with this file is the only one that is out, and as
+    /// many clients were left by it as were given. If so, nobody is given by any token from then on.
+    pub fn close(&self, rt: &impl Wait, file: RawFd, all: &BoundToken) -> bool
         ensures { result ≡ true → is_some (roll_on all.now) ≡ true }
     {
         let mut count = self.count.lock(rt);

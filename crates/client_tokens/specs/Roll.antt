@@ -1,19 +1,11 @@
 -- Who was given by a listener, and who was left there.
 use Rattle.std.specs.Prelude.{◌≡◌, ℕ, List, [], ◌∷◌, ◌++◌, Option, None, Some, IfSome}
-use Rattle.timed_io.specs.declared.client_ends.ClientEnds.{ClientEnds}
-use Rattle.timed_io.specs.Client.{from_of, to_of}
 
 -- a client at one moment: what it has yet to send, and what was written to it so far, where they
 -- are known
 pub record Seen : Type 0 where
   pub sent : Option (List ℕ)
   pub written : Option (List ℕ)
-
--- as the two ends of its connection tell
-abbrev pub seen_at : {I O : Type 0} → (I → Option (List ℕ)) → (O → Option (List ℕ))
-    → ClientEnds I O → Seen
-seen_at remaining contents ends =
-    record { sent = remaining (from_of ends); written = contents (to_of ends) }
 
 -- A ROLL: who was given, each as it came, and who was left, each as it was left, in their order
 pub record Roll : Type 0 where
