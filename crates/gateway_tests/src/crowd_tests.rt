@@ -9,6 +9,7 @@ use limit_kinds::AnyLimit;
 use limiter_core::{Outcome, Promote};
 use partitions::{Part, PartitionTable};
 use shared_gate::{GateNaming, MonotonicClock, Pass, SharedGate, Waited};
+use std::alloc::Global;
 use std::process::Abort;
 use std::sync::Wait;
 use std::sync::atomic::{AtomicU64, Ordering};
@@ -24,13 +25,17 @@ const TURNS: u64 = 40;
 
 const RAISED: u32 = 21;
 
-/// The most nanoseconds of real time from a promotion to where its waiter goes on: 50 ms. Half of
-/// the waiters that no wake reaches take longer, as they look every 100 ms.
-const AT_ONCE: u64 = 50_000_000;
+/// The most nanoseconds of real time from a promotion to where its waiter goes on: 20 ms. Of the
+/// waiters that no wake reaches four of five take longer, as they look every 100 ms.
+const AT_ONCE: u64 = 20_000_000;
 
-/// How many may take longer all the same, on a machine with other work. Where a step wakes only the
-/// first waiter that it promotes, some 240 do; where a reset wakes none, some 120.
-const MOST_LATE: u64 = 60;
+/// How many of a thousand may take longer all the same in one of some tries: other work on the
+/// machine makes some late in a try, and those whom no wake reaches are late in each. With ten busy
+/// threads beside a machine of four processors 8 to 49 were late. If a step wakes only the first
+/// waiter that it promotes, some 380 are; if a reset wakes none, some 200.
+const MOST_LATE: u64 = 20;
+
+const TRIES: u32 = 5;
 
 /// The most looks at the clock: 50 for each waiter. A waiter looks ten times a second by itself,
 /// and once more for each wake in vain: where each ending wakes all waiters, some 100 times.
@@ -115,8 +120,24 @@ impl<'g, M: GateNaming, R: Wait + SystemClock + Abort> Crowd<'g, M, R> {
 
 #[test]
 fn each_of_a_thousand_waiters_is_woken_as_it_is_promoted(rt: HostRuntime) {
+    let late = AtomicU64::new(0);
+    for _ in 0..TRIES {
+        try_crowd(&rt, rt.alloc(), &late);
+        if late.load(Ordering::SeqCst) <= MOST_LATE {
+            return;
+        }
+    }
+    check(&rt, false);
+}
+
+/// Notes how many of a crowd went on late.
+fn try_crowd<R: Threads + Wait + SystemClock + Abort + Sync>(
+    rt: &R,
+    alloc: Global,
+    late: &AtomicU64,
+) {
     let settings = GateSettings {
-        limit: settable(&rt, 1, RAISED, RAISED),
+        limit: settable(rt, 1, RAISED, RAISED),
         table: PartitionTable::unknown_only(),
         room: CROWD,
         promote: Promote::All,
@@ -127,14 +148,15 @@ fn each_of_a_thousand_waiters_is_woken_as_it_is_promoted(rt: HostRuntime) {
         settings,
         passes: 1_001,
     };
-    try_at(&rt, rt.alloc(), making, Trial::Crowd);
+    try_at(rt, alloc, making, Trial::Crowd(late));
 }
 
-/// One holds the only permit until all others wait for it, each on a thread of its own.
+/// One holds the only permit until all others wait for it, each on a thread of its own. Notes how
+/// many of these went on late.
 pub(crate) fn all_others_wait<
     M: GateNaming + Send + Sync,
     R: Threads + Wait + SystemClock + Abort + Sync,
->(rt: &R, gate: &SharedGate<AnyLimit, M>, passes: &mut [Pass<M>]) {
+>(rt: &R, gate: &SharedGate<AnyLimit, M>, passes: &mut [Pass<M>], late: &AtomicU64) {
     let (one, others) = passes.split_first_mut().expect(rt, "a pass");
     let crowd = Crowd {
         gate,
@@ -152,6 +174,6 @@ pub(crate) fn all_others_wait<
         rt,
         crowd.promoted.load(Ordering::SeqCst) == u64::from(CROWD),
     );
-    check(rt, crowd.late.load(Ordering::SeqCst) <= MOST_LATE);
     check(rt, looks_at(&crowd.clock) <= MOST_LOOKS);
+    late.store(crowd.late.load(Ordering::SeqCst), Ordering::SeqCst);
 }

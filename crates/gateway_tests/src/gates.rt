@@ -25,6 +25,7 @@ use std::alloc::Global;
 use std::marker::Brand;
 use std::process::Abort;
 use std::sync::Wait;
+use std::sync::atomic::AtomicU64;
 use std::thread::Threads;
 use std::time::Clock as SystemClock;
 
@@ -54,8 +55,8 @@ pub(crate) enum Trial<'t, R> {
     Work,
     /// One thread waits for the permit that another one ends.
     Wait,
-    /// All but one wait, and are promoted.
-    Crowd,
+    /// All but one wait, and are promoted; it is noted how many of them went on late.
+    Crowd(&'t AtomicU64),
     /// A port asks a full gate, at once and by a deadline.
     RefuseByADeadline,
     /// Four make random calls, at a gate that promotes so.
@@ -181,7 +182,7 @@ fn try_lent<M: GateNaming + Send + Sync, R: Threads + Wait + SystemClock + Abort
         Trial::TellUnderTheLock => tells_under_the_lock(rt, gate, passes),
         Trial::Work => both_work(rt, alloc, gate, passes),
         Trial::Wait => one_waits_for_another(rt, gate, passes),
-        Trial::Crowd => all_others_wait(rt, gate, passes),
+        Trial::Crowd(late) => all_others_wait(rt, gate, passes, late),
         Trial::RefuseByADeadline => refuses(rt, gate, next_of(rt, passes)),
         Trial::CallAtRandom(promote) => told_by_four(rt, alloc, promote, gate, passes),
         _ => rt.abort(),
