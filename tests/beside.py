@@ -13,9 +13,10 @@ import typing
 from collections.abc import Callable
 
 from ending import timers
-from loopback import BODY, Backend, Gateway, Later, Scripted, read_all
+from loopback import BODY, Backend, Gateway, Later, Scripted, read_all, read_head
 from operating import ALWAYS, HELD, SETTABLE, Operated, Operating, or_refused
-from operator_rows import BUSY, CLOSING, DONE, DRAINED, LEFT, MARK, NOTHING, OTHER, OTHER_QUERY, request, told
+from operator_rows import BUSY, CLOSING, DONE, DRAINED, LEFT, MARK, NOTHING, OTHER, OTHER_QUERY, UNREACHED
+from operator_rows import request, told
 from running import PATIENCE, free_port, until
 from sockets import PLAIN, passed_on, standing_still, timed, tried
 from wires import reset
@@ -300,6 +301,37 @@ class Beside(Operating):
             self.judge("while all workers are held", True, until(lambda: gate.look("/health") == told(BUSY)))
         wanted = f"[INFO  admission] listening for looks at the state address=0.0.0.0:{gate.status}"
         self.judge("what the log tells", [wanted], [it for it in gate.log if "looks" in it])
+
+    def tells_whether_its_backend_is_reached(self, _: Backend) -> None:
+        """`/health?deep` is 503 once connections were tried for ten seconds and none was made, and ok with one that was
+        made, or with nobody who tries."""
+        with socket.socket() as listener:
+            listener.bind(("127.0.0.1", 0))
+            gate = Looked(self.program, self.room, listener.getsockname()[1], each=ALWAYS, workers=4)
+            self.judge("of who has tried nothing", told(DONE), gate.look("/health?deep"))
+            began, found = time.monotonic(), set()
+            while time.monotonic() < began + 9:
+                gate.ask(PLAIN)
+                found.add(gate.look("/health?deep"))
+                time.sleep(0.1)
+            self.judge("within ten seconds", {told(DONE)}, found)
+            is_told = until(lambda: gate.ask(PLAIN) and gate.look("/health?deep") == told(UNREACHED), seconds=6)
+            self.judge("behind them, and no sooner", (True, True), (is_told, time.monotonic() - began > 10))
+            for path in ("/health", "/health?", "/health?deep=1", "/health?Deep", "/health?from=probe&deep"):
+                self.judge(f"at {path}", told(DONE), gate.look(path))
+            head = told(UNREACHED, has_body=False)
+            self.judge("by HEAD", head, gate.tell(request("HEAD /health?deep HTTP/1.1", "Host: h")))
+            time.sleep(10.5)
+            self.judge("with nobody who tries", told(DONE), gate.look("/health?deep"))
+            gate.ask(PLAIN)
+            self.judge("with one who tries again", told(UNREACHED), gate.look("/health?deep"))
+            listener.listen()
+            served = Later(gate.ask, PLAIN)
+            with listener.accept()[0] as connection:
+                read_head(connection)
+                self.judge("with a connection that is made", told(DONE), gate.look("/health?deep"))
+                connection.sendall(b"HTTP/1.1 200 OK\r\nContent-Length: %d\r\n\r\n%s" % (len(BODY), BODY))
+            self.judge("its client", passed_on(BODY), served.result())
 
     def is_looked_at_beside_its_operator(self, backend: Backend) -> None:
         """Both addresses are served to the end of the gateway, each by its own rules, and are closed with it."""

@@ -27,6 +27,7 @@ NOT_SETTABLE = (409, "the limit isn't of the kind settable\n")
 DONE = (200, "ok\n")
 CLOSING = (503, "draining\n")
 BUSY = (503, "busy\n")
+UNREACHED = (503, "the backend can't be reached\n")
 OTHER_QUERY = (400, "the query isn't after-ms=N with N from 1 to 3600000\n")
 LEFT = (400, "the caller has left: nothing was changed\n")
 DRAINED = (200, "draining\n")
@@ -53,12 +54,14 @@ FAMILIES = {
     "admission_class_promoted_total": ("counter", "class"),
     "admission_decisions_total": ("counter", "decision"),
     "admission_outcomes_total": ("counter", "outcome"),
+    "admission_responses_total": ("counter", "status"),
     "admission_answers_total": ("counter", "status"),
     "admission_empty_connections_total": ("counter", None),
     "admission_troubles_total": ("counter", "trouble"),
     "admission_backend_connections_total": ("counter", "event"),
     "admission_open_backend_connections": ("gauge", None),
     "admission_idle_backend_connections": ("gauge", None),
+    "admission_backend_unreached": ("gauge", None),
     "admission_client_connections_total": ("counter", "event"),
     "admission_silent_client_connections": ("gauge", None),
     "admission_idle_client_connections": ("gauge", None),

@@ -56,6 +56,12 @@ def told_of(gate: Gateway, begin: str) -> list[tuple[int, str]]:
     return [(int(it[1]), it[2]) for it in found if it]
 
 
+def ends_of(gate: Gateway) -> list[tuple[str, int]]:
+    """The troubles that are told to be over, each with how often it came since its last line."""
+    found = [re.fullmatch(r"\[INFO  admission\] a trouble is over trouble=(\S+) count=(\d+)", it) for it in gate.log]
+    return [(it[1], int(it[2])) for it in found if it]
+
+
 def troubles(gate: Gateway, count: int) -> list[str]:
     """The warnings of a gateway's log, but those of its workers, once there are so many."""
 
@@ -169,27 +175,38 @@ class Telling(Served):
         self.judge("reports that nobody asked for", [], reports(quiet))
 
     def tells_troubles(self, backend: Backend) -> None:
-        """Refused connections and broken answers are told once in ten seconds, with their count."""
+        """Refused connections and broken answers are told once in ten seconds, with their count, and once they are over."""
         gate = Gateway(self.program, self.room, closed_port(), workers=2, each=1_000_000)
         other = self.gateway(backend, workers=2, each=1_000_000)
-        began = time.monotonic()
-        for _ in range(30):
+        began, asked_for = time.monotonic(), 0
+        while time.monotonic() < began + 10.5:
             gate.ask(PLAIN)
             other.ask(b"GET /garbage HTTP/1.1\r\nHost: h\r\n\r\n")
-        time.sleep(10.5)
-        gate.ask(PLAIN)
-        other.ask(b"GET /closes HTTP/1.1\r\nHost: h\r\n\r\n")
-        for what, it, line, causes in (
-            ("refused connections", gate, UNREACHED, ["error=Connection refused (os error 111)"] * 2),
-            ("broken answers", other, BROKEN, ["cause=malformed", "cause=cut off"]),
+            asked_for += 1
+            time.sleep(0.2)
+        for it in (gate, other):
+            self.judge("what is over while it comes", [], ends_of(it))
+        for _ in range(3):
+            gate.ask(PLAIN)
+            other.ask(b"GET /closes HTTP/1.1\r\nHost: h\r\n\r\n")
+        for what, it, line, word, causes in (
+            ("refused connections", gate, UNREACHED, "unreached", {"error=Connection refused (os error 111)"}),
+            ("broken answers", other, BROKEN, "broken", {"cause=malformed", "cause=cut off"}),
         ):
-            until(lambda it=it, line=line: sum(count for count, _ in told_of(it, line)) >= 31)
-            told = told_of(it, line)
+            ended = time.monotonic()
+            until(lambda it=it: ends_of(it), seconds=20)
+            told, ends = told_of(it, line), ends_of(it)
             counts = [count for count, _ in told]
             # The first one, and one for each ten seconds.
-            most = 1 + (time.monotonic() - began) // 10
-            self.judge(f"how often {what} are told", (1, 31, True), (counts[0], sum(counts), 2 <= len(told) <= most))
-            self.judge(f"the causes of {what}", causes, [told[0][1], told[-1][1]])
+            most = 1 + (ended - began) // 10
+            self.judge(f"how often {what} are told", (1, True), (counts[0], 2 <= len(told) <= most))
+            self.judge(f"the causes of {what}", True, causes >= {why for _, why in told})
+            self.judge(f"what is over of {what}", [word], [word for word, _ in ends])
+            self.judge(f"how many {what} are told", asked_for + 3, sum(counts) + sum(count for _, count in ends))
+        gate.ask(PLAIN)
+        until(lambda: told_of(gate, UNREACHED)[-1][0] == 1)
+        self.judge("the first one behind the end", 1, told_of(gate, UNREACHED)[-1][0])
+        self.judge("what is over then", 1, len(ends_of(gate)))
 
     def tells_each_trouble(self, backend: Backend) -> None:
         """A trouble is reported whatever else was told a moment ago; and one that doesn't come isn't."""

@@ -90,6 +90,8 @@ module _ {S L : Type 0} (G M R C W : Type 0) (g : LimitGhosts G) (m : NamingGhos
   shown look.Metrics old new told is = (is.0, is.1, is.2.0, is.3, is.4)
   shown look.Health old new told is =
       (ap (λ (desk : Desk). state_of desk) is.0, is.1, is.2, is.3, is.4, is.5)
+  shown look.DeepHealth old new told is =
+      (ap (λ (desk : Desk). state_of desk) is.0, is.1, is.2, is.3, is.4, is.5)
 
   carried_out : (it : Change) (old new : Desk) (told : Words) → IsCarriedOut does it old new told
       → IsCarriedOut done it (state_of old) (state_of new) told

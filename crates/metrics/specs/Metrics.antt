@@ -1,6 +1,6 @@
 -- What a scrape is told.
 use Rattle.std.specs.Prelude.{ℕ, List, [], ◌∷◌, ◌++◌, ◌==◌, codes, length, nat_lt, slice_index}
-use Rattle.std.specs.Prelude.{if◌then◌else◌}
+use Rattle.std.specs.Prelude.{Bool, if◌then◌else◌}
 use Rattle.partitions.specs.declared.part.Part.TheVariants.{Known}
 use Rattle.partitions.specs.Table.{Row, name_of}
 use Rattle.limiter_core.specs.declared.counters.Counters.{Counters}
@@ -15,6 +15,7 @@ use Rattle.serve_reports.specs.declared.noted.Troubles.{Troubles}
 use Rattle.serve_reports.specs.declared.outcomes.OutcomeTally.{OutcomeTally}
 use Rattle.serve_reports.specs.declared.outstanding.Outstanding.{Outstanding}
 use Rattle.serve_reports.specs.declared.refusals.RefusalTally.{RefusalTally}
+use Rattle.serve_reports.specs.declared.responses.ResponseTally.{ResponseTally}
 use Rattle.serve_reports.specs.declared.tally.AnswerTally.{AnswerTally}
 use Rattle.serve_reports.specs.declared.times.TimeTally.{TimeTally}
 use Rattle.serve_reports.specs.declared.workers.Workers.{Workers}
@@ -148,6 +149,14 @@ outcomes_text c =
     ((codes "success", c.success) ∷ (codes "ignored", c.ignored) ∷ (codes "dropped", c.dropped)
     ∷ [])
 
+-- how many exchanges ended in which kind of status
+abbrev pub responses_text : ResponseTally → List ℕ
+responses_text t =
+    counters_text (codes "admission_responses_total") (codes "status")
+    (codes "Exchanges, by the kind of the status that their client was answered.")
+    ((codes "2xx", t.successful) ∷ (codes "3xx", t.redirection) ∷ (codes "4xx", t.client_error)
+    ∷ (codes "5xx", t.server_error) ∷ (codes "other", t.other) ∷ (codes "none", t.unanswered) ∷ [])
+
 -- the sample of what comes only by a bound on bodies, once it was seen
 abbrev pub seen_text : List ℕ → List ℕ → List ℕ → ℕ → List ℕ
 seen_text name label word value = if value == 0 then [] else sample_text name label word value
@@ -190,6 +199,13 @@ connections_text c =
     (codes "Connections to the backend that are open.") c.open
     ++ gauge_text (codes "admission_idle_backend_connections")
     (codes "Open connections to the backend that wait for another request.") c.idle
+
+-- whether no connection to the backend could be made for a while
+abbrev pub unreached_text : Bool → List ℕ
+unreached_text unreached =
+    gauge_text (codes "admission_backend_unreached")
+    (codes "1 if connections to the backend were tried for ten seconds and none was made.")
+    (if unreached then 1 else 0)
 
 -- how many connections of clients wait, and what became of those that there were
 abbrev pub clients_text : ClientConnections → List ℕ
@@ -256,12 +272,13 @@ durations_text t =
     ++ times_text (codes "admission_exchange_seconds")
     (codes "How long each client kept its worker, from its accept to its close.") t.exchange
 
--- THE TEXT OF THE METRICS: thirty-three families
+-- THE TEXT OF THE METRICS: thirty-nine families
 abbrev pub metrics_text : Report → List Row → GatewayStats → List ℕ
 metrics_text r rows n =
     standing_text r ++ range_text n.limit ++ view_text r.view
     ++ by_class_text r rows n.refusals n.outcomes
-    ++ decisions_text r.counters ++ outcomes_text r.counters ++ answers_text n.answers
+    ++ decisions_text r.counters ++ outcomes_text r.counters ++ responses_text n.responses
+    ++ answers_text n.answers
     ++ empty_text n.answers ++ troubles_text n.troubles ++ connections_text n.connections
-    ++ clients_text n.clients ++ workers_text n.workers ++ oldest_text n.outstanding
+    ++ unreached_text n.is_unreached ++ clients_text n.clients ++ workers_text n.workers ++ oldest_text n.outstanding
     ++ durations_text n.times ++ program_text n.seconds

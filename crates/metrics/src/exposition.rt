@@ -2,13 +2,14 @@
 ghost use Rattle.std.specs.Prelude.{◌≡◌, ◌++◌, ◌<◌, IfOk, OnOk, codes, string_bytes};
 ghost use Rattle.release.specs.Release.{version};
 ghost use Rattle.metrics.specs.Families.{sample_text};
-ghost use Rattle.metrics.specs.Metrics.{answers_text, by_class_text, class_text, classes_text};
-ghost use Rattle.metrics.specs.Metrics.{decisions_text, empty_text, metrics_text, oldest_text};
-ghost use Rattle.metrics.specs.Metrics.{outcomes_text, program_text, seen_text, standing_text};
+ghost use Rattle.metrics.specs.Metrics.{by_class_text, class_text, classes_text};
+ghost use Rattle.metrics.specs.Metrics.{decisions_text, metrics_text, oldest_text};
+ghost use Rattle.metrics.specs.Metrics.{outcomes_text, program_text, standing_text};
 ghost use Rattle.metrics.specs.Metrics.{troubles_text};
 ghost use Rattle.metrics.specs.Metrics.{clients_text, connections_text, durations_text, range_text};
-ghost use Rattle.metrics.specs.Metrics.{workers_text};
+ghost use Rattle.metrics.specs.Metrics.{unreached_text, workers_text};
 
+use crate::answers::{push_answers, push_empty, push_responses, push_seen};
 use crate::by_class::{push_class_outcomes, push_class_promoted, push_refusals};
 use crate::families::{push_gauge, push_head, push_number, push_sample, push_samples};
 use crate::limit_view::push_view;
@@ -18,9 +19,7 @@ use limiter_core::Counters;
 use partitions::{Part, PartitionTable};
 use release::version;
 use seats::ClientConnections;
-use serve_reports::{
-    AnswerTally, BackendConnections, GatewayStats, LimitRange, Outstanding, Troubles, Workers,
-};
+use serve_reports::{BackendConnections, GatewayStats, LimitRange, Outstanding, Troubles, Workers};
 use std::alloc::{AllocError, Global};
 
 /// The text of the metrics in the text format of Prometheus, version 0.0.4: of the state in a
@@ -42,10 +41,12 @@ pub fn metrics_text(
     push_by_class(&mut text, report, table, noted)?;
     push_decisions(&mut text, &report.counters)?;
     push_outcomes(&mut text, &report.counters)?;
+    push_responses(&mut text, &noted.responses)?;
     push_answers(&mut text, &noted.answers)?;
     push_empty(&mut text, &noted.answers)?;
     push_troubles(&mut text, &noted.troubles)?;
     push_connections(&mut text, &noted.connections)?;
+    push_unreached(&mut text, noted.is_unreached)?;
     push_clients(&mut text, &noted.clients)?;
     push_workers(&mut text, &noted.workers)?;
     push_oldest(&mut text, &noted.outstanding)?;
@@ -202,56 +203,6 @@ fn push_outcomes(text: &mut String, counters: &Counters) -> Result<(), AllocErro
     push_samples(text, name, "outcome", &samples)
 }
 
-/// Adds how many exchanges ended in each of the gateway's own answers.
-fn push_answers(text: &mut String, answers: &AnswerTally) -> Result<(), AllocError>
-    ensures { OnOk result (string_bytes text.new
-        ≡ string_bytes text.old ++ answers_text answers.now) }
-{
-    let name = "admission_answers_total";
-    let help = "Exchanges that ended in an answer of the gateway's own.";
-    push_head(text, name, "counter", help)?;
-    let samples = [
-        ("400", answers.bad_request),
-        ("413", answers.too_large),
-        ("429", answers.refused),
-        ("431", answers.head_too_large),
-        ("500", answers.out_of_memory),
-        ("501", answers.not_taken),
-        ("502", answers.bad_gateway),
-        ("504", answers.timed_out),
-    ];
-    push_samples(text, name, "status", &samples)?;
-    push_seen(text, name, "status", "503", answers.bodies)
-}
-
-/// Adds a sample of what comes only by a bound on bodies, once it was seen.
-fn push_seen(
-    text: &mut String,
-    name: &str,
-    label: &str,
-    word: &str,
-    value: u64,
-) -> Result<(), AllocError>
-    ensures { OnOk result (string_bytes text.new
-        ≡ string_bytes text.old ++ seen_text name.now label.now word.now value) }
-{
-    if value == 0 {
-        return Ok(());
-    }
-    push_sample(text, name, label, word, value)
-}
-
-/// Adds how many clients sent nothing at all.
-fn push_empty(text: &mut String, answers: &AnswerTally) -> Result<(), AllocError>
-    ensures { OnOk result (string_bytes text.new
-        ≡ string_bytes text.old ++ empty_text answers.now) }
-{
-    let name = "admission_empty_connections_total";
-    let help = "Connections that their client closed before it sent anything.";
-    push_head(text, name, "counter", help)?;
-    push_number(text, name, answers.empty)
-}
-
 /// Adds how often each trouble came.
 fn push_troubles(text: &mut String, troubles: &Troubles) -> Result<(), AllocError>
     ensures { OnOk result (string_bytes text.new
@@ -299,6 +250,16 @@ fn push_connections(text: &mut String, connections: &BackendConnections) -> Resu
         help,
         connections.idle,
     )
+}
+
+/// Adds whether no connection to the backend could be made for a while.
+fn push_unreached(text: &mut String, is_unreached: bool) -> Result<(), AllocError>
+    ensures { OnOk result (string_bytes text.new
+        ≡ string_bytes text.old ++ unreached_text is_unreached) }
+{
+    let help = "1 if connections to the backend were tried for ten seconds and none was made.";
+    let value = if is_unreached { 1 } else { 0 };
+    push_gauge(text, "admission_backend_unreached", help, value)
 }
 
 /// Adds how many connections of clients wait, and what became of those that there were.

@@ -4,6 +4,7 @@
 //! `specs/Metrics.antt` has it, family by family. [`PAGE`] draws it in a browser.
 #![tactic(auto)]
 
+mod answers;
 mod by_class;
 mod exposition;
 mod families;

@@ -20,6 +20,10 @@ pub const PAGE: &str = "\
   h1 { margin: 0; font-size: 20px; }
   h2 { margin: 0; font-size: 15px; }
   #state.silent { color: #b00020; font-weight: 600; }
+  #warnings { margin: 12px 0 0; padding: 0; display: block; font-size: 15px; }
+  #warnings li { padding: 8px 12px; margin-bottom: 8px; border-radius: 6px; color: #fff;
+    background: #b00020; font-weight: 600; }
+  #warnings li::before { display: none; }
   dl { display: grid; grid-template-columns: repeat(auto-fill, minmax(104px, 1fr)); gap: 8px;
     margin: 12px 0; }
   dl > div, section { background: #fff; border: 1px solid #dfe3e6; border-radius: 6px; }
@@ -38,6 +42,7 @@ pub const PAGE: &str = "\
 </style>
 <main>
   <header><h1>admission</h1><span id=\"state\">waiting for the gateway</span></header>
+  <ul id=\"warnings\"></ul>
   <dl id=\"figures\"></dl>
   <div id=\"panels\"></div>
   <noscript>This page needs JavaScript. The same numbers are at /metrics.</noscript>
@@ -49,6 +54,25 @@ const CLASS_COLORS = ['#0072b2', '#e69f00', '#009e73', '#cc79a7'];
 const UNKNOWN_COLOR = '#8a949e', LIMIT_COLOR = '#111', WORKERS_COLOR = '#b00020';
 const REFUSALS = [['full', 'no room', '#d55e00'], ['backlog', 'backlog full', '#f0a070'],
   ['timed-out', 'waited in vain', '#7a5195']];
+// Families of counters whose rates are drawn: of each its title, and of each sample its label, what
+// is said of it, and its color.
+const RATES = {
+  admission_responses_total: ['Answers a second, by status', [['2xx', '2xx', '#009e73'],
+    ['3xx', '3xx', '#56b4e9'], ['4xx', '4xx', '#e69f00'], ['5xx', '5xx', '#d55e00'],
+    ['other', 'other', '#8a949e'], ['none', 'without an answer', '#7a5195']]],
+  admission_answers_total: ['Faults that the gateway answers a second', [
+    ['502', '502, no answer of the backend', '#d55e00'],
+    ['504', '504, no answer in time', '#f0a070'], ['500', '500, out of memory', '#7a5195'],
+    ['503', '503, bodies at their bound', '#cc79a7']]],
+  admission_outcomes_total: ['Permits that ended a second, by outcome', [
+    ['success', 'success', '#009e73'], ['ignored', 'ignored', '#8a949e'],
+    ['dropped', 'dropped', '#d55e00']]],
+  admission_troubles_total: ['Troubles a second', [
+    ['unreached', 'backend not reached', '#d55e00'], ['broken', 'answer broken', '#e69f00'],
+    ['backend-timeout', 'answer not in time', '#f0a070'],
+    ['without-descriptor', 'no descriptor', '#7a5195'],
+    ['all-taken', 'all workers taken', '#cc79a7'], ['bodies', 'bodies at their bound', '#8a949e']]],
+};
 const TIMES = [['admission_round_trip_seconds', 'round trip', '#0072b2'],
   ['admission_permit_wait_seconds', 'waiting for a permit', '#e69f00'],
   ['admission_exchange_seconds', 'whole exchange', '#8a949e']];
@@ -76,7 +100,7 @@ function samplesOf(text) {
 function rateOf(family, label, look, before) {
   if (!before || look.told.admission_uptime_seconds < before.told.admission_uptime_seconds)
     return null;
-  const more = look.told[family][label] - before.told[family][label];
+  const more = (look.told[family][label] ?? 0) - (before.told[family][label] ?? 0);
   return more < 0 ? null : more / (look.at - before.at);
 }
 
@@ -92,12 +116,17 @@ function meanOf(name, look, before) {
 
 // A look: when it was, and what the gateway told; it told nothing where it didn't answer.
 function note(told) {
-  const look = { at: Date.now() / 1000, told, rates: {}, refused: {}, means: {} };
+  const look = { at: Date.now() / 1000, told, rates: {}, refused: {}, means: {}, counted: {} };
   const before = looks.at(-1)?.told ? looks.at(-1) : null;
   if (told) for (const [kind] of REFUSALS)
     look.rates[kind] = rateOf('admission_decisions_total', kind, look, before);
   if (told) for (const name of classesOf(told))
     look.refused[name] = rateOf('admission_class_refused_total', name, look, before);
+  if (told) for (const [family, [, samples]] of Object.entries(RATES)) {
+    look.counted[family] = {};
+    for (const [label] of samples)
+      look.counted[family][label] = rateOf(family, label, look, before);
+  }
   if (told) for (const [name] of TIMES) look.means[name] = meanOf(name, look, before);
   looks.push(look);
   while (looks[0].at < look.at - KEPT_SECONDS) looks.shift();
@@ -148,7 +177,29 @@ const PANELS = [
     { color: '#009e73', line: true, dashed: true, value: look => millisOf(look.told, 'base'),
       said: `base ${millisOf(told, 'base')?.toFixed(1) ?? 'none'}`
         + `, queue ${told.admission_limit_queue ?? 'none'}` }] },
+  ...Object.entries(RATES).map(([family, [title, samples]]) => ({ title, series: () =>
+    samples.map(([label, name, color]) => ({ color, value: look => look.counted[family][label],
+      said: `${name} ${(lastAnswer.counted[family][label] ?? 0).toFixed(1)}` })) })),
 ];
+
+// What an operator is to see at once: of each the text, and whether it is so by the last answer.
+const WARNINGS = [
+  [\"The backend can't be reached: no connection was made for ten seconds.\",
+    told => told.admission_backend_unreached === 1],
+  ['Requests are refused though the limit is at its greatest and the backend has no queue: '
+    + 'raise `max` or EXCHANGES.',
+    told => told.admission_limit >= told.admission_limit_greatest
+      && told.admission_limit_queue === 0 && REFUSALS.some(([kind]) => lastAnswer.rates[kind] > 0)],
+];
+
+function showWarnings(told) {
+  const texts = WARNINGS.filter(([, holds]) => holds(told)).map(([text]) => text);
+  document.getElementById('warnings').replaceChildren(...texts.map(text => {
+    const item = document.createElement('li');
+    item.textContent = text;
+    return item;
+  }));
+}
 
 for (const panel of PANELS) {
   const section = document.createElement('section');
@@ -316,7 +367,10 @@ async function look() {
   } catch { /* It is shown that it doesn't answer. */ }
   note(told);
   showState(told !== null);
-  if (told) showFigures(told);
+  if (told) {
+    showFigures(told);
+    showWarnings(told);
+  }
   draw();
   setTimeout(look, Math.max(0, begun + 1000 - Date.now()));
 }

@@ -14,6 +14,7 @@ use Rattle.operator_calls.specs.declared.call.Call.{Call}
 use Rattle.operator_calls.specs.declared.call.Call.TheVariants as call
 use Rattle.operator_calls.specs.declared.call.Change.{Change}
 use Rattle.operator_calls.specs.declared.call.Change.TheVariants as change
+use Rattle.operator_calls.specs.declared.call.Look.{Look}
 use Rattle.operator_calls.specs.declared.call.Look.TheVariants as look
 use Rattle.operator_calls.specs.declared.endpoint.Endpoint.{Endpoint}
 use Rattle.operator_calls.specs.declared.endpoint.Endpoint.TheVariants as endpoint
@@ -124,6 +125,11 @@ abbrev pub drain_by : Option (List ℕ) → Result Change Refusal
 drain_by None = Ok change.Drain
 drain_by (Some query) = drain_after (delay_of query)
 
+-- THE LOOK AT THE HEALTH that a query asks for
+abbrev pub health_by : Option (List ℕ) → Look
+health_by None = look.Health
+health_by (Some query) = if bytes_eq query (codes "deep") then look.DeepHealth else look.Health
+
 -- the call of a change, where one is asked for
 abbrev pub changing : Result Change Refusal → Result Call Refusal
 changing (Ok it) = Ok (call.Change it)
@@ -133,7 +139,7 @@ changing (Err why) = Err why
 abbrev pub call_at : Endpoint → Request → Result Call Refusal
 call_at endpoint.Page r = Ok (call.Look look.Page)
 call_at endpoint.Metrics r = Ok (call.Look look.Metrics)
-call_at endpoint.Health r = Ok (call.Look look.Health)
+call_at endpoint.Health r = Ok (call.Look (health_by (query_of r.target)))
 call_at endpoint.Limit r = changing (set_to (told_number r.body))
 call_at endpoint.Reset r = Ok (call.Change change.Reset)
 call_at endpoint.Drain r = changing (drain_by (query_of r.target))

@@ -9,6 +9,8 @@ pub enum Look {
     Metrics,
     /// `GET /health`: whether clients are accepted, and a worker is free for them.
     Health,
+    /// `GET /health?deep`: the same, and whether the backend can be connected to.
+    DeepHealth,
 }
 
 /// What is to be changed.

@@ -1,10 +1,13 @@
-// What a query tells of a drain.
+// What a query tells of a drain, or of a look at the health.
 ghost use Rattle.std.specs.Prelude.{◌≡◌, codes, option_map};
-ghost use Rattle.operator_calls.specs.Calls.{delay_of, drain_by, query_of};
+ghost use Rattle.operator_calls.specs.Calls.{delay_of, drain_by, health_by, query_of};
 
-use crate::call::Change;
+use crate::call::{Change, Look};
 use crate::number::number_in;
 use crate::refusal::Refusal;
+
+/// The query of a look at the health that asks for the backend too.
+const DEEP: &str = "deep";
 
 /// How a query that tells a delay begins.
 const DELAY: &[u8] = b"after-ms=";
@@ -42,5 +45,16 @@ pub(crate) fn drain_by(target: &str) -> Result<Change, Refusal>
     match delay(query.as_bytes()) {
         Some(delay_ms) => Ok(Change::DrainAfter(delay_ms)),
         None => Err(Refusal::OtherQuery),
+    }
+}
+
+/// Returns the look at the health that a target asks for: at that of the gateway, whatever its query
+/// is, or with the query `deep` at whether the backend can be connected to, too.
+pub(crate) fn health_by(target: &str) -> Look
+    ensures { result ≡ health_by (query_of target.now) }
+{
+    match query(target) {
+        Some(DEEP) => Look::DeepHealth,
+        _ => Look::Health,
     }
 }

@@ -9,7 +9,7 @@ use crate::audience::Audience;
 use crate::call::{Call, Change, Look};
 use crate::endpoint::{Endpoint, Verb};
 use crate::number::number_in;
-use crate::query::drain_by;
+use crate::query::{drain_by, health_by};
 use crate::refusal::Refusal;
 use message_fields::{authority, first_value};
 use message_parts::{Header, Request};
@@ -105,7 +105,7 @@ fn call_at(endpoint: Endpoint, request: &Request) -> Result<Call, Refusal>
     match endpoint {
         Endpoint::Page => Ok(Call::Look(Look::Page)),
         Endpoint::Metrics => Ok(Call::Look(Look::Metrics)),
-        Endpoint::Health => Ok(Call::Look(Look::Health)),
+        Endpoint::Health => Ok(Call::Look(health_by(request.target.as_str()))),
         Endpoint::Limit => changing(limit_by(request)),
         Endpoint::Reset => Ok(Call::Change(Change::Reset)),
         Endpoint::Drain => changing(drain_by(request.target.as_str())),

@@ -21,6 +21,7 @@ module _ {D : Type 0} (rows : D → List Row) (shows : D → Sight → Type 0)
   shown look.Page told shows = inl shows.0
   shown look.Metrics told shows = inr (shows.0, shows.2)
   shown look.Health told shows = inl shows.0
+  shown look.DeepHealth told shows = inl shows.0
 
   -- what is told of a call that looks, or of a refusal
   looked : (left : Bool) (asked : Result Call Refusal) (told : Words) → IfOk asked IsLook

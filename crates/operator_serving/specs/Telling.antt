@@ -1,5 +1,6 @@
 -- What is told of a call.
-use Rattle.std.specs.Prelude.{◌≡◌, ℕ, Bool, nat_lt, List, [], ◌∷◌, ◌++◌, codes, decimal, Option, None, Some, Result, Ok, Err, if◌then◌else◌}
+use Rattle.std.specs.Prelude.{◌≡◌, ℕ, Bool, ◌&&◌, nat_lt, List, [], ◌∷◌, ◌++◌, codes, decimal}
+use Rattle.std.specs.Prelude.{Option, None, Some, Result, Ok, Err, if◌then◌else◌}
 use Rattle.partitions.specs.Table.{Row}
 use Rattle.gate_port.specs.declared.report.Report.{Report}
 use Rattle.serve_reports.specs.declared.noted.GatewayStats.{GatewayStats}
@@ -43,6 +44,12 @@ health accepts workers =
     if accepts then (if nat_lt workers.busy workers.count then words 200 (codes "ok\n")
     else words 503 (codes "busy\n")) else words 503 (codes "draining\n")
 
+-- the same, and whether the backend can be connected to: a drain is told first
+abbrev pub deep_health : Bool → GatewayStats → Words
+deep_health accepts noted =
+    if accepts && noted.is_unreached then words 503 (codes "the backend can't be reached\n")
+    else health accepts noted.workers
+
 -- what came of a change of the limit
 abbrev pub changed : Result (Unit {0}) ChangeFault → Words
 changed (Ok done) = words 200 (codes "ok\n")
@@ -62,6 +69,10 @@ Shows rows shows does page look.Health old new told =
     (new ≡ old) × (accepts : Bool) × (noted : GatewayStats)
     × shows old (Accepts accepts) × shows old (Notes noted)
     × (told ≡ health accepts noted.workers)
+Shows rows shows does page look.DeepHealth old new told =
+    (new ≡ old) × (accepts : Bool) × (noted : GatewayStats)
+    × shows old (Accepts accepts) × shows old (Notes noted)
+    × (told ≡ deep_health accepts noted)
 
 -- WHAT A CHANGE TELLS, by what is done at the desk for it
 abbrev pub IsCarriedOut : {D : Type 0} → (D → D → Deed → Type 0) → Change → D → D → Words → Type 0

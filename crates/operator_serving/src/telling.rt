@@ -4,14 +4,15 @@ ghost use Rattle.counted_io.specs.Count.{raised_by_err};
 ghost use Rattle.operator_calls.specs.declared.call.Look.TheVariants.{Metrics};
 ghost use Rattle.operator_serving.specs.Desk.{HasLooked};
 ghost use Rattle.operator_serving.specs.Memory.{refused_of};
-ghost use Rattle.operator_serving.specs.Telling.{IsCarriedOut, Shows, changed, health};
+ghost use Rattle.operator_serving.specs.Telling.{IsCarriedOut, Shows, changed};
+ghost use Rattle.operator_serving.specs.Telling.{deep_health, health};
 ghost use Rattle.operator_serving.specs.Telling.{refusal_text, refused};
 
 use crate::desk::{ChangeFault, Desk};
 use crate::memory::AnswerMemory;
 use crate::response::OperatorResponse;
 use operator_calls::{Change, Look, Refusal};
-use serve_reports::Workers;
+use serve_reports::{GatewayStats, Workers};
 use std::alloc::AllocError;
 
 /// What a look shows of a desk. It fails only out of memory.
@@ -32,6 +33,10 @@ pub(crate) fn tell<'a, D: Desk>(
         Look::Health => {
             let (is_accepting, noted) = (desk.is_accepting(), desk.noted());
             Ok(health(is_accepting, &noted.workers))
+        }
+        Look::DeepHealth => {
+            let (is_accepting, noted) = (desk.is_accepting(), desk.noted());
+            Ok(deep_health(is_accepting, &noted))
         }
     }
 }
@@ -100,6 +105,18 @@ fn health<'a>(is_accepting: bool, workers: &Workers) -> OperatorResponse<'a>
         OperatorResponse::new(503, "busy\n")
     } else {
         OperatorResponse::new(200, "ok\n")
+    }
+}
+
+/// Returns what is told of the same, and of whether the backend can be connected to: a drain is told
+/// first.
+fn deep_health<'a>(is_accepting: bool, noted: &GatewayStats) -> OperatorResponse<'a>
+    ensures { result ≡ deep_health is_accepting noted.now }
+{
+    if is_accepting && noted.is_unreached {
+        OperatorResponse::new(503, "the backend can't be reached\n")
+    } else {
+        health(is_accepting, &noted.workers)
     }
 }
 

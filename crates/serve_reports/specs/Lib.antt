@@ -2,8 +2,10 @@ pub mod CountersLine
 pub mod Outcomes
 pub mod Outstanding
 pub mod Pace
+pub mod Reaching
 pub mod Refusals
 pub mod Report
+pub mod Responses
 pub mod Spells
 pub mod Tally
 pub mod Times

@@ -1,17 +1,13 @@
 -- How often the state is looked at and reported.
-use Rattle.std.specs.Prelude.{ℕ, ◌+◌, ◌*◌, ◌/◌, ◌%◌, ◌==◌, ◌&&◌, max, nat_lt, Bool, false, Option, None, Some}
+use Rattle.std.specs.Prelude.{ℕ, ◌%◌, ◌==◌, ◌&&◌, max, nat_lt, Bool, false, Option, None, Some}
+use Rattle.std.specs.Prelude.{option_map}
 use Rattle.serve_reports.specs.declared.pace.Pace.{Pace}
 
--- so many looks, a minute apart at most, make up so many seconds
-abbrev pub looks_in : ℕ → ℕ
-looks_in seconds = max 1 ((seconds + 59) / 60)
-
--- THE PACE of a report every so many seconds: looks that are equally far apart
+-- THE PACE of a report every so many seconds: a look each second
 abbrev pub pace_of : Option ℕ → Pace
-pace_of None = record { look_ns = 60000000000; looks = None }
-pace_of (Some seconds) = record {
-  look_ns = seconds * 1000000000 / looks_in seconds;
-  looks = Some (looks_in seconds);
+pace_of seconds = record {
+  look_ns = 1000000000;
+  looks = option_map (λ n. max n 1) seconds;
 }
 
 -- it is reported at each of so many looks

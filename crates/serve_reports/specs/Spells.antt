@@ -1,5 +1,6 @@
 -- What happens often, told seldom.
-use Rattle.std.specs.Prelude.{ℕ, ◌+◌, ◌-◌, ◌^◌, min, nat_le, Bool, true, Option, None, Some, if◌then◌else◌}
+use Rattle.std.specs.Prelude.{ℕ, ◌+◌, ◌-◌, ◌^◌, min, nat_le, Bool, false, true, Option, None, Some}
+use Rattle.std.specs.Prelude.{if◌then◌else◌}
 use Rattle.serve_reports.specs.declared.spell.RateLimitedLog.{RateLimitedLog}
 
 -- the least time from one telling to the next, in nanoseconds
@@ -28,5 +29,26 @@ told spell now = if is_due spell.last now then Some (once_more spell.count) else
 abbrev pub noted : RateLimitedLog → ℕ → RateLimitedLog
 noted spell now =
     if is_due spell.last now
-    then record { last = Some now; count = 0; total = once_more spell.total }
-    else record { last = spell.last; count = once_more spell.count; total = once_more spell.total }
+    then record { last = Some now; seen = Some now; count = 0; total = once_more spell.total }
+    else record {
+      last = spell.last;
+      seen = Some now;
+      count = once_more spell.count;
+      total = once_more spell.total;
+    }
+
+-- it is over at this moment: it happened so long ago, and its end wasn't told since
+abbrev pub is_over : Option ℕ → ℕ → Bool
+is_over None now = false
+is_over (Some seen) now = nat_le spell_length (now - seen)
+
+-- HOW OFTEN IT HAPPENED since it was last told, if it is over at this moment
+abbrev pub ended : RateLimitedLog → ℕ → Option ℕ
+ended spell now = if is_over spell.seen now then Some spell.count else None
+
+-- what is kept then
+abbrev pub rested : RateLimitedLog → ℕ → RateLimitedLog
+rested spell now =
+    if is_over spell.seen now
+    then record { last = spell.last; seen = None; count = 0; total = spell.total }
+    else spell

@@ -43,6 +43,7 @@ impl ConnectionCounts {
     /// This became of one.
     pub(crate) fn count(&self, event: ConnectionEvent) {
         let count = match event {
+            ConnectionEvent::Dialing | ConnectionEvent::Unreached => return,
             ConnectionEvent::Opened => &self.opened,
             ConnectionEvent::Kept => &self.kept,
             ConnectionEvent::Reused => &self.reused,

@@ -3,6 +3,7 @@ use crate::connections::BackendConnections;
 use crate::outcomes::OutcomeTally;
 use crate::outstanding::Outstanding;
 use crate::refusals::RefusalTally;
+use crate::responses::ResponseTally;
 use crate::tally::AnswerTally;
 use crate::times::TimeTally;
 use crate::workers::Workers;
@@ -43,6 +44,8 @@ pub struct GatewayStats {
     pub limit: LimitRange,
     /// How many exchanges ended in each of its own answers.
     pub answers: AnswerTally,
+    /// How many exchanges ended in which kind of status.
+    pub responses: ResponseTally,
     /// How many requests of each class the gate refused.
     pub refusals: RefusalTally,
     /// How many permits of each class ended, by their outcome.
@@ -60,6 +63,9 @@ pub struct GatewayStats {
     pub workers: Workers,
     /// How old the permits are that haven't ended.
     pub outstanding: Outstanding,
+    /// Whether no connection to the backend could be made for ten seconds, although some were tried
+    /// all the time.
+    pub is_unreached: bool,
     /// For how many whole seconds it has served.
     pub seconds: u64,
 }

@@ -2,38 +2,31 @@
 ghost use Rattle.std.specs.Prelude.{◌≡◌};
 ghost use Rattle.serve_reports.specs.Pace.{is_due_at, pace_of};
 
-/// The nanoseconds of a second.
-const SECOND: u64 = 1_000_000_000;
-
-/// The state is looked at once a minute or more often.
-const LONGEST_SECONDS: u32 = 60;
+/// From one look at the state to the next, in nanoseconds: a second, so that it is told in time what
+/// is over, and which permits are old.
+const LOOK_NS: u64 = 1_000_000_000;
 
 /// How often the state is looked at, and at each of how many looks it is reported.
 #[derive(Clone, Copy)]
 pub struct Pace {
-    /// From one look to the next, in nanoseconds: a minute at most.
+    /// From one look to the next, in nanoseconds: a second.
     pub look_ns: u64,
     /// It is reported at each of so many looks; never without it.
     pub looks: Option<u64>,
 }
 
 impl Pace {
-    /// A report every so many seconds; none without it.
+    /// Returns the pace of a report every so many seconds, one at least; of none without it.
     pub fn new(report_seconds: Option<u32>) -> Pace
         ensures { result ≡ pace_of report_seconds }
     {
-        match report_seconds {
-            Some(seconds) => {
-                let looks = u64::from(seconds.div_ceil(LONGEST_SECONDS)).max(1);
-                Pace {
-                    look_ns: u64::from(seconds) * SECOND / looks,
-                    looks: Some(looks),
-                }
-            }
-            None => Pace {
-                look_ns: u64::from(LONGEST_SECONDS) * SECOND,
-                looks: None,
-            },
+        let looks = match report_seconds {
+            Some(seconds) => Some(u64::from(seconds).max(1)),
+            None => None,
+        };
+        Pace {
+            look_ns: LOOK_NS,
+            looks,
         }
     }
 

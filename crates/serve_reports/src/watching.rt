@@ -3,15 +3,17 @@ ghost use Rattle.std.specs.Prelude.{◌≡◌};
 ghost use Rattle.serve_reports.specs.Spells.{is_minute_over};
 
 use crate::connections::ConnectionCounts;
-use crate::noted::{GatewayStats, LimitRange, Troubles};
+use crate::noted::{GatewayStats, LimitRange};
 use crate::outcomes::OutcomeTally;
 use crate::outstanding::{Moments, Outstanding};
 use crate::pace::Pace;
+use crate::reaching::{Reaching, is_try};
 use crate::refusals::RefusalTally;
 use crate::report_line::report_text;
-use crate::spell::RateLimitedLog;
+use crate::responses::ResponseTally;
 use crate::tally::AnswerTally;
 use crate::times::TimeTally;
+use crate::troubles::{TROUBLES, Trouble, TroubleLogs};
 use crate::workers::Workers;
 use clocks::{Clock, ProgramClock};
 use gate_port::Report;
@@ -44,33 +46,15 @@ const EMFILE: i32 = 24;
 struct Notes {
     answers: AnswerTally,
     refusals: RefusalTally,
-    unreached: RateLimitedLog,
-    broken: RateLimitedLog,
-    late: RateLimitedLog,
-    without_descriptor: RateLimitedLog,
-    all_taken: RateLimitedLog,
-    bodies: RateLimitedLog,
+    troubles: TroubleLogs,
     // When the log last told of old permits, by the watcher's clock in nanoseconds.
     old_told: Option<u64>,
-}
-
-impl Notes {
-    /// How often each trouble came.
-    fn troubles(&self) -> Troubles {
-        Troubles {
-            unreached: self.unreached.total(),
-            broken: self.broken.total(),
-            late: self.late.total(),
-            without_descriptor: self.without_descriptor.total(),
-            all_taken: self.all_taken.total(),
-            bodies: self.bodies.total(),
-        }
-    }
 }
 
 /// What was measured of each exchange.
 #[derive(Clone, Copy)]
 struct Measures {
+    responses: ResponseTally,
     outcomes: OutcomeTally,
     times: TimeTally,
 }
@@ -86,6 +70,7 @@ pub struct Watcher<'a, R: SystemClock> {
     clock: &'a ProgramClock<&'a R>,
     notes: Mutex<Notes>,
     connections: ConnectionCounts,
+    reaching: Mutex<Reaching>,
     // Of every exchange, so that most take no other lock here.
     measures: Mutex<Measures>,
     limit: LimitRange,
@@ -110,15 +95,11 @@ impl<'a, R: SystemClock> Watcher<'a, R> {
         let notes = Notes {
             answers: AnswerTally::default(),
             refusals: RefusalTally::default(),
-            unreached: RateLimitedLog::new(),
-            broken: RateLimitedLog::new(),
-            late: RateLimitedLog::new(),
-            without_descriptor: RateLimitedLog::new(),
-            all_taken: RateLimitedLog::new(),
-            bodies: RateLimitedLog::new(),
+            troubles: TroubleLogs::new(),
             old_told: None,
         };
         let measures = Measures {
+            responses: ResponseTally::default(),
             outcomes: OutcomeTally::default(),
             times: TimeTally::new(),
         };
@@ -128,6 +109,7 @@ impl<'a, R: SystemClock> Watcher<'a, R> {
             clock,
             notes: Mutex::new(notes),
             connections: ConnectionCounts::new(),
+            reaching: Mutex::new(Reaching::new()),
             measures: Mutex::new(measures),
             limit,
             workers,
@@ -167,14 +149,16 @@ impl<R: SystemClock + Log + Wait> Watcher<'_, R> {
         GatewayStats {
             limit: self.limit,
             answers: notes.answers,
+            responses: measures.responses,
             refusals: notes.refusals,
             outcomes: measures.outcomes,
             times: measures.times,
-            troubles: notes.troubles(),
+            troubles: notes.troubles.totals(),
             connections: self.connections.counted(),
             clients: ClientConnections::none(),
             workers: self.workers(),
             outstanding: self.moments.outstanding(now),
+            is_unreached: self.reaching.lock(self.rt).is_unreached(now),
             seconds: now / SECOND,
         }
     }
@@ -182,24 +166,29 @@ impl<R: SystemClock + Log + Wait> Watcher<'_, R> {
     /// Counts an exchange that took so many nanoseconds.
     fn measure(&self, exchange: &ExchangeSummary, took: u64) {
         let mut measures = self.measures.lock(self.rt);
+        measures.responses.count(exchange);
         measures.outcomes.count(exchange);
         measures.times.count(exchange, took);
     }
 
+    /// Notes that a trouble came once more. If the log is to tell of it now, returns how often it
+    /// came since it was last told.
+    fn note(&self, trouble: Trouble) -> Option<u64> {
+        let now = self.clock.now();
+        let mut notes = self.notes.lock(self.rt);
+        notes.troubles.of(trouble).note(now)
+    }
+
     /// A descriptor was wanted, and none was free.
     fn lack_descriptor(&self, error: &Error) {
-        let now = self.clock.now();
-        let told = self.notes.lock(self.rt).without_descriptor.note(now);
-        if let Some(count) = told {
+        if let Some(count) = self.note(Trouble::WithoutDescriptor) {
             warn!(self.rt; target: "admission", count, error:%; "no descriptor was free");
         }
     }
 
     /// The last free worker was taken: who comes now waits unseen in the system's accept queue.
     fn lack_worker(&self) {
-        let now = self.clock.now();
-        let told = self.notes.lock(self.rt).all_taken.note(now);
-        if let Some(count) = told {
+        if let Some(count) = self.note(Trouble::AllTaken) {
             let workers = self.workers;
             warn!(self.rt; target: "admission", count, workers; "all workers are taken");
         }
@@ -208,9 +197,7 @@ impl<R: SystemClock + Log + Wait> Watcher<'_, R> {
     /// The body of a request or of an answer wasn't held: all bodies together have as many bytes as
     /// they may.
     fn lack_bodies(&self) {
-        let now = self.clock.now();
-        let told = self.notes.lock(self.rt).bodies.note(now);
-        if let Some(count) = told {
+        if let Some(count) = self.note(Trouble::Bodies) {
             warn!(self.rt; target: "admission", count; "bodies are at their bound");
         }
     }
@@ -228,6 +215,24 @@ impl<R: SystemClock + Log + Wait> Watcher<'_, R> {
             warn!(self.rt; target: "admission", count = old, oldest_seconds;
                 "permits are older than a minute");
         }
+    }
+
+    /// Tells the log of each trouble that is over: it came last ten seconds ago or earlier.
+    fn tell_ended(&self) {
+        for trouble in TROUBLES {
+            if let Some(count) = self.end(trouble) {
+                let trouble = trouble.word();
+                info!(self.rt; target: "admission", trouble, count; "a trouble is over");
+            }
+        }
+    }
+
+    /// If a trouble is over and the log is to tell that now, returns how often it came since it was
+    /// last told.
+    fn end(&self, trouble: Trouble) -> Option<u64> {
+        let now = self.clock.now();
+        let mut notes = self.notes.lock(self.rt);
+        notes.troubles.of(trouble).end(now)
     }
 
     /// Whether the log wasn't told of old permits for a minute; it is now.
@@ -285,6 +290,7 @@ impl<R: SystemClock + Log + Wait> Watch for Watcher<'_, R> {
 
     fn report(&self, table: &PartitionTable, report: &Report, clients: &ClientConnections) {
         self.tell_old();
+        self.tell_ended();
         let look = self.looks.fetch_add(1, Ordering::SeqCst).saturating_add(1);
         if !self.pace.is_due(look) {
             return;
@@ -311,26 +317,20 @@ impl<R: SystemClock + Log + Wait> BackendWatch for Watcher<'_, R> {
         if lacks_descriptor(error) {
             return self.lack_descriptor(error);
         }
-        let now = self.clock.now();
-        let told = self.notes.lock(self.rt).unreached.note(now);
-        if let Some(count) = told {
+        if let Some(count) = self.note(Trouble::Unreached) {
             warn!(self.rt; target: "admission", count, error:%; "the backend can't be reached");
         }
     }
 
     fn broken(&self, fault: WireFault) {
-        let now = self.clock.now();
-        let told = self.notes.lock(self.rt).broken.note(now);
-        if let Some(count) = told {
+        if let Some(count) = self.note(Trouble::Broken) {
             let cause = cause_of(fault);
             warn!(self.rt; target: "admission", count, cause; "the backend broke an answer");
         }
     }
 
     fn late(&self) {
-        let now = self.clock.now();
-        let told = self.notes.lock(self.rt).late.note(now);
-        if let Some(count) = told {
+        if let Some(count) = self.note(Trouble::Late) {
             warn!(self.rt; target: "admission", count; "the backend didn't answer in time");
         }
     }
@@ -341,6 +341,10 @@ impl<R: SystemClock + Log + Wait> BackendWatch for Watcher<'_, R> {
 
     fn connection(&self, event: ConnectionEvent) {
         self.connections.count(event);
+        if is_try(&event) {
+            let now = self.clock.now();
+            self.reaching.lock(self.rt).note(event, now);
+        }
     }
 }
 

@@ -189,8 +189,13 @@ impl<R: Net + Wait> Connector for Dialer<R, R::Stream> {
                 is_reused: true,
             });
         }
-        let stream = self.dial(most)?;
-        watch.connection(ConnectionEvent::Opened);
+        watch.connection(ConnectionEvent::Dialing);
+        let dialed = self.dial(most);
+        watch.connection(match &dialed {
+            Ok(_) => ConnectionEvent::Opened,
+            Err(_) => ConnectionEvent::Unreached,
+        });
+        let stream = dialed?;
         let end = OpaqueEnd {
             address: self.address,
         };

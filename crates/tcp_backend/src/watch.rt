@@ -5,6 +5,10 @@ use wire::WireFault;
 /// What became of a connection to a backend.
 #[derive(Clone, Copy, Drop)]
 pub enum ConnectionEvent {
+    /// It is about to be made.
+    Dialing,
+    /// It couldn't be made.
+    Unreached,
     /// It was made.
     Opened,
     /// It was put back, to wait for another request.

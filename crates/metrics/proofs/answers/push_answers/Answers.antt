@@ -1,5 +1,5 @@
 use Rattle.metrics.proofs.Joins.{grown, joined}
-use Rattle.metrics.proofs.exposition.push_answers.Goals as goal
+use Rattle.metrics.proofs.answers.push_answers.Goals as goal
 
 pub returns : goal.returns
 returns c =
