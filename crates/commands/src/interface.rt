@@ -34,7 +34,7 @@ fn config_argument<'a>(alloc: Global) -> Arg<'a>
 {
     Arg::new(alloc, "config")
         .value_name("CONFIG")
-        .help("The file of the configuration; /dev/stdin reads standard input")
+        .help("The file of the configuration; - reads standard input")
         .required(true)
 }
 

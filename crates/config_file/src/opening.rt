@@ -23,7 +23,13 @@ pub trait Opener {
         ensures fault { OnErr result (unopened path.now) };
 }
 
-/// The files of the system. Std doesn't tell which of them was opened, or why none could be.
+/// The path that names standard input, and the system's file for it.
+const DASH: &str = "-";
+
+const STANDARD_INPUT: &str = "/dev/stdin";
+
+/// The files of the system; `-` names standard input. Std doesn't tell which of them was opened, or
+/// why none could be.
 #[derive(Clone, Copy)]
 pub struct SystemFiles<'a, F> {
     files: &'a F,
@@ -46,6 +52,7 @@ impl<F: Files> Opener for SystemFiles<'_, F> {
     ghost unopened = { λ _. ⊤ };
 
     fn open(&self, path: &str) -> Result<F::File> {
+        let path = if path == DASH { STANDARD_INPUT } else { path };
         File::open(self.files, path)
     }
 }

@@ -24,8 +24,8 @@ macro_rules! with_lines {
 pub(crate) const CHECK_HELP: &str = key_rows!(
     with_lines,
     "\
-Reads the file CONFIG, TOML text of at most 1 MiB, and serves nothing. /dev/stdin as CONFIG reads
-standard input.
+Reads the file CONFIG, TOML text of at most 1 MiB, and serves nothing. - as CONFIG reads standard
+input; a file of that name is ./-.
 
 With --explain standard output first gets more, for a person. Of a fault: the line where it is, of
 a class, resolver or bypass which of them, and what the key holds, its range and its default. Of a
