@@ -1,12 +1,13 @@
 #!/usr/bin/env -S python3 -B
-"""A long run over kept connections: bench/soak_kept.py PROGRAM [EXCHANGES]
+"""A long run over kept connections: bench/soak_kept.py PROGRAM [EXCHANGES] [--at-once N]
 
 It sends EXCHANGES exchanges, by default 200,000, through a gateway with two classes and a bypass rule, over connections
 that callers keep as long as they may: with and without bodies, by a length and by chunks, HEAD, two requests in one
 piece, a request byte by byte, one that can't be read, answers of overload, and callers who go before their answer. Each
 request has a number that the backend answers with, so that a caller sees whether an answer is of its own request. At
 the end the counts of /metrics are compared with those of callers and backend. The status is 1 where they don't agree,
-where an answer was another one's, or where connections weren't kept.
+where an answer was another one's, or where connections weren't kept. The gateway has 16 workers and 72 callers at a
+time; with --at-once it serves with `--exchanges N`, a limit of up to half of N, and nine callers for ten exchanges.
 """
 import asyncio
 import collections
@@ -153,22 +154,22 @@ class Caller:
         return sum(count for what, count in self.seen.items() if what not in ("calls", "connections", "another's"))
 
 
-async def calls(port: int, number: int, count: int) -> Counts:
+async def calls(port: int, number: int, count: int, callers: int) -> Counts:
     async def one_after_the_other(place: int) -> Counts:
         caller = Caller(port, f"{number}-{place}", collections.Counter())
-        while caller.seen["calls"] < count // AT_ONCE:
+        while caller.seen["calls"] < count // callers:
             await caller.exchange()
         if caller.writer:
             caller.writer.close()
         return caller.seen
 
-    found = await asyncio.gather(*map(one_after_the_other, range(AT_ONCE)))
+    found = await asyncio.gather(*map(one_after_the_other, range(callers)))
     return sum(found, collections.Counter())
 
 
-def called(port: int, number: int, count: int, results: typing.Any) -> None:
+def called(port: int, number: int, count: int, callers: int, results: typing.Any) -> None:
     allow_many_sockets()
-    results.put(asyncio.run(calls(port, number, count)))
+    results.put(asyncio.run(calls(port, number, count, callers)))
 
 
 def scraped(port: int) -> dict[str, int]:
@@ -206,7 +207,11 @@ def main() -> None:
     reader = reader_of(__doc__)
     reader.add_argument("program", type=built, metavar="PROGRAM")
     reader.add_argument("exchanges", type=above_zero(int), nargs="?", default=EXCHANGES, metavar="EXCHANGES")
+    reader.add_argument("--at-once", type=above_zero(int), metavar="N")
     asked = reader.parse_args()
+    threads = ("--exchanges", asked.at_once) if asked.at_once else ("--workers", WORKERS)
+    most, at_once = (asked.at_once // 2, asked.at_once * 9 // 10 // CALLERS) if asked.at_once else (12, AT_ONCE)
+    allow_many_sockets()
     given: typing.Any = multiprocessing.Value("q", 0)
     is_up, results = multiprocessing.Event(), multiprocessing.get_context().SimpleQueue()
     port, origin, admin = free_port(), free_port(), free_port()
@@ -214,8 +219,8 @@ def main() -> None:
     behind.start()
     with tempfile.TemporaryDirectory() as room:
         file = pathlib.Path(room) / "gateway.toml"
-        file.write_text(MIXED.format(port=port, origin=origin, initial=8, most=12))
-        words = [asked.program, "serve", str(file), "--workers", str(WORKERS), "--admin", f"127.0.0.1:{admin}"]
+        file.write_text(MIXED.format(port=port, origin=origin, initial=8, most=most))
+        words = [asked.program, "serve", str(file), *map(str, threads), "--admin", f"127.0.0.1:{admin}"]
         with subprocess.Popen(words, stdout=subprocess.DEVNULL, stderr=subprocess.PIPE, text=True) as gateway:
             assert gateway.stderr
             if not is_up.wait(10) or not any("listening" in line for line in gateway.stderr):
@@ -223,7 +228,8 @@ def main() -> None:
                 sys.exit("soak_kept: the gateway or its backend didn't start")
             begun, each = time.monotonic(), asked.exchanges // CALLERS
             callers = [
-                multiprocessing.Process(target=called, args=(port, number, each, results)) for number in range(CALLERS)
+                multiprocessing.Process(target=called, args=(port, number, each, at_once, results))
+                for number in range(CALLERS)
             ]
             for it in callers:
                 it.start()
