@@ -67,7 +67,7 @@ module _ (bound : ℕ) where
   enters slots first s kept len fits =
       let total = sum_by_push (λ (z : Holding). z.held) s.views (holding 0) in
       let same : held_by_all s.views ≡ held_by_all (s.views ++ holding 0 ∷ []) =
-          omega (arith, total) in (
+      omega (arith, total) in (
         holding 0,
         (kept.0 ∙ ap (λ (k : ℕ). k ∷ []) same, omega (arith, kept.1, same)),
         refl,
