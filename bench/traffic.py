@@ -130,7 +130,7 @@ class Listens(typing.Protocol):
 
 class Limited:
     """A program with a limit that says on its standard error when it listens and then what the limit is: `limits` gets
-    pairs of a moment of time.perf_counter and the limit then."""
+    pairs of a moment of time.perf_counter and the limit then, and `told` the lines that are no reports."""
 
     process: subprocess.Popen[str]
     log: typing.IO[str]
@@ -138,6 +138,7 @@ class Limited:
     def __init__(self, words: Sequence[str], port: int) -> None:
         self.words, self.port = words, port
         self.limits: list[tuple[float, int]] = []
+        self.told: list[str] = []
         self.reader = threading.Thread(target=self.note)
 
     def __enter__(self) -> "Limited":
@@ -159,6 +160,8 @@ class Limited:
         for line in self.log:
             if found := re.search(r"\breport limit=(\d+)", line):
                 self.limits.append((time.perf_counter(), int(found[1])))
+            else:
+                self.told.append(line)
 
     def __exit__(self, *_: object) -> None:
         self.process.terminate()
