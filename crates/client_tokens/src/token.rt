@@ -157,8 +157,9 @@ impl TokensOut {
         }
     }
 
-    /// Returns whether this token of the listener with this file is the only one that is out, and as
-    /// many clients were left by it as were given. If so, nobody is given by any token from then on.
+    /// Returns whether this token of the listener with this file is the only one that is out, and
+    /// as many clients were left by it as were given. If so, nobody is given by any token from then
+    /// on.
     pub fn close(&self, rt: &impl Wait, file: RawFd, all: &BoundToken) -> bool
         ensures { result ≡ true → is_some (roll_on all.now) ≡ true }
     {

@@ -280,5 +280,5 @@ metrics_text r rows n =
     ++ decisions_text r.counters ++ outcomes_text r.counters ++ responses_text n.responses
     ++ answers_text n.answers
     ++ empty_text n.answers ++ troubles_text n.troubles ++ connections_text n.connections
-    ++ unreached_text n.is_unreached ++ clients_text n.clients ++ workers_text n.workers ++ oldest_text n.outstanding
-    ++ durations_text n.times ++ program_text n.seconds
+    ++ unreached_text n.is_unreached ++ clients_text n.clients ++ workers_text n.workers
+    ++ oldest_text n.outstanding ++ durations_text n.times ++ program_text n.seconds

@@ -48,8 +48,8 @@ pub(crate) fn drain_by(target: &str) -> Result<Change, Refusal>
     }
 }
 
-/// Returns the look at the health that a target asks for: at that of the gateway, whatever its query
-/// is, or with the query `deep` at whether the backend can be connected to, too.
+/// Returns the look at the health that a target asks for: at that of the gateway, whatever its
+/// query is, or with the query `deep` at whether the backend can be connected to, too.
 pub(crate) fn health_by(target: &str) -> Look
     ensures { result ≡ health_by (query_of target.now) }
 {

@@ -108,8 +108,8 @@ fn health<'a>(is_accepting: bool, workers: &Workers) -> OperatorResponse<'a>
     }
 }
 
-/// Returns what is told of the same, and of whether the backend can be connected to: a drain is told
-/// first.
+/// Returns what is told of the same, and of whether the backend can be connected to: a drain is
+/// told first.
 fn deep_health<'a>(is_accepting: bool, noted: &GatewayStats) -> OperatorResponse<'a>
     ensures { result ≡ deep_health is_accepting noted.now }
 {

@@ -6,8 +6,8 @@
 //! their status, a [`RefusalTally`] whom the gate refused, an [`OutcomeTally`] with which outcomes
 //! permits ended, and a [`TimeTally`] has histograms of their times; [`Moments`] know since when
 //! permits are out, and [`Reaching`] whether the backend can be connected to. [`report_text`] makes
-//! the text of a report, as the log has it every so often, and [`write_counters`] writes the line of
-//! a gate's counters at the end, without memory. `specs/` has both texts.
+//! the text of a report, as the log has it every so often, and [`write_counters`] writes the line
+//! of a gate's counters at the end, without memory. `specs/` has both texts.
 #![tactic(auto)]
 
 mod connections;

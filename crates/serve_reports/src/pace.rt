@@ -2,8 +2,8 @@
 ghost use Rattle.std.specs.Prelude.{◌≡◌};
 ghost use Rattle.serve_reports.specs.Pace.{is_due_at, pace_of};
 
-/// From one look at the state to the next, in nanoseconds: a second, so that it is told in time what
-/// is over, and which permits are old.
+/// From one look at the state to the next, in nanoseconds: a second, so that it is told in time
+/// what is over, and which permits are old.
 const LOOK_NS: u64 = 1_000_000_000;
 
 /// How often the state is looked at, and at each of how many looks it is reported.

@@ -2,8 +2,8 @@
 ghost use Rattle.std.specs.Prelude.{◌≡◌, None};
 ghost use Rattle.serve_reports.specs.Spells.{ended, is_due, is_over, noted, rested, told};
 
-/// The least time from one telling to the next, in nanoseconds: ten seconds. What doesn't happen for
-/// so long is over.
+/// The least time from one telling to the next, in nanoseconds: ten seconds. What doesn't happen
+/// for so long is over.
 const LENGTH_NS: u64 = 10_000_000_000;
 
 /// How often something happened: since it was last told, and at all.
