@@ -26,7 +26,7 @@ use Rattle.operator_serving.specs.Attending.{AreServed, Deals, IsAnswered, IsSer
 use Rattle.operator_serving.specs.Attending.AreServed.{nobody, none_more, one_more}
 use Rattle.operator_serving.specs.Attended.{writes_of}
 use Rattle.operator_serving.specs.Desk.{AreLooks, AreLooks as looks, Deed, HasLooked, Sight}
-use Rattle.operator_serving.specs.Doors.{Stand, stand}
+use Rattle.operator_serving.specs.Stands.{Stand, stand}
 use Rattle.operator_serving.specs.Telling.{IsCarriedOut, Shows, Tells}
 use Rattle.operator_serving.specs.Words.{Words}
 use Rattle.gate_desk.specs.declared.desk.GateDesk.{GateDesk}

@@ -8,7 +8,7 @@ use Rattle.operator_calls.specs.declared.audience.Audience.TheVariants.{Anyone}
 use Rattle.operator_serving.specs.declared.operating.Operating.{Operating}
 use Rattle.operator_serving.specs.Attending.{AreServed}
 use Rattle.operator_serving.specs.Desk.{AreLooks, Deed, Sight}
-use Rattle.operator_serving.specs.Doors.{Stand, stand}
+use Rattle.operator_serving.specs.Stands.{Stand, stand}
 use Rattle.gate_desk.specs.declared.operator.Operator.{Operator}
 use Rattle.gate_desk.specs.Desk.{ShownBy}
 use Rattle.gate_desk.specs.State.{DeskState, state_of}

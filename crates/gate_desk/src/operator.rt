@@ -7,9 +7,10 @@ ghost use Rattle.gate_desk.specs.State.{state_of};
 use crate::desk::GateDesk;
 use crate::watch::DeskWatch;
 use clocks::Clock;
+use handling::Door;
 use limit_laws::Limit;
 use listening::Closable;
-use operator_serving::{AnswerMemory, ListenerDoor, Operating, operate};
+use operator_serving::{AnswerMemory, Operating, Unwatched, operate};
 use shared_gate::{GateNaming, Pass};
 use std::alloc::AllocError;
 use std::sync::Wait;
@@ -78,7 +79,7 @@ where
             buffers,
             also,
         } = self;
-        let mut door = ListenerDoor::new(common.listener);
+        let mut door = Door::new(common.listener, Unwatched {});
         let mut memory = AnswerMemory::new(common.alloc);
         operate(desk.rt, common, &mut door, &mut desk, &mut memory, buffers);
         close_too(desk.rt, also);

@@ -1,5 +1,6 @@
 // A listener whose accepts are counted.
-ghost use Rattle.std.specs.Prelude.{◌≡◌, [], false, is_ok, if◌then◌else◌, IfOk, IfSome, OnErr};
+ghost use Rattle.std.specs.Prelude.{◌≡◌, ◌&&◌, [], false, is_ok, if◌then◌else◌};
+ghost use Rattle.std.specs.Prelude.{IfOk, IfSome, OnErr};
 ghost use Rattle.counted_io.specs.Count.{raised, raised_by_err};
 ghost use Rattle.timed_io.specs.Client.{from_of, to_of};
 ghost use Rattle.listening.specs.Accepted.{accepted_of, kept_of, listener_of, missed_of, token_of};
@@ -55,8 +56,9 @@ impl<'a, L: Listener> CountedListener<'a, L, L::Token> {
         }
     }
 
-    /// Waits for the next new client, to whom nothing was written yet.
-    pub fn accept(&mut self) -> Result<AcceptedClient<L::Stream, L::From, L::To>>
+    /// Waits for the next client: a new one, to whom nothing was written yet, or, where it may be
+    /// one who was kept, whoever comes first of both.
+    pub fn next(&mut self, may_be_kept: bool) -> Result<AcceptedClient<L::Stream, L::From, L::To>>
         ensures listener { listener_of self.new ≡ listener_of self.old }
         ensures accepted { accepted_of self.new
             ≡ (if is_ok result then raised (accepted_of self.old) else accepted_of self.old) }
@@ -64,33 +66,7 @@ impl<'a, L: Listener> CountedListener<'a, L, L::Token> {
         ensures kept { kept_of self.new ≡ kept_of self.old }
         ensures came { IfOk result (λ client.
             L.came (listener_of self.old) (L.From.remaining (from_of client.ends))) }
-        ensures unwritten { IfOk result (λ client.
-            IfSome (L.To.contents (to_of client.ends)) (λ written. written ≡ [])) }
-        ensures given { IfOk result (λ client. Comes
-            (L.roll (listener_of self.old) (token_of self.old))
-            (L.roll (listener_of self.old) (token_of self.new))
-            (seen_at L.From.remaining L.To.contents client.ends)) }
-        ensures none { OnErr result (Stays (L.roll (listener_of self.old) (token_of self.old))
-            (L.roll (listener_of self.old) (token_of self.new))) }
-    {
-        let outcome = self.listener.accept(&mut self.token);
-        match &outcome {
-            Ok(_) => self.accepted = self.accepted.saturating_add(1),
-            Err(_) => self.missed = self.missed.saturating_add(1),
-        }
-        outcome
-    }
-
-    /// Waits for the next client, a new one or one who is kept.
-    pub fn next(&mut self) -> Result<AcceptedClient<L::Stream, L::From, L::To>>
-        ensures listener { listener_of self.new ≡ listener_of self.old }
-        ensures accepted { accepted_of self.new
-            ≡ (if is_ok result then raised (accepted_of self.old) else accepted_of self.old) }
-        ensures missed { missed_of self.new ≡ raised_by_err result (missed_of self.old) }
-        ensures kept { kept_of self.new ≡ kept_of self.old }
-        ensures came { IfOk result (λ client.
-            L.came (listener_of self.old) (L.From.remaining (from_of client.ends))) }
-        ensures unwritten { IfOk result (λ client. client.is_kept ≡ false
+        ensures unwritten { IfOk result (λ client. (may_be_kept && client.is_kept) ≡ false
             → IfSome (L.To.contents (to_of client.ends)) (λ written. written ≡ [])) }
         ensures given { IfOk result (λ client. Comes
             (L.roll (listener_of self.old) (token_of self.old))
@@ -99,7 +75,11 @@ impl<'a, L: Listener> CountedListener<'a, L, L::Token> {
         ensures none { OnErr result (Stays (L.roll (listener_of self.old) (token_of self.old))
             (L.roll (listener_of self.old) (token_of self.new))) }
     {
-        let outcome = self.listener.next(&mut self.token);
+        let outcome = if may_be_kept {
+            self.listener.next(&mut self.token)
+        } else {
+            self.listener.accept(&mut self.token)
+        };
         match &outcome {
             Ok(_) => self.accepted = self.accepted.saturating_add(1),
             Err(_) => self.missed = self.missed.saturating_add(1),

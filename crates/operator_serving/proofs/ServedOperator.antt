@@ -16,7 +16,7 @@ use Rattle.operator_serving.specs.declared.attending.Attended.{Attended}
 use Rattle.operator_serving.specs.Attended.{reads_of, was_written, with_sent, writes_of}
 use Rattle.operator_serving.specs.Attending.{AreServed, Deals, IsAttended, IsServed}
 use Rattle.operator_serving.specs.Desk.{Deed, Sight}
-use Rattle.operator_serving.specs.Doors.{Stand, stand}
+use Rattle.operator_serving.specs.Stands.{Stand, stand}
 
 -- a client was served by an exchange over a reader and a writer that weren't called, whose counts
 -- at its end it has

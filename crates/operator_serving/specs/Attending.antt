@@ -24,8 +24,8 @@ use Rattle.operator_calls.specs.Calls.{call_of, heard}
 use Rattle.operator_serving.specs.declared.attending.Attended.{Attended}
 use Rattle.operator_serving.specs.Attended.{is_all_sent, reads_of, was_written, writes_of}
 use Rattle.operator_serving.specs.Desk.{Deed, HasLooked, Sight}
-use Rattle.operator_serving.specs.Doors.{Stand, one_given, one_missed}
 use Rattle.operator_serving.specs.Memory.{refused_by}
+use Rattle.operator_serving.specs.Stands.{Stand, one_given, one_missed}
 use Rattle.operator_serving.specs.Telling.{Tells, lines_of}
 use Rattle.operator_serving.specs.Words.{Words}
 

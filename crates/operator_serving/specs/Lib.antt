@@ -1,8 +1,8 @@
 pub mod Attended
 pub mod Attending
 pub mod Desk
-pub mod Doors
 pub mod Memory
 pub mod Telling
 pub mod OperatorResponse
+pub mod Stands
 pub mod Words

@@ -12,16 +12,16 @@ mod answering;
 mod attending;
 mod caller;
 mod desk;
-mod door;
 mod lines;
 mod memory;
 mod operating;
+mod protocol;
 mod response;
 mod telling;
 
 pub use attending::{Attended, attend};
 pub use caller::Caller;
 pub use desk::{ChangeFault, Desk};
-pub use door::{Door, ListenerDoor};
 pub use memory::AnswerMemory;
 pub use operating::{Operating, operate};
+pub use protocol::{OperatorCalls, Unwatched};

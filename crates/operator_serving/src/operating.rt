@@ -3,16 +3,17 @@ ghost use Rattle.std.specs.Prelude.{◌≡◌, true};
 ghost use Rattle.operator_calls.specs.declared.audience.Audience.TheVariants.{Anyone};
 ghost use Rattle.operator_serving.specs.Attending.{AreServed, IsServed};
 ghost use Rattle.operator_serving.specs.Desk.{AreLooks, HasLooked};
-ghost use Rattle.operator_serving.specs.Doors.{stand};
 ghost use Rattle.operator_serving.specs.Memory.{refused_of};
+ghost use Rattle.operator_serving.specs.Stands.{stand};
 ghost use Rattle.timed_io.specs.Client.{from_of, to_of};
 
 use crate::attending::{Attended, attend};
 use crate::caller::Peer;
 use crate::desk::Desk;
-use crate::door::Door;
 use crate::memory::AnswerMemory;
+use crate::protocol::OperatorCalls;
 use clocks::Clock;
+use handling::Accepts;
 use listening::AcceptedClient;
 use operator_calls::Audience;
 use std::alloc::Global;
@@ -58,7 +59,7 @@ pub fn operate<R, L, C, A, D>(
 where
     R: Wait + SystemClock,
     C: Clock,
-    A: Door,
+    A: Accepts<Told = Attended, Protocol = OperatorCalls>,
     D: Desk,
     ensures served { AreServed D.rows D.shows D.does (A.came door.old) common.now.audience
         common.now.page.now
@@ -76,7 +77,7 @@ where
                     common, client, desk, memory, buffers,
                 );
                 buffers = used;
-                door.close(client, attended);
+                door.leave(client, attended);
             }
             Err(_) => {
                 if door.is_closed() {

@@ -22,6 +22,7 @@ use Rattle.ports.specs.Asked.{known_at}
 use Rattle.shared_gate.specs.Calls.{Pass, pass_of}
 use Rattle.shared_gate.specs.Closing.{limiter_of}
 use Rattle.shared_gate.specs.Reported.{AreCountersOfAll}
+use Rattle.handling.specs.Visits.{Client}
 use Rattle.proxy.specs.declared.told.Exchange.{Exchange}
 use Rattle.proxy.specs.Exchanges.{Bytes, Policy}
 use Rattle.proxy.specs.Made.{counted_with, reads_of, summary_of, writes_of}
@@ -29,7 +30,6 @@ use Rattle.gate_laws.specs.Decided.{IsDecided}
 use Rattle.gate_laws.specs.Exchanges.{ExchangesAreOneThreads, HasCalled}
 use Rattle.serving.specs.Served.{Back, around, policy_for}
 use Rattle.serving.specs.Turns.{AreServed, Ending, IsTurn, Keeping, Missing, Turn}
-use Rattle.serving.specs.Visits.{Client}
 use Rattle.serve_command.specs.Clients.{AreDecided, HasRunIn}
 use Rattle.serve_command.specs.Worked.{HasRunTo}
 

@@ -25,12 +25,12 @@ use Rattle.proxy.specs.Exchanges.{Policy}
 use Rattle.tcp_backend.specs.declared.connecting.TcpBackend.{TcpBackend}
 use Rattle.tcp_backend.specs.declared.dialing.Dialer.{Dialer}
 use Rattle.tcp_backend.specs.Connecting.{count_of}
-use Rattle.serving.specs.declared.doors.Door.{Door}
+use Rattle.handling.specs.declared.door.Door.{Door}
+use Rattle.handling.specs.Doors.{counted_in, failed_of, given_of, is_closed}
 use Rattle.serving.specs.declared.jobs.WorkerExit.{WorkerExit}
 use Rattle.serving.specs.declared.jobs.JobResult.{JobResult}
 use Rattle.serving.specs.declared.jobs.JobResult.TheVariants as left
 use Rattle.serving.specs.declared.working.WorkerSettings.{WorkerSettings}
-use Rattle.serving.specs.Doors.{counted_in, failed_of, given_of, is_closed}
 use Rattle.serving.specs.Served.{policy_of}
 use Rattle.serving.specs.Turns.{IsRun, Rolls, Turn}
 use Rattle.serving.specs.Workers.{HasRun, made_in}
@@ -47,11 +47,11 @@ use Rattle.serve_command.specs.GatewayRun.{passes_in, served_by, stood_at}
 use Rattle.serve_command.specs.Worked.{roll_by}
 use Rattle.serve_command.proofs.Clients.{all_ran_in}
 
-module _ {L K C W : Type 0} (R T V M : Type 0) (m : Making)
+module _ {L K N C W : Type 0} (R T V M : Type 0) (m : Making)
     (came : L → Option (List ℕ) → Type 0) (found : L → Bool → Type 0)
     (roll : L → K → Option Roll) (common : WorkerSettings L C W) where
   abbrev End : Type 0
-  End = WorkerExit (Door L K W) (Shared M) (TcpBackend (Dialer R T) T V C)
+  End = WorkerExit (Door L K N) (Shared M) (TcpBackend (Dialer R T) T V C)
 
   abbrev Ran : Shared M → End → Type 0
   Ran = HasRun came found roll (λ port. None) (λ port. Some (known_by m port)) common

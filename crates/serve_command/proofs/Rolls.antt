@@ -5,11 +5,11 @@ use Rattle.std.proofs.lemmas.Option.{none-some, same_Some}
 use Rattle.std.specs.List.{AllZip}
 use Rattle.listening.specs.Accepted.{token_of}
 use Rattle.client_tokens.specs.Roll.{Joins, Roll, Seen, both, nobody}
-use Rattle.serving.specs.declared.doors.Door.{Door}
+use Rattle.handling.specs.declared.door.Door.{Door}
+use Rattle.handling.specs.Doors.{counted_in}
 use Rattle.serving.specs.declared.jobs.WorkerExit.{WorkerExit}
 use Rattle.serving.specs.declared.jobs.JobResult.{JobResult}
 use Rattle.serving.specs.declared.jobs.JobResult.TheVariants as left
-use Rattle.serving.specs.Doors.{counted_in}
 use Rattle.serving.specs.Turns.{Rolls, Turn}
 use Rattle.serving.specs.Workers.{ended_in}
 use Rattle.serve_command.specs.Worked.{all_joined, joined, roll_by, roll_in, rolls_left}
@@ -65,7 +65,8 @@ pub with_one : (old own new : Option Roll) → Joins old own new
     → IfSome new (λ all. joined old (joined own (Some nobody)) ≡ Some all)
 with_one old own None joins = tt
 with_one old own (Some new) joins =
-    ap (λ (r : Option Roll). joined old r) (joined_nobody own) ∙ put_together old own (Some new) joins
+    ap (λ (r : Option Roll). joined old r) (joined_nobody own)
+    ∙ put_together old own (Some new) joins
 
 pub with_none : (old : Option Roll) → IfSome old (λ all. joined old (Some nobody) ≡ Some all)
 with_none None = tt
@@ -77,11 +78,11 @@ pub nobody_first : (roll : Option Roll) → IfSome roll (λ it. it ≡ nobody)
 nobody_first None none = tt
 nobody_first (Some it) none = ap (λ (r : Roll). Some r) (sym none)
 
-module _ {L K W P B D : Type 0} (roll : L → K → Option Roll) (listener : L) where
-  abbrev rolls : List (JobResult (Door L K W) P B D) → List (Option Roll)
+module _ {L K N P B D : Type 0} (roll : L → K → Option Roll) (listener : L) where
+  abbrev rolls : List (JobResult (Door L K N) P B D) → List (Option Roll)
   rolls = rolls_left roll listener
 
-  rolls_more : (lefts : List (JobResult (Door L K W) P B D)) (l : JobResult (Door L K W) P B D)
+  rolls_more : (lefts : List (JobResult (Door L K N) P B D)) (l : JobResult (Door L K N) P B D)
       → all_joined (rolls (lefts ++ l ∷ []))
       ≡ joined (all_joined (rolls lefts)) (all_joined (rolls (l ∷ [])))
   rolls_more [] l = sym (nobody_joined (all_joined (rolls (l ∷ []))))
@@ -92,8 +93,8 @@ module _ {L K W P B D : Type 0} (roll : L → K → Option Roll) (listener : L) 
       ∙ sym (joined_assoc own (all_joined (rolls lefts)) (all_joined (rolls (l ∷ []))))
 
   -- with one token more
-  pub one_token_more : (lefts : List (JobResult (Door L K W) P B D))
-      (l : JobResult (Door L K W) P B D) (old new : Option Roll)
+  pub one_token_more : (lefts : List (JobResult (Door L K N) P B D))
+      (l : JobResult (Door L K N) P B D) (old new : Option Roll)
       → IfSome old (λ all. all_joined (rolls lefts) ≡ Some all)
       → IfSome new (λ all. joined old (all_joined (rolls (l ∷ []))) ≡ Some all)
       → IfSome new (λ all. all_joined (rolls (lefts ++ l ∷ [])) ≡ Some all)

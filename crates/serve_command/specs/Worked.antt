@@ -5,11 +5,11 @@ use Rattle.client_tokens.specs.Roll.{Roll, both, nobody}
 use Rattle.gate_ledgers.specs.Making.{Making}
 use Rattle.gate_port.specs.Log.{Known}
 use Rattle.shared_gate.specs.Calls.{Pass, pass_of}
+use Rattle.handling.specs.declared.door.Door.{Door}
+use Rattle.handling.specs.Doors.{counted_in}
 use Rattle.proxy.specs.Exchanges.{Policy}
 use Rattle.serving.specs.declared.working.TurnCounts.{TurnCounts}
 use Rattle.ports.specs.Asked.{Shared, known_at}
-use Rattle.serving.specs.declared.doors.Door.{Door}
-use Rattle.serving.specs.Doors.{counted_in}
 use Rattle.serving.specs.Turns.{IsRun, Place, Turn, came_in, left_in}
 use Rattle.serving.specs.declared.jobs.JobResult.{JobResult}
 use Rattle.serving.specs.declared.jobs.JobResult.TheVariants as left
@@ -64,8 +64,8 @@ all_joined [] = Some nobody
 all_joined (roll ∷ rolls) = joined roll (all_joined rolls)
 
 -- the rolls of the tokens that workers leave, as a listener has them
-abbrev pub rolls_left : {L K W P B D : Type 0} → (L → K → Option Roll) → L
-    → List (JobResult (Door L K W) P B D) → List (Option Roll)
+abbrev pub rolls_left : {L K N P B D : Type 0} → (L → K → Option Roll) → L
+    → List (JobResult (Door L K N) P B D) → List (Option Roll)
 rolls_left roll listener lefts =
     map (λ ended. roll listener (token_of (counted_in ended.door))) (ended_in lefts)
 

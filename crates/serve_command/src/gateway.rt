@@ -26,13 +26,14 @@ use clocks::Clock;
 use gate_history::Blanks;
 use gate_laws::{exchanges_are_one_threads, reports_balance};
 use gate_opening::{balanced, open_gate};
+use handling::{Door, if_gave_all};
 use limit_laws::Limit;
 use limiter_core::Counters;
 use listening::{Closable, Listener};
 use log::Log;
 use ports::{Port, View};
 use serve_reports::Watcher;
-use serving::{Door, JobResult, ServeFault, WorkerSettings, if_gave_all, serve};
+use serving::{JobResult, ServeFault, WorkerSettings, serve};
 use shared_gate::{GateNaming, LogLength, Pass, SharedGate};
 use std::alloc::AllocError;
 use std::marker::Brand;
@@ -269,10 +270,10 @@ struct Back<M: GateNaming, K> {
 
 /// The passes of all who served, in their order, in a list that is empty at first; and the tokens
 /// of the workers.
-fn passes_of<M: GateNaming, R, G: Limit, C, L: Listener, W, B: Drop>(
+fn passes_of<M: GateNaming, R, G: Limit, C, L: Listener, N: Drop, B: Drop>(
     listener: &L,
     mut passes: Vec<Pass<M>>,
-    lefts: Vec<JobResult<Door<'_, L, L::Token, W>, Port<'_, G, M, R, C>, B, Pass<M>>>,
+    lefts: Vec<JobResult<Door<'_, L, L::Token, N>, Port<'_, G, M, R, C>, B, Pass<M>>>,
 ) -> Result<Back<M, L::Token>, AllocError>
     requires { passes.items ≡ [] }
     ensures passes { IfOk result (λ back. back.passes.items ≡ passes_in lefts.entry.items) }
@@ -296,10 +297,10 @@ fn passes_of<M: GateNaming, R, G: Limit, C, L: Listener, W, B: Drop>(
 
 /// The pass of whoever left this, and how many calls a worker made by it, whose token is put into
 /// this one.
-fn pass_in<M: GateNaming, R, G: Limit, C, L: Listener, W, B: Drop>(
+fn pass_in<M: GateNaming, R, G: Limit, C, L: Listener, N: Drop, B: Drop>(
     listener: &L,
     token: &mut L::Token,
-    left: JobResult<Door<'_, L, L::Token, W>, Port<'_, G, M, R, C>, B, Pass<M>>,
+    left: JobResult<Door<'_, L, L::Token, N>, Port<'_, G, M, R, C>, B, Pass<M>>,
 ) -> (Pass<M>, u64)
     ensures pass { passes_in (left.entry ∷ []) ≡ result.0 ∷ [] }
     ensures calls { result.1 ≡ calls_by (served_by (left.entry ∷ [])) }

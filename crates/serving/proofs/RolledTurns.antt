@@ -2,8 +2,8 @@
 use Rattle.std.proofs.Common.{◌≡◌, ◌∙◌, List, [], ◌∷◌, ◌++◌, Option, None, Some, ap, sym, refl}
 use Rattle.std.proofs.Common.{append_assoc, append-nil}
 use Rattle.client_tokens.specs.Roll.{Comes, Goes, Roll, RollsOn, Seen, Stays}
+use Rattle.handling.specs.Visits.{Client}
 use Rattle.serving.specs.Turns.{Ending, Keeping, Missing, Rolls, Turn, came_in, left_in, seen}
-use Rattle.serving.specs.Visits.{Client}
 
 came_more : (ts : List Turn) (t : Turn) → came_in (ts ++ t ∷ []) ≡ came_in ts ++ came_in (t ∷ [])
 came_more [] t = refl

@@ -1,5 +1,6 @@
 -- Settings may be shared by threads, and so may what workers have in common: each of their parts
--- may. A router is a tree of nodes, whose law `search` doesn't find by itself where it lies so deep.
+-- may. A router is a tree of nodes, whose law `search` doesn't find by itself where it lies so
+-- deep.
 use denote.RattleType.{RattleType}
 use denote.Ref.{NamedLft}
 use denote.Struct.Declared.{shape}

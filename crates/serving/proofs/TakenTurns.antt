@@ -9,6 +9,8 @@ use Rattle.wire.specs.Forwards.{Forwarded}
 use Rattle.client_tokens.specs.Roll.{Comes, Goes, Roll}
 use Rattle.timed_io.specs.declared.client_ends.ClientEnds.{ClientEnds}
 use Rattle.timed_io.specs.Client.{from_of, to_of}
+use Rattle.handling.specs.Visits.{Arrives, Client, Closed, Closes, Event, Follows, Keeps, Kept}
+use Rattle.handling.specs.Visits.{LeavesBy, Missed, Misses, Opened, Visits}
 use Rattle.proxy.specs.declared.told.Exchange.{Exchange}
 use Rattle.proxy.specs.Exchanges.{Bytes, Policy}
 use Rattle.proxy.specs.Made.{summary_of}
@@ -19,8 +21,6 @@ use Rattle.proxy.specs.Made.{is_kept}
 use Rattle.serving.specs.Turns.{AreServed, AreTaken, Ending, IsRun, IsTurn, Keeping, Missing}
 use Rattle.serving.specs.Turns.{Place, Rolls, Shows, Turn, Wait}
 use Rattle.serving.specs.Turns.{events_of, failed_by, given_by, missed, seen, served}
-use Rattle.serving.specs.Visits.{Arrives, Client, Closed, Closes, Event, Follows, Keeps, Kept}
-use Rattle.serving.specs.Visits.{LeavesBy, Missed, Misses, Opened, Visits}
 use Rattle.serving.proofs.Forwards.{exchanged_once}
 use Rattle.serving.proofs.RolledTurns.{all_rolled, nothing_rolled, visit_rolled}
 
@@ -70,15 +70,17 @@ wait_more (Keeping before behind told ∷ ts) t old mid new all one =
 events_more : (ts : List Turn) (t : Turn)
     → events_of (ts ++ t ∷ []) ≡ events_of ts ++ events_of (t ∷ [])
 events_more [] t = refl
-events_more (Missing ∷ ts) t = ap (λ (xs : List Event). Missed ∷ xs) (events_more ts t)
+events_more (Missing ∷ ts) t = ap (λ (xs : List (Event Exchange)). Missed ∷ xs) (events_more ts t)
 events_more (Ending before behind told ∷ ts) t =
-    ap (λ (xs : List Event). Opened before ∷ Closed behind.written told ∷ xs) (events_more ts t)
+    ap (λ (xs : List (Event Exchange)). Opened before ∷ Closed behind.written told ∷ xs)
+    (events_more ts t)
 events_more (Keeping before behind told ∷ ts) t =
-    ap (λ (xs : List Event). Opened before ∷ Kept behind told ∷ xs) (events_more ts t)
+    ap (λ (xs : List (Event Exchange)). Opened before ∷ Kept behind told ∷ xs) (events_more ts t)
 
 -- a fact of a door behind another one
-follows_on : (P Q R : Visits → Visits → Type 0) (old mid new : Option Visits) → Follows old mid P
-    → Follows mid new Q → ((o m n : Visits) → P o m → Q m n → R o n) → Follows old new R
+follows_on : (P Q R : Visits Exchange → Visits Exchange → Type 0)
+    (old mid new : Option (Visits Exchange)) → Follows old mid P → Follows mid new Q
+    → ((o m n : Visits Exchange) → P o m → Q m n → R o n) → Follows old new R
 follows_on P Q R None mid None p q joined = tt
 follows_on P Q R (Some o) mid None p q joined = tt
 follows_on P Q R None None (Some n) p q joined = absurd q
@@ -86,43 +88,44 @@ follows_on P Q R None (Some m) (Some n) p q joined = absurd p
 follows_on P Q R (Some o) None (Some n) p q joined = absurd q
 follows_on P Q R (Some o) (Some m) (Some n) p q joined = joined o m n p q
 
-all_shown : (ts : List Turn) (t : Turn) (old mid new : Option Visits) → Shows ts old mid
+all_shown : (ts : List Turn) (t : Turn) (old mid new : Option (Visits Exchange)) → Shows ts old mid
     → Shows (t ∷ []) mid new → Shows (ts ++ t ∷ []) old new
 all_shown ts t old mid new p q =
     follows_on _ _ _ old mid new p q (λ o m n before one. (
       wait_more ts t o.waiting m.waiting n.waiting before.0 one.0,
-      one.1 ∙ ap (λ (xs : List Event). xs ++ events_of (t ∷ [])) before.1
+      one.1 ∙ ap (λ (xs : List (Event Exchange)). xs ++ events_of (t ∷ [])) before.1
           ∙ append_assoc o.log (events_of ts) (events_of (t ∷ []))
-          ∙ ap (λ (xs : List Event). o.log ++ xs) (sym (events_more ts t)),
+          ∙ ap (λ (xs : List (Event Exchange)). o.log ++ xs) (sym (events_more ts t)),
     ))
 
-pub missing_shown : (old new : Option Visits) → Misses old new → Shows (Missing ∷ []) old new
+pub missing_shown : (old new : Option (Visits Exchange)) → Misses old new
+    → Shows (Missing ∷ []) old new
 missing_shown None None p = tt
 missing_shown (Some o) None p = tt
 missing_shown None (Some n) p = absurd p
 missing_shown (Some o) (Some n) p = p
 
-ending_shown : (old mid new : Option Visits) (before behind : Client) (told : Exchange)
+ending_shown : (old mid new : Option (Visits Exchange)) (before behind : Client) (told : Exchange)
     → Arrives old mid before → Closes mid new behind told
     → Shows (Ending before behind told ∷ []) old new
 ending_shown old mid new before behind told p q =
     follows_on _ _ _ old mid new p q (λ o m n came left. (
       (m.waiting, came.0, left.0),
-      left.1 ∙ ap (λ (xs : List Event). xs ++ Closed behind.written told ∷ []) came.1
+      left.1 ∙ ap (λ (xs : List (Event Exchange)). xs ++ Closed behind.written told ∷ []) came.1
           ∙ append_assoc o.log (Opened before ∷ []) (Closed behind.written told ∷ []),
     ))
 
-keeping_shown : (old mid new : Option Visits) (before behind : Client) (told : Exchange)
+keeping_shown : (old mid new : Option (Visits Exchange)) (before behind : Client) (told : Exchange)
     → Arrives old mid before → Keeps mid new behind told
     → Shows (Keeping before behind told ∷ []) old new
 keeping_shown old mid new before behind told p q =
     follows_on _ _ _ old mid new p q (λ o m n came left. (
       (m.waiting, n.waiting, came.0, left.0, refl),
-      left.1 ∙ ap (λ (xs : List Event). xs ++ Kept behind told ∷ []) came.1
+      left.1 ∙ ap (λ (xs : List (Event Exchange)). xs ++ Kept behind told ∷ []) came.1
           ∙ append_assoc o.log (Opened before ∷ []) (Kept behind told ∷ []),
     ))
 
-nothing_shown : (visits : Option Visits) → Shows [] visits visits
+nothing_shown : (visits : Option (Visits Exchange)) → Shows [] visits visits
 nothing_shown None = tt
 nothing_shown (Some s) = (refl, sym (append-nil s.log))
 
@@ -258,7 +261,7 @@ module _ (s : Policy) (came : Bytes → Type 0) where
 
   -- a turn from one place to another, in which a client came, and was let go or kept
   pub record HasVisited (old new : Place) (client left : Client) (told : Exchange) : Type 0 where
-    pub visits : Option Visits
+    pub visits : Option (Visits Exchange)
     pub back : Back
     pub given : new.given ≡ raised old.given
     pub failed : new.failed ≡ old.failed

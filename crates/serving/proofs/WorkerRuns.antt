@@ -7,19 +7,19 @@ use Rattle.gate_port.specs.Shown.{Shown}
 use Rattle.tcp_backend.specs.declared.connecting.TcpBackend.{TcpBackend}
 use Rattle.tcp_backend.specs.declared.dialing.Dialer.{Dialer}
 use Rattle.tcp_backend.specs.Connecting.{count_of}
-use Rattle.serving.specs.declared.doors.Door.{Door}
 use Rattle.serving.specs.declared.jobs.WorkerExit.{WorkerExit}
 use Rattle.serving.specs.declared.jobs.Worker.{Worker}
 use Rattle.serving.specs.declared.working.WorkerSettings.{WorkerSettings}
 use Rattle.listening.specs.Accepted.{listener_of, token_of}
 use Rattle.client_tokens.specs.Roll.{Roll, nobody}
+use Rattle.handling.specs.declared.door.Door.{Door}
+use Rattle.handling.specs.Doors.{counted_in, failed_of, given_of, is_closed, roll_at}
 use Rattle.proxy.specs.Exchanges.{Bytes}
-use Rattle.serving.specs.Doors.{counted_in, failed_of, given_of, is_closed}
 use Rattle.serving.specs.Served.{back_of, policy_of}
 use Rattle.serving.specs.Turns.{IsRun, Place, Rolls, Turn, place_of}
 use Rattle.serving.specs.declared.working.TurnCounts.{TurnCounts}
 use Rattle.proxy.specs.Exchanges.{Policy}
-use Rattle.serving.specs.Workers.{Begins, HasRun, HasWorked, IsWork, roll_at}
+use Rattle.serving.specs.Workers.{Begins, HasRun, HasWorked, IsWork}
 
 -- what stands at a worker's start
 abbrev from : {P : Type 0} → (P → Option Shown) → (P → Option Known) → Option Roll → ℕ → ℕ
@@ -64,30 +64,30 @@ from_nobody shown known p Came Shut most before port end tally none run = record
   shut = run.shut;
 }
 
-module _ {R T L K C W V P : Type 0} (came : L → Bytes → Type 0) (found : L → Bool → Type 0)
+module _ {R T L K N C W V P : Type 0} (came : L → Bytes → Type 0) (found : L → Bool → Type 0)
     (roll : L → K → Option Roll) (shown : P → Option Shown) (known : P → Option Known)
     (common : WorkerSettings L C W) where
-  abbrev place : Door L K W → P → TcpBackend (Dialer R T) T V C → Place
+  abbrev place : Door L K N → P → TcpBackend (Dialer R T) T V C → Place
   place = place_of given_of failed_of is_closed (λ _. None) (roll_at roll)
       (back_of shown known count_of (λ _. None))
 
-  abbrev Did : Worker (Door L K W) P (TcpBackend (Dialer R T) T V C)
-      → WorkerExit (Door L K W) P (TcpBackend (Dialer R T) T V C) → Type 0
+  abbrev Did : Worker (Door L K N) P (TcpBackend (Dialer R T) T V C)
+      → WorkerExit (Door L K N) P (TcpBackend (Dialer R T) T V C) → Type 0
   Did = HasWorked place (λ door. came (listener_of (counted_in door)))
       (λ door. found (listener_of (counted_in door)) false)
       (λ door. listener_of (counted_in door))
       (policy_of common.settings.now common.marks) common.per_worker
 
   -- what a worker leaves, with the roll of its token as a listener has it
-  abbrev left_with : Door L K W → P → TcpBackend (Dialer R T) T V C → L → Place
+  abbrev left_with : Door L K N → P → TcpBackend (Dialer R T) T V C → L → Place
   left_with door port backend listener =
       place_of given_of failed_of is_closed (λ _. None)
-      (λ (it : Door L K W). roll listener (token_of (counted_in it)))
+      (λ (it : Door L K N). roll listener (token_of (counted_in it)))
       (back_of shown known count_of (λ _. None)) door port backend
 
   ran : (address : List ℕ) (port : P)
-      (worker : Worker (Door L K W) P (TcpBackend (Dialer R T) T V C))
-      (ended : WorkerExit (Door L K W) P (TcpBackend (Dialer R T) T V C))
+      (worker : Worker (Door L K N) P (TcpBackend (Dialer R T) T V C))
+      (ended : WorkerExit (Door L K N) P (TcpBackend (Dialer R T) T V C))
       → Begins common.listener.now roll common.backend_timeout_ns address port worker
       → Did worker ended → HasRun came found roll shown known common port ended
   ran address port worker ended begins both =
@@ -138,8 +138,8 @@ module _ {R T L K C W V P : Type 0} (came : L → Bytes → Type 0) (found : L �
       }
 
   pub all_ran : (address : List ℕ) (ports : List P)
-      (workers : List (Worker (Door L K W) P (TcpBackend (Dialer R T) T V C)))
-      (ended : List (WorkerExit (Door L K W) P (TcpBackend (Dialer R T) T V C)))
+      (workers : List (Worker (Door L K N) P (TcpBackend (Dialer R T) T V C)))
+      (ended : List (WorkerExit (Door L K N) P (TcpBackend (Dialer R T) T V C)))
       → AllZip (Begins common.listener.now roll common.backend_timeout_ns address) ports workers
       → AllZip Did workers ended
       → AllZip (HasRun came found roll shown known common) ports ended

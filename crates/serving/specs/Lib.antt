@@ -1,8 +1,6 @@
-pub mod Doors
 pub mod Faults
 pub mod Reports
 pub mod Served
 pub mod Turns
 pub mod Visit
-pub mod Visits
 pub mod Workers

@@ -3,13 +3,13 @@ use Rattle.std.specs.Prelude.{◌≡◌, ◌≤◌, ◌+◌, ℕ, Bool, true, fa
 use Rattle.std.specs.Prelude.{Option}
 use Rattle.counted_io.specs.Count.{raised}
 use Rattle.client_tokens.specs.Roll.{Roll, RollsOn, Seen}
+use Rattle.handling.specs.Visits.{Client, Event, Opened, Missed, Closed, Kept, Follows, IsUnwritten}
+use Rattle.handling.specs.Visits.{Visits, Waits}
 use Rattle.proxy.specs.declared.told.Exchange.{Exchange}
 use Rattle.proxy.specs.Exchanges.{Bytes, Policy}
 use Rattle.proxy.specs.Made.{is_kept}
 use Rattle.serving.specs.declared.working.TurnCounts.{TurnCounts}
 use Rattle.serving.specs.Served.{Back, IsServed, policy_for}
-use Rattle.serving.specs.Visits.{Client, Event, Opened, Missed, Closed, Kept, Follows, IsUnwritten}
-use Rattle.serving.specs.Visits.{Visits, Waits}
 
 -- a turn: nobody was to be had; or a client as it came, as it was left, and what is told of it: it
 -- was let go, or kept
@@ -32,7 +32,7 @@ missed (Ending before behind told ∷ turns) = missed turns
 missed (Keeping before behind told ∷ turns) = missed turns
 
 -- what a door shows of the turns: each client is let go or kept before the next one is asked for
-abbrev pub events_of : List Turn → List Event
+abbrev pub events_of : List Turn → List (Event Exchange)
 events_of [] = []
 events_of (Missing ∷ turns) = Missed ∷ events_of turns
 events_of (Ending before behind told ∷ turns) =
@@ -100,13 +100,13 @@ pub record Place : Type 0 where
   pub given : ℕ
   pub failed : ℕ
   pub closed : Bool
-  pub visits : Option Visits
+  pub visits : Option (Visits Exchange)
   pub roll : Option Roll
   pub back : Back
 
 -- what it finds or leaves at a door, a port and a backend, by what these show
-abbrev pub place_of : {A P B : Type 0} → (A → ℕ) → (A → ℕ) → (A → Bool) → (A → Option Visits)
-    → (A → Option Roll) → (P → B → Back) → A → P → B → Place
+abbrev pub place_of : {A P B : Type 0} → (A → ℕ) → (A → ℕ) → (A → Bool)
+    → (A → Option (Visits Exchange)) → (A → Option Roll) → (P → B → Back) → A → P → B → Place
 place_of given failed closed visits roll back door port backend = record {
   given = given door;
   failed = failed door;
@@ -130,7 +130,7 @@ failed_by (Ending before behind told ∷ turns) n = failed_by turns n
 failed_by (Keeping before behind told ∷ turns) n = failed_by turns n
 
 -- what a door shows that shows its visits: these came, and this happened
-abbrev pub Shows : List Turn → Option Visits → Option Visits → Type 0
+abbrev pub Shows : List Turn → Option (Visits Exchange) → Option (Visits Exchange) → Type 0
 Shows turns old new = Follows old new (λ o n.
     Wait turns o.waiting n.waiting × (n.log ≡ o.log ++ events_of turns))
 

@@ -4,11 +4,11 @@ use Rattle.std.specs.List.{AllZip}
 use Rattle.message_parts.specs.declared.request.Request.{Request}
 use Rattle.wire.specs.declared.fault.WireFault.{WireFault}
 use Rattle.wire.specs.Messages.{IsRequest}
+use Rattle.handling.specs.Visits.{Client}
 use Rattle.proxy.specs.declared.told.Exchange.{Exchange}
 use Rattle.proxy.specs.Exchanges.{Policy}
 use Rattle.proxy.specs.Made.{is_kept}
 use Rattle.serving.specs.Served.{Back, IsServed, policy_for}
-use Rattle.serving.specs.Visits.{Client}
 
 -- an exchange of a client: as that came and as it was left, what stood behind the worker, and what
 -- is told

@@ -7,7 +7,6 @@ use Rattle.gate_port.specs.Shown.{Shown}
 use Rattle.tcp_backend.specs.declared.connecting.TcpBackend.{TcpBackend}
 use Rattle.tcp_backend.specs.declared.dialing.Dialer.{Dialer}
 use Rattle.tcp_backend.specs.Connecting.{address_of, connector_of, count_of, host_of, limit_of}
-use Rattle.serving.specs.declared.doors.Door.{Door}
 use Rattle.serving.specs.declared.jobs.Context.{Context}
 use Rattle.serving.specs.declared.jobs.WorkerExit.{WorkerExit}
 use Rattle.serving.specs.declared.jobs.Job.{Job}
@@ -19,8 +18,9 @@ use Rattle.serving.specs.declared.working.TurnCounts.{TurnCounts}
 use Rattle.serving.specs.declared.working.WorkerSettings.{WorkerSettings}
 use Rattle.listening.specs.Accepted.{listener_of, token_of}
 use Rattle.client_tokens.specs.Roll.{Roll, nobody}
+use Rattle.handling.specs.declared.door.Door.{Door}
+use Rattle.handling.specs.Doors.{counted_in, failed_of, given_of, is_closed, roll_at}
 use Rattle.proxy.specs.Exchanges.{Bytes, Policy}
-use Rattle.serving.specs.Doors.{counted_in, failed_of, given_of, is_closed}
 use Rattle.serving.specs.Served.{back_of, policy_of}
 use Rattle.serving.specs.Turns.{IsRun, Place, place_of}
 
@@ -101,15 +101,11 @@ abbrev pub Makes : {A P B T D X : Type 0} → (X → Worker A P B → WorkerExit
 Makes works makes (job.SideTask task) left = IsMade (makes task) left
 Makes works makes (job.Worker context worker) left = Leaves (works context.now worker) left
 
--- who was given and left at a door, by its token
-abbrev pub roll_at : {L K W : Type 0} → (L → K → Option Roll) → Door L K W → Option Roll
-roll_at roll door = roll (listener_of (counted_in door)) (token_of (counted_in door))
-
 -- a new worker, with this port, a backend at an address that was given nothing and whose calls may
 -- take so many nanoseconds, where that is limited, and a door to a listener, where nobody was given
-pub record Begins {R T L K W V C P : Type 0} (listener : L) (roll : L → K → Option Roll)
+pub record Begins {R T L K N V C P : Type 0} (listener : L) (roll : L → K → Option Roll)
     (most : Option ℕ) (address : List ℕ) (port : P)
-    (worker : Worker (Door L K W) P (TcpBackend (Dialer R T) T V C)) : Type 0 where
+    (worker : Worker (Door L K N) P (TcpBackend (Dialer R T) T V C)) : Type 0 where
   pub opens_to : listener_of (counted_in worker.door) ≡ listener
   pub port_is : worker.port ≡ port
   pub given : given_of worker.door ≡ 0
@@ -135,10 +131,10 @@ pub record IsTallied (given failed : ℕ) (closed : Bool) (forwarded most : ℕ)
 -- RAN: a worker of this port, by the settings that all share, took its turns, as they are tallied;
 -- each client came to that listener, and for each there was one exchange; just these clients were
 -- given and left by the token of its door
-pub record HasRun {R T L K C W V P : Type 0} (came : L → Bytes → Type 0)
+pub record HasRun {R T L K N C W V P : Type 0} (came : L → Bytes → Type 0)
     (found : L → Bool → Type 0) (roll : L → K → Option Roll) (shown : P → Option Shown)
     (known : P → Option Known) (common : WorkerSettings L C W) (port : P)
-    (ended : WorkerExit (Door L K W) P (TcpBackend (Dialer R T) T V C)) : Type 0 where
+    (ended : WorkerExit (Door L K N) P (TcpBackend (Dialer R T) T V C)) : Type 0 where
   pub run : IsRun (policy_of common.settings.now common.marks)
       (came common.listener.now) (found common.listener.now false) common.per_worker
       (record {

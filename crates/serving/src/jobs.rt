@@ -4,13 +4,14 @@ ghost use Rattle.serving.specs.Served.{back_of};
 ghost use Rattle.serving.specs.Turns.{place_of};
 ghost use Rattle.serving.specs.Workers.{WorksIn};
 
-use crate::doors::Accepts;
 use crate::reporting::ActiveWorkers;
+use crate::watching::Exchanges;
 use crate::working::{TurnCounts, WorkerSettings, work};
 use clocks::Clock;
 use gate_port::GatePort;
+use handling::Accepts;
 use listening::{Closable, Listener};
-use proxy::Watch;
+use proxy::{Exchange, Watch};
 use std::sync::Wait;
 use std::time::{Clock as SystemClock, Duration};
 use tasks::Task;
@@ -68,7 +69,7 @@ pub enum JobResult<A, P, B, D> {
 impl<'a, R, A, P, B, T, L, E, C, W> Task for Job<'a, A, P, B, T, Context<'a, R, L, E, C, W>>
 where
     R: Wait + SystemClock + Sync,
-    A: Accepts + Send + Drop,
+    A: Accepts<Told = Exchange, Protocol = Exchanges> + Send + Drop,
     P: GatePort + Send + Drop,
     B: Backend + Send + Drop,
     T: Task + Send + Drop,
@@ -118,7 +119,7 @@ fn run_one<R, A, P, B, L, E, C, W>(
 ) -> WorkerExit<A, P, B>
 where
     R: SystemClock,
-    A: Accepts + Drop,
+    A: Accepts<Told = Exchange, Protocol = Exchanges> + Drop,
     P: GatePort + Drop,
     B: Backend + Drop,
     C: Clock,

@@ -3,25 +3,23 @@ ghost use Rattle.std.specs.Prelude.{◌≡◌, [], false, IfOk, IfSome, IsErrOf,
 ghost use Rattle.std.specs.List.{AllZip};
 ghost use Rattle.counted_io.specs.Count.{raised};
 ghost use Rattle.tasks.specs.Refused.{refused_of};
-ghost use Rattle.listening.specs.Accepted.{listener_of};
-ghost use Rattle.client_tokens.specs.Roll.{nobody};
-ghost use Rattle.serving.specs.Doors.{counted_in, failed_of, given_of, is_closed};
 ghost use Rattle.serving.specs.Served.{back_of, policy_of};
 ghost use Rattle.serving.specs.Turns.{place_of};
 ghost use Rattle.serving.specs.Workers.{AreWithin, Begins, HasRun, HasWorked};
-ghost use Rattle.serving.specs.Workers.{ended_in, made_in, roll_at, tasks_in, workers_in};
+ghost use Rattle.serving.specs.Workers.{ended_in, made_in, tasks_in, workers_in};
 
-use crate::doors::{Accepts, Door};
 use crate::fault::ServeFault;
 use crate::jobs::{Context, Job, JobResult, Worker};
 use crate::reporting::{ActiveWorkers, Reporter};
+use crate::watching::{ExchangeWatch, Exchanges};
 use crate::working::WorkerSettings;
 use body_memory::HeldBodies;
 use clocks::Clock;
 use gate_port::{GatePort, GateView};
 use gateway_settings::Settings;
-use listening::{Closable, CountedListener, Listener, spare_descriptors};
-use proxy::Watch;
+use handling::{Accepts, Door};
+use listening::{Closable, Listener, spare_descriptors};
+use proxy::{Exchange, Watch};
 use seats::Places;
 use std::alloc::{AllocError, Global};
 use std::net::Net;
@@ -62,7 +60,7 @@ pub fn serve<'l, R, G, P, T, L, E, C, W>(
 ) -> Result<
     Vec<
         JobResult<
-            Door<'l, L, L::Token, W>,
+            Door<'l, L, L::Token, ExchangeWatch<'l, W>>,
             P,
             TcpBackend<'l, Dialer<&'l R, R::Stream>, R::Stream, &'l W, C>,
             T::Done,
@@ -174,7 +172,7 @@ fn make_workers<'l, R: Net + Wait, P: Drop, L: Listener, C, W>(
 ) -> Result<
     Vec<
         Worker<
-            Door<'l, L, L::Token, W>,
+            Door<'l, L, L::Token, ExchangeWatch<'l, W>>,
             P,
             TcpBackend<'l, Dialer<&'l R, R::Stream>, R::Stream, &'l W, C>,
         >,
@@ -194,8 +192,9 @@ fn make_workers<'l, R: Net + Wait, P: Drop, L: Listener, C, W>(
     for port in ports {
         let dialer = Dialer::new(rt, address, share(&pool)?);
         let bodies = HeldBodies::new(alloc, common.bodies.as_ref());
+        let door = Door::new(common.listener, ExchangeWatch { watch });
         let worker = Worker {
-            door: make_door(common.listener, watch),
+            door,
             port,
             backend: TcpBackend::new(dialer, bodies, watch, clock, most_ns)?,
             buffers: ClientBuffers::new(alloc)?,
@@ -203,18 +202,6 @@ fn make_workers<'l, R: Net + Wait, P: Drop, L: Listener, C, W>(
         workers.push_reserved(worker);
     }
     Ok(workers)
-}
-
-/// A door to a listener, by a token of its own, where nobody was given yet.
-fn make_door<'l, L: Listener, W>(listener: &'l L, watch: &'l W) -> Door<'l, L, L::Token, W>
-    ensures opens_to { listener_of (counted_in result) ≡ listener.now }
-    ensures given { given_of result ≡ 0 }
-    ensures failed { failed_of result ≡ 0 }
-    ensures unclosed { is_closed result ≡ false }
-    ensures unrolled { IfSome (roll_at L.roll result) (λ rolled. rolled ≡ nobody) }
-{
-    let counted = CountedListener::new(listener);
-    Door::new(counted, watch)
 }
 
 /// Where connections to the backend wait for another request, by settings that keep some.
@@ -255,7 +242,7 @@ fn serve_by<R, O, A, P, B, T, L, E, C, W>(
 where
     R: Threads + Wait + SystemClock + Sync,
     O: Task<Done = ()> + Drop,
-    A: Accepts + Send + Drop,
+    A: Accepts<Told = Exchange, Protocol = Exchanges> + Send + Drop,
     P: GatePort + Send + Drop,
     B: Backend + Send + Drop,
     T: Task + Send + Drop,

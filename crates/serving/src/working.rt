@@ -6,11 +6,12 @@ ghost use Rattle.serving.specs.Served.{IsServed, back_of, policy_of};
 ghost use Rattle.serving.specs.Turns.{IsRun, place_of};
 ghost use Rattle.timed_io.specs.Client.{from_of, to_of};
 
-use crate::doors::Accepts;
+use crate::watching::Exchanges;
 use body_memory::{BodyMemory, HeldBodies, SharedBodies};
 use clocks::{Clock, MonotonicClock};
 use gate_port::GatePort;
 use gateway_settings::Settings;
+use handling::Accepts;
 use listening::AcceptedClient;
 use proxy::{Exchange, ExchangePolicy, Keeper, Watch, exchange};
 use std::alloc::Global;
@@ -85,7 +86,7 @@ pub fn work<R, A, P, B, C, L, W>(
 ) -> TurnCounts
 where
     R: SystemClock,
-    A: Accepts,
+    A: Accepts<Told = Exchange, Protocol = Exchanges>,
     P: GatePort,
     B: Backend,
     C: Clock,

@@ -1,10 +1,10 @@
-use Rattle.std.proofs.Common.{rules, ◌≡◌, subst}
+use Rattle.std.proofs.Common.{rules, ◌≡◌, refl}
 use Rattle.counted_io.specs.Count.{raised}
 use Rattle.operator_serving.specs.Attending.{AreServed}
 use Rattle.operator_serving.specs.Attending.AreServed.{nobody, none_more, one_more}
 use Rattle.operator_serving.specs.Desk.{AreLooks as looks}
-use Rattle.operator_serving.specs.Doors.{stand}
 use Rattle.operator_serving.specs.Memory.{refused_of}
+use Rattle.operator_serving.specs.Stands.{stand}
 use Rattle.operator_serving.proofs.ServedOperator.{stands_at}
 use Rattle.operator_serving.proofs.operating.operate.Goals as goal
 
@@ -13,8 +13,8 @@ loop-init g c = (
   tt,
   tt,
   record {
-    served = nobody (stand c.args.desk.now (g.A.Door.given c.args.door.now)
-        (g.A.Door.failed c.args.door.now) (refused_of c.args.memory.now));
+    served = nobody (stand c.args.desk.now (g.A.Accepts.given c.args.door.now)
+        (g.A.Accepts.failed c.args.door.now) (refused_of c.args.memory.now));
     looks = λ anyone. looks.none c.args.desk.now;
     came = λ sent has_come. has_come;
     shut = λ is. is;
@@ -26,22 +26,23 @@ pub loop-preserved-in-Ok : goal.loop-preserved-in-Ok
 loop-preserved-in-Ok g c =
     let before = c.loop.invariant.2 in
     let serving = c.serve_operator-client.ensures in
-    let given : g.A.Door.given c.close.new.self ≡ raised (g.A.Door.given c.loop.door) =
+    let given : g.A.Accepts.given c.leave.new.self ≡ raised (g.A.Accepts.given c.loop.door) =
     search rules in
-    let failed : g.A.Door.failed c.close.new.self ≡ g.A.Door.failed c.loop.door = search rules in (
+    let failed : g.A.Accepts.failed c.leave.new.self ≡ g.A.Accepts.failed c.loop.door =
+    search rules in (
       tt,
       tt,
       record {
         served = stands_at _ _ _ _ _ _ _ _ given failed
             (one_more _ _ c.serve_operator-client.new.desk
             (refused_of c.serve_operator-client.new.memory) _ _ _ c.serve_operator-client.result.1
-            before.served (before.came _ c.in-Ok.ensures.came) c.in-Ok.ensures.unwritten
+            before.served (before.came _ c.in-Ok.ensures.came) (c.in-Ok.ensures.unwritten refl)
             serving.served);
         looks = λ anyone. looks.one_more c.args.desk.now c.loop.desk
             c.serve_operator-client.new.desk (before.looks anyone) (serving.looks anyone);
         came = λ sent has_come. before.came sent
-            (c.accept.ensures.place sent (c.close.ensures.place sent has_come));
-        shut = λ is. before.shut (c.accept.ensures.same_shut (c.close.ensures.same_shut is));
+            (c.accept.ensures.place sent (c.leave.ensures.place sent has_come));
+        shut = λ is. before.shut (c.accept.ensures.same_shut (c.leave.ensures.same_shut is));
       },
     )
 
@@ -49,8 +50,9 @@ loop-preserved-in-Ok g c =
 pub loop-preserved : goal.loop-preserved
 loop-preserved g c =
     let before = c.loop.invariant.2 in
-    let given : g.A.Door.given c.accept.new.self ≡ g.A.Door.given c.loop.door = search rules in
-    let failed : g.A.Door.failed c.accept.new.self ≡ raised (g.A.Door.failed c.loop.door) =
+    let given : g.A.Accepts.given c.accept.new.self ≡ g.A.Accepts.given c.loop.door =
+    search rules in
+    let failed : g.A.Accepts.failed c.accept.new.self ≡ raised (g.A.Accepts.failed c.loop.door) =
     search rules in (
       tt,
       tt,
@@ -65,7 +67,8 @@ loop-preserved g c =
 -- nobody more, and the door is closed
 pub returns-then-is_closed-clause-served : goal.returns-then-is_closed-clause-served
 returns-then-is_closed-clause-served g c =
-    let given : g.A.Door.given c.accept.new.self ≡ g.A.Door.given c.loop.door = search rules in
-    let failed : g.A.Door.failed c.accept.new.self ≡ raised (g.A.Door.failed c.loop.door) =
+    let given : g.A.Accepts.given c.accept.new.self ≡ g.A.Accepts.given c.loop.door =
+    search rules in
+    let failed : g.A.Accepts.failed c.accept.new.self ≡ raised (g.A.Accepts.failed c.loop.door) =
     search rules in
     stands_at _ _ _ _ _ _ _ _ given failed (none_more _ _ c.loop.invariant.2.served)

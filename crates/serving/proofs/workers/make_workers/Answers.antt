@@ -17,12 +17,12 @@ loop-port-preserved g c = record {
       c.args.common.now.backend_timeout_ns c.args.common.now.settings.now.backend)
       c.loop-port.yielded c.loop-port.workers.items c.push_reserved.new.self.items
       c.in-Some.port _ c.push_reserved.ensures.items c.loop-port.invariant.all (record {
-        opens_to = c.make_door.ensures.opens_to;
+        opens_to = c.new-door.ensures.opens_to;
         port_is = search rules;
-        given = c.make_door.ensures.given;
-        failed = c.make_door.ensures.failed;
-        unclosed = c.make_door.ensures.unclosed;
-        unrolled = c.make_door.ensures.unrolled;
+        given = c.new-door.ensures.given;
+        failed = c.new-door.ensures.failed;
+        unclosed = c.new-door.ensures.unclosed;
+        unrolled = c.new-door.ensures.unrolled;
         unused = search rules;
         limited = search rules;
         reaches = search rules;

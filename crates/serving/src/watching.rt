@@ -1,0 +1,50 @@
+// What a door is told of exchanges.
+
+use handling::{ClientWatch, Protocol};
+use proxy::{Exchange, Watch};
+use std::io::Error;
+
+/// The protocol of clients that are served by exchanges: an exchange tells whether its client is
+/// kept.
+pub enum Exchanges {}
+
+impl Protocol<Exchange> for Exchanges {
+    ghost use Rattle.std.specs.Prelude.{true};
+    ghost use Rattle.proxy.specs.Made.{is_kept};
+
+    ghost keeps_some = { true };
+
+    ghost kept = { is_kept };
+
+    fn keeps_clients() -> bool {
+        true
+    }
+
+    fn is_kept(told: &Exchange) -> bool {
+        told.is_kept()
+    }
+}
+
+/// Reports the clients of a door, and their exchanges, to the watch of a gateway.
+#[derive(Drop)]
+pub struct ExchangeWatch<'a, W> {
+    pub(crate) watch: &'a W,
+}
+
+impl<'a, W: Watch> ClientWatch for ExchangeWatch<'a, W> {
+    type Told = Exchange;
+
+    type Protocol = Exchanges;
+
+    fn accepted(&self) -> u64 {
+        self.watch.accepted()
+    }
+
+    fn unaccepted(&self, error: &Error) {
+        self.watch.unaccepted(error);
+    }
+
+    fn ended(&self, told: Exchange, since: u64) {
+        self.watch.ended(&told.end(), since);
+    }
+}
